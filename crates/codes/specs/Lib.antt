@@ -1,0 +1,2 @@
+pub mod KernReturn
+pub mod Right

@@ -1,0 +1,11 @@
+/// The name that stands for no port.
+pub const MACH_PORT_NULL: u32 = 0;
+
+/// The name that stands for a port that is dead.
+pub const MACH_PORT_DEAD: u32 = 0xffff_ffff;
+
+/// The least name that this server hands out by itself. A task may choose lower ones.
+pub const FIRST_NAME: u32 = 0x100;
+
+/// How many messages a new port's queue holds (`MACH_PORT_QLIMIT_DEFAULT`).
+pub const DEFAULT_QUEUE_LIMIT: u32 = 5;

@@ -1,0 +1,10 @@
+//! The written definition of the machine: its states, its calls, and what each call may answer.
+#![tactic(auto)]
+
+mod call;
+mod entry;
+mod port;
+
+pub use call::{Call, Reply};
+pub use entry::{Entry, PortRights};
+pub use port::Port;

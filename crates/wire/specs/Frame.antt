@@ -1,0 +1,53 @@
+-- What a frame holds, and what the front of an input is.
+use Rattle.std.specs.Prelude.{◌≡◌, ℕ, ◌+◌, ◌≤◌, List, [], ◌++◌, length, take, drop, Option, None, Some, Result, Ok, Err, nat_lt, ◌==◌, if◌then◌else◌}
+use Rattle.std.specs.Coded.{Coded, code_by, coded×, coded_list, coded_ℕ}
+use Rattle.byteorder.specs.Endian.{little_number}
+use Rattle.codes.specs.declared.limits.TheConstants.{MIN_FRAME_CONTENT, MAX_FRAME_CONTENT}
+use Rattle.ipc_model.specs.Words.{frame_text}
+use Rattle.wire.specs.declared.fault.WireFault.{WireFault}
+use Rattle.wire.specs.declared.fault.WireFault.TheVariants.{Short, TooLong, Device, NoMemory}
+
+-- a frame's content, and how many bytes of content it has room for without taking memory
+pub record FrameValue : Type 0 where
+  pub content : List ℕ
+  pub room : ℕ
+
+abbrev pub frame_code : Coded FrameValue
+frame_code =
+    code_by (List ℕ × ℕ) (coded× (coded_list coded_ℕ) coded_ℕ) (λ f. (f.content, f.room)) (λ p. record { content = p.0; room = p.1 }) (λ _. refl)
+
+-- a count of bytes that a frame's length may give
+pub record IsContentLength (n : ℕ) : Type 0 where
+  pub least : MIN_FRAME_CONTENT ≤ n
+  pub greatest : n ≤ MAX_FRAME_CONTENT
+
+-- What the front of an input is: nothing, a whole frame's content, or the first fault from the left; and the
+-- input that is left after what was read.
+pub data Front : Type 0 where
+  ended : Front
+  whole : (content left : List ℕ) → Front
+  faulty : (fault : WireFault) (left : List ℕ) → Front
+
+-- behind a length word of n, what the rest of the input is
+abbrev pub content_at : ℕ → List ℕ → Front
+content_at n rest =
+    if nat_lt n MIN_FRAME_CONTENT then faulty Short rest
+    else if nat_lt MAX_FRAME_CONTENT n then faulty TooLong rest
+    else if nat_lt (length rest) n then faulty Short []
+    else whole (take n rest) (drop n rest)
+
+abbrev pub front_of : List ℕ → Front
+front_of input =
+    if length input == 0 then ended
+    else if nat_lt (length input) 4 then faulty Short []
+    else content_at (little_number 4 input) (drop 4 input)
+
+-- A read of the input that left this answered so. Memory may run out once the length is read, and a reader
+-- may fail at any time.
+abbrev pub IsReadOf : List ℕ → Result (Option FrameValue) WireFault → Option (List ℕ) → Type 0
+IsReadOf input (Ok None) left = (front_of input ≡ ended) × (left ≡ Some [])
+IsReadOf input (Ok (Some frame)) left = (rest : List ℕ) × (front_of input ≡ whole frame.content rest) × (left ≡ Some rest)
+IsReadOf input (Err Short) left = (rest : List ℕ) × (front_of input ≡ faulty Short rest) × (left ≡ Some rest)
+IsReadOf input (Err TooLong) left = (rest : List ℕ) × (front_of input ≡ faulty TooLong rest) × (left ≡ Some rest)
+IsReadOf input (Err Device) left = Unit {0}
+IsReadOf input (Err NoMemory) left = (left ≡ Some (drop 4 input)) × IsContentLength (little_number 4 input)
