@@ -1,1 +1,6 @@
+pub mod State
+pub mod StateCode
+pub mod Step
+pub mod Texts
+pub mod WordLaws
 pub mod Words

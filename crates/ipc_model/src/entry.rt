@@ -24,5 +24,7 @@ pub enum Entry {
     /// A port set.
     Set,
     /// A dead name with its user references.
-    Dead { references: u32 },
+    Dead {
+        references: u32,
+    },
 }

@@ -4,7 +4,9 @@
 mod call;
 mod entry;
 mod port;
+mod record;
 
 pub use call::{Call, Reply};
 pub use entry::{Entry, PortRights};
-pub use port::Port;
+pub use port::PortState;
+pub use record::Record;

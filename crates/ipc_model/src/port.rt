@@ -1,6 +1,6 @@
 /// What a live port keeps beside its rights.
 #[derive(Clone, Copy, Debug, PartialEq, Eq)]
-pub struct Port {
+pub struct PortState {
     /// How many messages its queue holds at most, for sends that the limit stops.
     pub limit: u32,
     /// The sequence number that the next message received from it gets.

@@ -1,0 +1,42 @@
+-- The entries of a std map seen as a finite map.
+use Rattle.std.proofs.Common.{◌≡◌, ℕ, ◌+◌, Bool, true, false, cond, List, [], ◌∷◌, length, Option, None, Some, is_some, refl, sym, ◌∙◌, ap, arith}
+use Rattle.std.specs.Cmp.{nat_cmp_total, eq_by_cmp_equiv}
+use Rattle.std.specs.Ordering.{nat_cmp}
+use Rattle.std.specs.declared.cmp.Ordering.TheVariants.{Less}
+use Rattle.std.specs.FinMap.{find, from_entries, get, insert, remove, len, contains_key, get-from_entries, get-insert, get-remove, len-empty, len-insert, same_map, nat_cmp-IsAntisymmetric}
+use Rattle.std.specs.BTreeMap.{is_at}
+use Rattle.std.specs.Map.{lookup, keys_of}
+use Rattle.std.specs.List.{AllByRecursion}
+use Rattle.std.specs.List.Sorted.{IsStrictlySortedBy}
+use Rattle.std.proofs.lemmas.Map.Keys.{sorted_head, sorted_tail}
+
+module _ {X : Type 0} where
+  find_lookup : (es : List (ℕ × X)) (q : ℕ) → find nat_cmp q es ≡ lookup (is_at (nat_cmp q)) es
+  find_lookup [] q = refl
+  find_lookup (e ∷ es) q = ap (cond (is_at (nat_cmp q) e.0) (Some e.1)) (find_lookup es q)
+
+  pub get_viewed : (es : List (ℕ × X)) (q : ℕ) → get (from_entries {R = nat_cmp} es) q ≡ lookup (is_at (nat_cmp q)) es
+  get_viewed es q = get-from_entries nat_cmp_total es q ∙ find_lookup es q
+
+  -- a key below all others isn't among them
+  absent_below : (k : ℕ) (es : List (ℕ × X)) → AllByRecursion (λ y. nat_cmp k y ≡ Less) (keys_of es) → lookup (is_at (nat_cmp k)) es ≡ None
+  absent_below k [] below = refl
+  absent_below k (e ∷ es) below = rw below.0 (absent_below k es below.1)
+
+  pub len_viewed : (es : List (ℕ × X)) → IsStrictlySortedBy nat_cmp (keys_of es) → len (from_entries {R = nat_cmp} es) ≡ length es
+  len_viewed [] sorted = len-empty nat_cmp X
+  len_viewed (e ∷ es) sorted =
+      let absent : is_some (get (from_entries {R = nat_cmp} es) e.0) ≡ false = ap is_some (get_viewed es e.0 ∙ absent_below e.0 es (sorted_head nat_cmp e.0 (keys_of es) sorted)) in
+      let rest : len (from_entries {R = nat_cmp} es) ≡ length es = len_viewed es (sorted_tail nat_cmp e.0 (keys_of es) sorted) in
+      len-insert nat_cmp_total (from_entries es) e.0 e.1 ∙ rw absent (omega (arith, rest))
+
+  -- entries that differ at one key make maps that differ there
+  pub inserted : (es fs : List (ℕ × X)) (k : ℕ) (v : X) → ((q : ℕ) → lookup (is_at (nat_cmp q)) fs ≡ cond (is_at (nat_cmp k) q) (Some v) (lookup (is_at (nat_cmp q)) es)) → from_entries {R = nat_cmp} fs ≡ insert (from_entries es) k v
+  inserted es fs k v is = same_map nat_cmp_total nat_cmp-IsAntisymmetric _ _ (λ q.
+      get_viewed fs q ∙ is q ∙ ap (λ b. cond b (Some v) (lookup (is_at (nat_cmp q)) es)) ((eq_by_cmp_equiv nat_cmp_total).symm k q)
+      ∙ sym (get-insert nat_cmp_total (from_entries es) k v q ∙ ap (cond (is_at (nat_cmp q) k) (Some v)) (get_viewed es q)))
+
+  pub removed : (es fs : List (ℕ × X)) (k : ℕ) → ((q : ℕ) → lookup (is_at (nat_cmp q)) fs ≡ cond (is_at (nat_cmp k) q) None (lookup (is_at (nat_cmp q)) es)) → from_entries {R = nat_cmp} fs ≡ remove (from_entries es) k
+  removed es fs k is = same_map nat_cmp_total nat_cmp-IsAntisymmetric _ _ (λ q.
+      get_viewed fs q ∙ is q ∙ ap (λ b. cond b None (lookup (is_at (nat_cmp q)) es)) ((eq_by_cmp_equiv nat_cmp_total).symm k q)
+      ∙ sym (get-remove nat_cmp_total (from_entries es) k q ∙ ap (cond (is_at (nat_cmp q) k) None) (get_viewed es q)))

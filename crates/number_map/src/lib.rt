@@ -1,0 +1,88 @@
+//! A map from numbers to values, which contracts see as a finite map.
+#![tactic(auto)]
+
+ghost use Rattle.std.specs.Prelude.{◌≡◌, ◌==◌, IfOk, OnOk, OnErr, is_some, None, option_copied};
+ghost use Rattle.std.specs.Ordering.{nat_cmp};
+ghost use Rattle.std.specs.FinMap as map;
+
+use std::alloc::{AllocError, Global};
+use std::collections::BTreeMap;
+use std::marker::Model;
+
+/// A map from numbers to values.
+#[derive(Drop)]
+pub struct NumberMap<V> {
+    entries: BTreeMap<u64, V>,
+}
+
+impl<V> Model for NumberMap<V> {
+    ghost use Rattle.std.specs.Ordering.{nat_cmp};
+    ghost use Rattle.std.specs.FinMap as map;
+    ghost use Rattle.std.specs.Coded.{coded_ℕ};
+
+    ghost Value = { map.FinMap nat_cmp V };
+
+    ghost coded = { map.code coded_ℕ V.code };
+
+    ghost view = { λ m. map.from_entries m.entries.entries };
+}
+
+impl<V> NumberMap<V> {
+    /// A map of nothing. It takes no memory.
+    pub fn new(alloc: Global) -> Self
+        ensures { result ≡ map.empty }
+    {
+        NumberMap {
+            entries: BTreeMap::new(alloc),
+        }
+    }
+
+    /// How many keys have a value.
+    pub fn len(&self) -> usize
+        ensures { result ≡ map.len self.now }
+    {
+        self.entries.len()
+    }
+
+    /// Whether no key has a value.
+    pub fn is_empty(&self) -> bool
+        ensures { result ≡ (map.len self.now == 0) }
+    {
+        self.len() == 0
+    }
+
+    /// Whether a key has a value.
+    pub fn contains_key(&self, key: u64) -> bool
+        ensures { result ≡ is_some (map.get self.now key) }
+    {
+        self.entries.contains_key(&key)
+    }
+
+    /// The value of a key.
+    pub fn get(&self, key: u64) -> Option<&V>
+        ensures { option_copied result ≡ map.get self.now key }
+    {
+        self.entries.get(&key)
+    }
+}
+
+impl<V: Drop> NumberMap<V> {
+    /// Sets the value of a key, and gives the one before. Only a key without a value may lack memory, and then
+    /// nothing changed.
+    pub fn insert(&mut self, key: u64, value: V) -> Result<Option<V>, AllocError>
+        ensures before { IfOk result (λ before. before ≡ map.get self.old key) }
+        ensures ok { OnOk result (self.new ≡ map.insert self.old key value) }
+        ensures err { OnErr result (self.new ≡ self.old) }
+        ensures absent { OnErr result (map.get self.old key ≡ None) }
+    {
+        Ok(self.entries.insert(key, value)?)
+    }
+
+    /// Takes the value of a key out.
+    pub fn remove(&mut self, key: u64) -> Option<V>
+        ensures before { result ≡ map.get self.old key }
+        ensures removed { self.new ≡ map.remove self.old key }
+    {
+        self.entries.remove(&key)
+    }
+}

@@ -1,0 +1,20 @@
+use Rattle.std.proofs.Common.{◌≡◌, ◌≤◌, ◌<◌, None, Option, Result, Ok, Err, IfOk, OnOk, OnErr, ap, subst, sym, ◌∙◌}
+use Rattle.std.specs.Ordering.{nat_cmp}
+use Rattle.std.specs.FinMap.{FinMap, get, insert, len}
+use Rattle.codes.specs.declared.limits.TheConstants.{MAX_NAMES}
+use Rattle.ipc_model.specs.declared.entry.Entry.{Entry}
+use Rattle.port_space.proofs.Crowded.{within_after_insert}
+use Rattle.port_space.proofs.space.PortSpace.insert.Goals as goal
+
+-- whatever the answer is, the names are the old ones or those with one more
+either : {A B : Type 0} {M : Type 0} (P : M → Type 0) (r : Result A B) (old more new : M) → OnOk r (new ≡ more) → OnErr r (new ≡ old) → P old → P more → P new
+either P (Ok x) old more new ok err before after = subst P (sym ok) after
+either P (Err e) old more new ok err before after = subst P (sym err) before
+
+pub invariant_of-self : goal.invariant_of-self
+invariant_of-self c =
+    let names = c.self.inside.names in
+    let room : get names c.from.result ≡ None → len names < MAX_NAMES = λ none.
+    subst (λ m. len m < MAX_NAMES) (sym c.self.view_is) (c.requires (subst (λ m. get m c.args.name ≡ None) c.self.view_is (subst (λ n. get names n ≡ None) c.from.ensures none))) in
+    let within = within_after_insert names c.from.result c.args.entry MAX_NAMES c.self.invariant room in
+    either (λ m. len m ≤ MAX_NAMES) c.insert.result names (insert names c.from.result c.args.entry) c.insert.new.self c.insert.ensures.ok c.insert.ensures.err c.self.invariant within

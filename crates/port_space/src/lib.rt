@@ -1,0 +1,6 @@
+//! The names of one space, each with what it stands for.
+#![tactic(auto)]
+
+mod space;
+
+pub use space::PortSpace;
