@@ -1,8 +1,8 @@
-ghost use Rattle.std.specs.Prelude.{◌≡◌, ℕ, ◌+◌, ◌≤◌, ◌<◌, ◌↔◌, ◌==◌, nat_le, IfOk, OnOk, OnErr, IsSome, is_some, None};
+ghost use Rattle.std.specs.Prelude.{◌≡◌, ℕ, ◌+◌, ◌≤◌, ◌<◌, ◌↔◌, ◌==◌, nat_le, IfOk, OnOk, OnErr, IsSome, IsTrue, is_some, None};
 ghost use Rattle.std.specs.FinMap as map;
 ghost use Rattle.ipc_model.specs.State.{IsUnused};
 
-use codes::{FIRST_NAME, MAX_NAMES};
+use codes::{FIRST_NAME, MACH_PORT_DEAD, MACH_PORT_NULL, MAX_NAMES};
 use ipc_model::Entry;
 use number_map::NumberMap;
 use std::alloc::{AllocError, Global};
@@ -96,6 +96,13 @@ impl PortSpace {
         ensures removed { self.new ≡ map.remove self.old name }
     {
         self.names.remove(u64::from(name))
+    }
+
+    /// Whether a name may be handed out: it is neither `MACH_PORT_NULL` nor `MACH_PORT_DEAD`, and not in use.
+    pub fn is_unused(&self, name: u32) -> bool
+        ensures { IsTrue result ↔ IsUnused self.now name }
+    {
+        name != MACH_PORT_NULL && name != MACH_PORT_DEAD && !self.contains(name)
     }
 
     /// The least name from `FIRST_NAME` on that isn't in use. There always is one.

@@ -1,0 +1,21 @@
+use Rattle.std.proofs.Common.{◌≡◌, None, refl, sym, subst, ◌∙◌}
+use Rattle.ipc_model.specs.State.{IsUnused}
+use Rattle.ipc_model.specs.Step.{Step, refusal}
+use Rattle.ipc_model.specs.declared.call.Call.TheVariants as call
+use Rattle.ipc_model.specs.declared.call.Reply.TheVariants as reply
+use Rattle.kernel.proofs.FirstSpace.{names_now, never_used, same_some}
+use Rattle.kernel.proofs.kernel.Kernel.replay_allocate.Goals as goal
+
+pub returns-then-not-is_unused-clause-mismatch : goal.returns-then-not-is_unused-clause-mismatch
+returns-then-not-is_unused-clause-mismatch c = λ _ new step.
+    never_used c.kernel.inside.names c.kernel.inside.ports c.kernel.inside.next c.args.self c.kernel.view_is c.args.space c.args.right c.in-Allocate.name new (c.refusal_of_allocate.ensures.first_space c.in_default.is) (sym c.refusal_of_allocate.ensures.code ∙ c.in_default.is)
+    (λ unused. cc (c.is_unused.ensures.1 unused, c.if-not-is_unused.true))
+    (subst (λ a. Step c.args.self c.args.space (call.Allocate c.args.right) a new) c.in-Allocate.is step)
+
+pub add_name-requires-clause-allowed : goal.add_name-requires-clause-allowed
+add_name-requires-clause-allowed c =
+    subst (λ space. refusal c.args.self space (call.Allocate c.args.right) ≡ None) (c.refusal_of_allocate.ensures.first_space c.in_default.is) (sym c.refusal_of_allocate.ensures.code ∙ c.in_default.is)
+
+pub add_name-requires-clause-unused : goal.add_name-requires-clause-unused
+add_name-requires-clause-unused c = λ names there.
+    subst (λ n. IsUnused n c.in-Allocate.name) (same_some (sym (names_now c.kernel.inside.names c.kernel.inside.ports c.kernel.inside.next c.args.self c.kernel.view_is) ∙ there)) (c.if-not-is_unused.ensures.0 refl)
