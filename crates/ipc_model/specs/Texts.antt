@@ -1,5 +1,5 @@
 -- Calls, replies and records in bytes, one spelling each.
-use Rattle.std.specs.Prelude.{◌≡◌, ℕ, ◌+◌, List, [], ◌∷◌, ◌++◌, length}
+use Rattle.std.specs.Prelude.{◌≡◌, ℕ, ◌+◌, ◌^◌, ◌<◌, IsTrue, List, [], ◌∷◌, ◌++◌, length}
 use Rattle.codes.specs.KernReturn.{number_of}
 use Rattle.ipc_model.specs.declared.call.Call.{Call}
 use Rattle.ipc_model.specs.declared.call.Call.TheVariants as call
@@ -7,7 +7,7 @@ use Rattle.ipc_model.specs.declared.call.Reply.{Reply}
 use Rattle.ipc_model.specs.declared.call.Reply.TheVariants as reply
 use Rattle.ipc_model.specs.declared.record.Record.{Record}
 use Rattle.ipc_model.specs.Words.{word, long_word, frame_text}
-use Rattle.ipc_model.specs.Step.{number_of_call}
+use Rattle.ipc_model.specs.Step.{number_of_call, has_record}
 
 -- the arguments of a call
 abbrev pub arguments_text : Call → List ℕ
@@ -33,3 +33,21 @@ record_text number entry =
 abbrev pub records_text : ℕ → List Record → List ℕ
 records_text n [] = []
 records_text n (first ∷ records) = record_text n first ++ records_text (n + 1) records
+
+-- the arguments are numbers of four bytes
+abbrev pub FitsCall : Call → Type 0
+FitsCall (call.Type name) = name < 2 ^ 32
+FitsCall (call.Allocate kind) = kind < 2 ^ 32
+
+-- the results are numbers of four bytes
+abbrev pub FitsReply : Reply → Type 0
+FitsReply (reply.Refused number code) = number < 2 ^ 32
+FitsReply (reply.Type bits) = bits < 2 ^ 32
+FitsReply (reply.Allocate name) = name < 2 ^ 32
+
+-- a record with numbers in range, of a call that has a record
+pub record IsRecord (entry : Record) : Type 0 where
+  pub space : entry.space < 2 ^ 32
+  pub call : FitsCall entry.call
+  pub reply : FitsReply entry.reply
+  pub recorded : IsTrue (has_record entry.reply)

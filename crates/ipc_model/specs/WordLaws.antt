@@ -52,3 +52,12 @@ long_word-little_number (a ∷ b ∷ c ∷ d ∷ e ∷ f ∷ g ∷ h ∷ rest) f
     let n = little_number 8 (a ∷ b ∷ c ∷ d ∷ e ∷ f ∷ g ∷ h ∷ rest) in
     let is : n ≡ from_le_bytes w64 (a ∷ b ∷ c ∷ d ∷ e ∷ f ∷ g ∷ h ∷ []) = omega arith in
     le_bytes_8 (a ∷ b ∷ c ∷ d ∷ e ∷ f ∷ g ∷ h ∷ []) n refl (front_fits 8 (a ∷ b ∷ c ∷ d ∷ e ∷ f ∷ g ∷ h ∷ rest) fits) is
+
+-- words in front of equal bytes are those of one number
+pub same_word : (m n : ℕ) (xs ys : List ℕ) → m < 2 ^ 32 → n < 2 ^ 32 → word m ++ xs ≡ word n ++ ys → m ≡ n
+same_word m n xs ys fits fits_too e =
+    sym (little_number-word m xs fits) ∙ ap (λ (l : List ℕ). little_number 4 l) e ∙ little_number-word n ys fits_too
+
+pub same_long_word : (m n : ℕ) (xs ys : List ℕ) → m < 2 ^ 64 → n < 2 ^ 64 → long_word m ++ xs ≡ long_word n ++ ys → m ≡ n
+same_long_word m n xs ys fits fits_too e =
+    sym (little_number-long_word m xs fits) ∙ ap (λ (l : List ℕ). little_number 8 l) e ∙ little_number-long_word n ys fits_too

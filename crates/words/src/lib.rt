@@ -1,0 +1,54 @@
+//! Numbers at the front and at the end of byte strings, lowest byte first.
+#![tactic(auto)]
+
+ghost use Rattle.std.specs.Prelude.{◌≡◌, ◌<◌, ◌≤◌, ◌+◌, ◌^◌, ◌++◌, length, drop, IfSome, IfNone, OnOk, OnErr};
+ghost use Rattle.ipc_model.specs.Words.{word, long_word};
+
+use byteorder::{ByteOrder, LittleEndian};
+use std::alloc::AllocError;
+
+/// The number in the first four bytes, and the bytes behind it.
+pub fn take_word(bytes: &[u8]) -> Option<(u32, &[u8])>
+    ensures found { IfSome result (λ r. bytes.now ≡ word r.0 ++ r.1.now) }
+    ensures fits { IfSome result (λ r. r.0 < 2 ^ 32) }
+    ensures none { IfNone result (length bytes.now < 4) }
+{
+    if bytes.len() < 4 {
+        return None;
+    }
+    let (_, rest) = bytes.split_at(4);
+    Some((LittleEndian::read_u32(bytes), rest))
+}
+
+/// The number in the first eight bytes, and the bytes behind it.
+pub fn take_long_word(bytes: &[u8]) -> Option<(u64, &[u8])>
+    ensures found { IfSome result (λ r. bytes.now ≡ long_word r.0 ++ r.1.now) }
+    ensures fits { IfSome result (λ r. r.0 < 2 ^ 64) }
+    ensures none { IfNone result (length bytes.now < 8) }
+{
+    if bytes.len() < 8 {
+        return None;
+    }
+    let (_, rest) = bytes.split_at(8);
+    Some((LittleEndian::read_u64(bytes), rest))
+}
+
+/// Adds the four bytes of a number. Where memory is wanted nothing changed.
+pub fn push_word(out: &mut Vec<u8>, value: u32) -> Result<(), AllocError>
+    ensures ok { OnOk result (out.new.items ≡ out.old.items ++ word value) }
+    ensures err { OnErr result (out.new.items ≡ out.old.items) }
+{
+    let mut text = [0; 4];
+    LittleEndian::write_u32(&mut text, value);
+    out.extend_from_slice(&text)
+}
+
+/// Adds the eight bytes of a number. Where memory is wanted nothing changed.
+pub fn push_long_word(out: &mut Vec<u8>, value: u64) -> Result<(), AllocError>
+    ensures ok { OnOk result (out.new.items ≡ out.old.items ++ long_word value) }
+    ensures err { OnErr result (out.new.items ≡ out.old.items) }
+{
+    let mut text = [0; 8];
+    LittleEndian::write_u64(&mut text, value);
+    out.extend_from_slice(&text)
+}
