@@ -1,9 +1,9 @@
 -- What a frame holds, and what the front of an input is.
-use Rattle.std.specs.Prelude.{◌≡◌, ℕ, ◌+◌, ◌≤◌, List, [], ◌++◌, length, take, drop, Option, None, Some, Result, Ok, Err, nat_lt, ◌==◌, if◌then◌else◌}
+use Rattle.std.specs.Prelude.{◌≡◌, refl, ℕ, ◌+◌, ◌<◌, ◌≤◌, List, [], length, take, drop, Option, None, Some, Result, Ok, Err, nat_lt, ◌==◌, if◌then◌else◌}
+use Rattle.std.specs.Io.KnownBytes.{Consumes}
 use Rattle.std.specs.Coded.{Coded, code_by, coded×, coded_list, coded_ℕ}
 use Rattle.byteorder.specs.Endian.{little_number}
 use Rattle.codes.specs.declared.limits.TheConstants.{MIN_FRAME_CONTENT, MAX_FRAME_CONTENT}
-use Rattle.ipc_model.specs.Words.{frame_text}
 use Rattle.wire.specs.declared.fault.WireFault.{WireFault}
 use Rattle.wire.specs.declared.fault.WireFault.TheVariants.{Short, TooLong, Device, NoMemory}
 
@@ -42,12 +42,26 @@ front_of input =
     else if nat_lt (length input) 4 then faulty Short []
     else content_at (little_number 4 input) (drop 4 input)
 
+-- bytes that go no further than a frame does, and no further than its length word where that is wrong
+abbrev pub IsWithinFrame : List ℕ → Type 0
+IsWithinFrame taken =
+    4 < length taken → IsContentLength (little_number 4 taken) × (length taken ≤ 4 + little_number 4 taken)
+
 -- A read of the input that left this answered so. Memory may run out once the length is read, and a reader
--- may fail at any time.
+-- may fail at any byte of the frame.
 abbrev pub IsReadOf : List ℕ → Result (Option FrameValue) WireFault → Option (List ℕ) → Type 0
 IsReadOf input (Ok None) left = (front_of input ≡ ended) × (left ≡ Some [])
 IsReadOf input (Ok (Some frame)) left = (rest : List ℕ) × (front_of input ≡ whole frame.content rest) × (left ≡ Some rest)
 IsReadOf input (Err Short) left = (rest : List ℕ) × (front_of input ≡ faulty Short rest) × (left ≡ Some rest)
 IsReadOf input (Err TooLong) left = (rest : List ℕ) × (front_of input ≡ faulty TooLong rest) × (left ≡ Some rest)
-IsReadOf input (Err Device) left = Unit {0}
-IsReadOf input (Err NoMemory) left = (left ≡ Some (drop 4 input)) × IsContentLength (little_number 4 input)
+IsReadOf input (Err Device) left = (taken : List ℕ) × Consumes (Some input) left taken × IsWithinFrame taken
+IsReadOf input (Err NoMemory) left = (4 ≤ length input) × IsContentLength (little_number 4 input) × (left ≡ Some (drop 4 input))
+
+-- A frame of this content was read, or the reader failed, or memory ran out.
+abbrev pub IsFrameRead : List ℕ → Result (Option FrameValue) WireFault → Type 0
+IsFrameRead content (Ok None) = ⊥
+IsFrameRead content (Ok (Some frame)) = frame.content ≡ content
+IsFrameRead content (Err Short) = ⊥
+IsFrameRead content (Err TooLong) = ⊥
+IsFrameRead content (Err Device) = Unit {0}
+IsFrameRead content (Err NoMemory) = Unit {0}

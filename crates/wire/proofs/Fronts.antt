@@ -1,0 +1,101 @@
+-- What stands at the front of an input, by the steps that read it, and that a frame's text is read again.
+use Rattle.std.proofs.Common.{◌≡◌, ℕ, ◌<◌, ◌≤◌, true, false, eqb, ltb, List, [], ◌++◌, length, take, drop, Option, Some, None, Ok, Err, IfSome, refl, sym, ap, subst, ◌∙◌, append_assoc, arith, le-ltb, lt-ltb, ne_eqb, length-append, take_at, drop_at}
+use Rattle.std.proofs.KnownBytes.{Consumes-trans}
+use Rattle.byteorder.specs.Endian.{little_number}
+use Rattle.byteorder.specs.Numbers.{little_number-reads_back}
+use Rattle.ipc_model.specs.Words.{word, frame_text}
+use Rattle.wire.specs.declared.fault.WireFault.{WireFault}
+use Rattle.wire.specs.declared.fault.WireFault.TheVariants.{Short, TooLong, Device, NoMemory}
+use Rattle.wire.specs.Frame.{FrameValue, whole, faulty, content_at, front_of, IsContentLength, IsWithinFrame, IsReadOf}
+use Rattle.wire.specs.Reading.{IsLengthOf, IsContentOf}
+
+-- the parts of an input that has a length word
+front_parts : (input : List ℕ) (n : ℕ) (rest : List ℕ) → 4 ≤ length input → little_number 4 input ≡ n → drop 4 input ≡ rest → front_of input ≡ content_at n rest
+front_parts input n rest long number-is rest-is =
+    let some : eqb (length input) 0 ≡ false = ne_eqb _ _ (omega arith) in
+    let enough : ltb (length input) 4 ≡ false = le-ltb _ _ long in
+    rw (some, enough, number-is, rest-is) refl
+
+-- behind a length word
+front_behind : (n : ℕ) (rest : List ℕ) → IsContentLength n → front_of (word n ++ rest) ≡ content_at n rest
+front_behind n rest fits =
+    front_parts (word n ++ rest) n rest (omega (arith, length-append (word n) rest)) (little_number-reads_back 4 n rest (omega (arith, fits.greatest))) refl
+
+-- enough bytes behind the length word, and too few
+content_whole : (n : ℕ) (rest : List ℕ) → IsContentLength n → n ≤ length rest → content_at n rest ≡ whole (take n rest) (drop n rest)
+content_whole n rest fits long =
+    let least : ltb n 4 ≡ false = le-ltb _ _ fits.least in
+    let greatest : ltb 65_532 n ≡ false = le-ltb _ _ fits.greatest in
+    let enough : ltb (length rest) n ≡ false = le-ltb _ _ long in
+    rw (least, greatest, enough) refl
+
+content_short : (n : ℕ) (rest : List ℕ) → IsContentLength n → length rest < n → content_at n rest ≡ faulty Short []
+content_short n rest fits short =
+    let least : ltb n 4 ≡ false = le-ltb _ _ fits.least in
+    let greatest : ltb 65_532 n ≡ false = le-ltb _ _ fits.greatest in
+    let few : ltb (length rest) n ≡ true = lt-ltb _ _ short in
+    rw (least, greatest, few) refl
+
+-- a frame's text is a whole frame, whatever follows it
+front_of_text : (content rest : List ℕ) → IsContentLength (length content) → front_of (frame_text content ++ rest) ≡ whole content rest
+front_of_text content rest fits =
+    let regrouped : frame_text content ++ rest ≡ word (length content) ++ (content ++ rest) = append_assoc (word (length content)) content rest in
+    let long : length content ≤ length (content ++ rest) = omega (arith, length-append content rest) in
+    let parts : whole (take (length content) (content ++ rest)) (drop (length content) (content ++ rest)) ≡ whole content rest = rw (take_at content rest (length content) refl, drop_at content rest (length content) refl) refl in
+    ap front_of regrouped ∙ front_behind (length content) (content ++ rest) fits ∙ content_whole (length content) (content ++ rest) fits long ∙ parts
+
+-- a length word and its content are a frame
+frame_text_of : (n : ℕ) (content rest : List ℕ) → length content ≡ n → word n ++ (content ++ rest) ≡ frame_text content ++ rest
+frame_text_of n content rest len =
+    ap (λ (k : ℕ). word k ++ (content ++ rest)) (sym len) ∙ sym (append_assoc (word (length content)) content rest)
+
+-- the two steps of a frame that was read, and where it stood
+frame_found : (old mid new : Option (List ℕ)) (n : ℕ) (frame : FrameValue) → IfSome old (λ input. IsLengthOf input (Ok (Some n)) mid) → IfSome mid (λ input. IsContentOf n input (Ok frame) new)
+    → IfSome old (λ input. (rest : List ℕ) × (input ≡ frame_text frame.content ++ rest) × (new ≡ Some rest))
+frame_found None mid new n frame first second = tt
+frame_found (Some xs) None new n frame first second = absurd cc
+frame_found (Some xs) (Some ys) new n frame first second =
+    let same : ys ≡ first.0 = cc in
+    let (rest, split, len, left) = second in
+    (rest, first.1 ∙ ap (λ (b : List ℕ). word n ++ b) (sym same ∙ split) ∙ frame_text_of n frame.content rest len, left)
+
+-- what the two steps of reading a frame answer together
+pub frame_read : (old mid new : Option (List ℕ)) (n : ℕ) (frame : FrameValue) → IsContentLength n → IfSome old (λ input. IsLengthOf input (Ok (Some n)) mid) → IfSome mid (λ input. IsContentOf n input (Ok frame) new)
+    → IfSome old (λ input. IsReadOf input (Ok (Some frame)) new)
+frame_read None mid new n frame fits first second = tt
+frame_read (Some xs) None new n frame fits first second = absurd cc
+frame_read (Some xs) (Some ys) new n frame fits first second =
+    let (rest, text, left) = frame_found (Some xs) (Some ys) new n frame first second in
+    let same_length : length frame.content ≡ n = second.2 in
+    (rest, ap front_of text ∙ front_of_text frame.content rest (subst IsContentLength (sym same_length) fits), left)
+
+-- the number of a length word, whatever follows it
+number_behind : (n : ℕ) (rest : List ℕ) → IsContentLength n → little_number 4 (word n ++ rest) ≡ n
+number_behind n rest fits = little_number-reads_back 4 n rest (omega (arith, fits.greatest))
+
+-- what was read of the content, with the length word
+within_frame : (n : ℕ) (taken : List ℕ) → IsContentLength n → length taken ≤ n → IsWithinFrame (word n ++ taken)
+within_frame n taken fits few =
+    λ (long : 4 < length (word n ++ taken)).
+    let number-is = number_behind n taken fits in
+    (subst IsContentLength (sym number-is) fits, omega (arith, number-is, length-append (word n) taken))
+
+-- a length word, and a fault in the content behind it
+behind_length : (ys : List ℕ) (new : Option (List ℕ)) (n : ℕ) (fault : WireFault) → IsContentLength n → IsContentOf n ys (Err fault) new → IsReadOf (word n ++ ys) (Err fault) new
+behind_length ys new n Short fits second = ([], front_behind n ys fits ∙ content_short n ys fits second.0, second.1)
+behind_length ys new n TooLong fits second = absurd second
+behind_length ys new n Device fits second =
+    let (taken, few, consumed) = second in
+    (word n ++ taken, Consumes-trans (Some (word n ++ ys)) (Some ys) new (word n) taken refl consumed, within_frame n taken fits few)
+behind_length ys new n NoMemory fits second =
+    (omega (arith, length-append (word n) ys), subst IsContentLength (sym (number_behind n ys fits)) fits, second)
+
+-- what they answer where the second one fails
+pub content_failed : (old mid new : Option (List ℕ)) (n : ℕ) (fault : WireFault) → IsContentLength n → IfSome old (λ input. IsLengthOf input (Ok (Some n)) mid) → IfSome mid (λ input. IsContentOf n input (Err fault) new)
+    → IfSome old (λ input. IsReadOf input (Err fault) new)
+content_failed None mid new n fault fits first second = tt
+content_failed (Some xs) None new n fault fits first second = absurd cc
+content_failed (Some xs) (Some ys) new n fault fits first second =
+    let same : ys ≡ first.0 = cc in
+    let split : xs ≡ word n ++ ys = first.1 ∙ ap (λ (b : List ℕ). word n ++ b) (sym same) in
+    subst (λ (x : List ℕ). IsReadOf x (Err fault) new) (sym split) (behind_length ys new n fault fits second)

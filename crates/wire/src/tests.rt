@@ -1,0 +1,147 @@
+use super::*;
+use std::alloc::Global;
+use std::io;
+use std::io::{Read, Write};
+use std::test::Fail;
+
+// The frame of the number 5 and the argument 1.
+const FRAME: [u8; 12] = [8, 0, 0, 0, 5, 0, 0, 0, 1, 0, 0, 0];
+
+// Gives one byte a read, and fails once `before` reads are over.
+#[derive(Drop)]
+struct OneByte {
+    bytes: &'static [u8],
+    before: usize,
+}
+
+impl Read for OneByte {
+    fn read(&mut self, buf: &mut [u8]) -> io::Result<usize> {
+        if self.before == 0 {
+            return Err(io::ErrorKind::Other.into());
+        }
+        self.before -= 1;
+        if self.bytes.is_empty() || buf.is_empty() {
+            return Ok(0);
+        }
+        buf[0] = self.bytes[0];
+        self.bytes = &self.bytes[1..];
+        Ok(1)
+    }
+}
+
+// Takes `room` bytes, and then fails, or takes none if it is `stuck`.
+#[derive(Drop)]
+struct Small {
+    room: usize,
+    stuck: bool,
+}
+
+impl Write for Small {
+    fn write(&mut self, buf: &[u8]) -> io::Result<usize> {
+        if self.room == 0 && !self.stuck {
+            return Err(io::ErrorKind::Other.into());
+        }
+        let count = buf.len().min(self.room);
+        self.room -= count;
+        Ok(count)
+    }
+
+    fn flush(&mut self) -> io::Result<()> {
+        Ok(())
+    }
+}
+
+fn fault_of(alloc: Global, bytes: &[u8]) -> Option<WireFault> {
+    let mut input = bytes;
+    read_frame(alloc, &mut input).err()
+}
+
+#[test]
+fn faults_by_the_bytes(rt: HostRuntime) {
+    let alloc = rt.alloc();
+    let short = Some(WireFault::Short);
+    assert_eq!(rt; fault_of(alloc, &[3, 0, 0, 0, 5, 0, 0, 0]), short);
+    assert_eq!(rt; fault_of(alloc, &FRAME[..3]), short);
+    assert_eq!(rt; fault_of(alloc, &FRAME[..11]), short);
+    let too_long = Some(WireFault::TooLong);
+    assert_eq!(rt; fault_of(alloc, &[0xfd, 0xff, 0, 0, 5, 0, 0, 0]), too_long);
+    assert_eq!(rt; fault_of(alloc, &[]), None);
+}
+
+#[test]
+fn reads_and_writes(rt: HostRuntime) -> Result<(), Fail> {
+    let alloc = rt.alloc();
+    let mut input: &[u8] = b"\x08\0\0\0\x05\0\0\0\x01\0\0\0\x04";
+    let frame = read_frame(alloc, &mut input)?.ok_or("a frame stands there")?;
+    assert_eq!(rt; frame.number(), 5);
+    assert_eq!(rt; frame.arguments(), &[1, 0, 0, 0][..]);
+    assert_eq!(rt; input, &[4][..]);
+    let mut output = Vec::new(alloc);
+    write_frame(&mut output, &frame)?;
+    assert_eq!(rt; output.as_slice(), &FRAME[..]);
+    assert!(rt; read_frame(alloc, &mut &[][..])?.is_none());
+    Ok(())
+}
+
+#[test]
+fn makes_frames(rt: HostRuntime) -> Result<(), Fail> {
+    let alloc = rt.alloc();
+    let mut frame = Frame::with_room(alloc, 100)?;
+    assert_eq!(rt; frame.content(), &[0, 0, 0, 0][..]);
+    assert!(rt; frame.room() >= 100);
+    frame.start(5);
+    frame.put_word(1);
+    assert_eq!(rt; frame.content(), &FRAME[4..]);
+    frame.put_bytes(b"ab");
+    assert_eq!(rt; frame.arguments(), b"\x01\0\0\0ab".as_slice());
+    frame.start(0x0102_0304);
+    assert_eq!(rt; frame.number(), 0x0102_0304);
+    let copy = Frame::from_content(alloc, frame.content())?;
+    assert_eq!(rt; copy.content(), &[4, 3, 2, 1][..]);
+    Ok(())
+}
+
+#[test]
+fn readers_that_give_little(rt: HostRuntime) -> Result<(), Fail> {
+    let bytes: &'static [u8] = b"\x08\0\0\0\x05\0\0\0\x01\0\0\0";
+    let mut reader = OneByte { bytes, before: 12 };
+    let frame = read_frame(rt.alloc(), &mut reader)?.ok_or("a frame stands there")?;
+    assert_eq!(rt; frame.content(), &FRAME[4..]);
+    for before in [0, 3, 4, 11] {
+        let mut reader = OneByte { bytes, before };
+        let fault = read_frame(rt.alloc(), &mut reader).err();
+        assert_eq!(rt; fault, Some(WireFault::Device), "after {before} bytes");
+    }
+    Ok(())
+}
+
+#[test]
+fn writers_that_take_little(rt: HostRuntime) -> Result<(), Fail> {
+    let frame = Frame::from_content(rt.alloc(), &FRAME[4..])?;
+    for (room, stuck) in [(0, false), (3, false), (4, false), (11, false), (11, true)] {
+        let fault = write_frame(&mut Small { room, stuck }, &frame).err();
+        assert_eq!(rt; fault, Some(WireFault::Device), "room for {room}");
+    }
+    let mut enough = Small {
+        room: 12,
+        stuck: false,
+    };
+    write_frame(&mut enough, &frame)?;
+    assert_eq!(rt; enough.room, 0);
+    Ok(())
+}
+
+#[test]
+fn names_of_faults(rt: HostRuntime) -> Result<(), Fail> {
+    let faults = [
+        (WireFault::Short, 1, "short"),
+        (WireFault::TooLong, 2, "too long"),
+        (WireFault::Device, 3, "device"),
+        (WireFault::NoMemory, 4, "no memory"),
+    ];
+    for (fault, number, text) in faults {
+        assert_eq!(rt; fault.number(), number);
+        assert_eq!(rt; format!(in rt.alloc(); "{fault}")?.as_str(), text);
+    }
+    Ok(())
+}
