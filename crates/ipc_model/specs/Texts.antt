@@ -25,7 +25,7 @@ reply_text (reply.Type bits) = word 2 ++ word 0 ++ word bits
 reply_text (reply.Allocate name) = word 5 ++ word 0 ++ word name
 
 -- a record with its number in its epoch: who called, the call's frame and the reply's
-abbrev pub record_text : ℕ → Record → List ℕ
+unfoldable pub record_text : ℕ → Record → List ℕ
 record_text number entry =
     long_word number ++ word entry.space ++ frame_text (call_text entry.call) ++ frame_text (reply_text entry.reply)
 

@@ -20,6 +20,7 @@ short_reply (reply.Allocate name) = omega arith
 -- behind the number and the space stand the two frames
 pub frames_of : (bytes one two rest : List ℕ) (m space number : ℕ) (entry : Record) → bytes ≡ long_word m ++ one → one ≡ word space ++ two → bytes ≡ record_text number entry ++ rest
     → two ≡ frame_text (call_text entry.call) ++ (frame_text (reply_text entry.reply) ++ rest)
+unfolding record_text
 frames_of bytes one two rest m space number entry first second is =
     let read : bytes ≡ long_word m ++ (word space ++ two) = first ∙ ap (λ l. long_word m ++ l) second in
     ap (λ l. drop 12 l) (sym read ∙ is) ∙ append_assoc (frame_text (call_text entry.call)) (frame_text (reply_text entry.reply)) rest

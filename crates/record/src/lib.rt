@@ -24,6 +24,7 @@ pub fn take_frame(bytes: &[u8]) -> Option<(&[u8], &[u8])>
     Some(rest.split_at(length))
 }
 
+#[tactic(auto, unfolding(ipc_model::specs::Texts::record_text))]
 /// The record that stands in front, with its number, and the bytes behind it.
 pub fn take_record(bytes: &[u8]) -> Option<(u64, Record, &[u8])>
     ensures found { IfSome result (λ r. (bytes.now ≡ record_text r.0 r.1 ++ r.2.now) × IsRecord r.1) }
@@ -49,6 +50,7 @@ fn push_frame(out: &mut Vec<u8>, content: &[u8]) -> Result<(), AllocError>
     out.extend_from_slice(content)
 }
 
+#[tactic(auto, unfolding(ipc_model::specs::Texts::record_text))]
 /// Adds a record with its number. Where memory is wanted some of its bytes may have been added.
 pub fn push_record(
     alloc: Global,

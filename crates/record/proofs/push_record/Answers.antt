@@ -1,10 +1,11 @@
 use Rattle.std.proofs.Common.{◌≡◌, ◌++◌, ap, sym, ◌∙◌, rules}
 use Rattle.ipc_model.specs.Words.{word, long_word, frame_text}
-use Rattle.ipc_model.specs.Texts.{call_text, reply_text}
+use Rattle.ipc_model.specs.Texts.{call_text, reply_text, record_text}
 use Rattle.record.proofs.Joined.{joined, on_ok}
 use Rattle.record.proofs.push_record.Goals as goal
 
 pub returns : goal.returns
+unfolding record_text
 returns c =
     let call : c.deref.result.now ≡ call_text c.args.record.now.call = c.deref.ensures.value ∙ c.in_ok-push_call.ensures.ok ∙ ap (λ l. l ++ call_text c.args.record.now.call) c.new-call.ensures.items in
     let reply : c.deref-2.result.now ≡ reply_text c.args.record.now.reply = c.deref-2.ensures.value ∙ c.in_ok-push_reply.ensures.ok ∙ ap (λ l. l ++ reply_text c.args.record.now.reply) c.new-reply.ensures.items in

@@ -1,0 +1,78 @@
+ghost use Rattle.std.specs.Prelude.{◌≡◌};
+ghost use Rattle.journal.specs.Fault.{fault_number};
+
+use disk::DiskFault;
+use std::alloc::{AllocError, AllocFailed};
+use std::fmt;
+
+/// Why a store couldn't be opened or written.
+#[derive(Clone, Copy, Debug, PartialEq, Eq)]
+pub enum StoreFault {
+    /// The device failed.
+    Device = 1,
+    /// The segment holds as many records as it may.
+    Full = 2,
+    /// The slots are none that a server leaves.
+    Damaged = 3,
+    /// No memory; nothing changed.
+    NoMemory = 4,
+    /// The device failed before; the store has to be opened again.
+    Failed = 5,
+    /// A slot is of another version.
+    Version = 6,
+}
+
+impl StoreFault {
+    /// The fault's number.
+    pub fn number(self) -> u8
+        ensures { result ≡ fault_number self }
+    {
+        self as u8
+    }
+}
+
+impl fmt::Display for StoreFault {
+    fn fmt<W: fmt::Write>(&self, f: &mut fmt::Formatter<W>) -> fmt::Result {
+        f.write_str(match self {
+            StoreFault::Device => "device",
+            StoreFault::Full => "full",
+            StoreFault::Damaged => "damaged",
+            StoreFault::NoMemory => "no memory",
+            StoreFault::Failed => "failed",
+            StoreFault::Version => "version",
+        })
+    }
+}
+
+impl From<DiskFault> for StoreFault {
+    ghost use Rattle.std.specs.Prelude.{◌≡◌};
+    ghost use Rattle.journal.specs.declared.fault.StoreFault.TheVariants.{Device};
+
+    ghost from_gives = { λ _ e. e ≡ Device };
+
+    fn from(_: DiskFault) -> Self {
+        StoreFault::Device
+    }
+}
+
+impl From<AllocError> for StoreFault {
+    ghost use Rattle.std.specs.Prelude.{◌≡◌};
+    ghost use Rattle.journal.specs.declared.fault.StoreFault.TheVariants.{NoMemory};
+
+    ghost from_gives = { λ _ e. e ≡ NoMemory };
+
+    fn from(_: AllocError) -> Self {
+        StoreFault::NoMemory
+    }
+}
+
+impl<T: Drop> From<AllocFailed<T>> for StoreFault {
+    ghost use Rattle.std.specs.Prelude.{◌≡◌};
+    ghost use Rattle.journal.specs.declared.fault.StoreFault.TheVariants.{NoMemory};
+
+    ghost from_gives = { λ _ e. e ≡ NoMemory };
+
+    fn from(_: AllocFailed<T>) -> Self {
+        StoreFault::NoMemory
+    }
+}

@@ -1,0 +1,142 @@
+ghost use Rattle.std.specs.Prelude.{◌≡◌, ◌≢◌, ◌↔◌, ◌⊎◌, ◌+◌, ◌-◌, ◌<◌, ◌≤◌, ◌++◌, ◌∷◌, [], length, take, true, false, OnOk, OnErr, IfOk, IsErrOf};
+ghost use Rattle.disk.specs.Slots.{slot_of, with_slot};
+ghost use Rattle.disk.specs.Moments.{IsSynced, Grew, CountsFailure};
+ghost use Rattle.ipc_model.specs.Store.{with_batch, batch_text, open_gate, closed_gate};
+
+use crate::StoreFault;
+use codes::MAX_RECORDS;
+use disk::{Disk, DiskFault, Slot};
+use ipc_model::Record;
+use record::push_record;
+use std::alloc::{AllocError, Global};
+use std::marker::Model;
+use words::{push_long_word, push_word};
+
+/// A gate with this byte is open: what stands behind it counts.
+pub const OPEN_GATE: u8 = 0x5a;
+
+/// A closed gate.
+pub const CLOSED_GATE: u8 = 0;
+
+/// The records of the segment in use, on a disk. Each call is stored before it is answered.
+#[derive(Drop)]
+pub struct Journal<D: Disk> {
+    disk: D,
+    records: u64,
+    failed: bool,
+    alloc: Global,
+}
+
+impl<D: Disk> Model for Journal<D> {
+    ghost use Rattle.std.specs.Prelude.{◌≡◌, ◌<◌, length, false};
+    ghost use Rattle.journal.specs.Journal.{JournalValue, journal_code};
+
+    ghost Value = { JournalValue D };
+
+    ghost coded = { journal_code D.code };
+
+    ghost view = { λ j. record { disk = j.disk; records = j.records; failed = j.failed } };
+
+    // Behind the last batch stands a closed gate.
+    ghost invariant = { λ j. j.failed ≡ false → D.honest → 0 < length (D.view j.disk).seen.segment0 };
+}
+
+#[tactic(auto, unfolding(ipc_model::specs::Store::batch_text))]
+/// The text behind a batch's gate, and the closed gate behind it.
+fn batch_of(alloc: Global, number: u64, record: &Record) -> Result<Vec<u8>, AllocError>
+    ensures { IfOk result (λ text. text.items ≡ batch_text number (record.now ∷ []) ++ closed_gate ∷ []) }
+{
+    let mut content = Vec::new(alloc);
+    push_record(alloc, &mut content, number, record)?;
+    let mut text = Vec::new(alloc);
+    push_word(&mut text, 1)?;
+    push_long_word(&mut text, content.len() as u64)?;
+    text.extend_from_slice(&content)?;
+    text.push(CLOSED_GATE)?;
+    Ok(text)
+}
+
+/// Writes a batch behind a slot's last gate, and opens that gate once the batch is on the disk.
+fn store<D: Disk>(disk: &mut D, slot: Slot, text: &[u8]) -> Result<(), DiskFault>
+    requires { D.honest → 0 < length (slot_of (D.view disk.old).seen slot) }
+    ensures stored { D.honest → OnOk result ((D.view disk.new).seen ≡ with_slot (D.view disk.old).seen slot
+        (take (length (slot_of (D.view disk.old).seen slot) - 1) (slot_of (D.view disk.old).seen slot) ++ (open_gate ∷ text.now))) }
+    ensures synced { D.honest → OnOk result (IsSynced (D.view disk.new) slot) }
+    ensures failures { CountsFailure (D.failed_calls disk.old) (D.failed_calls disk.new) result }
+{
+    let gate = disk.length(slot).saturating_sub(1);
+    disk.write_at(slot, gate + 1, text)?;
+    disk.sync(slot)?;
+    disk.write_at(slot, gate, &[OPEN_GATE])?;
+    disk.sync(slot)
+}
+
+impl<D: Disk> Journal<D> {
+    /// A journal whose segment holds this many records, with a closed gate behind them.
+    pub fn new(alloc: Global, disk: D, records: u64) -> Self
+        requires { D.honest → 0 < length (D.view disk).seen.segment0 }
+        ensures disk { result.disk ≡ disk }
+        ensures records { result.records ≡ records }
+        ensures failed { result.failed ≡ false }
+    {
+        Journal {
+            disk,
+            records,
+            failed: false,
+            alloc,
+        }
+    }
+
+    /// The disk that it writes to.
+    pub fn into_disk(self) -> D
+        ensures { result ≡ self.disk }
+    {
+        let Journal {
+            disk,
+            records: _,
+            failed: _,
+            alloc: _,
+        } = self;
+        disk
+    }
+
+    /// How many records the segment holds.
+    pub fn records(&self) -> u64
+        ensures { result ≡ self.now.records }
+    {
+        self.records
+    }
+
+    /// Stores a record as a batch of its own. At `Ok` it is on the disk.
+    ///
+    /// `Failed`: the device failed in an earlier call; the store has to be opened again. `Full`: the segment
+    /// holds `MAX_RECORDS` records. `NoMemory`: nothing changed. `Device`: the device failed, and whether the
+    /// record is stored isn't known until the store is opened again.
+    pub fn append(&mut self, record: &Record) -> Result<(), StoreFault>
+        ensures stored { D.honest → OnOk result ((D.view self.new.disk).seen ≡ with_slot (D.view self.old.disk).seen Slot.Segment0
+            (with_batch (D.view self.old.disk).seen.segment0 (batch_text self.old.records (record.now ∷ [])))) }
+        ensures synced { D.honest → OnOk result (IsSynced (D.view self.new.disk) Slot.Segment0) }
+        ensures counted { OnOk result ((self.new.records ≡ self.old.records + 1) × (self.new.failed ≡ false)) }
+
+        ensures failed { IsErrOf result StoreFault.Failed ↔ (self.old.failed ≡ true) }
+        ensures full { IsErrOf result StoreFault.Full ↔ ((self.old.failed ≡ false) × (MAX_RECORDS ≤ self.old.records)) }
+        ensures device { IsErrOf result StoreFault.Device
+            → (self.new.failed ≡ true) × Grew (D.failed_calls self.old.disk) (D.failed_calls self.new.disk) }
+        ensures no_other { (result ≢ Err StoreFault.Damaged) × (result ≢ Err StoreFault.Version) }
+        ensures unchanged { OnErr result ((result ≡ Err StoreFault.Device) ⊎ (self.new ≡ self.old)) }
+    {
+        if self.failed {
+            return Err(StoreFault::Failed);
+        }
+        if self.records >= MAX_RECORDS {
+            return Err(StoreFault::Full);
+        }
+        let text = batch_of(self.alloc, self.records, record)?;
+        if store(&mut self.disk, Slot::Segment0, &text).is_err() {
+            self.failed = true;
+            return Err(StoreFault::Device);
+        }
+        self.records += 1;
+        Ok(())
+    }
+}

@@ -1,0 +1,10 @@
+//! The journal: batches of records, each behind a gate of its own.
+#![tactic(auto)]
+
+mod fault;
+mod journal;
+mod read;
+
+pub use fault::StoreFault;
+pub use journal::{CLOSED_GATE, Journal, OPEN_GATE};
+pub use read::read_batches;
