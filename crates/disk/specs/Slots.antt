@@ -1,5 +1,5 @@
 -- What the four slots of a store hold, and what one call does to a slot.
-use Rattle.std.specs.Prelude.{◌≡◌, ℕ, ◌+◌, ◌≤◌, max, List, ◌++◌, length, take, drop}
+use Rattle.std.specs.Prelude.{◌≡◌, ℕ, ◌+◌, ◌≤◌, min, max, List, [], ◌++◌, length, take, drop}
 use Rattle.disk.specs.declared.slot.Slot.{Slot}
 use Rattle.disk.specs.declared.slot.Slot.TheVariants.{Image0, Image1, Segment0, Segment1}
 
@@ -9,6 +9,10 @@ pub record Slots : Type 0 where
   pub image1 : List ℕ
   pub segment0 : List ℕ
   pub segment1 : List ℕ
+
+-- no bytes in any slot
+abbrev pub empty_slots : Slots
+empty_slots = record { image0 = []; image1 = []; segment0 = []; segment1 = [] }
 
 -- the bytes of one slot
 abbrev pub slot_of : Slots → Slot → List ℕ
@@ -36,8 +40,9 @@ pub record TornWrite (at n : ℕ) (old new : List ℕ) : Type 0 where
   pub no_shorter : length old ≤ length new
   pub no_longer : length new ≤ max (length old) (at + n)
 
--- After a cut to n bytes that a stop may have cut short: a length between, and any bytes past n.
+-- After a cut to n bytes that a stop may have cut short: a length between, and any bytes past n. What a stop
+-- leaves may be shorter than n before the cut, where an earlier write is lost, and then it stays as it is.
 pub record TornCut (n : ℕ) (old new : List ℕ) : Type 0 where
   pub front : take n new ≡ take n old
-  pub no_shorter : n ≤ length new
+  pub no_shorter : min n (length old) ≤ length new
   pub no_longer : length new ≤ length old

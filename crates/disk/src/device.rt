@@ -1,13 +1,22 @@
 // A disk as the layers above see it: what a read gives, and what a stop may leave.
 ghost use Rattle.std.specs.Prelude.{◌≡◌, ℕ, ◌+◌, ◌-◌, ◌≤◌, ◌++◌, length, take, drop, min, IfOk, OnOk};
 ghost use Rattle.disk.specs.Slots.{slot_of, with_slot, written_at, TornWrite, TornCut};
-ghost use Rattle.disk.specs.Moments.{View, MayLeave, Passes, Follows, IsSynced, CountsFailure};
+ghost use Rattle.disk.specs.Moments.{View, MayLeave, Passes, Follows, IsSynced, Grew, CountsFailure};
 
 use crate::Slot;
 
 /// A call of the disk failed. What it did of its work isn't known.
 #[derive(Clone, Copy, Debug, PartialEq, Eq)]
 pub struct DiskFault;
+
+// Makes the answer of a call that failed.
+pub(crate) fn count_failure(failures: &mut u64) -> DiskFault
+    ensures later { failures.old ≤ failures.new }
+    ensures counted { Grew failures.old failures.new }
+{
+    *failures = failures.saturating_add(1);
+    DiskFault
+}
 
 /// Four slots of bytes on a device that may stop at any moment.
 ///

@@ -2,7 +2,17 @@
 #![tactic(auto)]
 
 mod device;
+mod file;
+mod log;
+mod memory;
+mod plan;
 mod slot;
+mod stop;
+#[cfg(test)]
+mod tests;
 
 pub use device::{Disk, DiskFault};
+pub use file::FileDisk;
+pub use memory::MemDisk;
+pub use plan::Torn;
 pub use slot::Slot;

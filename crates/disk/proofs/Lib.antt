@@ -1,0 +1,2 @@
+mod Replay
+mod Stops
