@@ -1,3 +1,4 @@
+pub mod RunLaws
 pub mod State
 pub mod StateCode
 pub mod Step

@@ -1,0 +1,17 @@
+use Rattle.std.proofs.Common.{◌≡◌, ◌+◌, take, get_or, subst, sym}
+use Rattle.std.proofs.lemmas.List.{take_more}
+use Rattle.codes.specs.declared.kern_return.KernReturn.TheVariants.{Success}
+use Rattle.ipc_model.specs.declared.call.Call.TheVariants as call
+use Rattle.ipc_model.specs.declared.call.Reply.TheVariants as reply
+use Rattle.ipc_model.specs.declared.record.Record.{Record}
+use Rattle.ipc_model.specs.Step.{Run}
+use Rattle.ipc_model.specs.RunLaws.{run-push}
+use Rattle.recover.proofs.reading.replay_all.Goals as goal
+
+pub loop-entry-preserved : goal.loop-entry-preserved
+loop-entry-preserved c =
+    let records = c.args.records.now in
+    let i = c.loop-entry.entry-index in
+    let blank : Record = record { space = 0; call = call.Type 0; reply = reply.Refused 0 Success } in
+    subst (λ l. Run c.args.kernel l c.in-Ok.next) (sym (take_more records i blank c.loop-entry-test.true))
+    (run-push c.args.kernel c.loop-entry.state c.in-Ok.next (take i records) (get_or records i blank) c.loop-entry.invariant c.in-Ok.ensures.step)

@@ -1,0 +1,7 @@
+use Rattle.std.proofs.Common.{take}
+use Rattle.ipc_model.specs.Step.{Run}
+use Rattle.recover.proofs.reading.replay_all.Given as goal
+
+-- the state is that after the records so far
+abbrev pub invariant-loop-entry : goal.invariant-loop-entry
+invariant-loop-entry l = Run l.fn.kernel (take l.entry-index l.records) l.state

@@ -1,0 +1,8 @@
+//! Opening a store: what its slots stand for, and the repair of their ends.
+#![tactic(auto)]
+
+mod making;
+mod opening;
+mod reading;
+
+pub use opening::{Opened, open};
