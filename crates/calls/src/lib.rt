@@ -1,6 +1,8 @@
-//! Calls and replies as bytes, one spelling each.
+//! Calls and replies as bytes and as frames, one spelling each.
 #![tactic(auto)]
 
+mod frame;
 mod text;
 
+pub use frame::{CallFault, read_request, reply_frame};
 pub use text::{push_call, push_reply, read_call, read_recorded_reply};
