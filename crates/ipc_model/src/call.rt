@@ -9,6 +9,21 @@ pub enum Call {
     Allocate { right: u32 },
 }
 
+impl Call {
+    ghost use Rattle.std.specs.Prelude.{◌≡◌};
+    ghost use Rattle.ipc_model.specs.Step.{number_of_call};
+
+    /// The number of the call in its frame.
+    pub fn number(&self) -> u32
+        ensures { result ≡ number_of_call self.now }
+    {
+        match self {
+            Call::Type { .. } => 2,
+            Call::Allocate { .. } => 5,
+        }
+    }
+}
+
 /// What a call answered. It shows each choice that the machine made.
 #[derive(Clone, Copy, Debug, PartialEq, Eq)]
 pub enum Reply {
@@ -18,4 +33,16 @@ pub enum Reply {
     Type { bits: u32 },
     /// The new name.
     Allocate { name: u32 },
+}
+
+impl Reply {
+    ghost use Rattle.std.specs.Prelude.{◌≡◌};
+    ghost use Rattle.ipc_model.specs.Step.{has_record};
+
+    /// Whether a call that answered so has a record: it changed the state.
+    pub fn has_record(&self) -> bool
+        ensures { result ≡ has_record self.now }
+    {
+        matches!(self, Reply::Allocate { .. })
+    }
 }

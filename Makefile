@@ -1,0 +1,15 @@
+.PHONY: demo test bin
+
+# The main job on a new folder, with its bytes explained.
+demo: bin
+	./demo/run
+
+# The gate: every proof, wrong body, test and stored run, from nothing.
+test:
+	.ci/run
+
+# The programs, proved and built, in bin/.
+bin:
+	@mkdir -p bin
+	@empty=$$(mktemp -d) && (cd crates/machipcd && rt run -- "$$empty" < /dev/null > /dev/null) && rm -r "$$empty"
+	cp crates/machipcd/out/machipcd bin/
