@@ -1,0 +1,121 @@
+-- How a connection goes on.
+use Rattle.std.proofs.Common.{◌≡◌, ◌⊎◌, inl, inr, ℕ, ◌+◌, Bool, true, false, cond, nat_lt, take, drop, List, [], ◌∷◌, ◌++◌, length, Option, Some, None, Result, Ok, Err, IfOk, OnOk, IfSome, refl, sym, ap, subst, ◌∙◌, arith, append_assoc}
+use Rattle.std.proofs.lemmas.List.{append-nil}
+use Rattle.std.proofs.Math.Dec.{eqb-suc-zero}
+use Rattle.std.specs.Io.KnownBytes.{Appends, Keeps}
+use Rattle.ipc_model.specs.declared.call.Call.{Call}
+use Rattle.ipc_model.specs.declared.call.Reply.{Reply}
+use Rattle.ipc_model.specs.Texts.{reply_text}
+use Rattle.ipc_model.specs.Words.{frame_text}
+use Rattle.byteorder.specs.Endian.{little_number}
+use Rattle.wire.specs.declared.fault.WireFault.TheVariants.{Short, TooLong}
+use Rattle.wire.specs.Frame.{Front, ended, whole, faulty, front_of, content_at}
+use Rattle.server.specs.Serving.{Exchanges, Answers, IsAnswered, ServesAll, requests_text, replies_text}
+
+pub appends_is : (out bytes : List ℕ) (old new : Option (List ℕ)) → old ≡ Some out → Appends old new bytes → new ≡ Some (out ++ bytes)
+appends_is out bytes old new e is = known new (subst (λ o. Appends o new bytes) e is)
+  where
+    known : (now : Option (List ℕ)) → Appends (Some out) now bytes → now ≡ Some (out ++ bytes)
+    known None h = absurd h
+    known (Some ys) h = ap (λ l. Some l) h
+
+pub keeps_is : (out : List ℕ) (old new : Option (List ℕ)) → old ≡ Some out → Keeps old new → new ≡ Some out
+keeps_is out old new e is = known new (subst (λ o. Keeps o new) e is)
+  where
+    known : (now : Option (List ℕ)) → Keeps (Some out) now → now ≡ Some out
+    known None h = absurd h
+    known (Some ys) h = ap (λ l. Some l) h
+
+module _ {C : Type 0} (answers : C → Call → Reply → C → Type 0) where
+  -- some of the input was served
+  pub record Going (old now : C) (input before : List ℕ) (left written : Option (List ℕ)) : Type 0 where
+    pub exchanges : Exchanges
+    pub rest : List ℕ
+    pub calls : Answers answers old exchanges now
+    pub read : input ≡ requests_text exchanges ++ rest
+    pub rest_is : left ≡ Some rest
+    pub replies : written ≡ Some (before ++ replies_text exchanges)
+
+  pub begun : (old : C) (input before : List ℕ) (left written : Option (List ℕ)) → left ≡ Some input → written ≡ Some before → Going old old input before left written
+  begun old input before left written e f =
+      record { exchanges = []; rest = input; calls = refl; read = refl; rest_is = e; replies = f ∙ ap (λ l. Some l) (sym (append-nil before)) }
+
+  answers-push : (old mid new : C) (exchanges : Exchanges) (exchange : List ℕ × Reply) → Answers answers old exchanges mid → IsAnswered answers mid exchange.0 exchange.1 new → Answers answers old (exchanges ++ exchange ∷ []) new
+  answers-push old mid new [] exchange so_far is = (new, subst (λ c. IsAnswered answers c exchange.0 exchange.1 new) so_far is, refl)
+  answers-push old mid new (first ∷ exchanges) exchange so_far is = (so_far.0, so_far.1, answers-push so_far.0 mid new exchanges exchange so_far.2 is)
+
+  requests_text-push : (exchanges : Exchanges) (exchange : List ℕ × Reply) → requests_text (exchanges ++ exchange ∷ []) ≡ requests_text exchanges ++ frame_text exchange.0
+  requests_text-push [] exchange = append-nil (frame_text exchange.0)
+  requests_text-push (first ∷ exchanges) exchange = ap (λ l. frame_text first.0 ++ l) (requests_text-push exchanges exchange) ∙ sym (append_assoc (frame_text first.0) (requests_text exchanges) (frame_text exchange.0))
+
+  replies_text-push : (exchanges : Exchanges) (exchange : List ℕ × Reply) → replies_text (exchanges ++ exchange ∷ []) ≡ replies_text exchanges ++ frame_text (reply_text exchange.1)
+  replies_text-push [] exchange = append-nil (frame_text (reply_text exchange.1))
+  replies_text-push (first ∷ exchanges) exchange = ap (λ l. frame_text (reply_text first.1) ++ l) (replies_text-push exchanges exchange) ∙ sym (append_assoc (frame_text (reply_text first.1)) (replies_text exchanges) (frame_text (reply_text exchange.1)))
+
+  -- at the end of the input
+  pub ended_whole : (old now : C) (input before : List ℕ) (left written after : Option (List ℕ)) (so_far : Going old now input before left written) → (so_far.rest ≡ []) × (after ≡ Some []) → ServesAll answers old now input before after written
+  ended_whole old now input before left written after so_far is =
+      record { exchanges = so_far.exchanges; calls = so_far.calls; read = so_far.read ∙ ap (λ l. requests_text so_far.exchanges ++ l) is.0 ∙ append-nil (requests_text so_far.exchanges); all = is.1; replies = so_far.replies }
+
+  -- one frame more
+  pub goes_on : (old mid new : C) (input before content after : List ℕ) (answer : Reply) (left now written sent : Option (List ℕ)) (so_far : Going old mid input before left written) → so_far.rest ≡ frame_text content ++ after → now ≡ Some after → IsAnswered answers mid content answer new
+      → sent ≡ Some ((before ++ replies_text so_far.exchanges) ++ frame_text (reply_text answer)) → Going old new input before now sent
+  goes_on old mid new input before content after answer left now written sent so_far frame now_is answered out =
+      let exchange : List ℕ × Reply = (content, answer) in
+      record {
+        exchanges = so_far.exchanges ++ exchange ∷ [];
+        rest = after;
+        calls = answers-push old mid new so_far.exchanges exchange so_far.calls answered;
+        read = so_far.read ∙ ap (λ l. requests_text so_far.exchanges ++ l) frame ∙ sym (append_assoc (requests_text so_far.exchanges) (frame_text content) after) ∙ ap (λ l. l ++ after) (sym (requests_text-push so_far.exchanges exchange));
+        rest_is = now_is;
+        replies = out ∙ ap (λ l. Some l) (append_assoc before (replies_text so_far.exchanges) (frame_text (reply_text answer)) ∙ ap (λ l. before ++ l) (sym (replies_text-push so_far.exchanges exchange)));
+      }
+
+-- what was read of known bytes
+pub frame_read : (old new : Option (List ℕ)) (rest content : List ℕ) → old ≡ Some rest → IfSome old (λ input. (after : List ℕ) × (input ≡ frame_text content ++ after) × (new ≡ Some after))
+    → (after : List ℕ) × (rest ≡ frame_text content ++ after) × (new ≡ Some after)
+frame_read old new rest content e found = subst (λ o. IfSome o (λ input. (after : List ℕ) × (input ≡ frame_text content ++ after) × (new ≡ Some after))) e found
+
+-- an input whose front is its end has nothing left
+is_ended : Front → Bool
+is_ended ended = true
+is_ended (whole content left) = false
+is_ended (faulty fault left) = false
+
+goes_past : (n : ℕ) (rest : List ℕ) → is_ended (content_at n rest) ≡ false
+unfolding is_ended
+goes_past n rest = by_tests (nat_lt n 4) (nat_lt 65532 n) (nat_lt (length rest) n)
+  where
+    by_tests : (a b c : Bool) → is_ended (cond a (faulty Short rest) (cond b (faulty TooLong rest) (cond c (faulty Short []) (whole (take n rest) (drop n rest))))) ≡ false
+    by_tests true b c = refl
+    by_tests false true c = refl
+    by_tests false false true = refl
+    by_tests false false false = refl
+
+past_end : (a : ℕ) (rest : List ℕ) → is_ended (front_of (a ∷ rest)) ≡ false
+unfolding is_ended
+past_end a rest =
+    let n = little_number 4 (a ∷ rest) in
+    let behind = drop 4 (a ∷ rest) in
+    ap (λ (b : Bool). is_ended (cond b ended (cond (nat_lt (length (a ∷ rest)) 4) (faulty Short []) (content_at n behind)))) (eqb-suc-zero (length rest))
+    ∙ by_length (nat_lt (length (a ∷ rest)) 4) n behind
+  where
+    by_length : (c : Bool) (n : ℕ) (behind : List ℕ) → is_ended (cond c (faulty Short []) (content_at n behind)) ≡ false
+    by_length true n behind = refl
+    by_length false n behind = goes_past n behind
+
+nothing_left : (rest : List ℕ) → front_of rest ≡ ended → rest ≡ []
+unfolding is_ended
+nothing_left [] is = refl
+nothing_left (a ∷ rest) is = absurd (cc (sym (past_end a rest) ∙ ap is_ended is))
+
+pub end_read : (old new : Option (List ℕ)) (rest : List ℕ) → old ≡ Some rest → IfSome old (λ input. (front_of input ≡ ended) × (new ≡ Some [])) → (rest ≡ []) × (new ≡ Some [])
+end_read old new rest e found =
+    let known = subst (λ o. IfSome o (λ input. (front_of input ≡ ended) × (new ≡ Some []))) e found in
+    (nothing_left rest known.0, known.1)
+
+-- a fact for bytes that are known on both sides
+pub both_known : (o p : Option (List ℕ)) (P : List ℕ → List ℕ → Type 0) → ((input before : List ℕ) → o ≡ Some input → p ≡ Some before → P input before) → IfSome o (λ input. IfSome p (λ before. P input before))
+both_known None p P f = tt
+both_known (Some input) None P f = tt
+both_known (Some input) (Some before) P f = f input before refl refl

@@ -1,0 +1,12 @@
+//! The server: frames in, each call made and stored, replies out.
+#![tactic(auto)]
+
+mod alone;
+mod program;
+mod service;
+#[cfg(test)]
+mod tests;
+
+pub use alone::{Alone, Caller};
+pub use program::lone;
+pub use service::{ServeFault, serve};

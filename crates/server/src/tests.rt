@@ -1,0 +1,176 @@
+use crate::{Alone, ServeFault, lone, serve};
+use disk::{Disk, MemDisk, Slot, Torn};
+use journal::StoreFault;
+use recover::open;
+use std::alloc::Global;
+use std::test::Fail;
+use std::{env, fs};
+use wire::WireFault;
+
+const ALLOCATE: [u8; 12] = [8, 0, 0, 0, 5, 0, 0, 0, 1, 0, 0, 0];
+
+const TYPE: [u8; 12] = [8, 0, 0, 0, 2, 0, 0, 0, 0, 1, 0, 0];
+
+const ALLOCATED: [u8; 16] = [12, 0, 0, 0, 5, 0, 0, 0, 0, 0, 0, 0, 0, 1, 0, 0];
+
+const TYPE_RECEIVE: [u8; 16] = [12, 0, 0, 0, 2, 0, 0, 0, 0, 0, 0, 0, 0, 0, 2, 0];
+
+/// Serves an input on the store of a disk: what was written, how it ended, and the disk.
+fn served(
+    alloc: Global,
+    disk: MemDisk,
+    input: &[u8],
+) -> Result<(Vec<u8>, Result<(), ServeFault>, MemDisk), Fail> {
+    let Ok(opened) = open(alloc, disk) else {
+        return Err(Fail::from("the store can't be opened"));
+    };
+    let mut caller = Alone::new(opened);
+    let mut rest = input;
+    let mut output = Vec::new(alloc);
+    let end = serve(alloc, &mut rest, &mut output, &mut caller);
+    Ok((output, end, caller.into_disk()))
+}
+
+#[test]
+fn a_name_outlives_the_server(rt: HostRuntime) -> Result<(), Fail> {
+    let alloc = rt.alloc();
+    let mut input = ALLOCATE.to_vec(alloc)?;
+    input.extend_from_slice(&TYPE)?;
+    let (output, end, disk) = served(alloc, MemDisk::new(alloc), &input)?;
+    assert_eq!(rt; end, Ok(()));
+    let mut replies = ALLOCATED.to_vec(alloc)?;
+    replies.extend_from_slice(&TYPE_RECEIVE)?;
+    assert_eq!(rt; output.as_slice(), replies.as_slice());
+    assert_eq!(rt; disk.length(Slot::Image0), 48);
+    assert_eq!(rt; disk.length(Slot::Segment0), 70);
+    let (output, end, _) = served(alloc, disk, &TYPE)?;
+    assert_eq!(rt; end, Ok(()));
+    assert_eq!(rt; output.as_slice(), TYPE_RECEIVE.as_slice());
+    Ok(())
+}
+
+#[test]
+fn sets_are_allocated_and_refusals_store_nothing(rt: HostRuntime) -> Result<(), Fail> {
+    let alloc = rt.alloc();
+    let (_, _, disk) = served(alloc, MemDisk::new(alloc), &ALLOCATE)?;
+    let set = [
+        8, 0, 0, 0, 5, 0, 0, 0, 3, 0, 0, 0, 8, 0, 0, 0, 2, 0, 0, 0, 1, 1, 0, 0,
+    ];
+    let (output, _, disk) = served(alloc, disk, &set)?;
+    let set_replies = [
+        12, 0, 0, 0, 5, 0, 0, 0, 0, 0, 0, 0, 1, 1, 0, 0, 12, 0, 0, 0, 2, 0, 0, 0, 0, 0, 0, 0, 0, 0,
+        8, 0,
+    ];
+    assert_eq!(rt; output.as_slice(), set_replies.as_slice());
+    assert_eq!(rt; disk.length(Slot::Segment0), 123);
+    // allocate(2) and type(0x1ff)
+    let refused = [
+        8, 0, 0, 0, 5, 0, 0, 0, 2, 0, 0, 0, 8, 0, 0, 0, 2, 0, 0, 0, 255, 1, 0, 0,
+    ];
+    let (output, _, disk) = served(alloc, disk, &refused)?;
+    let refusals = [
+        8, 0, 0, 0, 5, 0, 0, 0, 18, 0, 0, 0, 8, 0, 0, 0, 2, 0, 0, 0, 15, 0, 0, 0,
+    ];
+    assert_eq!(rt; output.as_slice(), refusals.as_slice());
+    assert_eq!(rt; disk.length(Slot::Segment0), 123);
+    Ok(())
+}
+
+#[test]
+fn frames_that_are_no_calls_are_answered(rt: HostRuntime) -> Result<(), Fail> {
+    let alloc = rt.alloc();
+    // Number 99, a type with no argument, and a type.
+    let input = [
+        4, 0, 0, 0, 99, 0, 0, 0, 4, 0, 0, 0, 2, 0, 0, 0, 8, 0, 0, 0, 2, 0, 0, 0, 0, 1, 0, 0,
+    ];
+    let (output, end, _) = served(alloc, MemDisk::new(alloc), &input)?;
+    assert_eq!(rt; end, Ok(()));
+    let replies = [
+        8, 0, 0, 0, 99, 0, 0, 0, 4, 0, 0, 0, 8, 0, 0, 0, 2, 0, 0, 0, 4, 0, 0, 0, 8, 0, 0, 0, 2, 0,
+        0, 0, 15, 0, 0, 0,
+    ];
+    assert_eq!(rt; output.as_slice(), replies.as_slice());
+    Ok(())
+}
+
+#[test]
+fn a_wire_fault_ends_behind_whole_replies(rt: HostRuntime) -> Result<(), Fail> {
+    let alloc = rt.alloc();
+    let bent: [(&[u8], WireFault); 3] = [
+        (&[3, 0, 0, 0], WireFault::Short),
+        (&[253, 255, 0, 0], WireFault::TooLong),
+        (&[8, 0, 0, 0, 2, 0, 0, 0, 0, 1, 0], WireFault::Short),
+    ];
+    for (tail, fault) in bent {
+        let mut input = ALLOCATE.to_vec(alloc)?;
+        input.extend_from_slice(tail)?;
+        let (output, end, disk) = served(alloc, MemDisk::new(alloc), &input)?;
+        assert_eq!(rt; end, Err(ServeFault::Wire(fault)));
+        assert_eq!(rt; output.as_slice(), ALLOCATED.as_slice());
+        assert_eq!(rt; disk.length(Slot::Segment0), 70);
+    }
+    Ok(())
+}
+
+#[test]
+fn a_failing_store_gets_no_reply(rt: HostRuntime) -> Result<(), Fail> {
+    let alloc = rt.alloc();
+    let mut input = ALLOCATE.to_vec(alloc)?;
+    input.extend_from_slice(&ALLOCATE)?;
+    // Opening makes ten calls of the disk: four syncs, four reads, and two that end the segment. An append
+    // makes four, so the fourteenth call is the first append's last.
+    for (fails_at, replied) in [(11, 0), (14, 0), (15, 16), (18, 16)] {
+        let (_, _, mut disk) = served(alloc, MemDisk::new(alloc), &[])?;
+        disk.plan(None, Some(fails_at), Torn::Old);
+        let (output, end, _) = served(alloc, disk, &input)?;
+        assert_eq!(rt; end, Err(ServeFault::Store(StoreFault::Device)));
+        assert_eq!(rt; output.len(), replied);
+    }
+    Ok(())
+}
+
+/// The status and the line of errors of a run of the program with these words.
+fn run(rt: &HostRuntime, words: &[String]) -> Result<(u8, String), Fail> {
+    let mut input: &[u8] = &[];
+    let mut output = Vec::new(rt.alloc());
+    let mut errors = Vec::new(rt.alloc());
+    let status = lone(rt.alloc(), rt, words, &mut input, &mut output, &mut errors);
+    Ok((status, String::from_utf8(errors)?))
+}
+
+#[test]
+fn faults_have_a_status_and_a_line(rt: HostRuntime) -> Result<(), Fail> {
+    let alloc = rt.alloc();
+    let mut words = Vec::new(alloc);
+    let (status, line) = run(&rt, &words)?;
+    assert_eq!(rt; status, 2);
+    assert_eq!(rt; line.as_str(), "machipcd: command line\n");
+    words.push(String::from_str(alloc, "/nowhere/at/all")?)?;
+    let (status, line) = run(&rt, &words)?;
+    assert_eq!(rt; status, 1);
+    assert_eq!(rt; line.as_str(), "machipcd: store fault 1: device\n");
+    Ok(())
+}
+
+#[test]
+fn a_damaged_slot_is_told(rt: HostRuntime) -> Result<(), Fail> {
+    let alloc = rt.alloc();
+    let mut folder = env::temp_dir(&rt)?;
+    folder.push("machipcd_damaged_store")?;
+    let path = String::from_str(alloc, folder.as_path().as_str())?;
+    let _ = fs::remove_dir_all(&rt, path.as_str());
+    fs::create_dir(&rt, path.as_str())?;
+    let mut image = [0; 48];
+    image[0] = 0x5a;
+    image[1] = 1;
+    image[2] = 1;
+    let file = format!(in alloc; "{path}/image0")?;
+    fs::write(&rt, file.as_str(), &image)?;
+    let mut words = Vec::new(alloc);
+    words.push(path.clone()?)?;
+    let (status, line) = run(&rt, &words)?;
+    assert_eq!(rt; status, 1);
+    assert_eq!(rt; line.as_str(), "machipcd: store fault 3: damaged\n");
+    fs::remove_dir_all(&rt, path.as_str())?;
+    Ok(())
+}
