@@ -12,3 +12,6 @@ pub use limits::{
 };
 pub use name::{DEFAULT_QUEUE_LIMIT, FIRST_NAME, MACH_PORT_DEAD, MACH_PORT_NULL};
 pub use right::Right;
+
+#[cfg(test)]
+mod tests;

@@ -1,4 +1,4 @@
-ghost use Rattle.std.specs.Prelude.{◌≡◌, ℕ, ◌+◌, ◌∷◌, [], IfOk, OnOk, OnErr, IsErrOf, MatchOption, true, false, None, Some};
+ghost use Rattle.std.specs.Prelude.{◌≡◌, ℕ, ◌+◌, ◌∷◌, [], IfOk, OnOk, OnErr, IsErrOf, IfSome, IfNone, MatchOption, true, false, None, Some};
 ghost use Rattle.std.specs.FinMap as map;
 ghost use Rattle.ipc_model.specs.State.{Names, State, IsUnused, opening_state, new_port, ports_are_used_up};
 ghost use Rattle.ipc_model.specs.Step as model;
@@ -81,10 +81,38 @@ impl Kernel {
         }
     }
 
+    /// What `apply` answers to a call that has no record, or `None` where a step of the call has one. It changes
+    /// nothing.
+    pub fn answer(&self, space: u32, call: &Call) -> Result<Option<Reply>, AllocError>
+        ensures answered { IfOk result (λ answer. IfSome answer
+            (λ reply. (model.Step self.now space call.now reply self.now) × (model.has_record reply ≡ false))) }
+        ensures none { IfOk result (λ answer. IfNone answer ((reply : Reply) × (new : State)
+            × (model.Step self.now space call.now reply new) × (model.has_record reply ≡ true))) }
+    {
+        match *call {
+            Call::Type { name } => Ok(Some(self.port_type(space, name))),
+            Call::Allocate { right } => match self.refusal_of_allocate(space, right) {
+                Some(code) => Ok(Some(refused(5, code))),
+                None => Ok(self.none_for_allocate(right)),
+            },
+        }
+    }
+
+    /// The answer where an allocation has a step, which has a record.
+    fn none_for_allocate(&self, right: u32) -> Option<Reply>
+        requires { model.refusal self.now 1 (Call.Allocate right) ≡ None }
+        ensures none { result ≡ None }
+        ensures step { (name : ℕ) × (new : State) × (model.Step self.now 1 (Call.Allocate right) (Reply.Allocate name) new) }
+    {
+        let _a_name_that_serves = self.names.free_name();
+        None
+    }
+
     /// What `apply` answers to a call of number 2, which changes nothing: the type bits of a name, or
     /// `InvalidTask` where the space is gone, or `InvalidName` where the name isn't in use. It takes no memory.
     pub fn port_type(&self, space: u32, name: u32) -> Reply
-        ensures { model.Step self.now space (Call.Type name) result self.now }
+        ensures step { model.Step self.now space (Call.Type name) result self.now }
+        ensures no_record { model.has_record result ≡ false }
     {
         let _ = &self.names;
         if space != FIRST_SPACE {

@@ -5,3 +5,6 @@ mod kernel;
 mod types;
 
 pub use kernel::{Kernel, ReplayFault};
+
+#[cfg(test)]
+mod tests;

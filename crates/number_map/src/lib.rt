@@ -86,3 +86,6 @@ impl<V: Drop> NumberMap<V> {
         self.entries.remove(&key)
     }
 }
+
+#[cfg(test)]
+mod tests;

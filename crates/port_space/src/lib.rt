@@ -4,3 +4,6 @@
 mod space;
 
 pub use space::PortSpace;
+
+#[cfg(test)]
+mod tests;

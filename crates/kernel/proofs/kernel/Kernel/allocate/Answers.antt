@@ -1,4 +1,4 @@
-use Rattle.std.proofs.Common.{◌≡◌, None, sym, subst, ◌∙◌, ap}
+use Rattle.std.proofs.Common.{◌≡◌, None, sym, subst, ◌∙◌}
 use Rattle.ipc_model.specs.State.{IsUnused}
 use Rattle.ipc_model.specs.Step.{Step, refusal}
 use Rattle.ipc_model.specs.declared.call.Call.TheVariants as call

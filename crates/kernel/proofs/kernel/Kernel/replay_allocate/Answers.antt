@@ -2,7 +2,6 @@ use Rattle.std.proofs.Common.{◌≡◌, None, refl, sym, subst, ◌∙◌}
 use Rattle.ipc_model.specs.State.{IsUnused}
 use Rattle.ipc_model.specs.Step.{Step, refusal}
 use Rattle.ipc_model.specs.declared.call.Call.TheVariants as call
-use Rattle.ipc_model.specs.declared.call.Reply.TheVariants as reply
 use Rattle.kernel.proofs.FirstSpace.{names_now, never_used, same_some}
 use Rattle.kernel.proofs.kernel.Kernel.replay_allocate.Goals as goal
 

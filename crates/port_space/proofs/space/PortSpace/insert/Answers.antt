@@ -1,8 +1,6 @@
-use Rattle.std.proofs.Common.{◌≡◌, ◌≤◌, ◌<◌, None, Option, Result, Ok, Err, IfOk, OnOk, OnErr, ap, subst, sym, ◌∙◌}
-use Rattle.std.specs.Ordering.{nat_cmp}
-use Rattle.std.specs.FinMap.{FinMap, get, insert, len}
+use Rattle.std.proofs.Common.{◌≡◌, ◌≤◌, ◌<◌, None, Result, Ok, Err, OnOk, OnErr, subst, sym}
+use Rattle.std.specs.FinMap.{get, insert, len}
 use Rattle.codes.specs.declared.limits.TheConstants.{MAX_NAMES}
-use Rattle.ipc_model.specs.declared.entry.Entry.{Entry}
 use Rattle.port_space.proofs.Crowded.{within_after_insert}
 use Rattle.port_space.proofs.space.PortSpace.insert.Goals as goal
 

@@ -1,5 +1,3 @@
-use Rattle.std.proofs.Common.{◌≤◌, sym, ap, subst, ◌∙◌}
-use Rattle.std.specs.FinMap as map
 use Rattle.codes.specs.declared.limits.TheConstants.{MAX_NAMES}
 use Rattle.port_space.proofs.Crowded.{within_after_remove}
 use Rattle.port_space.proofs.space.PortSpace.remove.Goals as goal

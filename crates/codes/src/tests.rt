@@ -1,0 +1,28 @@
+use super::*;
+
+// Numbers that are on the wire, against the definitions that the clauses cite.
+#[test]
+fn numbers_on_the_wire(rt: HostRuntime) {
+    let codes = [
+        (KernReturn::NoSpace, 3),
+        (KernReturn::InvalidArgument, 4),
+        (KernReturn::ResourceShortage, 6),
+        (KernReturn::InvalidName, 15),
+        (KernReturn::InvalidTask, 16),
+        (KernReturn::InvalidValue, 18),
+    ];
+    for (code, number) in codes {
+        assert_eq!(rt; code.number(), number, "{code:?}");
+    }
+    let rights = [
+        (Right::Send, 0x1_0000),
+        (Right::Receive, 0x2_0000),
+        (Right::SendOnce, 0x4_0000),
+        (Right::PortSet, 0x8_0000),
+        (Right::DeadName, 0x10_0000),
+    ];
+    for (right, bit) in rights {
+        assert_eq!(rt; right.type_bit(), bit, "{right:?}");
+        assert_eq!(rt; Right::from_number(right.number()), Some(right));
+    }
+}
