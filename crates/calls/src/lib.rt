@@ -2,6 +2,8 @@
 #![tactic(auto)]
 
 mod frame;
+#[cfg(test)]
+mod tests;
 mod text;
 
 pub use frame::{CallFault, read_request, reply_frame};

@@ -1,5 +1,5 @@
-ghost use Rattle.std.specs.Prelude.{◌≡◌};
-ghost use Rattle.journal.specs.Fault.{fault_number};
+ghost use Rattle.std.specs.Prelude.{◌≡◌, Some};
+ghost use Rattle.journal.specs.Fault.{fault_number, fault_text};
 
 use disk::DiskFault;
 use std::alloc::{AllocError, AllocFailed};
@@ -32,6 +32,8 @@ impl StoreFault {
 }
 
 impl fmt::Display for StoreFault {
+    ghost output = { λ fault. Some (fault_text fault) };
+
     fn fmt<W: fmt::Write>(&self, f: &mut fmt::Formatter<W>) -> fmt::Result {
         f.write_str(match self {
             StoreFault::Device => "device",

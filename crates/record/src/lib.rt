@@ -69,3 +69,31 @@ pub fn push_record(
     push_frame(out, &call)?;
     push_frame(out, &reply)
 }
+
+#[cfg(test)]
+mod tests {
+    use super::*;
+    use ipc_model::{Call, Reply};
+    use std::test::Fail;
+
+    // Number 0: space 1, the call allocate of a receive right, and the reply with the name 0x100.
+    const TEXT: [u8; 40] = [
+        0, 0, 0, 0, 0, 0, 0, 0, 1, 0, 0, 0, 8, 0, 0, 0, 5, 0, 0, 0, 1, 0, 0, 0, 12, 0, 0, 0, 5, 0,
+        0, 0, 0, 0, 0, 0, 0, 1, 0, 0,
+    ];
+
+    #[test]
+    fn a_record_as_bytes(rt: HostRuntime) -> Result<(), Fail> {
+        let record = Record {
+            space: 1,
+            call: Call::Allocate { right: 1 },
+            reply: Reply::Allocate { name: 0x100 },
+        };
+        let mut out = Vec::new(rt.alloc());
+        push_record(rt.alloc(), &mut out, 0, &record)?;
+        assert_eq!(rt; out.as_slice(), &TEXT[..]);
+        assert_eq!(rt; take_record(&TEXT), Some((0, record, &[][..])));
+        assert!(rt; take_record(&TEXT[..39]).is_none());
+        Ok(())
+    }
+}

@@ -1,5 +1,5 @@
 -- How long what is written is.
-use Rattle.std.proofs.Common.{◌≡◌, ℕ, ◌+◌, ◌-◌, ◌≤◌, ◌<◌, List, ◌++◌, length, take, drop, replicate, Result, Ok, Err, OnOk, ap, ◌∙◌, arith, length-append, length-drop, length-take}
+use Rattle.std.proofs.Common.{◌≡◌, ℕ, ◌+◌, ◌≤◌, ◌<◌, List, ◌++◌, length, take, drop, replicate, Result, Ok, Err, OnOk, ap, ◌∙◌, arith, length-append, length-take}
 use Rattle.disk.specs.Slots.{Slots, with_slot, written_at}
 use Rattle.disk.specs.declared.slot.Slot.TheVariants.{Image0}
 

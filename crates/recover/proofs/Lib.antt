@@ -1,1 +1,2 @@
+mod Images
 mod Lengths

@@ -4,5 +4,7 @@
 mod making;
 mod opening;
 mod reading;
+#[cfg(test)]
+mod tests;
 
 pub use opening::{Opened, open};

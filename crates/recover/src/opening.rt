@@ -1,4 +1,4 @@
-ghost use Rattle.std.specs.Prelude.{◌≡◌, ◌≢◌, ◌<◌, ◌≤◌, ◌++◌, ℕ, false, length, take, IfOk, IfErr, OnOk, OnErr, IsErrOf, ◌⊎◌, Err};
+ghost use Rattle.std.specs.Prelude.{◌≡◌, ◌<◌, ◌≤◌, ◌++◌, false, length, take, IfOk, IfErr, OnOk, OnErr, IsErrOf, ◌⊎◌, Err};
 ghost use Rattle.disk.specs.Slots.{slot_of};
 ghost use Rattle.disk.specs.Moments.{Grew};
 ghost use Rattle.recover.specs.Recovered.{Follows, Recovers};

@@ -1,7 +1,7 @@
-ghost use Rattle.std.specs.Prelude.{◌≡◌, ◌≢◌, ◌↔◌, ◌+◌, ◌≤◌, ◌<◌, ◌++◌, ◌∷◌, [], List, ℕ, length, take, drop, slice_index, IsTrue, IfOk, IfSome, IfNone, IsErrOf, OnOk};
+ghost use Rattle.std.specs.Prelude.{◌≡◌, ◌≢◌, ◌↔◌, ◌+◌, ◌≤◌, ◌<◌, ◌++◌, ◌∷◌, [], length, take, IsTrue, IfOk, IfSome, IfNone, IsSome, OnOk};
 ghost use Rattle.ipc_model.specs.Store.{segment_header, open_gate};
-ghost use Rattle.ipc_model.specs.State.{State};
 ghost use Rattle.ipc_model.specs.Step.{Run};
+ghost use Rattle.recover.specs.Recovered.{HoldsOpeningImage, IsNew};
 
 use ipc_model::Record;
 use journal::{OPEN_GATE, StoreFault};
@@ -21,7 +21,7 @@ pub const OPENING_IMAGE: [u8; 32] = [
 
 /// Whether a slot holds its whole header and its gate is open.
 fn is_open(slot: &[u8], header: usize) -> bool
-    ensures { IsTrue result ↔ ((header ≤ length slot.now) × (0 < length slot.now) × (slice_index slot.now 0 ≡ open_gate)) }
+    ensures { IsTrue result ↔ ((header ≤ length slot.now) × (take 1 slot.now ≡ open_gate ∷ [])) }
 {
     header <= slot.len() && slot.first() == Some(&OPEN_GATE)
 }
@@ -70,6 +70,8 @@ pub fn survey<'a>(
     segment1: &[u8],
 ) -> Result<Option<&'a [u8]>, StoreFault>
     ensures stored { IfOk result (λ found. IfSome found (λ rest. segment0.now ≡ segment_header open_gate 0 ++ rest.now)) }
+    ensures image { IfOk result (λ found. IfSome found (λ _. HoldsOpeningImage image0.now)) }
+    ensures new { IfOk result (λ found. IfNone found (IsNew image0.now image1.now)) }
     ensures faults { (result ≢ Err StoreFault.Device) × (result ≢ Err StoreFault.NoMemory) }
 {
     if is_other_version(image0, IMAGE_HEADER)
@@ -102,6 +104,8 @@ fn survey_stored<'a>(
     batches: Option<&'a [u8]>,
 ) -> Result<Option<&'a [u8]>, StoreFault>
     ensures stored { IfOk result (λ found. found ≡ batches.entry) }
+    ensures some { IfOk result (λ found. IsSome found) }
+    ensures image { OnOk result (HoldsOpeningImage image0.now) }
     ensures faults { (result ≢ Err StoreFault.Device) × (result ≢ Err StoreFault.NoMemory) }
 {
     let Some(text) = first_epoch(image0) else {

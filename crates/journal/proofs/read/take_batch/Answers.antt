@@ -1,4 +1,4 @@
-use Rattle.std.proofs.Common.{◌≡◌, ◌<◌, length, drop, arith}
+use Rattle.std.proofs.Common.{length, drop, arith}
 use Rattle.journal.proofs.Batches.{batch_whole}
 use Rattle.journal.proofs.read.take_batch.Goals as goal
 

@@ -1,6 +1,6 @@
-use Rattle.std.proofs.Common.{◌≡◌, [], ◌∷◌, ◌++◌, length, drop, refl, sym, ap, ◌∙◌, arith}
+use Rattle.std.proofs.Common.{◌++◌, length, sym, ap, ◌∙◌, arith}
 use Rattle.std.proofs.lemmas.List.{append-nil, drop_all}
-use Rattle.journal.proofs.Batches.{Adds, adds_more}
+use Rattle.journal.proofs.Batches.{adds_more}
 use Rattle.journal.proofs.read.take_records.Goals as goal
 
 pub loop-init : goal.loop-init
