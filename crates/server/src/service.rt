@@ -21,12 +21,22 @@ pub enum ServeFault {
 }
 
 impl From<WireFault> for ServeFault {
+    ghost use Rattle.std.specs.Prelude.{◌≡◌};
+    ghost use Rattle.server.specs.declared.service.ServeFault.TheVariants.{Wire};
+
+    ghost from_gives = { λ fault e. e ≡ Wire fault };
+
     fn from(fault: WireFault) -> Self {
         ServeFault::Wire(fault)
     }
 }
 
 impl From<StoreFault> for ServeFault {
+    ghost use Rattle.std.specs.Prelude.{◌≡◌};
+    ghost use Rattle.server.specs.declared.service.ServeFault.TheVariants.{Store};
+
+    ghost from_gives = { λ fault e. e ≡ Store fault };
+
     fn from(fault: StoreFault) -> Self {
         ServeFault::Store(fault)
     }

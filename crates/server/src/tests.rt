@@ -130,8 +130,8 @@ fn a_failing_store_gets_no_reply(rt: HostRuntime) -> Result<(), Fail> {
 }
 
 /// The status and the line of errors of a run of the program with these words.
-fn run(rt: &HostRuntime, words: &[String]) -> Result<(u8, String), Fail> {
-    let mut input: &[u8] = &[];
+fn run(rt: &HostRuntime, words: &[String], bytes: &[u8]) -> Result<(u8, String), Fail> {
+    let mut input = bytes;
     let mut output = Vec::new(rt.alloc());
     let mut errors = Vec::new(rt.alloc());
     let status = lone(rt.alloc(), rt, words, &mut input, &mut output, &mut errors);
@@ -142,11 +142,11 @@ fn run(rt: &HostRuntime, words: &[String]) -> Result<(u8, String), Fail> {
 fn faults_have_a_status_and_a_line(rt: HostRuntime) -> Result<(), Fail> {
     let alloc = rt.alloc();
     let mut words = Vec::new(alloc);
-    let (status, line) = run(&rt, &words)?;
+    let (status, line) = run(&rt, &words, &[])?;
     assert_eq!(rt; status, 2);
     assert_eq!(rt; line.as_str(), "machipcd: command line\n");
     words.push(String::from_str(alloc, "/nowhere/at/all")?)?;
-    let (status, line) = run(&rt, &words)?;
+    let (status, line) = run(&rt, &words, &[])?;
     assert_eq!(rt; status, 1);
     assert_eq!(rt; line.as_str(), "machipcd: store fault 1: device\n");
     Ok(())
@@ -168,9 +168,29 @@ fn a_damaged_slot_is_told(rt: HostRuntime) -> Result<(), Fail> {
     fs::write(&rt, file.as_str(), &image)?;
     let mut words = Vec::new(alloc);
     words.push(path.clone()?)?;
-    let (status, line) = run(&rt, &words)?;
+    let (status, line) = run(&rt, &words, &[])?;
     assert_eq!(rt; status, 1);
     assert_eq!(rt; line.as_str(), "machipcd: store fault 3: damaged\n");
+    fs::remove_dir_all(&rt, path.as_str())?;
+    Ok(())
+}
+
+#[test]
+fn wire_faults_have_a_line(rt: HostRuntime) -> Result<(), Fail> {
+    let alloc = rt.alloc();
+    let mut folder = env::temp_dir(&rt)?;
+    folder.push("machipcd_wire_faults")?;
+    let path = String::from_str(alloc, folder.as_path().as_str())?;
+    let _ = fs::remove_dir_all(&rt, path.as_str());
+    fs::create_dir(&rt, path.as_str())?;
+    let mut words = Vec::new(alloc);
+    words.push(path.clone()?)?;
+    let (status, line) = run(&rt, &words, &[3, 0, 0, 0])?;
+    assert_eq!(rt; status, 1);
+    assert_eq!(rt; line.as_str(), "machipcd: wire fault 1: short\n");
+    let (status, line) = run(&rt, &words, &[253, 255, 0, 0])?;
+    assert_eq!(rt; status, 1);
+    assert_eq!(rt; line.as_str(), "machipcd: wire fault 2: too long\n");
     fs::remove_dir_all(&rt, path.as_str())?;
     Ok(())
 }
