@@ -1,8 +1,11 @@
+pub mod BatchLaws
 pub mod RunLaws
 pub mod State
 pub mod StateCode
 pub mod Step
+pub mod StepLaws
 pub mod Store
+pub mod StoreLaws
 pub mod Texts
 pub mod WordLaws
 pub mod Words

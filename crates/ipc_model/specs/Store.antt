@@ -1,8 +1,9 @@
 -- The texts of the store's slots, version 1.
-use Rattle.std.specs.Prelude.{◌≡◌, ◌≢◌, ℕ, ◌+◌, ◌-◌, ◌<◌, List, [], ◌∷◌, ◌++◌, length, take}
+use Rattle.std.specs.Prelude.{◌≡◌, ◌≢◌, ◌⊎◌, ℕ, ◌+◌, ◌-◌, ◌<◌, ◌≤◌, List, [], ◌∷◌, ◌++◌, length, take}
+use Rattle.codes.specs.declared.limits.TheConstants.{MAX_RECORDS}
 use Rattle.ipc_model.specs.declared.record.Record.{Record}
 use Rattle.ipc_model.specs.Words.{word, long_word}
-use Rattle.ipc_model.specs.Texts.{records_text}
+use Rattle.ipc_model.specs.Texts.{records_text, IsRecord}
 
 -- A gate with this byte is open; with any other it is closed. A closed gate is written as 0.
 abbrev pub open_gate : ℕ
@@ -46,15 +47,45 @@ abbrev pub all_records : List (List Record) → List Record
 all_records [] = []
 all_records (batch ∷ batches) = batch ++ all_records batches
 
--- An open segment of this epoch spells these records: those of its batches up to the first closed gate.
-pub record SpellsSegment (epoch : ℕ) (bytes : List ℕ) (records : List Record) : Type 0 where
+-- records that a segment may hold
+abbrev pub AreRecords : List Record → Type 0
+AreRecords [] = Unit {0}
+AreRecords (first ∷ records) = IsRecord first × AreRecords records
+
+-- Bytes behind a segment's header spell these records: in open batches, whole and numbered from 0, of `size`
+-- bytes in all, and then comes a gate that isn't open, or nothing.
+pub record SpellsBatches (bytes : List ℕ) (records : List Record) (size : ℕ) : Type 0 where
   pub batches : List (List Record)
   pub rest : List ℕ
-  pub text : bytes ≡ segment_header open_gate epoch ++ (batches_text 0 batches ++ rest)
+  pub text : bytes ≡ batches_text 0 batches ++ rest
   pub closed : IsClosed rest
   pub none_empty : NoneEmpty batches
   pub flat : records ≡ all_records batches
+  pub canonical : AreRecords records
+  pub bounded : length records ≤ MAX_RECORDS
+  pub sized : size + length rest ≡ length bytes
+
+-- An open segment of this epoch spells these records: those of its batches up to the first gate that isn't open.
+pub record SpellsSegment (epoch : ℕ) (bytes : List ℕ) (records : List Record) : Type 0 where
+  pub content : List ℕ
+  pub size : ℕ
+  pub text : bytes ≡ segment_header open_gate epoch ++ content
+  pub spelled : SpellsBatches content records size
+
+-- A segment in use: behind its batches stands one closed gate and nothing else.
+pub record IsInUse (epoch : ℕ) (bytes : List ℕ) (records : List Record) : Type 0 where
+  pub content : List ℕ
+  pub size : ℕ
+  pub text : bytes ≡ segment_header open_gate epoch ++ content
+  pub spelled : SpellsBatches content records size
+  pub ended : length content ≡ size + 1
 
 -- a segment that ends in a closed gate, with one batch more in that gate's place, and a closed gate behind it
 abbrev pub with_batch : List ℕ → List ℕ → List ℕ
 with_batch segment text = take (length segment - 1) segment ++ (open_gate ∷ (text ++ closed_gate ∷ []))
+
+-- What a stop while a batch is appended may leave of a segment: the segment as it was, with any bytes behind
+-- it; or any byte in the place of its last gate, and behind that the batch's text and a closed gate.
+abbrev pub IsMidAppend : List ℕ → List ℕ → List ℕ → Type 0
+IsMidAppend old text new =
+    ((tail : List ℕ) × (new ≡ old ++ tail)) ⊎ ((gate : ℕ) × (new ≡ take (length old - 1) old ++ (gate ∷ (text ++ closed_gate ∷ []))))

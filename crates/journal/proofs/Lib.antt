@@ -1,1 +1,3 @@
 mod Batches
+mod Reading
+mod Storing

@@ -1,2 +1,4 @@
 pub mod Fault
 pub mod Journal
+pub mod Reading
+pub mod Storing

@@ -1,7 +1,10 @@
-ghost use Rattle.std.specs.Prelude.{◌≡◌, ◌≢◌, ◌↔◌, ◌⊎◌, ◌+◌, ◌-◌, ◌<◌, ◌≤◌, ◌++◌, ◌∷◌, [], length, take, true, false, OnOk, OnErr, IfOk, IsErrOf};
+ghost use Rattle.std.specs.Prelude.{◌≡◌, ◌≢◌, ◌↔◌, ◌⊎◌, ◌+◌, ◌-◌, ◌<◌, ◌≤◌, ◌++◌, ◌∷◌, [], length, take, true, false, IsTrue, OnOk, OnErr, IfOk, IsErrOf};
 ghost use Rattle.disk.specs.Slots.{slot_of, with_slot};
-ghost use Rattle.disk.specs.Moments.{IsSynced, Grew, CountsFailure};
-ghost use Rattle.ipc_model.specs.Store.{with_batch, batch_text, open_gate, closed_gate};
+ghost use Rattle.disk.specs.Moments.{IsSynced, Passes, Follows, Grew, CountsFailure};
+ghost use Rattle.ipc_model.specs.Step.{has_record};
+ghost use Rattle.ipc_model.specs.Texts.{IsRecord};
+ghost use Rattle.ipc_model.specs.Store.{with_batch, batch_text, open_gate, closed_gate, IsMidAppend};
+ghost use Rattle.journal.specs.Storing.{IsMidStore};
 
 use crate::StoreFault;
 use codes::MAX_RECORDS;
@@ -43,11 +46,11 @@ impl<D: Disk> Model for Journal<D> {
 
 #[tactic(auto, unfolding(ipc_model::specs::Store::batch_text))]
 /// The text behind a batch's gate, and the closed gate behind it.
-fn batch_of(alloc: Global, number: u64, record: &Record) -> Result<Vec<u8>, AllocError>
-    ensures { IfOk result (λ text. text.items ≡ batch_text number (record.now ∷ []) ++ closed_gate ∷ []) }
+fn batch_of(alloc: Global, number: u64, entry: &Record) -> Result<Vec<u8>, AllocError>
+    ensures { IfOk result (λ text. text.items ≡ batch_text number (entry.now ∷ []) ++ closed_gate ∷ []) }
 {
     let mut content = Vec::new(alloc);
-    push_record(alloc, &mut content, number, record)?;
+    push_record(alloc, &mut content, number, entry)?;
     let mut text = Vec::new(alloc);
     push_word(&mut text, 1)?;
     push_long_word(&mut text, content.len() as u64)?;
@@ -56,12 +59,22 @@ fn batch_of(alloc: Global, number: u64, record: &Record) -> Result<Vec<u8>, Allo
     Ok(text)
 }
 
+/// The same record: its numbers are in the ranges of their types.
+fn in_range(entry: Record) -> Record
+    ensures same { result ≡ entry }
+    ensures fits { IsTrue (has_record entry.reply) → IsRecord entry }
+{
+    entry
+}
+
 /// Writes a batch behind a slot's last gate, and opens that gate once the batch is on the disk.
 fn store<D: Disk>(disk: &mut D, slot: Slot, text: &[u8]) -> Result<(), DiskFault>
     requires { D.honest → 0 < length (slot_of (D.view disk.old).seen slot) }
     ensures stored { D.honest → OnOk result ((D.view disk.new).seen ≡ with_slot (D.view disk.old).seen slot
         (take (length (slot_of (D.view disk.old).seen slot) - 1) (slot_of (D.view disk.old).seen slot) ++ (open_gate ∷ text.now))) }
     ensures synced { D.honest → OnOk result (IsSynced (D.view disk.new) slot) }
+    ensures any_moment { D.honest → IsSynced (D.view disk.old) slot
+        → Passes (D.view disk.old) (D.view disk.new) (Follows (D.view disk.old) slot (IsMidStore text.now)) }
     ensures failures { CountsFailure (D.failed_calls disk.old) (D.failed_calls disk.new) result }
 {
     let gate = disk.length(slot).saturating_sub(1);
@@ -112,10 +125,17 @@ impl<D: Disk> Journal<D> {
     /// `Failed`: the device failed in an earlier call; the store has to be opened again. `Full`: the segment
     /// holds `MAX_RECORDS` records. `NoMemory`: nothing changed. `Device`: the device failed, and whether the
     /// record is stored isn't known until the store is opened again.
-    pub fn append(&mut self, record: &Record) -> Result<(), StoreFault>
+    pub fn append(&mut self, entry: &Record) -> Result<(), StoreFault>
         ensures stored { D.honest → OnOk result ((D.view self.new.disk).seen ≡ with_slot (D.view self.old.disk).seen Slot.Segment0
-            (with_batch (D.view self.old.disk).seen.segment0 (batch_text self.old.records (record.now ∷ [])))) }
+            (with_batch (D.view self.old.disk).seen.segment0 (batch_text self.old.records (entry.now ∷ [])))) }
         ensures synced { D.honest → OnOk result (IsSynced (D.view self.new.disk) Slot.Segment0) }
+        // A stop at any moment of the call leaves the other slots as they were, and segment 0 as it was, with bytes
+        // behind it, or with the batch behind a gate that is open or isn't.
+        ensures any_moment { D.honest → IsSynced (D.view self.old.disk) Slot.Segment0
+            → Passes (D.view self.old.disk) (D.view self.new.disk) (Follows (D.view self.old.disk) Slot.Segment0
+            (λ before after. IsMidAppend before (batch_text self.old.records (entry.now ∷ [])) after)) }
+        // The numbers of a record are in the ranges of their types: one of a call that has a record is fit to be kept.
+        ensures fits { IsTrue (has_record entry.now.reply) → IsRecord entry.now }
         ensures counted { OnOk result ((self.new.records ≡ self.old.records + 1) × (self.new.failed ≡ false)) }
 
         ensures failed { IsErrOf result StoreFault.Failed ↔ (self.old.failed ≡ true) }
@@ -125,13 +145,14 @@ impl<D: Disk> Journal<D> {
         ensures no_other { (result ≢ Err StoreFault.Damaged) × (result ≢ Err StoreFault.Version) }
         ensures unchanged { OnErr result ((result ≡ Err StoreFault.Device) ⊎ (self.new ≡ self.old)) }
     {
+        let next = in_range(*entry);
         if self.failed {
             return Err(StoreFault::Failed);
         }
         if self.records >= MAX_RECORDS {
             return Err(StoreFault::Full);
         }
-        let text = batch_of(self.alloc, self.records, record)?;
+        let text = batch_of(self.alloc, self.records, &next)?;
         if store(&mut self.disk, Slot::Segment0, &text).is_err() {
             self.failed = true;
             return Err(StoreFault::Device);

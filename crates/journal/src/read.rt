@@ -1,7 +1,7 @@
-ghost use Rattle.std.specs.Prelude.{◌≡◌, ◌≢◌, ◌+◌, ◌<◌, ◌≤◌, ◌++◌, ℕ, List, length, drop, take, ◌∷◌, OnOk, IfOk, IfSome, IfNone};
+ghost use Rattle.std.specs.Prelude.{◌≡◌, ◌⊎◌, ◌≤◌, ◌++◌, ℕ, List, length, drop, ◌∷◌, Err, OnOk, OnErr, IfOk, IfSome, IfNone, IsErrOf};
 ghost use Rattle.ipc_model.specs.declared.record.Record.{Record};
-ghost use Rattle.ipc_model.specs.Texts.{records_text};
-ghost use Rattle.ipc_model.specs.Store.{open_gate, batch_text, batches_text, all_records, IsClosed, NoneEmpty};
+ghost use Rattle.ipc_model.specs.Store.{open_gate, IsClosed, SpellsBatches};
+ghost use Rattle.journal.specs.Reading.{IsContent, IsBatch};
 
 use crate::StoreFault;
 use crate::journal::OPEN_GATE;
@@ -13,20 +13,22 @@ use words::{take_long_word, take_word};
 
 /// Adds the records of a batch's content, which are numbered on from those that are there.
 fn take_records(records: &mut Vec<Record>, content: &[u8], count: u32) -> Result<(), StoreFault>
+    requires { length records.old.items ≤ MAX_RECORDS }
     ensures added { OnOk result (let added = drop (length records.old.items) records.new.items in
-        (records.new.items ≡ records.old.items ++ added) × (length added ≡ count)
-        × (content.now ≡ records_text (length records.old.items) added)) }
-    ensures faults { (result ≢ Err StoreFault.Device) × (result ≢ Err StoreFault.Version) }
+        (records.new.items ≡ records.old.items ++ added) × IsContent (length records.old.items) count content.now added) }
+    ensures damaged { IsErrOf result StoreFault.Damaged
+        → (added : List Record) → IsContent (length records.old.items) count content.now added → ⊥ }
+    ensures faults { OnErr result ((result ≡ Err StoreFault.Damaged) ⊎ (result ≡ Err StoreFault.NoMemory)) }
 {
     let mut rest = content;
     for _ in 0..count {
-        let Some((number, record, after)) = take_record(rest) else {
+        let Some((number, entry, after)) = take_record(rest) else {
             return Err(StoreFault::Damaged);
         };
         if number != records.len() as u64 || number >= MAX_RECORDS {
             return Err(StoreFault::Damaged);
         }
-        records.push(record)?;
+        records.push(entry)?;
         rest = after;
     }
     if rest.is_empty() {
@@ -38,10 +40,12 @@ fn take_records(records: &mut Vec<Record>, content: &[u8], count: u32) -> Result
 
 /// Adds the records of the batch whose open gate stands before these bytes, and gives what stands behind it.
 fn take_batch<'a>(records: &mut Vec<Record>, bytes: &'a [u8]) -> Result<&'a [u8], StoreFault>
+    requires { length records.old.items ≤ MAX_RECORDS }
     ensures added { IfOk result (λ rest. let added = drop (length records.old.items) records.new.items in
-        (records.new.items ≡ records.old.items ++ added) × (0 < length added)
-        × (bytes.now ≡ batch_text (length records.old.items) added ++ rest.now)) }
-    ensures faults { (result ≢ Err StoreFault.Device) × (result ≢ Err StoreFault.Version) }
+        (records.new.items ≡ records.old.items ++ added) × IsBatch (length records.old.items) bytes.now added rest.now) }
+    ensures damaged { IsErrOf result StoreFault.Damaged
+        → (added : List Record) (rest : List ℕ) → IsBatch (length records.old.items) bytes.now added rest → ⊥ }
+    ensures faults { OnErr result ((result ≡ Err StoreFault.Damaged) ⊎ (result ≡ Err StoreFault.NoMemory)) }
 {
     let Some((count, rest)) = take_word(bytes) else {
         return Err(StoreFault::Damaged);
@@ -71,12 +75,13 @@ fn behind_open_gate(bytes: &[u8]) -> Option<&[u8]>
 /// The records of the batches behind a segment's header, and how many bytes these batches have: those behind
 /// open gates, up to the first that is closed or isn't there.
 ///
-/// `Damaged`: an open batch isn't whole, isn't spelled as a batch is, or is numbered otherwise than on from the
-/// one before. `NoMemory`: no memory.
+/// `Damaged`, which comes just where the bytes spell no batches: an open batch isn't whole, isn't spelled as a
+/// batch is, or is numbered otherwise than on from the one before, or there are more records than a segment may
+/// hold. `NoMemory`: no memory.
 pub fn read_batches(alloc: Global, bytes: &[u8]) -> Result<(Vec<Record>, usize), StoreFault>
-    ensures spelled { IfOk result (λ r. (batches : List (List Record)) × (rest : List ℕ) × (bytes.now ≡ batches_text 0 batches ++ rest)
-        × IsClosed rest × NoneEmpty batches × (r.0.items ≡ all_records batches) × (r.1 + length rest ≡ length bytes.now)) }
-    ensures faults { (result ≢ Err StoreFault.Device) × (result ≢ Err StoreFault.Version) }
+    ensures spelled { IfOk result (λ r. SpellsBatches bytes.now r.0.items r.1) }
+    ensures damaged { IsErrOf result StoreFault.Damaged → (records : List Record) (size : ℕ) → SpellsBatches bytes.now records size → ⊥ }
+    ensures faults { OnErr result ((result ≡ Err StoreFault.Damaged) ⊎ (result ≡ Err StoreFault.NoMemory)) }
 {
     let mut records = Vec::new(alloc);
     let mut rest = bytes;

@@ -1,2 +1,5 @@
-mod Images
+mod Ends
 mod Lengths
+mod Replays
+mod Rest
+mod Surveys

@@ -1,1 +1,6 @@
+pub mod AtRest
+pub mod Fronts
+pub mod Kept
+pub mod Opened
 pub mod Recovered
+pub mod RecoveredLaws

@@ -1,21 +1,51 @@
-ghost use Rattle.std.specs.Prelude.{◌≡◌, ◌<◌, ◌≤◌, ◌++◌, false, length, take, IfOk, IfErr, OnOk, OnErr, IsErrOf, ◌⊎◌, Err};
-ghost use Rattle.disk.specs.Slots.{slot_of};
-ghost use Rattle.disk.specs.Moments.{Grew};
-ghost use Rattle.recover.specs.Recovered.{Follows, Recovers};
-ghost use Rattle.ipc_model.specs.Store.{segment_header, open_gate};
+ghost use Rattle.std.specs.Prelude.{◌≡◌, ◌≢◌, ◌<◌, ◌≤◌, ◌++◌, ℕ, List, false, length, take, IfOk, IfErr, OnOk, OnErr, IsErrOf, ◌⊎◌, Err};
+ghost use Rattle.disk.specs.Slots.{Slots, slot_of, with_slot};
+ghost use Rattle.disk.specs.Moments.{Grew, MayLeave};
+ghost use Rattle.ipc_model.specs.declared.record.Record.{Record};
+ghost use Rattle.ipc_model.specs.State.{State, opening_state};
+ghost use Rattle.ipc_model.specs.Step.{Run};
+ghost use Rattle.ipc_model.specs.Store.{segment_header, open_gate, SpellsBatches, IsInUse};
+ghost use Rattle.recover.specs.AtRest.{IsAtRest};
+ghost use Rattle.recover.specs.Fronts.{four_slots, fronts_of};
+ghost use Rattle.recover.specs.Kept.{IsKept};
+ghost use Rattle.recover.specs.Recovered.{Follows, Recovers, HoldsOpeningImage, IsReady, IsDamaged, IsOtherVersion};
 
-use crate::making::{end_segment, make_image, make_segment, sync_all};
+use crate::making::{end_segment, make_store, sync_all};
 use crate::reading::{IMAGE_HEADER, SEGMENT_HEADER, replay_all, survey};
 use disk::{Disk, Slot};
 use journal::{Journal, StoreFault, read_batches};
 use kernel::Kernel;
 use std::alloc::Global;
+use std::marker::Model;
 
 /// A store that is open: the state that it stands for, and the journal that goes on from there.
 #[derive(Drop)]
 pub struct Opened<D: Disk> {
     pub kernel: Kernel,
     pub journal: Journal<D>,
+}
+
+impl<D: Disk> Model for Opened<D> {
+    ghost use Rattle.recover.specs.Kept.{IsKept};
+    ghost use Rattle.recover.specs.Opened.{OpenedValue, opened_code};
+
+    ghost Value = { OpenedValue D };
+
+    ghost coded = { opened_code D.code };
+
+    ghost view = { λ o. record { kernel = o.kernel; journal = o.journal } };
+
+    // Who has an opened store can go on from it.
+    ghost invariant = { λ o. D.honest → IsKept (D.view o.journal.disk) o.kernel o.journal.records };
+}
+
+/// As much of the front of each slot as tells what the slot is, and all of segment 0.
+#[derive(Drop)]
+struct Fronts {
+    image0: Vec<u8>,
+    image1: Vec<u8>,
+    segment0: Vec<u8>,
+    segment1: Vec<u8>,
 }
 
 /// The bytes of a slot, at most so many from its front.
@@ -27,6 +57,7 @@ fn front_of<D: Disk>(
 ) -> Result<Vec<u8>, StoreFault>
     ensures bytes { D.honest → IfOk result (λ bytes. bytes.items ≡ take most (slot_of (D.view disk.old).seen slot)) }
     ensures seen { D.honest → (D.view disk.new).seen ≡ (D.view disk.old).seen }
+    ensures rest { D.honest → IsAtRest (D.view disk.old) → OnOk result (IsAtRest (D.view disk.new)) }
     ensures later { D.failed_calls disk.old ≤ D.failed_calls disk.new }
     ensures device { IsErrOf result StoreFault.Device → Grew (D.failed_calls disk.old) (D.failed_calls disk.new) }
     ensures faults { OnErr result ((result ≡ Err StoreFault.Device) ⊎ (result ≡ Err StoreFault.NoMemory)) }
@@ -41,11 +72,49 @@ fn front_of<D: Disk>(
 fn whole_segment<D: Disk>(alloc: Global, disk: &mut D) -> Result<Vec<u8>, StoreFault>
     ensures bytes { D.honest → IfOk result (λ bytes. bytes.items ≡ (D.view disk.old).seen.segment0) }
     ensures seen { D.honest → (D.view disk.new).seen ≡ (D.view disk.old).seen }
+    ensures rest { D.honest → IsAtRest (D.view disk.old) → OnOk result (IsAtRest (D.view disk.new)) }
     ensures later { D.failed_calls disk.old ≤ D.failed_calls disk.new }
     ensures device { IsErrOf result StoreFault.Device → Grew (D.failed_calls disk.old) (D.failed_calls disk.new) }
+    ensures faults { OnErr result ((result ≡ Err StoreFault.Device) ⊎ (result ≡ Err StoreFault.NoMemory)) }
 {
     let length = disk.length(Slot::Segment0) as usize;
     front_of(alloc, disk, Slot::Segment0, length)
+}
+
+/// Syncs the slots and reads their fronts.
+fn read_fronts<D: Disk>(alloc: Global, disk: &mut D) -> Result<Fronts, StoreFault>
+    ensures fronts { D.honest → IfOk result (λ fronts. four_slots fronts.image0.items fronts.image1.items fronts.segment0.items fronts.segment1.items
+        ≡ fronts_of (D.view disk.old).seen) }
+    ensures seen { D.honest → (D.view disk.new).seen ≡ (D.view disk.old).seen }
+    ensures rest { D.honest → OnOk result (IsAtRest (D.view disk.new)) }
+    ensures later { D.failed_calls disk.old ≤ D.failed_calls disk.new }
+    ensures device { IsErrOf result StoreFault.Device → Grew (D.failed_calls disk.old) (D.failed_calls disk.new) }
+    ensures faults { OnErr result ((result ≡ Err StoreFault.Device) ⊎ (result ≡ Err StoreFault.NoMemory)) }
+{
+    sync_all(disk)?;
+    let image0 = front_of(alloc, disk, Slot::Image0, IMAGE_HEADER + 24)?;
+    let image1 = front_of(alloc, disk, Slot::Image1, IMAGE_HEADER)?;
+    let segment0 = whole_segment(alloc, disk)?;
+    let segment1 = front_of(alloc, disk, Slot::Segment1, SEGMENT_HEADER)?;
+    Ok(Fronts {
+        image0,
+        image1,
+        segment0,
+        segment1,
+    })
+}
+
+/// The state after the records of these batches, how many records they are, and how many bytes they have.
+fn replay_batches(alloc: Global, batches: &[u8]) -> Result<(Kernel, u64, usize), StoreFault>
+    ensures state { IfOk result (λ r. (records : List Record) × SpellsBatches batches.now records r.2
+        × Run opening_state records r.0 × (r.1 ≡ length records)) }
+    ensures damaged { IsErrOf result StoreFault.Damaged → (records : List Record) → (size : ℕ) → (state : State)
+        → SpellsBatches batches.now records size → Run opening_state records state → ⊥ }
+    ensures faults { OnErr result ((result ≡ Err StoreFault.Damaged) ⊎ (result ≡ Err StoreFault.NoMemory)) }
+{
+    let (records, size) = read_batches(alloc, batches)?;
+    let kernel = replay_all(Kernel::opening(alloc), &records)?;
+    Ok((kernel, records.len() as u64, size))
 }
 
 /// The state after the records that stand behind segment 0's header, and their count. The segment is ended
@@ -56,34 +125,47 @@ fn load_stored<D: Disk>(
     batches: &[u8],
 ) -> Result<(Kernel, u64), StoreFault>
     requires { D.honest → (D.view disk.old).seen.segment0 ≡ segment_header open_gate 0 ++ batches.now }
-    ensures state { D.honest → IfOk result (λ r. Follows (D.view disk.old).seen r.0 r.1) }
-    ensures gate { D.honest → OnOk result (0 < length (D.view disk.new).seen.segment0) }
+    ensures state { D.honest → IfOk result (λ r. Follows (D.view disk.old).seen.segment0 r.0 r.1) }
+    ensures ready { D.honest → IfOk result (λ r. IsReady (D.view disk.new).seen r.0 r.1) }
+    ensures others { D.honest → OnOk result ((D.view disk.new).seen
+        ≡ with_slot (D.view disk.old).seen Slot.Segment0 (D.view disk.new).seen.segment0) }
+    ensures rest { D.honest → IsAtRest (D.view disk.old) → OnOk result (IsAtRest (D.view disk.new)) }
+    ensures damaged { D.honest → IsErrOf result StoreFault.Damaged
+        → (state : State) → (count : ℕ) → Follows (D.view disk.old).seen.segment0 state count → ⊥ }
+    ensures faults { OnErr result ((result ≡ Err StoreFault.Device) ⊎ ((result ≡ Err StoreFault.Damaged) ⊎ (result ≡ Err StoreFault.NoMemory))) }
     ensures later { D.failed_calls disk.old ≤ D.failed_calls disk.new }
     ensures device { IsErrOf result StoreFault.Device → Grew (D.failed_calls disk.old) (D.failed_calls disk.new) }
 {
-    let (records, size) = read_batches(alloc, batches)?;
-    let kernel = replay_all(Kernel::opening(alloc), &records)?;
+    let (kernel, count, size) = replay_batches(alloc, batches)?;
     let end = SEGMENT_HEADER as u64 + size as u64;
     end_segment(disk, end)?;
-    Ok((kernel, records.len() as u64))
+    Ok((kernel, count))
 }
 
+/// The state that the store stands for, and how many records its segment holds. The segment is ready for more.
 fn load<D: Disk>(alloc: Global, disk: &mut D) -> Result<(Kernel, u64), StoreFault>
     ensures state { D.honest → IfOk result (λ r. Recovers (D.view disk.old).seen r.0 r.1) }
-    ensures gate { D.honest → OnOk result (0 < length (D.view disk.new).seen.segment0) }
+    ensures after { D.honest → IfOk result (λ r. Recovers (D.view disk.new).seen r.0 r.1) }
+    ensures ready { D.honest → IfOk result (λ r. IsReady (D.view disk.new).seen r.0 r.1) }
+    ensures image { D.honest → OnOk result (HoldsOpeningImage (D.view disk.new).seen.image0) }
+    ensures rest { D.honest → OnOk result (IsAtRest (D.view disk.new)) }
+    ensures version { D.honest → IsErrOf result StoreFault.Version → IsOtherVersion (D.view disk.old).seen }
+    ensures damaged { D.honest → IsErrOf result StoreFault.Damaged → IsDamaged (D.view disk.old).seen }
+    ensures faults { OnErr result ((result ≡ Err StoreFault.Device) ⊎ ((result ≡ Err StoreFault.Damaged)
+        ⊎ ((result ≡ Err StoreFault.NoMemory) ⊎ (result ≡ Err StoreFault.Version)))) }
     ensures later { D.failed_calls disk.old ≤ D.failed_calls disk.new }
     ensures device { IsErrOf result StoreFault.Device → Grew (D.failed_calls disk.old) (D.failed_calls disk.new) }
 {
-    sync_all(disk)?;
-    let image0 = front_of(alloc, disk, Slot::Image0, IMAGE_HEADER + 24)?;
-    let image1 = front_of(alloc, disk, Slot::Image1, IMAGE_HEADER)?;
-    let segment0 = whole_segment(alloc, disk)?;
-    let segment1 = front_of(alloc, disk, Slot::Segment1, SEGMENT_HEADER)?;
-    match survey(&image0, &image1, &segment0, &segment1)? {
+    let fronts = read_fronts(alloc, disk)?;
+    match survey(
+        &fronts.image0,
+        &fronts.image1,
+        &fronts.segment0,
+        &fronts.segment1,
+    )? {
         Some(batches) => load_stored(alloc, disk, batches),
         None => {
-            make_segment(disk)?;
-            make_image(disk)?;
+            make_store(disk)?;
             Ok((Kernel::opening(alloc), 0))
         }
     }
@@ -96,8 +178,23 @@ fn load<D: Disk>(alloc: Global, disk: &mut D) -> Result<(Kernel, u64), StoreFaul
 /// of another version. `NoMemory`: no memory.
 pub fn open<D: Disk>(alloc: Global, disk: D) -> Result<Opened<D>, (StoreFault, D)>
     ensures state { D.honest → IfOk result (λ opened. Recovers (D.view disk).seen opened.kernel opened.journal.records) }
-    ensures ready { IfOk result (λ opened. opened.journal.failed ≡ false) }
+    ensures version { D.honest → IfErr result (λ fault. fault.0 ≡ StoreFault.Version → IsOtherVersion (D.view disk).seen) }
+    ensures damaged { D.honest → IfErr result (λ fault. fault.0 ≡ StoreFault.Damaged → IsDamaged (D.view disk).seen) }
+    ensures faults { IfErr result (λ fault. (fault.0 ≡ StoreFault.Device) ⊎ ((fault.0 ≡ StoreFault.Damaged)
+        ⊎ ((fault.0 ≡ StoreFault.NoMemory) ⊎ (fault.0 ≡ StoreFault.Version)))) }
     ensures device { IfErr result (λ fault. fault.0 ≡ StoreFault.Device → Grew (D.failed_calls disk) (D.failed_calls fault.1)) }
+    ensures in_use { D.honest → IfOk result (λ opened. IsReady (D.view opened.journal.disk).seen opened.kernel opened.journal.records) }
+    ensures synced { D.honest → IfOk result (λ opened. IsAtRest (D.view opened.journal.disk)) }
+    ensures stands { D.honest → IfOk result (λ opened. (c : Slots) → MayLeave (D.view opened.journal.disk) c
+        → Recovers c opened.kernel opened.journal.records) }
+    // What slots stand for is what opening them gives. A store that stands for a state isn't told to be damaged or of
+    // another version.
+    ensures same { D.honest → IfOk result (λ opened. (state : State) → (count : ℕ) → Recovers (D.view disk).seen state count
+        → (opened.kernel ≡ state) × (opened.journal.records ≡ count)) }
+    ensures opens { D.honest → IfErr result (λ fault. (state : State) → (count : ℕ) → Recovers (D.view disk).seen state count
+        → (fault.0 ≢ StoreFault.Damaged) × (fault.0 ≢ StoreFault.Version)) }
+    ensures kept { D.honest → IfOk result (λ opened. IsKept (D.view opened.journal.disk) opened.kernel opened.journal.records) }
+    ensures ready { IfOk result (λ opened. opened.journal.failed ≡ false) }
 {
     let mut disk = disk;
     match load(alloc, &mut disk) {

@@ -1,7 +1,9 @@
-ghost use Rattle.std.specs.Prelude.{◌≡◌, ◌≢◌, ◌↔◌, ◌+◌, ◌≤◌, ◌<◌, ◌++◌, ◌∷◌, [], length, take, IsTrue, IfOk, IfSome, IfNone, IsSome, OnOk};
+ghost use Rattle.std.specs.Prelude.{◌≡◌, ◌≢◌, ◌↔◌, ◌⊎◌, ℕ, ◌++◌, List, IsTrue, IfOk, IfSome, IfNone, OnOk, OnErr, IsErrOf};
+ghost use Rattle.ipc_model.specs.State.{State};
 ghost use Rattle.ipc_model.specs.Store.{segment_header, open_gate};
 ghost use Rattle.ipc_model.specs.Step.{Run};
-ghost use Rattle.recover.specs.Recovered.{HoldsOpeningImage, IsNew};
+ghost use Rattle.recover.specs.Recovered.{IsOpen, HasOtherVersion, IsOtherVersion, HoldsOpeningImage, WasNeverUsed, IsDamaged};
+ghost use Rattle.recover.specs.Fronts.{four_slots};
 
 use ipc_model::Record;
 use journal::{OPEN_GATE, StoreFault};
@@ -13,6 +15,9 @@ pub const IMAGE_HEADER: usize = 24;
 /// How many bytes a segment slot has before its first batch.
 pub const SEGMENT_HEADER: usize = 16;
 
+/// What an open slot of version 1 and epoch 0 begins with.
+const FIRST_HEADER: [u8; 16] = [OPEN_GATE, 1, 0, 0, 0, 0, 0, 0, 0, 0, 0, 0, 0, 0, 0, 0];
+
 /// The length of the opening state's image and its text: next serial 1, one space, space 1 without names, no
 /// port.
 pub const OPENING_IMAGE: [u8; 32] = [
@@ -21,42 +26,80 @@ pub const OPENING_IMAGE: [u8; 32] = [
 
 /// Whether a slot holds its whole header and its gate is open.
 fn is_open(slot: &[u8], header: usize) -> bool
-    ensures { IsTrue result ↔ ((header ≤ length slot.now) × (take 1 slot.now ≡ open_gate ∷ [])) }
+    ensures { IsTrue result ↔ IsOpen header slot.now }
 {
     header <= slot.len() && slot.first() == Some(&OPEN_GATE)
 }
 
 /// Whether a slot is open and of another version.
-fn is_other_version(slot: &[u8], header: usize) -> bool {
-    is_open(slot, header) && slot.get(1) != Some(&1)
+fn is_other_version(slot: &[u8], header: usize) -> bool
+    ensures { IsTrue result ↔ HasOtherVersion header slot.now }
+{
+    if !is_open(slot, header) {
+        return false;
+    }
+    slot.get(1) != Some(&1)
+}
+
+/// Whether a slot of a store is open and of another version.
+fn has_other_version(image0: &[u8], image1: &[u8], segment0: &[u8], segment1: &[u8]) -> bool
+    ensures { IsTrue result ↔ IsOtherVersion (four_slots image0.now image1.now segment0.now segment1.now) }
+{
+    if is_other_version(image0, IMAGE_HEADER) {
+        return true;
+    }
+    if is_other_version(image1, IMAGE_HEADER) {
+        return true;
+    }
+    if is_other_version(segment0, SEGMENT_HEADER) {
+        return true;
+    }
+    is_other_version(segment1, SEGMENT_HEADER)
 }
 
 /// What stands behind the header of an open slot of version 1 and epoch 0.
 fn first_epoch(slot: &[u8]) -> Option<&[u8]>
     ensures found { IfSome result (λ rest. slot.now ≡ segment_header open_gate 0 ++ rest.now) }
+    ensures none { IfNone result ((rest : List ℕ) → slot.now ≢ segment_header open_gate 0 ++ rest) }
 {
-    match slot {
-        [
-            OPEN_GATE,
-            1,
-            0,
-            0,
-            0,
-            0,
-            0,
-            0,
-            0,
-            0,
-            0,
-            0,
-            0,
-            0,
-            0,
-            0,
-            rest @ ..,
-        ] => Some(rest),
-        _ => None,
+    slot.strip_prefix(&FIRST_HEADER)
+}
+
+/// The batches of segment 0 of a store in use: its image 0 has to be the opening image.
+fn survey_stored<'a>(image0: &[u8], segment0: &'a [u8]) -> Result<&'a [u8], StoreFault>
+    ensures stored { IfOk result (λ rest. segment0.now ≡ segment_header open_gate 0 ++ rest.now) }
+    ensures image { OnOk result (HoldsOpeningImage image0.now) }
+    ensures damaged { OnErr result (HoldsOpeningImage image0.now → (rest : List ℕ) → segment0.now ≢ segment_header open_gate 0 ++ rest) }
+    ensures faults { OnErr result (result ≡ Err StoreFault.Damaged) }
+{
+    let Some(text) = first_epoch(image0) else {
+        return Err(StoreFault::Damaged);
+    };
+    if !text.starts_with(&OPENING_IMAGE) {
+        return Err(StoreFault::Damaged);
     }
+    match first_epoch(segment0) {
+        Some(batches) => Ok(batches),
+        None => Err(StoreFault::Damaged),
+    }
+}
+
+/// Tests that segment 0 of a new store was never in use.
+fn survey_new(segment0: &[u8]) -> Result<(), StoreFault>
+    ensures new { OnOk result (WasNeverUsed segment0.now) }
+    ensures damaged { OnErr result (¬ WasNeverUsed segment0.now) }
+    ensures faults { OnErr result (result ≡ Err StoreFault.Damaged) }
+{
+    if !is_open(segment0, SEGMENT_HEADER) {
+        return Ok(());
+    }
+    let Some(batches) = first_epoch(segment0) else {
+        return Err(StoreFault::Damaged);
+    };
+    if is_open(batches, 1) {
+        return Err(StoreFault::Damaged);
+    }
+    Ok(())
 }
 
 /// What the slots of a store are: those of a new store, or the batches of segment 0.
@@ -69,53 +112,31 @@ pub fn survey<'a>(
     segment0: &'a [u8],
     segment1: &[u8],
 ) -> Result<Option<&'a [u8]>, StoreFault>
+    ensures one_version { OnOk result (¬ IsOtherVersion (four_slots image0.now image1.now segment0.now segment1.now)) }
+    ensures second { OnOk result ((¬ IsOpen 24 image1.now) × (¬ IsOpen 16 segment1.now)) }
     ensures stored { IfOk result (λ found. IfSome found (λ rest. segment0.now ≡ segment_header open_gate 0 ++ rest.now)) }
     ensures image { IfOk result (λ found. IfSome found (λ _. HoldsOpeningImage image0.now)) }
-    ensures new { IfOk result (λ found. IfNone found (IsNew image0.now image1.now)) }
-    ensures faults { (result ≢ Err StoreFault.Device) × (result ≢ Err StoreFault.NoMemory) }
+    ensures new { IfOk result (λ found. IfNone found ((¬ IsOpen 24 image0.now) × WasNeverUsed segment0.now)) }
+    ensures version { IsErrOf result StoreFault.Version → IsOtherVersion (four_slots image0.now image1.now segment0.now segment1.now) }
+    ensures damaged { IsErrOf result StoreFault.Damaged → IsDamaged (four_slots image0.now image1.now segment0.now segment1.now) }
+    ensures faults { OnErr result ((result ≡ Err StoreFault.Version) ⊎ (result ≡ Err StoreFault.Damaged)) }
 {
-    if is_other_version(image0, IMAGE_HEADER)
-        || is_other_version(image1, IMAGE_HEADER)
-        || is_other_version(segment0, SEGMENT_HEADER)
-        || is_other_version(segment1, SEGMENT_HEADER)
-    {
+    if has_other_version(image0, image1, segment0, segment1) {
         return Err(StoreFault::Version);
     }
     // The slots of odd epochs are in use after a checkpoint alone.
-    if is_open(image1, IMAGE_HEADER) || is_open(segment1, SEGMENT_HEADER) {
+    if is_open(image1, IMAGE_HEADER) {
         return Err(StoreFault::Damaged);
     }
-    let batches = first_epoch(segment0);
-    if is_open(segment0, SEGMENT_HEADER) && batches.is_none() {
+    if is_open(segment1, SEGMENT_HEADER) {
         return Err(StoreFault::Damaged);
     }
     if is_open(image0, IMAGE_HEADER) {
-        return survey_stored(image0, batches);
+        let batches = survey_stored(image0, segment0)?;
+        return Ok(Some(batches));
     }
-    match batches {
-        Some([OPEN_GATE, ..]) => Err(StoreFault::Damaged),
-        _ => Ok(None),
-    }
-}
-
-/// The same where image 0 is open: it has to be the opening image, and segment 0 has to be open.
-fn survey_stored<'a>(
-    image0: &[u8],
-    batches: Option<&'a [u8]>,
-) -> Result<Option<&'a [u8]>, StoreFault>
-    ensures stored { IfOk result (λ found. found ≡ batches.entry) }
-    ensures some { IfOk result (λ found. IsSome found) }
-    ensures image { OnOk result (HoldsOpeningImage image0.now) }
-    ensures faults { (result ≢ Err StoreFault.Device) × (result ≢ Err StoreFault.NoMemory) }
-{
-    let Some(text) = first_epoch(image0) else {
-        return Err(StoreFault::Damaged);
-    };
-    if batches.is_some() && text.starts_with(&OPENING_IMAGE) {
-        Ok(batches)
-    } else {
-        Err(StoreFault::Damaged)
-    }
+    survey_new(segment0)?;
+    Ok(None)
 }
 
 /// The state after these records.
@@ -123,7 +144,8 @@ fn survey_stored<'a>(
 /// `Damaged`: a record is no step of the machine. `NoMemory`: no memory.
 pub fn replay_all(kernel: Kernel, records: &[Record]) -> Result<Kernel, StoreFault>
     ensures run { IfOk result (λ state. Run kernel records.now state) }
-    ensures faults { (result ≢ Err StoreFault.Device) × (result ≢ Err StoreFault.Version) }
+    ensures damaged { IsErrOf result StoreFault.Damaged → (state : State) → Run kernel records.now state → ⊥ }
+    ensures faults { OnErr result ((result ≡ Err StoreFault.Damaged) ⊎ (result ≡ Err StoreFault.NoMemory)) }
 {
     let mut state = kernel;
     for entry in records {

@@ -122,6 +122,23 @@ fn cut_segments(rt: HostRuntime) -> Result<(), Fail> {
     Ok(())
 }
 
+#[test]
+fn second_slots(rt: HostRuntime) -> Result<(), Fail> {
+    let mut other = SEGMENT;
+    other[1] = 2;
+    for (image1, segment1, found) in [
+        (&IMAGE[..24], &[][..], Err(StoreFault::Damaged)),
+        (&IMAGE[..23], &[][..], STORED),
+        (&[][..], &SEGMENT[..16], Err(StoreFault::Damaged)),
+        (&[][..], &SEGMENT[..15], STORED),
+        (&IMAGE[..24], &other[..], Err(StoreFault::Version)),
+    ] {
+        let disk = MemDisk::with_slots(rt.alloc(), &IMAGE, image1, &SEGMENT, segment1)?;
+        assert_eq!(rt; reopened(rt.alloc(), disk), found);
+    }
+    Ok(())
+}
+
 // Stores a record, and opens what a stop at a device call leaves.
 fn stopped(alloc: Global, stop_at: u64, torn: Torn) -> Result<Found, Fail> {
     let mut disk = MemDisk::with_slots(alloc, &IMAGE, &[], &NEW_SEGMENT, &[])?;

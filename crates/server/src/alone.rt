@@ -1,6 +1,11 @@
-ghost use Rattle.std.specs.Prelude.{◌≡◌, ℕ, IfOk, true};
+ghost use Rattle.std.specs.Prelude.{◌≡◌, ◌+◌, ◌<◌, true, false, IfOk, OnOk, OnErr, IsErrOf};
+ghost use Rattle.disk.specs.Moments.{LeftSince, MayLeave, Passes};
+ghost use Rattle.disk.specs.Slots.{Slots};
+ghost use Rattle.recover.specs.Kept.{IsKept};
+ghost use Rattle.recover.specs.Recovered.{Recovers};
+ghost use Rattle.server.specs.Keeping.{AnswersStored, IsBeforeOrAfter, records_of};
 ghost use Rattle.server.specs.Serving.{StepOrShortage};
-ghost use Rattle.ipc_model.specs.Step.{number_of_call};
+ghost use Rattle.ipc_model.specs.Step.{number_of_call, has_record};
 ghost use Rattle.ipc_model.specs.declared.call.Call.{Call};
 ghost use Rattle.ipc_model.specs.declared.call.Reply.{Reply};
 
@@ -10,6 +15,7 @@ use ipc_model::{Call, Record, Reply};
 use journal::{Journal, StoreFault};
 use kernel::Kernel;
 use recover::Opened;
+use std::marker::Model;
 
 /// The number of the space that a connection's task is attached to at first.
 const FIRST_SPACE: u32 = 1;
@@ -27,61 +33,128 @@ pub trait Caller {
 /// The caller of a lone connection: an opened store that nobody else uses.
 #[derive(Drop)]
 pub struct Alone<D: Disk> {
-    pub kernel: Kernel,
-    pub journal: Journal<D>,
+    kernel: Kernel,
+    journal: Journal<D>,
+    failed: bool,
+}
+
+impl<D: Disk> Model for Alone<D> {
+    ghost use Rattle.std.specs.Prelude.{◌≡◌, false};
+    ghost use Rattle.recover.specs.Kept.{IsKept};
+    ghost use Rattle.server.specs.Keeping.{AloneValue, alone_code};
+
+    ghost Value = { AloneValue D };
+
+    ghost coded = { alone_code D.code };
+
+    ghost view = { λ a. record { kernel = a.kernel; disk = a.journal.disk; records = a.journal.records; failed = a.failed } };
+
+    // Until a call fails, the store holds what the kernel holds.
+    ghost invariant = { λ a. a.failed ≡ false → D.honest → IsKept (D.view a.journal.disk) a.kernel a.journal.records };
 }
 
 impl<D: Disk> Alone<D> {
     /// A caller that goes on from an opened store.
     pub fn new(opened: Opened<D>) -> Self
         ensures kernel { result.kernel ≡ opened.kernel }
-        ensures journal { result.journal ≡ opened.journal }
+        ensures disk { result.disk ≡ opened.journal.disk }
+        ensures records { result.records ≡ opened.journal.records }
+        ensures failed { result.failed ≡ false }
     {
         let Opened { kernel, journal } = opened;
-        Alone { kernel, journal }
+        Alone {
+            kernel,
+            journal,
+            failed: false,
+        }
     }
 
     /// The disk of the store, which is closed.
     pub fn into_disk(self) -> D
-        ensures { result ≡ self.journal.disk }
+        ensures disk { result ≡ self.disk }
+        // Until a call fails, the disk holds what was answered.
+        ensures kept { D.honest → self.failed ≡ false → IsKept (D.view result) self.kernel self.records }
     {
-        let Alone { kernel: _, journal } = self;
+        let Alone {
+            kernel: _,
+            journal,
+            failed: _,
+        } = self;
         journal.into_disk()
     }
 }
 
 impl<D: Disk> Caller for Alone<D> {
-    ghost answers = { λ old call reply new. StepOrShortage old.kernel 1 call reply new.kernel };
+    ghost answers = { AnswersStored };
 
-    // A call with a record is stored before it is answered. After a fault the caller is of no further use: a
-    // call that was made and not stored is known to nobody.
-    fn call(&mut self, call: &Call) -> Result<Reply, StoreFault> {
+    /// Makes a call. One that has a record is stored before it is answered. After a fault the caller is of no
+    /// further use, and answers `Failed`: a call that was made and not stored is known to nobody.
+    ///
+    /// Where the slots stand for a state (`Recovers`), `recover::open` gives that state, and doesn't find them
+    /// damaged or of another version.
+    fn call(&mut self, call: &Call) -> Result<Reply, StoreFault>
+        ensures answers { IfOk result (λ reply. AnswersStored self.old call.now reply self.new) }
+        // A stop at any moment from the beginning of the call to its end leaves the state before it or the state after
+        // it, also where the call fails.
+        ensures any_moment { D.honest → self.old.failed ≡ false → (c : Slots) → LeftSince (D.view self.new.disk) (D.view self.old.disk).moment c
+            → IsBeforeOrAfter self.old.kernel self.old.records call.now self.new.kernel c }
+        ensures passes { D.honest → Passes (D.view self.old.disk) (D.view self.new.disk)
+            (IsBeforeOrAfter self.old.kernel self.old.records call.now self.new.kernel) }
+        // A stop after the reply leaves the state after the call, so nothing that was answered is lost.
+        ensures stored { D.honest → OnOk result ((c : Slots) → MayLeave (D.view self.new.disk) c → Recovers c self.new.kernel self.new.records) }
+        // A call that is refused or only reads changes neither the state nor the disk.
+        ensures unrecorded { IfOk result (λ reply. has_record reply ≡ false → self.new ≡ self.old) }
+        ensures err { OnErr result (self.new.failed ≡ true) }
+        ensures failed { self.old.failed ≡ true → (IsErrOf result StoreFault.Failed) × (self.new ≡ self.old) }
+    {
+        if self.failed {
+            return Err(StoreFault::Failed);
+        }
         if self.journal.records() >= MAX_RECORDS {
-            return self.call_without_room(call);
+            return Ok(call_without_room(&self.kernel, call));
         }
-        let Ok(reply) = self.kernel.apply(FIRST_SPACE, call) else {
-            return Ok(shortage(call));
-        };
-        if reply.has_record() {
-            self.journal.append(&Record {
-                space: FIRST_SPACE,
-                call: *call,
-                reply,
-            })?;
-        }
-        Ok(reply)
+        let made = call_with_room(&mut self.kernel, &mut self.journal, call);
+        self.failed = made.is_err();
+        made
     }
 }
 
-impl<D: Disk> Alone<D> {
-    /// Makes a call while the segment has no room for a record: one that would have a record is refused.
-    fn call_without_room(&mut self, call: &Call) -> Result<Reply, StoreFault>
-        ensures { IfOk result (λ reply. StepOrShortage self.old.kernel 1 call.now reply self.new.kernel) }
-    {
-        match self.kernel.answer(FIRST_SPACE, call) {
-            Ok(Some(reply)) => Ok(reply),
-            Ok(None) | Err(_) => Ok(shortage(call)),
-        }
+/// Makes a call while the segment has room for its record.
+fn call_with_room<D: Disk>(
+    kernel: &mut Kernel,
+    journal: &mut Journal<D>,
+    call: &Call,
+) -> Result<Reply, StoreFault>
+    requires { journal.old.records < MAX_RECORDS }
+    ensures answers { IfOk result (λ reply. StepOrShortage kernel.old 1 call.now reply kernel.new) }
+    ensures passes { D.honest → IsKept (D.view journal.old.disk) kernel.old journal.old.records
+        → Passes (D.view journal.old.disk) (D.view journal.new.disk) (IsBeforeOrAfter kernel.old journal.old.records call.now kernel.new) }
+    ensures kept { D.honest → IsKept (D.view journal.old.disk) kernel.old journal.old.records
+        → OnOk result (IsKept (D.view journal.new.disk) kernel.new journal.new.records) }
+    ensures counted { IfOk result (λ reply. journal.new.records ≡ journal.old.records + records_of reply) }
+    ensures unrecorded { IfOk result (λ reply. has_record reply ≡ false → (kernel.new ≡ kernel.old) × (journal.new ≡ journal.old)) }
+{
+    let Ok(reply) = kernel.apply(FIRST_SPACE, call) else {
+        return Ok(shortage(call));
+    };
+    if reply.has_record() {
+        journal.append(&Record {
+            space: FIRST_SPACE,
+            call: *call,
+            reply,
+        })?;
+    }
+    Ok(reply)
+}
+
+/// The answer to a call while the segment has no room for a record: one that would have a record is refused.
+fn call_without_room(kernel: &Kernel, call: &Call) -> Reply
+    ensures answers { StepOrShortage kernel.now 1 call.now result kernel.now }
+    ensures unrecorded { has_record result ≡ false }
+{
+    match kernel.answer(FIRST_SPACE, call) {
+        Ok(Some(reply)) => reply,
+        Ok(None) | Err(_) => shortage(call),
     }
 }
 

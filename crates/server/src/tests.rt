@@ -1,5 +1,6 @@
 use crate::{Alone, ServeFault, lone, serve};
 use disk::{Disk, MemDisk, Slot, Torn};
+use ipc_model::Reply;
 use journal::StoreFault;
 use recover::open;
 use std::alloc::Global;
@@ -125,6 +126,55 @@ fn a_failing_store_gets_no_reply(rt: HostRuntime) -> Result<(), Fail> {
         let (output, end, _) = served(alloc, disk, &input)?;
         assert_eq!(rt; end, Err(ServeFault::Store(StoreFault::Device)));
         assert_eq!(rt; output.len(), replied);
+    }
+    Ok(())
+}
+
+/// Serves two allocations and a type on a new store, up to a planned stop: how many calls were answered, and the
+/// disk that the stop leaves.
+fn stopped(alloc: Global, stop_at: u64, torn: Torn) -> Result<(u64, MemDisk), Fail> {
+    let mut disk = MemDisk::new(alloc);
+    disk.plan(Some(stop_at), None, torn);
+    let mut caller = match open(alloc, disk) {
+        Ok(opened) => Alone::new(opened),
+        Err((_, disk)) => return Ok((0, disk.after_stop()?)),
+    };
+    let mut input = ALLOCATE.to_vec(alloc)?;
+    input.extend_from_slice(&[8, 0, 0, 0, 5, 0, 0, 0, 3, 0, 0, 0])?;
+    input.extend_from_slice(&TYPE)?;
+    let mut rest = input.as_slice();
+    let mut output = Vec::new(alloc);
+    let _ = serve(alloc, &mut rest, &mut output, &mut caller);
+    Ok((output.len() as u64 / 16, caller.into_disk().after_stop()?))
+}
+
+#[test]
+fn a_stop_leaves_the_calls_that_were_answered(rt: HostRuntime) -> Result<(), Fail> {
+    let alloc = rt.alloc();
+    let kinds = [
+        Torn::Old,
+        Torn::New,
+        Torn::Half,
+        Torn::Fill(0),
+        Torn::Fill(0x5a),
+        Torn::Fill(0xff),
+    ];
+    // A new store is made with 24 calls of the disk, and two appends make eight.
+    for torn in kinds {
+        for stop_at in 1..34 {
+            let (told, disk) = stopped(alloc, stop_at, torn)?;
+            let Ok(opened) = open(alloc, disk) else {
+                return Err(Fail::from("the store can't be opened"));
+            };
+            let found = opened.journal.records();
+            // The call after the last answered one was being made; the third has no record.
+            assert!(rt; told.min(2) <= found && found <= told.saturating_add(1).min(2));
+            for (records, name, bits) in [(1, 0x100, 0x20000), (2, 0x101, 0x80000)] {
+                let has_name = opened.kernel.port_type(1, name) == Reply::Type { bits };
+                assert_eq!(rt; has_name, records <= found);
+            }
+            assert_eq!(rt; told == 3, stop_at == 33);
+        }
     }
     Ok(())
 }

@@ -1,18 +1,35 @@
-use Rattle.std.proofs.Common.{◌++◌, length, sym, ap, ◌∙◌, arith}
-use Rattle.std.proofs.lemmas.List.{append-nil, drop_all}
-use Rattle.journal.proofs.Batches.{adds_more}
+use Rattle.std.proofs.Common.{length, sym, ◌∙◌, arith, eqb-true}
+use Rattle.journal.proofs.Reading.{content_first, content_none, not_numbered, not_empty}
+use Rattle.journal.proofs.Batches.{adds_more, nothing_added, all_added}
 use Rattle.journal.proofs.read.take_records.Goals as goal
 
 pub loop-init : goal.loop-init
-loop-init c =
-    let none = drop_all (length c.args.records.now.items) c.args.records.now.items (omega arith) in
-    record {
-      items_are = sym (append-nil c.args.records.now.items) ∙ ap (λ l. c.args.records.now.items ++ l) (sym none);
-      counted = ap length none;
-      text = ap (λ l. Rattle.ipc_model.specs.Texts.records_text (length c.args.records.now.items) l ++ c.args.content.now) (sym none);
-    }
+loop-init c = nothing_added c.args.records.now.items c.args.count c.args.content.now c.requires
 
 pub loop-preserved : goal.loop-preserved
 loop-preserved c =
-    adds_more c.args.records.now.items c.loop.records.items c.push.new.self.items c.in-Some.record c.loop.counter c.in-Some.number c.args.content.now c.loop.rest.now c.in-Some.after.now
-    c.loop.invariant c.in_ok-push.ensures.items c.in-Some.ensures.found.0 (c.if-number-len.false ∙ c.len.ensures ∙ c.loop.records.ok.0)
+    adds_more c.args.records.now.items c.loop.records.items c.push.new.self.items c.in-Some.entry c.args.count c.loop.counter c.in-Some.number c.args.content.now c.loop.rest.now c.in-Some.after.now
+    c.loop.invariant c.loop-test.true c.in_ok-push.ensures.items c.in-Some.ensures.found.0 c.in-Some.ensures.found.1 (c.if-number-len.false ∙ c.len.ensures ∙ c.loop.records.ok.0) (omega arith) c.in-Some.ensures.only
+
+-- the record that is wanted next isn't there
+pub returns-in_default-clause-damaged : goal.returns-in_default-clause-damaged
+returns-in_default-clause-damaged c = λ failed added is.
+    let first = content_first (length c.loop.records.items) _ c.loop.rest.now (c.loop.invariant.remains (added, is)) (omega arith) in
+    c.in_default.ensures.only (length c.loop.records.items) first.first first.behind (omega (arith, first.room)) first.fits first.text
+
+-- its number is another, or too high
+pub returns-then-number-len-clause-damaged : goal.returns-then-number-len-clause-damaged
+returns-then-number-len-clause-damaged c = λ failed added is.
+    let first = content_first (length c.loop.records.items) _ c.loop.rest.now (c.loop.invariant.remains (added, is)) (omega arith) in
+    let same = c.in-Some.ensures.only (length c.loop.records.items) first.first first.behind (omega (arith, first.room)) first.fits first.text in
+    not_numbered (length c.loop.records.items) c.in-Some.number c.len.result same.0 (c.len.ensures ∙ c.loop.records.ok.0) first.room c.then-number-len.either
+
+pub returns-then-is_empty-clause-added : goal.returns-then-is_empty-clause-added
+returns-then-is_empty-clause-added c =
+    all_added c.args.records.now.items c.loop.records.items c.args.count c.loop.counter c.args.content.now c.loop.rest.now c.loop.invariant (omega arith) (eqb-true (length c.loop.rest.now) 0 (sym c.if-is_empty.ensures))
+
+-- bytes stand behind the last record
+pub returns-else-is_empty-clause-damaged : goal.returns-else-is_empty-clause-damaged
+returns-else-is_empty-clause-damaged c = λ failed added is.
+    let none = content_none (length c.loop.records.items) _ c.loop.rest.now (c.loop.invariant.remains (added, is)) (omega arith) in
+    not_empty c.loop.rest.now none c.if-is_empty.ensures

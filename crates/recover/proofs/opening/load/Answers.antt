@@ -1,23 +1,97 @@
-use Rattle.std.proofs.Common.{inl, inr, refl, take, ap, subst, ◌∙◌}
-use Rattle.disk.specs.Slots.{Slots}
-use Rattle.recover.specs.Recovered.{Follows, HoldsOpeningImage, IsNew}
-use Rattle.recover.proofs.Images.{image_of_front, new_of_fronts, of_some, of_none, if_ok}
+use Rattle.std.proofs.Common.{◌≡◌, [], sym, ap, subst, ◌∙◌}
+use Rattle.std.proofs.lemmas.Result.{err_from_is_err_and}
+use Rattle.disk.specs.Slots.{Slots, with_slot}
+use Rattle.disk.specs.declared.slot.Slot.TheVariants.{Segment0}
+use Rattle.recover.specs.Fronts.{four_slots, fronts_of}
+use Rattle.recover.specs.Recovered.{IsOtherVersion, IsDamaged, Follows, HoldsOpeningImage}
+use Rattle.recover.proofs.Surveys.{some_of, none_of, if_ok, if_ok_all, other_of_fronts, fronts_of_other, damaged_by_fronts, stored_by_fronts, new_by_fronts, image_by_fronts, follows_of}
+use Rattle.recover.proofs.Ends.{still_stored, made, made_ready, made_stands}
+use Rattle.recover.proofs.Lengths.{on_ok}
 use Rattle.recover.proofs.opening.load.Goals as goal
+
+pub returns-in_err-batches-clause-version : goal.returns-in_err-batches-clause-version
+returns-in_err-batches-clause-version g c = λ honest is.
+    let p = err_from_is_err_and c.from_residual-in_err-batches.result c.from_residual-in_err-batches.ensures.1 in
+    let first = (g.D.Disk.view c.args.disk.now).seen in
+    let same : four_slots c.deref.result.now c.deref-2.result.now c.deref-3.result.now c.deref-4.result.now ≡ fronts_of first =
+    (λ i. four_slots (c.deref.ensures.value i) (c.deref-2.ensures.value i) (c.deref-3.ensures.value i) (c.deref-4.ensures.value i)) ∙ c.in_ok-fronts.ensures.fronts honest in
+    other_of_fronts first (subst IsOtherVersion same (c.in_err-batches.ensures.version (cc (p.1, p.2, is))))
+
+pub returns-in_err-batches-clause-damaged : goal.returns-in_err-batches-clause-damaged
+returns-in_err-batches-clause-damaged g c = λ honest is.
+    let p = err_from_is_err_and c.from_residual-in_err-batches.result c.from_residual-in_err-batches.ensures.1 in
+    let first = (g.D.Disk.view c.args.disk.now).seen in
+    let same : four_slots c.deref.result.now c.deref-2.result.now c.deref-3.result.now c.deref-4.result.now ≡ fronts_of first =
+    (λ i. four_slots (c.deref.ensures.value i) (c.deref-2.ensures.value i) (c.deref-3.ensures.value i) (c.deref-4.ensures.value i)) ∙ c.in_ok-fronts.ensures.fronts honest in
+    damaged_by_fronts first (subst IsDamaged same (c.in_err-batches.ensures.damaged (cc (p.1, p.2, is))))
 
 pub returns-in-Some-clause-state : goal.returns-in-Some-clause-state
 returns-in-Some-clause-state g c = λ honest.
-    let at_first = c.in_ok-sync_all.ensures.seen honest in
-    let at_last = c.in_ok-segment1.ensures.seen honest ∙ c.in_ok-segment0.ensures.seen honest ∙ c.in_ok-image1.ensures.seen honest ∙ c.in_ok-image0.ensures.seen honest ∙ at_first in
-    let read = c.deref.ensures.value ∙ c.in_ok-image0.ensures.bytes honest ∙ ap (λ (s : Slots). take 48 s.image0) at_first in
-    let front = of_some c.in_ok-batches.field-0 _ c.in-Some.is c.in_ok-batches.ensures.image in
-    let image = image_of_front 48 (g.D.Disk.view c.args.disk.now).seen.image0 (subst HoldsOpeningImage read front) in
-    if_ok c.load_stored.result (λ r follows. inl (record { image = image; follows = subst (λ (s : Slots). Follows s r.0 r.1) at_last follows })) (c.load_stored.ensures.state honest)
+    let first = (g.D.Disk.view c.args.disk.now).seen in
+    let same : four_slots c.deref.result.now c.deref-2.result.now c.deref-3.result.now c.deref-4.result.now ≡ fronts_of first =
+    (λ i. four_slots (c.deref.ensures.value i) (c.deref-2.ensures.value i) (c.deref-3.ensures.value i) (c.deref-4.ensures.value i)) ∙ c.in_ok-fronts.ensures.fronts honest in
+    let image = some_of c.in_ok-batches.field-0 _ c.in-Some.is c.in_ok-batches.ensures.image in
+    if_ok c.load_stored.result
+    (λ r follows. stored_by_fronts first _ r.0 r.1 same c.in_ok-batches.ensures.second image (subst (λ (s : Slots). Follows s.segment0 r.0 r.1) (c.in_ok-fronts.ensures.seen honest) follows))
+    (c.load_stored.ensures.state honest)
+
+pub returns-in-Some-clause-after : goal.returns-in-Some-clause-after
+returns-in-Some-clause-after g c = λ honest.
+    let first = (g.D.Disk.view c.args.disk.now).seen in
+    let last = (g.D.Disk.view c.load_stored.new.disk).seen in
+    let at_first = c.in_ok-fronts.ensures.seen honest in
+    let same : four_slots c.deref.result.now c.deref-2.result.now c.deref-3.result.now c.deref-4.result.now ≡ fronts_of first =
+    (λ i. four_slots (c.deref.ensures.value i) (c.deref-2.ensures.value i) (c.deref-3.ensures.value i) (c.deref-4.ensures.value i)) ∙ c.in_ok-fronts.ensures.fronts honest in
+    let image = some_of c.in_ok-batches.field-0 _ c.in-Some.is c.in_ok-batches.ensures.image in
+    if_ok_all c.load_stored.result
+    (λ r follows ready others. still_stored first last r.0 r.1
+    (stored_by_fronts first _ r.0 r.1 same c.in_ok-batches.ensures.second image (subst (λ (s : Slots). Follows s.segment0 r.0 r.1) at_first follows))
+    (image_by_fronts first _ same image) (subst (λ (s : Slots). last ≡ with_slot s Segment0 last.segment0) at_first others) ready)
+    (c.load_stored.ensures.state honest) (c.load_stored.ensures.ready honest) (c.load_stored.ensures.others honest)
+
+pub returns-in-Some-clause-damaged : goal.returns-in-Some-clause-damaged
+returns-in-Some-clause-damaged g c = λ honest is.
+    let first = (g.D.Disk.view c.args.disk.now).seen in
+    let at_first = c.in_ok-fronts.ensures.seen honest in
+    let same : four_slots c.deref.result.now c.deref-2.result.now c.deref-3.result.now c.deref-4.result.now ≡ fronts_of first =
+    (λ i. four_slots (c.deref.ensures.value i) (c.deref-2.ensures.value i) (c.deref-3.ensures.value i) (c.deref-4.ensures.value i)) ∙ c.in_ok-fronts.ensures.fronts honest in
+    let image = some_of c.in_ok-batches.field-0 _ c.in-Some.is c.in_ok-batches.ensures.image in (
+      λ other. c.in_ok-batches.ensures.one_version (subst IsOtherVersion (sym same) (fronts_of_other first other)),
+      λ state count recovers. c.load_stored.ensures.damaged honest is state count
+          (subst (λ (s : Slots). Follows s.segment0 state count) (sym at_first) (follows_of first state count recovers (image_by_fronts first _ same image))),
+    )
 
 pub returns-clause-state : goal.returns-clause-state
 returns-clause-state g c = λ honest.
-    let at_first = c.in_ok-sync_all.ensures.seen honest in
-    let read0 = c.deref.ensures.value ∙ c.in_ok-image0.ensures.bytes honest ∙ ap (λ (s : Slots). take 48 s.image0) at_first in
-    let read1 = c.deref-2.ensures.value ∙ c.in_ok-image1.ensures.bytes honest ∙ ap (λ (s : Slots). take 24 s.image1) (c.in_ok-image0.ensures.seen honest ∙ at_first) in
-    let fronts = of_none c.in_ok-batches.field-0 c.in-None.is c.in_ok-batches.ensures.new in
     let first = (g.D.Disk.view c.args.disk.now).seen in
-    inr (record { is_new = new_of_fronts first.image0 first.image1 (subst (λ l. IsNew (take 48 first.image0) l) read1 (subst (λ l. IsNew l c.deref-2.result.now) read0 fronts)); state_is = c.opening.ensures; counted = refl })
+    let same : four_slots c.deref.result.now c.deref-2.result.now c.deref-3.result.now c.deref-4.result.now ≡ fronts_of first =
+    (λ i. four_slots (c.deref.ensures.value i) (c.deref-2.ensures.value i) (c.deref-3.ensures.value i) (c.deref-4.ensures.value i)) ∙ c.in_ok-fronts.ensures.fronts honest in
+    new_by_fronts first _ c.opening.result same c.in_ok-batches.ensures.second (none_of c.in_ok-batches.field-0 c.in-None.is c.in_ok-batches.ensures.new) c.opening.ensures
+
+pub returns-clause-after : goal.returns-clause-after
+returns-clause-after g c = λ honest.
+    let first = (g.D.Disk.view c.args.disk.now).seen in
+    let same : four_slots c.deref.result.now c.deref-2.result.now c.deref-3.result.now c.deref-4.result.now ≡ fronts_of first =
+    (λ i. four_slots (c.deref.ensures.value i) (c.deref-2.ensures.value i) (c.deref-3.ensures.value i) (c.deref-4.ensures.value i)) ∙ c.in_ok-fronts.ensures.fronts honest in
+    let recovers = new_by_fronts first _ c.opening.result same c.in_ok-batches.ensures.second (none_of c.in_ok-batches.field-0 c.in-None.is c.in_ok-batches.ensures.new) c.opening.ensures in
+    made_stands first (g.D.Disk.view c.make_store.new.disk).seen c.opening.result recovers
+    (c.in_ok-make_store-in-None.ensures.made honest ∙ ap made (c.in_ok-fronts.ensures.seen honest)) c.opening.ensures
+
+pub returns-clause-ready : goal.returns-clause-ready
+returns-clause-ready g c = λ honest.
+    made_ready (g.D.Disk.view c.args.disk.now).seen (g.D.Disk.view c.make_store.new.disk).seen c.opening.result
+    (c.in_ok-make_store-in-None.ensures.made honest ∙ ap made (c.in_ok-fronts.ensures.seen honest)) c.opening.ensures
+
+pub returns-in-Some-clause-image : goal.returns-in-Some-clause-image
+returns-in-Some-clause-image g c = λ honest.
+    let first = (g.D.Disk.view c.args.disk.now).seen in
+    let last = (g.D.Disk.view c.load_stored.new.disk).seen in
+    let same : four_slots c.deref.result.now c.deref-2.result.now c.deref-3.result.now c.deref-4.result.now ≡ fronts_of first =
+    (λ i. four_slots (c.deref.ensures.value i) (c.deref-2.ensures.value i) (c.deref-3.ensures.value i) (c.deref-4.ensures.value i)) ∙ c.in_ok-fronts.ensures.fronts honest in
+    let image = some_of c.in_ok-batches.field-0 _ c.in-Some.is c.in_ok-batches.ensures.image in
+    on_ok c.load_stored.result
+    (λ others. subst HoldsOpeningImage (sym (ap (λ (s : Slots). s.image0) others ∙ ap (λ (s : Slots). s.image0) (c.in_ok-fronts.ensures.seen honest))) (image_by_fronts first _ same image))
+    (c.load_stored.ensures.others honest)
+
+pub returns-clause-image : goal.returns-clause-image
+returns-clause-image g c = λ honest. record { rest = []; text = ap (λ (s : Slots). s.image0) (c.in_ok-make_store-in-None.ensures.made honest) }

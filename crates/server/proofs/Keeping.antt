@@ -1,0 +1,145 @@
+-- What a store stands for while a call's record is appended to it, and after that.
+use Rattle.std.proofs.Common.{◌≡◌, ◌⊎◌, inl, inr, ℕ, ◌+◌, ◌<◌, ◌≤◌, true, false, List, [], ◌∷◌, ◌++◌, Option, None, Some, MatchOption, length, sym, ap, subst, ◌∙◌, arith, length-append}
+use Rattle.std.proofs.lemmas.Bool.{cases_lt}
+use Rattle.std.specs.FinMap as map
+use Rattle.codes.specs.declared.limits.TheConstants.{MAX_RECORDS}
+use Rattle.codes.specs.declared.kern_return.KernReturn.{KernReturn}
+use Rattle.disk.specs.Moments.{View, LeftSince, MayLeave, Passes, Follows, IsSynced}
+use Rattle.disk.specs.Slots.{Slots, with_slot}
+use Rattle.disk.specs.declared.slot.Slot.TheVariants.{Segment0}
+use Rattle.ipc_model.specs.declared.call.Call.{Call}
+use Rattle.ipc_model.specs.declared.call.Call.TheVariants as call
+use Rattle.ipc_model.specs.declared.call.Reply.{Reply}
+use Rattle.ipc_model.specs.declared.call.Reply.TheVariants as reply
+use Rattle.ipc_model.specs.declared.record.Record.{Record}
+use Rattle.ipc_model.specs.RunLaws.{run-push}
+use Rattle.ipc_model.specs.State.{State, Names, opening_state}
+use Rattle.ipc_model.specs.Step.{Step, Run, SucceedsIn, has_record, number_of_call, refusal}
+use Rattle.ipc_model.specs.Store.{IsInUse, IsMidAppend, SpellsSegment, batch_text, with_batch}
+use Rattle.ipc_model.specs.StoreLaws.{appended_in_use, in_use_spells, mid_append_spells}
+use Rattle.ipc_model.specs.Texts.{IsRecord}
+use Rattle.recover.specs.Kept.{IsKept}
+use Rattle.recover.specs.Recovered.{IsOpen, HoldsOpeningImage, Recovers}
+use Rattle.server.specs.Keeping.{IsBeforeOrAfter}
+
+-- the record of a call of the lone task
+abbrev pub entry_of : Call → Reply → Record
+entry_of c answer = record { space = 1; call = c; reply = answer }
+
+-- slots as those of a kept store but for segment 0, which spells other records
+recovers_from : (disk : View) (before state : State) (count number : ℕ) → IsKept disk before count → (c : Slots) (bytes : List ℕ) → c ≡ with_slot disk.seen Segment0 bytes → (records : List Record) → SpellsSegment 0 bytes records → Run opening_state records state
+    → number ≡ length records → Recovers c state number
+recovers_from disk before state count number kept c bytes is records spelled run counted =
+    subst (λ (s : Slots). Recovers s state number) (sym is) (record {
+      second_image = kept.second_image;
+      second_segment = kept.second_segment;
+      stands = inl (record { image = kept.image; follows = record { records = records; spelled = spelled; run = run; counted = counted } });
+    })
+
+-- a stop while a store is kept leaves one that stands for its state
+pub kept_recovers : (disk : View) (state : State) (count : ℕ) → IsKept disk state count → (c : Slots) → MayLeave disk c → Recovers c state count
+kept_recovers disk state count kept c left =
+    let ready = kept.ready in
+    recovers_from disk state state count count kept c disk.seen.segment0 (kept.at_rest c left) ready.0 (in_use_spells 0 disk.seen.segment0 ready.0 ready.1) ready.2 ready.3
+
+-- the records of a kept store, and one more
+counted_more : (records : List Record) (next : Record) (count : ℕ) → count ≡ length records → count + 1 ≡ length (records ++ next ∷ [])
+counted_more records next count is = omega (arith, is, length-append records (next ∷ []))
+
+-- A stop at a moment of an append.
+pub mid_append_stands : (old : View) (before after : State) (count : ℕ) (c : Call) (answer : Reply) → IsKept old before count → Step before 1 c answer after → IsRecord (entry_of c answer) → has_record answer ≡ true → count < MAX_RECORDS → (left : Slots)
+    → Follows old Segment0 (λ was is. IsMidAppend was (batch_text count (entry_of c answer ∷ [])) is) left → IsBeforeOrAfter before count c after left
+mid_append_stands old before after count c answer kept step fits recorded room left mid =
+    let ready = kept.ready in
+    let records = ready.0 in
+    let next = entry_of c answer in
+    let first : mid.0 ≡ old.seen = kept.at_rest mid.0 mid.1 in
+    let is : left ≡ with_slot old.seen Segment0 left.segment0 = mid.3 ∙ ap (λ (s : Slots). with_slot s Segment0 left.segment0) first in
+    let appended : IsMidAppend old.seen.segment0 (batch_text (length records) (next ∷ [])) left.segment0 =
+    subst (λ (n : ℕ). IsMidAppend old.seen.segment0 (batch_text n (next ∷ [])) left.segment0) ready.3
+    (subst (λ (s : Slots). IsMidAppend s.segment0 (batch_text count (next ∷ [])) left.segment0) first mid.2) in
+    elim (mid_append_spells 0 old.seen.segment0 left.segment0 records next ready.1 fits (omega (arith, ready.3)) appended) [
+      | inl spelled ↦ inl (recovers_from old before before count count kept left left.segment0 is records spelled ready.2 ready.3)
+      | inr spelled ↦ inr (
+        answer,
+        step,
+        recorded,
+        recovers_from old before after count (count + 1) kept left left.segment0 is (records ++ next ∷ []) spelled
+            (run-push opening_state before after records next ready.2 step) (counted_more records next count ready.3),
+      )
+    ]
+
+later_or_now : (m n : ℕ) → m ≤ n → (m < n) ⊎ (n ≡ m)
+later_or_now m n le = elim (cases_lt m n) [ inl later ↦ inl later | inr now ↦ inr (omega arith) ]
+
+-- what a stop may leave now it might have left before, or it came since
+left_now : (old new : View) (P : Slots → Type 0) → Passes old new P → (c : Slots) → MayLeave new c → MayLeave old c ⊎ P c
+left_now old new P time c left = elim (later_or_now old.moment new.moment time.later) [
+  | inl later ↦ inr (time.since new.moment c later (omega arith) left)
+  | inr now ↦ inl (subst (λ k. old.left_at k c) now ((time.past new.moment c (omega arith)).0 left))
+]
+
+-- of the other slots a stop leaves what it left before
+others_rest : (old new : View) (before : State) (count : ℕ) (step : List ℕ → List ℕ → Type 0) → IsKept old before count → Passes old new (Follows old Segment0 step) → (c : Slots) → MayLeave new c → c ≡ with_slot old.seen Segment0 c.segment0
+others_rest old new before count step kept time c left = elim (left_now old new (Follows old Segment0 step) time c left) [
+  | inl was ↦ ap (λ (s : Slots). with_slot s Segment0 c.segment0) (kept.at_rest c was)
+  | inr since ↦ since.3 ∙ ap (λ (s : Slots). with_slot s Segment0 c.segment0) (kept.at_rest since.0 since.1)
+]
+
+-- After an append the store is kept, with one record more.
+pub appended_kept : (old new : View) (before after : State) (count : ℕ) (c : Call) (answer : Reply) → IsKept old before count → Step before 1 c answer after → IsRecord (entry_of c answer) → count < MAX_RECORDS
+    → new.seen ≡ with_slot old.seen Segment0 (with_batch old.seen.segment0 (batch_text count (entry_of c answer ∷ []))) → IsSynced new Segment0
+    → Passes old new (Follows old Segment0 (λ was is. IsMidAppend was (batch_text count (entry_of c answer ∷ [])) is)) → IsKept new after (count + 1)
+appended_kept old new before after count c answer kept made fits room stored synced time =
+    let ready = kept.ready in
+    let records = ready.0 in
+    let next = entry_of c answer in
+    let segment = with_batch old.seen.segment0 (batch_text count (next ∷ [])) in
+    let in_use : IsInUse 0 segment (records ++ next ∷ []) =
+    subst (λ (n : ℕ). IsInUse 0 (with_batch old.seen.segment0 (batch_text n (next ∷ []))) (records ++ next ∷ [])) (sym ready.3)
+    (appended_in_use 0 old.seen.segment0 records next ready.1 fits (omega (arith, ready.3))) in
+    record {
+      at_rest = λ left may.
+          others_rest old new before count (λ was is. IsMidAppend was (batch_text count (next ∷ [])) is) kept time left may
+          ∙ ap (λ (bytes : List ℕ). with_slot old.seen Segment0 bytes) (synced left may ∙ ap (λ (s : Slots). s.segment0) stored) ∙ sym stored;
+      image = subst HoldsOpeningImage (sym (ap (λ (s : Slots). s.image0) stored)) kept.image;
+      second_image = λ is_open. kept.second_image (subst (IsOpen 24) (ap (λ (s : Slots). s.image1) stored) is_open);
+      second_segment = λ is_open. kept.second_segment (subst (IsOpen 16) (ap (λ (s : Slots). s.segment1) stored) is_open);
+      ready = (
+        records ++ next ∷ [],
+        subst (λ (bytes : List ℕ). IsInUse 0 bytes (records ++ next ∷ [])) (sym (ap (λ (s : Slots). s.segment0) stored)) in_use,
+        run-push opening_state before after records next ready.2 made,
+        counted_more records next count ready.3,
+      );
+    }
+
+-- what a stop leaves has another property too
+pub passes_so : (old new : View) (P Q : Slots → Type 0) → Passes old new P → ((c : Slots) → P c → Q c) → Passes old new Q
+passes_so old new P Q time f = record { later = time.later; past = time.past; since = λ k c later until left. f c (time.since k c later until left) }
+
+-- What a stop may leave at a moment from the beginning of a call of a kept store.
+pub since_kept : (old new : View) (before after : State) (count : ℕ) (call : Call) → IsKept old before count → Passes old new (IsBeforeOrAfter before count call after) → (c : Slots) → LeftSince new old.moment c → IsBeforeOrAfter before count call after c
+since_kept old new before after count call kept time c left = elim (later_or_now old.moment left.0 left.1) [
+  | inl later ↦ time.since left.0 c later left.2 left.3
+  | inr now ↦ inl (kept_recovers old before count kept c (subst (λ k. old.left_at k c) now ((time.past left.0 c (omega (arith, now))).0 left.3)))
+]
+
+-- no time passes on a disk that is the same
+pub no_time : {D : Type 0} (view : D → View) (old new : D) (P : Slots → Type 0) → new ≡ old → Passes (view old) (view new) P
+no_time view old new P same =
+    subst (λ d. Passes (view old) (view d) P) (sym same) (record { later = omega arith; past = λ k c _. (λ left. left, λ left. left); since = λ k c later until _. absurd (omega arith) })
+
+-- what a step says, by whether the call is refused and what the caller's space holds
+abbrev Leaves : Option KernReturn → Option Names → State → ℕ → Call → Reply → State → Type 0
+Leaves refused names old space c answer new =
+    MatchOption refused (SucceedsIn old space names c answer new) (λ code. (answer ≡ reply.Refused (number_of_call c) code) × (new ≡ old))
+
+unrecorded : (refused : Option KernReturn) (names : Option Names) (old : State) (space : ℕ) (c : Call) (answer : Reply) (new : State) → Leaves refused names old space c answer new → has_record answer ≡ false → new ≡ old
+unrecorded (Some code) names old space c answer new step none = step.1
+unrecorded None None old space c answer new step none = absurd step
+unrecorded None (Some names) old space (call.Type name) answer new step none = step.3
+unrecorded None (Some names) old space (call.Allocate kind) answer new step none = absurd (cc (sym none ∙ ap has_record step.2))
+
+-- A step without a record changes nothing.
+pub step_unrecorded : (old : State) (space : ℕ) (c : Call) (answer : Reply) (new : State) → Step old space c answer new → has_record answer ≡ false → new ≡ old
+step_unrecorded old space c answer new step none = unrecorded (refusal old space c) (map.get old.spaces space) old space c answer new step none
