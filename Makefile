@@ -1,4 +1,4 @@
-.PHONY: demo test bin
+.PHONY: demo test bin bench
 
 # The main job on a new folder, with its bytes explained.
 demo: bin
@@ -13,3 +13,7 @@ bin:
 	@mkdir -p bin
 	@empty=$$(mktemp -d) && (cd crates/machipcd && rt run -- "$$empty" < /dev/null > /dev/null) && rm -r "$$empty"
 	cp crates/machipcd/out/machipcd bin/
+
+# Acknowledged calls a second on a new store in files, beside pairs of syncs in the same folder.
+bench:
+	@folder=$$(mktemp -d) && mkdir "$$folder/store" && (cd crates/bench && rt run -- "$$folder") && rm -r "$$folder"

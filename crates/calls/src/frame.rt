@@ -1,9 +1,9 @@
 ghost use Rattle.std.specs.Prelude.{◌≡◌, ◌≤◌, IfOk, Ok};
-ghost use Rattle.ipc_model.specs.Texts.{call_text, reply_text, FitsCall};
+ghost use Rattle.first_model.specs.Texts.{call_text, reply_text, FitsCall};
 
 use crate::read_call;
 use codes::{KernReturn, MAX_FRAME_CONTENT};
-use ipc_model::{Call, Reply};
+use first_model::{Call, Reply};
 use wire::Frame;
 
 /// Why a frame is no request.

@@ -1,6 +1,6 @@
 use super::*;
 use codes::{KernReturn, MAX_FRAME_CONTENT};
-use ipc_model::{Call, Reply};
+use first_model::{Call, Reply};
 use std::test::Fail;
 use wire::Frame;
 

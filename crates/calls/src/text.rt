@@ -1,9 +1,9 @@
 ghost use Rattle.std.specs.Prelude.{◌≡◌, ◌++◌, None, Some, IsTrue, IfSome, OnOk, OnErr};
-ghost use Rattle.ipc_model.specs.Step.{has_record};
-ghost use Rattle.ipc_model.specs.Texts.{call_text, reply_text, FitsCall, FitsReply};
+ghost use Rattle.first_model.specs.Step.{has_record};
+ghost use Rattle.first_model.specs.Texts.{call_text, reply_text, FitsCall, FitsReply};
 
 use codes::KernReturn;
-use ipc_model::{Call, Reply};
+use first_model::{Call, Reply};
 use std::alloc::AllocError;
 use words::{push_word, take_word};
 

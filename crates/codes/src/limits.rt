@@ -15,3 +15,15 @@ pub const MAX_SPACES: usize = 256;
 
 /// How many records an epoch's segment holds at most.
 pub const MAX_RECORDS: u64 = 65_536;
+
+/// How many bytes a message has at most, header and body.
+pub const MAX_MESSAGE_SIZE: u32 = 8_192;
+
+/// How many ports the items of a message's body hold at most.
+pub const MAX_MESSAGE_PORTS: usize = 256;
+
+/// How many user references a send right has at most under a name.
+pub const MAX_SEND_REFERENCES: u32 = 65_534;
+
+/// How many user references a dead name has at most.
+pub const MAX_DEAD_REFERENCES: u32 = 65_535;

@@ -9,3 +9,6 @@ pub const FIRST_NAME: u32 = 0x100;
 
 /// How many messages a new port's queue holds (`MACH_PORT_QLIMIT_DEFAULT`).
 pub const DEFAULT_QUEUE_LIMIT: u32 = 5;
+
+/// How many messages a port's queue may be set to hold (`MACH_PORT_QLIMIT_MAX`).
+pub const MAX_QUEUE_LIMIT: u32 = 16;

@@ -1,83 +1,112 @@
--- What each call may answer, and the state that it leaves. (Kernel Interfaces, "Port Manipulation".)
-use Rattle.std.specs.Prelude.{◌≡◌, ℕ, ◌+◌, Bool, true, false, ◌||◌, ◌&&◌, ◌==◌, not, nat_le, List, [], ◌∷◌, Option, None, Some, MatchOption, is_some, if◌then◌else◌}
-use Rattle.std.specs.FinMap as map
-use Rattle.codes.specs.declared.limits.TheConstants.{MAX_NAMES}
+-- The machine: what each call may answer, and the state that it leaves.
+-- (Kernel Interfaces, mach_msg and "Port Manipulation".)
+use Rattle.std.specs.Prelude.{◌≡◌, ℕ, Bool, true, false, ◌&&◌, ◌||◌, List, [], ◌∷◌, Option, None, Some, MatchOption, MatchResult}
+use Rattle.std.specs.FinMap as finmap
 use Rattle.codes.specs.declared.kern_return.KernReturn.{KernReturn}
-use Rattle.codes.specs.declared.kern_return.KernReturn.TheVariants.{NoSpace, ResourceShortage, InvalidName, InvalidTask, InvalidValue}
-use Rattle.codes.specs.declared.right.Right.TheVariants as right
-use Rattle.codes.specs.Right.{number_of}
+use Rattle.codes.specs.declared.kern_return.KernReturn.TheVariants.{Success, InvalidTask, RcvTooLarge}
+use Rattle.codes.specs.declared.name.TheConstants.{MACH_PORT_NULL}
 use Rattle.ipc_model.specs.declared.call.Call.{Call}
 use Rattle.ipc_model.specs.declared.call.Call.TheVariants as call
 use Rattle.ipc_model.specs.declared.call.Reply.{Reply}
 use Rattle.ipc_model.specs.declared.call.Reply.TheVariants as reply
-use Rattle.ipc_model.specs.declared.entry.Entry.{Entry}
-use Rattle.ipc_model.specs.declared.entry.Entry.TheVariants.{Port, Set, Dead}
 use Rattle.ipc_model.specs.declared.record.Record.{Record}
-use Rattle.ipc_model.specs.State.{Names, State, IsUnused, type_of, new_port, ports_are_used_up, with_names}
+use Rattle.ipc_model.specs.Actions.{Done}
+use Rattle.ipc_model.specs.Effects.{Effect, Settles}
+use Rattle.ipc_model.specs.PortCalls.{tests_of}
+use Rattle.ipc_model.specs.Receiving.{Receives, without_message}
+use Rattle.ipc_model.specs.Sending.{Ready, ready_to_send, sent}
+use Rattle.ipc_model.specs.State.{State, Names}
+use Rattle.ipc_model.specs.Tests.{first_failing}
 
 -- the number of a call in its frame
 abbrev pub number_of_call : Call → ℕ
+number_of_call (call.Attach space) = 0
+number_of_call call.Names = 1
 number_of_call (call.Type name) = 2
+number_of_call (call.Rename from to) = 3
+number_of_call (call.AllocateName kind name) = 4
 number_of_call (call.Allocate kind) = 5
+number_of_call (call.Destroy name) = 6
+number_of_call (call.Deallocate name) = 7
+number_of_call (call.GetRefs name kind) = 8
+number_of_call (call.ModRefs name kind delta) = 9
+number_of_call (call.SetQlimit name limit) = 10
+number_of_call (call.SetMscount name count) = 11
+number_of_call (call.SetSeqno name seqno) = 12
+number_of_call (call.GetReceiveStatus name) = 13
+number_of_call (call.GetSetStatus name) = 14
+number_of_call (call.MoveMember member after) = 15
+number_of_call (call.RequestNotification name variant sync notify_name disposition) = 16
+number_of_call (call.InsertRight name right_name disposition) = 17
+number_of_call (call.ExtractRight name disposition) = 18
+number_of_call (call.Send message) = 19
+number_of_call (call.Receive limit large name waited) = 19
+number_of_call (call.SpaceCreate name disposition) = 20
+number_of_call call.SpaceDestroy = 21
 
--- the rights that can be allocated: a receive right, a port set, a dead name
-abbrev pub is_allocatable : ℕ → Bool
-is_allocatable kind = kind == number_of right.Receive || kind == number_of right.PortSet || kind == number_of right.DeadName
+-- how a call is refused; mach_msg shows its results in any case
+abbrev pub refused : Call → KernReturn → Reply
+refused (call.Send message) code = without_message code 0 MACH_PORT_NULL
+refused (call.Receive limit large name waited) code = without_message code 0 MACH_PORT_NULL
+refused c code = reply.Refused (number_of_call c) code
 
--- The tests of a call in the order in which they are made, each with the code that it refuses with; a test
--- is true where it fails.
-abbrev pub tests_of : State → Names → Call → List (Bool × KernReturn)
-tests_of state names (call.Type name) = (not (is_some (map.get names name)), InvalidName) ∷ []
-tests_of state names (call.Allocate kind) =
-    (not (is_allocatable kind), InvalidValue) ∷ (nat_le MAX_NAMES (map.len names), NoSpace) ∷ (kind == number_of right.Receive && ports_are_used_up state, ResourceShortage) ∷ []
+-- A call's own action, without the effects that it sets off: refused, it answers the code and changes nothing.
+abbrev pub ActsIn : State → ℕ → Names → Call → Reply → State → List Effect → Type 0
+ActsIn old space names (call.Send message) answer new effects =
+    MatchResult (ready_to_send old space message)
+    (λ (ready : Ready). (answer ≡ without_message Success 0 MACH_PORT_NULL) × (new ≡ (sent ready).0) × (effects ≡ (sent ready).1))
+    (λ code. (answer ≡ without_message code 0 MACH_PORT_NULL) × (new ≡ old) × (effects ≡ []))
+ActsIn old space names (call.Receive limit large name waited) answer new effects =
+    Receives old space names (record { limit = limit; large = large; name = name; waited = waited }) answer new effects
+ActsIn old space names c answer new effects =
+    MatchOption (first_failing (tests_of old space names c)) (Done old space names c answer new effects)
+    (λ code. (answer ≡ reply.Refused (number_of_call c) code) × (new ≡ old) × (effects ≡ []))
 
--- the code of the first test that fails
-abbrev pub first_failing : List (Bool × KernReturn) → Option KernReturn
-first_failing [] = None
-first_failing (test ∷ tests) = if test.0 then Some test.1 else first_failing tests
+-- A caller whose space is gone is refused before all else.
+abbrev pub ActsFrom : State → ℕ → Option Names → Call → Reply → State → List Effect → Type 0
+ActsFrom old space None c answer new effects = (answer ≡ refused c InvalidTask) × (new ≡ old) × (effects ≡ [])
+ActsFrom old space (Some names) c answer new effects = ActsIn old space names c answer new effects
 
--- The refusal of a call, if it is refused. A caller whose space is gone is refused before all else.
-abbrev pub refusal_in : State → Option Names → Call → Option KernReturn
-refusal_in state None c = Some InvalidTask
-refusal_in state (Some names) c = first_failing (tests_of state names c)
-
-abbrev pub refusal : State → ℕ → Call → Option KernReturn
-refusal state space c = refusal_in state (map.get state.spaces space) c
-
--- what a new name of this kind stands for; a new port gets the next serial
-abbrev pub allocated_entry : ℕ → ℕ → Entry
-allocated_entry serial kind =
-    if kind == number_of right.Receive then Port (record { port = serial; receive = true; send = 0; dead_name_target = None })
-    else if kind == number_of right.PortSet then Set
-    else Dead 1
-
--- the state with a new name of this kind, and with its port where the kind is a receive right
-abbrev pub allocated : State → ℕ → Names → ℕ → ℕ → State
-allocated state space names kind name =
-    let named = with_names state space (map.insert names name (allocated_entry state.next kind)) in
-    if kind == number_of right.Receive then record named { ports = map.insert state.ports state.next new_port; next = state.next + 1 } else named
-
--- What a call that passes its tests answers, and the state after it.
-abbrev pub Succeeds : State → ℕ → Names → Call → Reply → State → Type 0
-Succeeds old space names (call.Type name) answer new =
-    (entry : Entry) × (map.get names name ≡ Some entry) × (answer ≡ reply.Type (type_of entry)) × (new ≡ old)
-Succeeds old space names (call.Allocate kind) answer new =
-    (name : ℕ) × IsUnused names name × (answer ≡ reply.Allocate name) × (new ≡ allocated old space names kind name)
-
-abbrev pub SucceedsIn : State → ℕ → Option Names → Call → Reply → State → Type 0
-SucceedsIn old space None c answer new = ⊥
-SucceedsIn old space (Some names) c answer new = Succeeds old space names c answer new
-
--- A step of the machine: this call of a task of this space may answer so, and leaves this state.
-abbrev pub Step : State → ℕ → Call → Reply → State → Type 0
+-- A step of the machine: this call of a task of this space may answer so, and leaves this state once its effects have settled.
+unfoldable pub Step : State → ℕ → Call → Reply → State → Type 0
 Step old space c answer new =
-    MatchOption (refusal old space c) (SucceedsIn old space (map.get old.spaces space) c answer new) (λ code. (answer ≡ reply.Refused (number_of_call c) code) × (new ≡ old))
+    (acted : State) × (effects : List Effect) × ActsFrom old space (finmap.get old.spaces space) c answer acted effects × Settles acted effects new
 
--- Whether an answered call has a record: it is one that changes the state, and it was not refused.
-abbrev pub has_record : Reply → Bool
-has_record (reply.Refused number code) = false
-has_record (reply.Type bits) = false
-has_record (reply.Allocate name) = true
+-- a step that leaves the state as it is
+abbrev pub Answer : State → ℕ → Call → Reply → Type 0
+Answer state space c answer = Step state space c answer state
+
+-- Whether a call of this number can have a record: it may change the state.
+abbrev pub is_recorded : Call → Bool
+is_recorded (call.Attach space) = false
+is_recorded call.Names = false
+is_recorded (call.Type name) = false
+is_recorded (call.GetRefs name kind) = false
+is_recorded (call.GetReceiveStatus name) = false
+is_recorded (call.GetSetStatus name) = false
+is_recorded c = true
+
+abbrev pub is_success : KernReturn → Bool
+is_success Success = true
+is_success _ = false
+
+-- a receipt that didn't ask for the contrary has destroyed a message that was too large
+abbrev pub has_destroyed : Call → KernReturn → Bool
+has_destroyed (call.Receive limit false name waited) RcvTooLarge = true
+has_destroyed _ _ = false
+
+abbrev pub succeeded : Call → Reply → Bool
+succeeded c (reply.Refused number code) = false
+succeeded c (reply.Message code size member message) = is_success code
+succeeded c answer = true
+
+abbrev pub destroyed_message : Call → Reply → Bool
+destroyed_message c (reply.Message code size member message) = has_destroyed c code
+destroyed_message c answer = false
+
+-- Whether an answered call has a record: it may change the state and has code 0, or it is a receipt that destroyed a message.
+abbrev pub has_record : Call → Reply → Bool
+has_record c answer = is_recorded c && (succeeded c answer || destroyed_message c answer)
 
 -- the machine goes from old to new by these records, each a step
 abbrev pub Run : State → List Record → State → Type 0

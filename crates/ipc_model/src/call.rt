@@ -1,48 +1,204 @@
+use crate::{RightKind, Sequence};
 use codes::KernReturn;
 
 /// A call of a task. Arguments are kept as they were sent, whether they are allowed or not.
-#[derive(Clone, Copy, Debug, PartialEq, Eq)]
+#[derive(Debug, Drop)]
 pub enum Call {
+    /// Number 0: the task goes on in this space.
+    Attach {
+        space: u32,
+    },
+    /// `mach_port_names`, number 1.
+    Names,
     /// `mach_port_type`, number 2: what kind of right a name stands for.
-    Type { name: u32 },
+    Type {
+        name: u32,
+    },
+    /// `mach_port_rename`, number 3.
+    Rename {
+        from: u32,
+        to: u32,
+    },
+    /// `mach_port_allocate_name`, number 4.
+    AllocateName {
+        right: u32,
+        name: u32,
+    },
     /// `mach_port_allocate`, number 5: a new name with a new right of this kind.
-    Allocate { right: u32 },
+    Allocate {
+        right: u32,
+    },
+    /// `mach_port_destroy`, number 6.
+    Destroy {
+        name: u32,
+    },
+    /// `mach_port_deallocate`, number 7.
+    Deallocate {
+        name: u32,
+    },
+    /// `mach_port_get_refs`, number 8.
+    GetRefs {
+        name: u32,
+        right: u32,
+    },
+    /// `mach_port_mod_refs`, number 9. The delta is in two's complement.
+    ModRefs {
+        name: u32,
+        right: u32,
+        delta: u32,
+    },
+    /// `mach_port_set_qlimit`, number 10.
+    SetQlimit {
+        name: u32,
+        limit: u32,
+    },
+    /// `mach_port_set_mscount`, number 11.
+    SetMscount {
+        name: u32,
+        count: u32,
+    },
+    /// `mach_port_set_seqno`, number 12.
+    SetSeqno {
+        name: u32,
+        seqno: u32,
+    },
+    /// `mach_port_get_receive_status`, number 13.
+    GetReceiveStatus {
+        name: u32,
+    },
+    /// `mach_port_get_set_status`, number 14.
+    GetSetStatus {
+        name: u32,
+    },
+    /// `mach_port_move_member`, number 15.
+    MoveMember {
+        member: u32,
+        after: u32,
+    },
+    /// `mach_port_request_notification`, number 16.
+    RequestNotification {
+        name: u32,
+        variant: u32,
+        sync: u32,
+        notify: u32,
+        disposition: u32,
+    },
+    /// `mach_port_insert_right`, number 17.
+    InsertRight {
+        name: u32,
+        right_name: u32,
+        disposition: u32,
+    },
+    /// `mach_port_extract_right`, number 18.
+    ExtractRight {
+        name: u32,
+        disposition: u32,
+    },
+    /// `mach_msg` with the option to send, number 19: the message's bytes, header and body.
+    Send {
+        message: Sequence<u8>,
+    },
+    /// `mach_msg` with the option to receive, number 19.
+    Receive {
+        /// The greatest size that is taken.
+        limit: u32,
+        /// Whether a message that is too large stays queued (`MACH_RCV_LARGE`).
+        large: bool,
+        /// The name of a receive right or of a port set.
+        name: u32,
+        /// Whether this attempt followed a wait.
+        waited: bool,
+    },
+    /// Number 20: makes a space whose one name holds a right copied in from the caller's.
+    SpaceCreate {
+        name: u32,
+        disposition: u32,
+    },
+    /// Number 21: removes the caller's space with all its names.
+    SpaceDestroy,
 }
 
-impl Call {
-    ghost use Rattle.std.specs.Prelude.{◌≡◌};
-    ghost use Rattle.ipc_model.specs.Step.{number_of_call};
+/// A name with its type bits.
+#[derive(Clone, Copy, Debug, PartialEq, Eq)]
+pub struct NamedType {
+    pub name: u32,
+    pub bits: u32,
+}
 
-    /// The number of the call in its frame.
-    pub fn number(&self) -> u32
-        ensures { result ≡ number_of_call self.now }
-    {
-        match self {
-            Call::Type { .. } => 2,
-            Call::Allocate { .. } => 5,
-        }
-    }
+/// What number 13 tells of a port (`mach_port_status_t`).
+#[derive(Clone, Copy, Debug, PartialEq, Eq)]
+pub struct ReceiveStatus {
+    /// The name of the set that it is a member of, 0 for none.
+    pub set: u32,
+    pub sequence_number: u32,
+    pub make_send_count: u32,
+    pub limit: u32,
+    /// How many messages are queued.
+    pub messages: u32,
+    /// How many send-once rights there are, at most 0xffffffff.
+    pub send_once_count: u32,
+    /// Whether there are send rights.
+    pub has_senders: bool,
+    pub has_port_destroyed_request: bool,
+    pub has_no_senders_request: bool,
 }
 
 /// What a call answered. It shows each choice that the machine made.
-#[derive(Clone, Copy, Debug, PartialEq, Eq)]
+#[derive(Debug, Drop)]
 pub enum Reply {
     /// The call of this number was refused, and changed nothing.
-    Refused { number: u32, code: KernReturn },
+    Refused {
+        number: u32,
+        code: KernReturn,
+    },
+    /// The call of this number was done, and has no results.
+    Done {
+        number: u32,
+    },
+    /// The names of a space, rising, with their type bits.
+    Names {
+        names: Sequence<NamedType>,
+    },
     /// The type bits of the name.
-    Type { bits: u32 },
+    Type {
+        bits: u32,
+    },
     /// The new name.
-    Allocate { name: u32 },
-}
-
-impl Reply {
-    ghost use Rattle.std.specs.Prelude.{◌≡◌};
-    ghost use Rattle.ipc_model.specs.Step.{has_record};
-
-    /// Whether a call that answered so has a record: it changed the state.
-    pub fn has_record(&self) -> bool
-        ensures { result ≡ has_record self.now }
-    {
-        matches!(self, Reply::Allocate { .. })
-    }
+    Allocate {
+        name: u32,
+    },
+    /// User references of the right.
+    References {
+        count: u32,
+    },
+    /// The state of a port whose receive right the name holds.
+    ReceiveStatus {
+        status: ReceiveStatus,
+    },
+    /// The names of a set's members, rising.
+    SetStatus {
+        members: Sequence<u32>,
+    },
+    /// The name of the send-once right that the request held before, 0 for none.
+    PreviousTarget {
+        name: u32,
+    },
+    /// The name of the extracted right, and its kind.
+    Extracted {
+        name: u32,
+        kind: RightKind,
+    },
+    /// What `mach_msg` answered: the size and the port's name of a message that was received or is too large,
+    /// else 0, and the received message.
+    Message {
+        code: KernReturn,
+        size: u32,
+        member: u32,
+        message: Sequence<u8>,
+    },
+    /// The new space's number, and its one name.
+    SpaceCreated {
+        space: u32,
+        name: u32,
+    },
 }

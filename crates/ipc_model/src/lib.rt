@@ -3,10 +3,22 @@
 
 mod call;
 mod entry;
+mod laws;
+mod message;
 mod port;
 mod record;
+mod sequence;
+#[cfg(test)]
+mod tests;
 
-pub use call::{Call, Reply};
+pub use call::{Call, NamedType, ReceiveStatus, Reply};
 pub use entry::{Entry, PortRights};
+pub use laws::{
+    always_settles, effects_keep_grounded, effects_keep_lawful, effects_lower, names_move_lawfully,
+    one_end, one_new_state, opening_is_lawful, others_fade, port_moves_lawfully, record_once,
+    settled_is_lawful, shown_steps_keep_lawful,
+};
+pub use message::{CarriedRight, Message, PortInMessage, RightKind};
 pub use port::PortState;
 pub use record::Record;
+pub use sequence::Sequence;

@@ -1,5 +1,7 @@
+use crate::{Message, Sequence};
+
 /// What a live port keeps beside its rights.
-#[derive(Clone, Copy, Debug, PartialEq, Eq)]
+#[derive(Debug, Drop)]
 pub struct PortState {
     /// How many messages its queue holds at most, for sends that the limit stops.
     pub limit: u32,
@@ -7,4 +9,12 @@ pub struct PortState {
     pub sequence_number: u32,
     /// How many send rights were made from its receive right (the make-send count).
     pub make_send_count: u32,
+    /// The name of the port set that it is a member of, in the space that holds its receive right.
+    pub set: Option<u32>,
+    /// The messages in its queue, oldest first.
+    pub messages: Sequence<Message>,
+    /// The port of the no-senders request's target, if there is a request.
+    pub no_senders_target: Option<u64>,
+    /// The port of the port-destroyed request's target, if there is a request.
+    pub port_destroyed_target: Option<u64>,
 }

@@ -3,12 +3,12 @@ use Rattle.std.proofs.Common.{◌≡◌, ◌⊎◌, inl, inr, false, eqb, Result
 use Rattle.std.specs.Result.{IsErrAnd}
 use Rattle.std.proofs.lemmas.List.{take_at}
 use Rattle.codes.specs.declared.limits.TheConstants.{MAX_RECORDS}
-use Rattle.ipc_model.specs.Words.{word, long_word}
-use Rattle.ipc_model.specs.WordLaws.{same_word}
-use Rattle.ipc_model.specs.BatchLaws.{same_heads, batch_apart, length-records_text, same_batches, are_records-front, are_records-back}
-use Rattle.ipc_model.specs.declared.record.Record.{Record}
-use Rattle.ipc_model.specs.Texts.{record_text, records_text, IsRecord}
-use Rattle.ipc_model.specs.Store.{batch_text, batches_text, all_records, open_gate, IsClosed, NoneEmpty, AreRecords, SpellsBatches}
+use Rattle.words.specs.Words.{word, long_word}
+use Rattle.words.specs.WordLaws.{same_word}
+use Rattle.first_model.specs.BatchLaws.{same_heads, batch_apart, length-records_text, same_batches, are_records-front, are_records-back}
+use Rattle.first_model.specs.declared.record.Record.{Record}
+use Rattle.first_model.specs.Texts.{record_text, records_text, IsRecord}
+use Rattle.first_model.specs.Store.{batch_text, batches_text, all_records, open_gate, IsClosed, NoneEmpty, AreRecords, SpellsBatches}
 use Rattle.journal.specs.Reading.{IsContent, IsBatch}
 
 -- the content of a batch, whatever its records

@@ -1,15 +1,15 @@
 ghost use Rattle.std.specs.Prelude.{◌≡◌, ◌≢◌, ◌↔◌, ◌⊎◌, ◌+◌, ◌-◌, ◌<◌, ◌≤◌, ◌++◌, ◌∷◌, [], length, take, true, false, IsTrue, OnOk, OnErr, IfOk, IsErrOf};
 ghost use Rattle.disk.specs.Slots.{slot_of, with_slot};
 ghost use Rattle.disk.specs.Moments.{IsSynced, Passes, Follows, Grew, CountsFailure};
-ghost use Rattle.ipc_model.specs.Step.{has_record};
-ghost use Rattle.ipc_model.specs.Texts.{IsRecord};
-ghost use Rattle.ipc_model.specs.Store.{with_batch, batch_text, open_gate, closed_gate, IsMidAppend};
+ghost use Rattle.first_model.specs.Step.{has_record};
+ghost use Rattle.first_model.specs.Texts.{IsRecord};
+ghost use Rattle.first_model.specs.Store.{with_batch, batch_text, open_gate, closed_gate, IsMidAppend};
 ghost use Rattle.journal.specs.Storing.{IsMidStore};
 
 use crate::StoreFault;
 use codes::MAX_RECORDS;
 use disk::{Disk, DiskFault, Slot};
-use ipc_model::Record;
+use first_model::Record;
 use record::push_record;
 use std::alloc::{AllocError, Global};
 use std::marker::Model;
@@ -44,7 +44,7 @@ impl<D: Disk> Model for Journal<D> {
     ghost invariant = { λ j. j.failed ≡ false → D.honest → 0 < length (D.view j.disk).seen.segment0 };
 }
 
-#[tactic(auto, unfolding(ipc_model::specs::Store::batch_text))]
+#[tactic(auto, unfolding(first_model::specs::Store::batch_text))]
 /// The text behind a batch's gate, and the closed gate behind it.
 fn batch_of(alloc: Global, number: u64, entry: &Record) -> Result<Vec<u8>, AllocError>
     ensures { IfOk result (λ text. text.items ≡ batch_text number (entry.now ∷ []) ++ closed_gate ∷ []) }

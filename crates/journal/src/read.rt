@@ -1,12 +1,12 @@
 ghost use Rattle.std.specs.Prelude.{◌≡◌, ◌⊎◌, ◌≤◌, ◌++◌, ℕ, List, length, drop, ◌∷◌, Err, OnOk, OnErr, IfOk, IfSome, IfNone, IsErrOf};
-ghost use Rattle.ipc_model.specs.declared.record.Record.{Record};
-ghost use Rattle.ipc_model.specs.Store.{open_gate, IsClosed, SpellsBatches};
+ghost use Rattle.first_model.specs.declared.record.Record.{Record};
+ghost use Rattle.first_model.specs.Store.{open_gate, IsClosed, SpellsBatches};
 ghost use Rattle.journal.specs.Reading.{IsContent, IsBatch};
 
 use crate::StoreFault;
 use crate::journal::OPEN_GATE;
 use codes::MAX_RECORDS;
-use ipc_model::Record;
+use first_model::Record;
 use record::take_record;
 use std::alloc::Global;
 use words::{take_long_word, take_word};

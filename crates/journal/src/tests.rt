@@ -1,6 +1,6 @@
 use super::*;
 use disk::{MemDisk, Slot, Torn};
-use ipc_model::{Call, Record, Reply};
+use first_model::{Call, Record, Reply};
 use std::test::Fail;
 
 // A segment of epoch 0 with one batch: that of the record 0, which is the allocation of the name 0x100.

@@ -10,14 +10,14 @@ use Rattle.std.specs.FinMap.{FinMap, get, insert, remove, empty, len, get-insert
 use Rattle.codes.specs.declared.limits.TheConstants.{MAX_NAMES}
 use Rattle.codes.specs.declared.kern_return.KernReturn.{KernReturn}
 use Rattle.codes.specs.declared.kern_return.KernReturn.TheVariants.{NoSpace, ResourceShortage, InvalidName, InvalidTask, InvalidValue}
-use Rattle.ipc_model.specs.declared.call.Call.{Call}
-use Rattle.ipc_model.specs.declared.call.Call.TheVariants as call
-use Rattle.ipc_model.specs.declared.call.Reply.{Reply}
-use Rattle.ipc_model.specs.declared.call.Reply.TheVariants as reply
-use Rattle.ipc_model.specs.declared.entry.Entry.{Entry}
-use Rattle.ipc_model.specs.declared.port.PortState.{PortState}
-use Rattle.ipc_model.specs.State.{Names, State, IsUnused, type_of, new_port, ports_are_used_up}
-use Rattle.ipc_model.specs.Step.{Step, Succeeds, SucceedsIn, refusal, refusal_in, first_failing, tests_of, is_allocatable, allocated, allocated_entry, number_of_call}
+use Rattle.first_model.specs.declared.call.Call.{Call}
+use Rattle.first_model.specs.declared.call.Call.TheVariants as call
+use Rattle.first_model.specs.declared.call.Reply.{Reply}
+use Rattle.first_model.specs.declared.call.Reply.TheVariants as reply
+use Rattle.first_model.specs.declared.entry.Entry.{Entry}
+use Rattle.first_model.specs.declared.port.PortState.{PortState}
+use Rattle.first_model.specs.State.{Names, State, IsUnused, type_of, new_port, ports_are_used_up}
+use Rattle.first_model.specs.Step.{Step, Succeeds, SucceedsIn, refusal, refusal_in, first_failing, tests_of, is_allocatable, allocated, allocated_entry, number_of_call}
 
 apart : (x y : ℕ) → x ≢ y → eq_by_cmp nat_cmp x y ≡ false
 apart x y ne = by_order (nat_cmp x y) refl

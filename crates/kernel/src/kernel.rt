@@ -1,11 +1,11 @@
 ghost use Rattle.std.specs.Prelude.{◌≡◌, ℕ, ◌+◌, ◌∷◌, [], IfOk, OnOk, OnErr, IsErrOf, IfSome, IfNone, MatchOption, true, false, None, Some};
 ghost use Rattle.std.specs.FinMap as map;
-ghost use Rattle.ipc_model.specs.State.{Names, State, IsUnused, opening_state, new_port, ports_are_used_up};
-ghost use Rattle.ipc_model.specs.Step as model;
+ghost use Rattle.first_model.specs.State.{Names, State, IsUnused, opening_state, new_port, ports_are_used_up};
+ghost use Rattle.first_model.specs.Step as model;
 
 use crate::types::{allocated_entry, is_allocatable, is_same_reply, type_of};
 use codes::{DEFAULT_QUEUE_LIMIT, KernReturn, MAX_PORTS, Right};
-use ipc_model::{Call, PortState, Record, Reply};
+use first_model::{Call, PortState, Record, Reply};
 use number_map::NumberMap;
 use port_space::PortSpace;
 use std::alloc::{AllocError, Global};
@@ -45,8 +45,8 @@ pub struct Kernel {
 impl Model for Kernel {
     ghost use Rattle.std.specs.Prelude.{◌≡◌, ◌≤◌, ℕ, None};
     ghost use Rattle.std.specs.FinMap as map;
-    ghost use Rattle.ipc_model.specs.State.{State};
-    ghost use Rattle.ipc_model.specs.StateCode.{state_code};
+    ghost use Rattle.first_model.specs.State.{State};
+    ghost use Rattle.first_model.specs.StateCode.{state_code};
 
     ghost Value = { State };
 

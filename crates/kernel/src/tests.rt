@@ -1,6 +1,6 @@
 use super::*;
 use codes::KernReturn;
-use ipc_model::{Call, Record, Reply};
+use first_model::{Call, Record, Reply};
 use std::test::Fail;
 
 fn refused(number: u32, code: KernReturn) -> Reply {

@@ -1,9 +1,9 @@
 ghost use Rattle.std.specs.Prelude.{◌≡◌, ◌↔◌, IsTrue};
-ghost use Rattle.ipc_model.specs.State as model;
-ghost use Rattle.ipc_model.specs.Step.{is_allocatable, allocated_entry};
+ghost use Rattle.first_model.specs.State as model;
+ghost use Rattle.first_model.specs.Step.{is_allocatable, allocated_entry};
 
 use codes::Right;
-use ipc_model::{Entry, PortRights, Reply};
+use first_model::{Entry, PortRights, Reply};
 
 const REQUEST_BIT: u32 = 1 << 31;
 

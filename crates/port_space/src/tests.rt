@@ -1,5 +1,5 @@
 use super::*;
-use ipc_model::Entry;
+use first_model::Entry;
 use std::test::Fail;
 
 #[test]

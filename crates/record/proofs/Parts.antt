@@ -1,12 +1,12 @@
 -- The parts of a record's text.
 use Rattle.std.proofs.Common.{◌≡◌, ℕ, ◌+◌, ◌<◌, ◌^◌, List, ◌++◌, length, drop, sym, ap, ◌∙◌, arith, append_assoc}
-use Rattle.ipc_model.specs.declared.call.Call.{Call}
-use Rattle.ipc_model.specs.declared.call.Call.TheVariants as call
-use Rattle.ipc_model.specs.declared.call.Reply.{Reply}
-use Rattle.ipc_model.specs.declared.call.Reply.TheVariants as reply
-use Rattle.ipc_model.specs.declared.record.Record.{Record}
-use Rattle.ipc_model.specs.Words.{word, long_word, frame_text}
-use Rattle.ipc_model.specs.Texts.{call_text, reply_text, record_text}
+use Rattle.first_model.specs.declared.call.Call.{Call}
+use Rattle.first_model.specs.declared.call.Call.TheVariants as call
+use Rattle.first_model.specs.declared.call.Reply.{Reply}
+use Rattle.first_model.specs.declared.call.Reply.TheVariants as reply
+use Rattle.first_model.specs.declared.record.Record.{Record}
+use Rattle.words.specs.Words.{word, long_word, frame_text}
+use Rattle.first_model.specs.Texts.{call_text, reply_text, record_text}
 
 pub short_call : (c : Call) → length (call_text c) < 2 ^ 32
 short_call (call.Type name) = omega arith

@@ -2,11 +2,11 @@
 #![tactic(auto)]
 
 ghost use Rattle.std.specs.Prelude.{◌≡◌, ◌<◌, ◌^◌, ◌++◌, ℕ, List, Some, IfSome, IfNone, IsSomeAnd, OnOk, length};
-ghost use Rattle.ipc_model.specs.Words.{frame_text};
-ghost use Rattle.ipc_model.specs.Texts.{record_text, IsRecord};
+ghost use Rattle.words.specs.Words.{frame_text};
+ghost use Rattle.first_model.specs.Texts.{record_text, IsRecord};
 
 use calls::{push_call, push_reply, read_call, read_recorded_reply};
-use ipc_model::Record;
+use first_model::Record;
 use std::alloc::{AllocError, Global};
 use words::{push_long_word, push_word, take_long_word, take_word};
 
@@ -24,7 +24,7 @@ pub fn take_frame(bytes: &[u8]) -> Option<(&[u8], &[u8])>
     Some(rest.split_at(length))
 }
 
-#[tactic(auto, unfolding(ipc_model::specs::Texts::record_text))]
+#[tactic(auto, unfolding(first_model::specs::Texts::record_text))]
 /// The record that stands in front, with its number, and the bytes behind it.
 pub fn take_record(bytes: &[u8]) -> Option<(u64, Record, &[u8])>
     ensures found { IfSome result (λ r. (bytes.now ≡ record_text r.0 r.1 ++ r.2.now) × IsRecord r.1) }
@@ -50,7 +50,7 @@ fn push_frame(out: &mut Vec<u8>, content: &[u8]) -> Result<(), AllocError>
     out.extend_from_slice(content)
 }
 
-#[tactic(auto, unfolding(ipc_model::specs::Texts::record_text))]
+#[tactic(auto, unfolding(first_model::specs::Texts::record_text))]
 /// Adds a record with its number. Where memory is wanted some of its bytes may have been added.
 pub fn push_record(
     alloc: Global,
@@ -73,7 +73,7 @@ pub fn push_record(
 #[cfg(test)]
 mod tests {
     use super::*;
-    use ipc_model::{Call, Reply};
+    use first_model::{Call, Reply};
     use std::test::Fail;
 
     // Number 0: space 1, the call allocate of a receive right, and the reply with the name 0x100.

@@ -1,9 +1,9 @@
 -- Where a record is no step, no run has it.
 use Rattle.std.proofs.Common.{◌≡◌, ℕ, ◌<◌, List, length, take, drop, get_or, sym, subst, take-append-drop, drop-cons}
-use Rattle.ipc_model.specs.declared.record.Record.{Record}
-use Rattle.ipc_model.specs.State.{State}
-use Rattle.ipc_model.specs.Step.{Step, Run}
-use Rattle.ipc_model.specs.StepLaws.{one_run, run_split}
+use Rattle.first_model.specs.declared.record.Record.{Record}
+use Rattle.first_model.specs.State.{State}
+use Rattle.first_model.specs.Step.{Step, Run}
+use Rattle.first_model.specs.StepLaws.{one_run, run_split}
 
 pub no_run : (old mid : State) (records : List Record) (i : ℕ) (blank : Record) → i < length records → Run old (take i records) mid
     → ((new : State) → Step mid (get_or records i blank).space (get_or records i blank).call (get_or records i blank).reply new → ⊥) → (state : State) → Run old records state → ⊥

@@ -1,10 +1,10 @@
 -- What a store stands for.
 use Rattle.std.specs.Prelude.{◌≡◌, ◌≢◌, ◌⊎◌, ℕ, ◌≤◌, ◌∷◌, [], ◌++◌, List, length, take, slice_index}
-use Rattle.ipc_model.specs.declared.record.Record.{Record}
-use Rattle.ipc_model.specs.State.{State, opening_state}
-use Rattle.ipc_model.specs.Step.{Run}
-use Rattle.ipc_model.specs.Store.{SpellsSegment, IsInUse, open_gate, image_content}
-use Rattle.ipc_model.specs.Words.{word, long_word}
+use Rattle.first_model.specs.declared.record.Record.{Record}
+use Rattle.first_model.specs.State.{State, opening_state}
+use Rattle.first_model.specs.Step.{Run}
+use Rattle.first_model.specs.Store.{SpellsSegment, IsInUse, open_gate, image_content}
+use Rattle.words.specs.Words.{word, long_word}
 use Rattle.disk.specs.Slots.{Slots}
 
 -- An image slot's header has 24 bytes, a segment slot's has 16. A slot with a header of so many bytes is open:

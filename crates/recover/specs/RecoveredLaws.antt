@@ -1,12 +1,12 @@
 -- A store stands for one state, and no slot of it is of another version.
 use Rattle.std.specs.Prelude.{◌≡◌, ℕ, ◌++◌, List, length, drop, slice_index}
 use Rattle.std.proofs.Common.{inl, inr, sym, ap, subst, ◌∙◌, refl, arith}
-use Rattle.ipc_model.specs.declared.record.Record.{Record}
-use Rattle.ipc_model.specs.BatchLaws.{one_reading}
-use Rattle.ipc_model.specs.State.{State, opening_state}
-use Rattle.ipc_model.specs.Step.{Run}
-use Rattle.ipc_model.specs.StepLaws.{one_run}
-use Rattle.ipc_model.specs.Store.{SpellsBatches, SpellsSegment, open_gate, segment_header}
+use Rattle.first_model.specs.declared.record.Record.{Record}
+use Rattle.first_model.specs.BatchLaws.{one_reading}
+use Rattle.first_model.specs.State.{State, opening_state}
+use Rattle.first_model.specs.Step.{Run}
+use Rattle.first_model.specs.StepLaws.{one_run}
+use Rattle.first_model.specs.Store.{SpellsBatches, SpellsSegment, open_gate, segment_header}
 use Rattle.disk.specs.Slots.{Slots}
 use Rattle.recover.specs.Recovered.{IsOpen, HasOtherVersion, IsOtherVersion, HoldsOpeningImage, Follows, Recovers}
 

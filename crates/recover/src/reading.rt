@@ -1,11 +1,11 @@
 ghost use Rattle.std.specs.Prelude.{◌≡◌, ◌≢◌, ◌↔◌, ◌⊎◌, ℕ, ◌++◌, List, IsTrue, IfOk, IfSome, IfNone, OnOk, OnErr, IsErrOf};
-ghost use Rattle.ipc_model.specs.State.{State};
-ghost use Rattle.ipc_model.specs.Store.{segment_header, open_gate};
-ghost use Rattle.ipc_model.specs.Step.{Run};
+ghost use Rattle.first_model.specs.State.{State};
+ghost use Rattle.first_model.specs.Store.{segment_header, open_gate};
+ghost use Rattle.first_model.specs.Step.{Run};
 ghost use Rattle.recover.specs.Recovered.{IsOpen, HasOtherVersion, IsOtherVersion, HoldsOpeningImage, WasNeverUsed, IsDamaged};
 ghost use Rattle.recover.specs.Fronts.{four_slots};
 
-use ipc_model::Record;
+use first_model::Record;
 use journal::{OPEN_GATE, StoreFault};
 use kernel::{Kernel, ReplayFault};
 

@@ -1,7 +1,7 @@
 use super::*;
 use codes::KernReturn;
 use disk::{MemDisk, Slot, Torn};
-use ipc_model::{Call, Record, Reply};
+use first_model::{Call, Record, Reply};
 use journal::{Journal, StoreFault};
 use std::alloc::Global;
 use std::test::Fail;

@@ -7,17 +7,17 @@ use Rattle.codes.specs.declared.kern_return.KernReturn.{KernReturn}
 use Rattle.disk.specs.Moments.{View, LeftSince, MayLeave, Passes, Follows, IsSynced}
 use Rattle.disk.specs.Slots.{Slots, with_slot}
 use Rattle.disk.specs.declared.slot.Slot.TheVariants.{Segment0}
-use Rattle.ipc_model.specs.declared.call.Call.{Call}
-use Rattle.ipc_model.specs.declared.call.Call.TheVariants as call
-use Rattle.ipc_model.specs.declared.call.Reply.{Reply}
-use Rattle.ipc_model.specs.declared.call.Reply.TheVariants as reply
-use Rattle.ipc_model.specs.declared.record.Record.{Record}
-use Rattle.ipc_model.specs.RunLaws.{run-push}
-use Rattle.ipc_model.specs.State.{State, Names, opening_state}
-use Rattle.ipc_model.specs.Step.{Step, Run, SucceedsIn, has_record, number_of_call, refusal}
-use Rattle.ipc_model.specs.Store.{IsInUse, IsMidAppend, SpellsSegment, batch_text, with_batch}
-use Rattle.ipc_model.specs.StoreLaws.{appended_in_use, in_use_spells, mid_append_spells}
-use Rattle.ipc_model.specs.Texts.{IsRecord}
+use Rattle.first_model.specs.declared.call.Call.{Call}
+use Rattle.first_model.specs.declared.call.Call.TheVariants as call
+use Rattle.first_model.specs.declared.call.Reply.{Reply}
+use Rattle.first_model.specs.declared.call.Reply.TheVariants as reply
+use Rattle.first_model.specs.declared.record.Record.{Record}
+use Rattle.first_model.specs.RunLaws.{run-push}
+use Rattle.first_model.specs.State.{State, Names, opening_state}
+use Rattle.first_model.specs.Step.{Step, Run, SucceedsIn, has_record, number_of_call, refusal}
+use Rattle.first_model.specs.Store.{IsInUse, IsMidAppend, SpellsSegment, batch_text, with_batch}
+use Rattle.first_model.specs.StoreLaws.{appended_in_use, in_use_spells, mid_append_spells}
+use Rattle.first_model.specs.Texts.{IsRecord}
 use Rattle.recover.specs.Kept.{IsKept}
 use Rattle.recover.specs.Recovered.{IsOpen, HoldsOpeningImage, Recovers}
 use Rattle.server.specs.Keeping.{IsBeforeOrAfter}

@@ -2,11 +2,11 @@
 use Rattle.std.specs.Prelude.{◌≡◌, ◌⊎◌, ℕ, ◌+◌, Bool, true, false, if◌then◌else◌, refl}
 use Rattle.std.specs.Coded.{Coded, code_by, coded×, coded_ℕ, coded_bool}
 use Rattle.disk.specs.Slots.{Slots}
-use Rattle.ipc_model.specs.declared.call.Call.{Call}
-use Rattle.ipc_model.specs.declared.call.Reply.{Reply}
-use Rattle.ipc_model.specs.State.{State}
-use Rattle.ipc_model.specs.StateCode.{state_code}
-use Rattle.ipc_model.specs.Step.{Step, has_record}
+use Rattle.first_model.specs.declared.call.Call.{Call}
+use Rattle.first_model.specs.declared.call.Reply.{Reply}
+use Rattle.first_model.specs.State.{State}
+use Rattle.first_model.specs.StateCode.{state_code}
+use Rattle.first_model.specs.Step.{Step, has_record}
 use Rattle.recover.specs.Recovered.{Recovers}
 use Rattle.server.specs.Serving.{StepOrShortage}
 

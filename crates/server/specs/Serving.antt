@@ -1,13 +1,13 @@
 -- What a caller may answer, and what is written for what is read.
 use Rattle.std.specs.Prelude.{◌≡◌, ◌⊎◌, ℕ, List, [], ◌∷◌, ◌++◌, Option, Some}
 use Rattle.codes.specs.declared.kern_return.KernReturn.TheVariants.{InvalidArgument, ResourceShortage}
-use Rattle.ipc_model.specs.declared.call.Call.{Call}
-use Rattle.ipc_model.specs.declared.call.Reply.{Reply}
-use Rattle.ipc_model.specs.declared.call.Reply.TheVariants as reply
-use Rattle.ipc_model.specs.State.{State}
-use Rattle.ipc_model.specs.Step.{Step, number_of_call}
-use Rattle.ipc_model.specs.Texts.{call_text, reply_text, FitsCall}
-use Rattle.ipc_model.specs.Words.{frame_text}
+use Rattle.first_model.specs.declared.call.Call.{Call}
+use Rattle.first_model.specs.declared.call.Reply.{Reply}
+use Rattle.first_model.specs.declared.call.Reply.TheVariants as reply
+use Rattle.first_model.specs.State.{State}
+use Rattle.first_model.specs.Step.{Step, number_of_call}
+use Rattle.first_model.specs.Texts.{call_text, reply_text, FitsCall}
+use Rattle.words.specs.Words.{frame_text}
 use Rattle.byteorder.specs.Endian.{little_number}
 
 -- a step of the machine, or, where memory or room for a record is wanted, nothing but that refusal

@@ -5,13 +5,13 @@ ghost use Rattle.recover.specs.Kept.{IsKept};
 ghost use Rattle.recover.specs.Recovered.{Recovers};
 ghost use Rattle.server.specs.Keeping.{AnswersStored, IsBeforeOrAfter, records_of};
 ghost use Rattle.server.specs.Serving.{StepOrShortage};
-ghost use Rattle.ipc_model.specs.Step.{number_of_call, has_record};
-ghost use Rattle.ipc_model.specs.declared.call.Call.{Call};
-ghost use Rattle.ipc_model.specs.declared.call.Reply.{Reply};
+ghost use Rattle.first_model.specs.Step.{number_of_call, has_record};
+ghost use Rattle.first_model.specs.declared.call.Call.{Call};
+ghost use Rattle.first_model.specs.declared.call.Reply.{Reply};
 
 use codes::{KernReturn, MAX_RECORDS};
 use disk::Disk;
-use ipc_model::{Call, Record, Reply};
+use first_model::{Call, Record, Reply};
 use journal::{Journal, StoreFault};
 use kernel::Kernel;
 use recover::Opened;

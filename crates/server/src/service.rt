@@ -1,11 +1,11 @@
 ghost use Rattle.std.specs.Prelude.{◌≡◌, ◌≤◌, ◌<◌, IfSome, OnOk};
-ghost use Rattle.ipc_model.specs.Texts.{reply_text};
+ghost use Rattle.first_model.specs.Texts.{reply_text};
 ghost use Rattle.server.specs.Serving.{IsAnswered, ServesAll};
 
 use crate::Caller;
 use calls::{read_request, reply_frame};
 use codes::{KernReturn, MAX_FRAME_CONTENT};
-use ipc_model::Reply;
+use first_model::Reply;
 use journal::StoreFault;
 use std::alloc::Global;
 use std::io::{Read, Write};

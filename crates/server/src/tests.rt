@@ -1,6 +1,6 @@
 use crate::{Alone, ServeFault, lone, serve};
 use disk::{Disk, MemDisk, Slot, Torn};
-use ipc_model::Reply;
+use first_model::Reply;
 use journal::StoreFault;
 use recover::open;
 use std::alloc::Global;

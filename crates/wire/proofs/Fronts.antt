@@ -3,7 +3,7 @@ use Rattle.std.proofs.Common.{◌≡◌, ℕ, ◌<◌, ◌≤◌, true, false, e
 use Rattle.std.proofs.KnownBytes.{Consumes-trans}
 use Rattle.byteorder.specs.Endian.{little_number}
 use Rattle.byteorder.specs.Numbers.{little_number-reads_back}
-use Rattle.ipc_model.specs.Words.{word, frame_text}
+use Rattle.words.specs.Words.{word, frame_text}
 use Rattle.wire.specs.declared.fault.WireFault.{WireFault}
 use Rattle.wire.specs.declared.fault.WireFault.TheVariants.{Short, TooLong, Device, NoMemory}
 use Rattle.wire.specs.Frame.{FrameValue, whole, faulty, content_at, front_of, IsContentLength, IsWithinFrame, IsReadOf}

@@ -1,7 +1,7 @@
 -- The two steps of reading a frame, each by what it answered and what it left of the input.
 use Rattle.std.specs.Prelude.{◌≡◌, ℕ, ◌<◌, ◌≤◌, List, [], ◌++◌, length, Option, None, Some, Result, Ok, Err}
 use Rattle.std.specs.Io.KnownBytes.{Consumes}
-use Rattle.ipc_model.specs.Words.{word}
+use Rattle.words.specs.Words.{word}
 use Rattle.wire.specs.Frame.{FrameValue, ended, faulty, front_of}
 use Rattle.wire.specs.declared.fault.WireFault.{WireFault}
 use Rattle.wire.specs.declared.fault.WireFault.TheVariants.{Short, TooLong, Device, NoMemory}

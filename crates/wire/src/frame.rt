@@ -1,6 +1,6 @@
 ghost use Rattle.std.specs.Prelude.{◌≡◌, ◌+◌, ◌≤◌, ◌++◌, length, drop, IfOk};
 ghost use Rattle.byteorder.specs.Endian.{little_number};
-ghost use Rattle.ipc_model.specs.Words.{word};
+ghost use Rattle.words.specs.Words.{word};
 ghost use Rattle.wire.specs.Frame.{IsContentLength};
 
 use byteorder::{ByteOrder, LittleEndian};

@@ -2,7 +2,7 @@ ghost use Rattle.std.specs.Prelude.{◌≡◌, ◌<◌, ◌≤◌, ◌++◌, ℕ
 ghost use Rattle.std.specs.Io.{ReadsAtMost};
 ghost use Rattle.std.specs.Io.KnownBytes.{Consumes, IsAtEnd, Keeps};
 ghost use Rattle.byteorder.specs.Endian.{little_number};
-ghost use Rattle.ipc_model.specs.Words.{word, frame_text};
+ghost use Rattle.words.specs.Words.{word, frame_text};
 ghost use Rattle.wire.specs.Frame.{IsContentLength, IsReadOf, IsFrameRead};
 ghost use Rattle.wire.specs.Reading.{ConsumesPart, IsLengthOf, IsContentOf};
 

@@ -2,7 +2,7 @@
 #![tactic(auto)]
 
 ghost use Rattle.std.specs.Prelude.{◌≡◌, ◌<◌, ◌≤◌, ◌+◌, ◌^◌, ◌++◌, length, drop, IfSome, IfNone, OnOk, OnErr};
-ghost use Rattle.ipc_model.specs.Words.{word, long_word};
+ghost use Rattle.words.specs.Words.{word, long_word};
 
 use byteorder::{ByteOrder, LittleEndian};
 use std::alloc::AllocError;

@@ -1,6 +1,6 @@
 use Rattle.std.proofs.Common.{◌≡◌, ◌++◌, ap, sym, ◌∙◌, rules}
-use Rattle.ipc_model.specs.Words.{word, long_word, frame_text}
-use Rattle.ipc_model.specs.Texts.{call_text, reply_text, record_text}
+use Rattle.words.specs.Words.{word, long_word, frame_text}
+use Rattle.first_model.specs.Texts.{call_text, reply_text, record_text}
 use Rattle.record.proofs.Joined.{joined, on_ok}
 use Rattle.record.proofs.push_record.Goals as goal
 

@@ -1,6 +1,6 @@
 use Rattle.std.proofs.Common.{◌++◌}
-use Rattle.ipc_model.specs.Words.{frame_text}
-use Rattle.ipc_model.specs.Texts.{call_text, reply_text}
+use Rattle.words.specs.Words.{frame_text}
+use Rattle.first_model.specs.Texts.{call_text, reply_text}
 use Rattle.record.proofs.Parts.{short_call, short_reply, frames_of}
 use Rattle.record.proofs.take_record.Goals as goal
 

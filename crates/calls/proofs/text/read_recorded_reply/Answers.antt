@@ -1,10 +1,10 @@
 use Rattle.std.proofs.Common.{◌≡◌, ℕ, ◌<◌, ◌^◌, List, [], ◌++◌, drop, Some, IsTrue, ap, sym, ◌∙◌}
-use Rattle.ipc_model.specs.declared.call.Reply.{Reply}
-use Rattle.ipc_model.specs.declared.call.Reply.TheVariants as reply
-use Rattle.ipc_model.specs.Step.{has_record}
-use Rattle.ipc_model.specs.Texts.{reply_text, FitsReply}
-use Rattle.ipc_model.specs.Words.{word}
-use Rattle.ipc_model.specs.WordLaws.{same_word}
+use Rattle.first_model.specs.declared.call.Reply.{Reply}
+use Rattle.first_model.specs.declared.call.Reply.TheVariants as reply
+use Rattle.first_model.specs.Step.{has_record}
+use Rattle.first_model.specs.Texts.{reply_text, FitsReply}
+use Rattle.words.specs.Words.{word}
+use Rattle.words.specs.WordLaws.{same_word}
 use Rattle.calls.proofs.text.read_recorded_reply.Goals as goal
 
 -- the name stands behind two words

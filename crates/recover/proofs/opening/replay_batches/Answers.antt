@@ -1,7 +1,7 @@
 use Rattle.std.proofs.Common.{◌≡◌, sym, ◌∙◌, subst}
 use Rattle.std.proofs.lemmas.Result.{err_from_is_err_and}
-use Rattle.ipc_model.specs.Step.{Run}
-use Rattle.ipc_model.specs.BatchLaws.{one_reading}
+use Rattle.first_model.specs.Step.{Run}
+use Rattle.first_model.specs.BatchLaws.{one_reading}
 use Rattle.recover.proofs.opening.replay_batches.Goals as goal
 
 pub returns-in_err-records-clause-damaged : goal.returns-in_err-records-clause-damaged

@@ -1,11 +1,11 @@
 use Rattle.std.proofs.Common.{take, get_or, subst, sym}
 use Rattle.std.proofs.lemmas.List.{take_more}
 use Rattle.codes.specs.declared.kern_return.KernReturn.TheVariants.{Success}
-use Rattle.ipc_model.specs.declared.call.Call.TheVariants as call
-use Rattle.ipc_model.specs.declared.call.Reply.TheVariants as reply
-use Rattle.ipc_model.specs.declared.record.Record.{Record}
-use Rattle.ipc_model.specs.Step.{Run}
-use Rattle.ipc_model.specs.RunLaws.{run-push}
+use Rattle.first_model.specs.declared.call.Call.TheVariants as call
+use Rattle.first_model.specs.declared.call.Reply.TheVariants as reply
+use Rattle.first_model.specs.declared.record.Record.{Record}
+use Rattle.first_model.specs.Step.{Run}
+use Rattle.first_model.specs.RunLaws.{run-push}
 use Rattle.recover.proofs.Replays.{no_run}
 use Rattle.recover.proofs.reading.replay_all.Goals as goal
 

@@ -1,5 +1,5 @@
 use Rattle.std.proofs.Common.{take}
-use Rattle.ipc_model.specs.Step.{Run}
+use Rattle.first_model.specs.Step.{Run}
 use Rattle.recover.proofs.reading.replay_all.Given as goal
 
 -- the state is that after the records so far

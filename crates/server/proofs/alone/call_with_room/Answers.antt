@@ -1,7 +1,7 @@
 use Rattle.std.proofs.Common.{◌≡◌, true, ℕ, sym, ap, subst, ◌∙◌}
 use Rattle.disk.specs.Slots.{Slots}
-use Rattle.ipc_model.specs.State.{State}
-use Rattle.ipc_model.specs.Step.{has_record}
+use Rattle.first_model.specs.State.{State}
+use Rattle.first_model.specs.Step.{has_record}
 use Rattle.recover.specs.Kept.{IsKept}
 use Rattle.server.proofs.Keeping.{mid_append_stands, appended_kept, passes_so, step_unrecorded}
 use Rattle.server.proofs.alone.call_with_room.Goals as goal

@@ -1,5 +1,5 @@
 use Rattle.std.proofs.Common.{◌++◌, Some, ap, ◌∙◌, arith}
-use Rattle.ipc_model.specs.Words.{frame_text}
+use Rattle.words.specs.Words.{frame_text}
 use Rattle.server.specs.Serving.{replies_text}
 use Rattle.server.proofs.Going.{begun, goes_on, ended_whole, frame_read, end_read, appends_is, keeps_is, both_known}
 use Rattle.server.proofs.service.serve.Goals as goal

@@ -4,7 +4,7 @@ use Rattle.std.specs.Prelude.{OnErr}
 use Rattle.std.specs.Io.KnownBytes.{Appends}
 use Rattle.std.proofs.KnownBytes.{Appends-trans}
 use Rattle.std.proofs.lemmas.Result.{on_err_weaker}
-use Rattle.ipc_model.specs.Words.{word}
+use Rattle.words.specs.Words.{word}
 use Rattle.wire.specs.Writing.{AppendsPart}
 use Rattle.wire.proofs.write.write_frame.Goals as goal
 

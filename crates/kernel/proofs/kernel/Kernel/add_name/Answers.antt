@@ -1,6 +1,6 @@
 use Rattle.std.proofs.Common.{◌≡◌, sym, ◌∙◌, ap, arith, ◌+◌}
 use Rattle.std.specs.FinMap as map
-use Rattle.ipc_model.specs.Step.{allocated_entry}
+use Rattle.first_model.specs.Step.{allocated_entry}
 use Rattle.kernel.proofs.FirstSpace.{seen, names_now, has_room, added, with_name, with_port, remove-insert, still_unused}
 use Rattle.kernel.proofs.kernel.Kernel.add_name.Goals as goal
 

@@ -1,7 +1,7 @@
 use Rattle.std.proofs.Common.{Option, None, Some, IfNone, refl, sym, subst}
-use Rattle.ipc_model.specs.Step.{Step}
-use Rattle.ipc_model.specs.declared.call.Call.TheVariants as call
-use Rattle.ipc_model.specs.declared.call.Reply.TheVariants as reply
+use Rattle.first_model.specs.Step.{Step}
+use Rattle.first_model.specs.declared.call.Call.TheVariants as call
+use Rattle.first_model.specs.declared.call.Reply.TheVariants as reply
 use Rattle.kernel.proofs.kernel.Kernel.answer.Goals as goal
 
 for_none : {T P : Type 0} (o : Option T) → P → IfNone o P

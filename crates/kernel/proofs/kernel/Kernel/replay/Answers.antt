@@ -1,5 +1,5 @@
 use Rattle.std.proofs.Common.{refl, sym, subst}
-use Rattle.ipc_model.specs.Step.{Step}
+use Rattle.first_model.specs.Step.{Step}
 use Rattle.kernel.proofs.kernel.Kernel.replay.Goals as goal
 
 pub returns-then-is_same_reply-clause-step : goal.returns-then-is_same_reply-clause-step

@@ -1,7 +1,7 @@
 use Rattle.std.proofs.Common.{◌≡◌, None, refl, sym, subst, ◌∙◌}
-use Rattle.ipc_model.specs.State.{IsUnused}
-use Rattle.ipc_model.specs.Step.{Step, refusal}
-use Rattle.ipc_model.specs.declared.call.Call.TheVariants as call
+use Rattle.first_model.specs.State.{IsUnused}
+use Rattle.first_model.specs.Step.{Step, refusal}
+use Rattle.first_model.specs.declared.call.Call.TheVariants as call
 use Rattle.kernel.proofs.FirstSpace.{names_now, never_used, same_some}
 use Rattle.kernel.proofs.kernel.Kernel.replay_allocate.Goals as goal
 

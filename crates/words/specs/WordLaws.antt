@@ -5,7 +5,7 @@ use Rattle.std.proofs.Common.{sym, ◌∙◌, ap, arith}
 use Rattle.std.proofs.lemmas.Nat.{le_bytes_4, le_bytes_8}
 use Rattle.byteorder.specs.Endian.{little_number}
 use Rattle.byteorder.specs.Numbers.{length-bytes_low_first, little_number-reads_back}
-use Rattle.ipc_model.specs.Words.{word, long_word}
+use Rattle.words.specs.Words.{word, long_word}
 
 -- each is a byte
 abbrev pub AreBytes : List ℕ → Type 0

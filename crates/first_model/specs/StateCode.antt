@@ -3,10 +3,10 @@ use Rattle.std.specs.Prelude.{ℕ, refl}
 use Rattle.std.specs.Ordering.{nat_cmp}
 use Rattle.std.specs.FinMap.{FinMap, code}
 use Rattle.std.specs.Coded.{Coded, code_by, coded×, coded_ℕ}
-use Rattle.ipc_model.specs.declared.port.PortState.{PortState}
-use Rattle.ipc_model.specs.contracts.entry.Entry as entry
-use Rattle.ipc_model.specs.contracts.port.PortState as port
-use Rattle.ipc_model.specs.State.{Names, State}
+use Rattle.first_model.specs.declared.port.PortState.{PortState}
+use Rattle.first_model.specs.contracts.entry.Entry as entry
+use Rattle.first_model.specs.contracts.port.PortState as port
+use Rattle.first_model.specs.State.{Names, State}
 
 abbrev pub names_code : Coded Names
 names_code = code coded_ℕ entry.the_row.coded

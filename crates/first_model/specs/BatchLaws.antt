@@ -3,16 +3,16 @@ use Rattle.std.specs.Prelude.{◌≡◌, ℕ, ◌+◌, ◌*◌, ◌^◌, ◌<◌
 use Rattle.std.proofs.Common.{refl, sym, ap, ◌∙◌, subst, arith, append_assoc, length-append}
 use Rattle.std.proofs.lemmas.List.{take_at, drop_at}
 use Rattle.codes.specs.declared.limits.TheConstants.{MAX_RECORDS}
-use Rattle.ipc_model.specs.declared.call.Call.{Call}
-use Rattle.ipc_model.specs.declared.call.Call.TheVariants as call
-use Rattle.ipc_model.specs.declared.call.Reply.{Reply}
-use Rattle.ipc_model.specs.declared.call.Reply.TheVariants as reply
-use Rattle.ipc_model.specs.declared.record.Record.{Record}
-use Rattle.ipc_model.specs.Words.{word, long_word, frame_text}
-use Rattle.ipc_model.specs.WordLaws.{same_word, same_long_word, length-word, length-long_word}
-use Rattle.ipc_model.specs.Step.{has_record}
-use Rattle.ipc_model.specs.Texts.{call_text, reply_text, record_text, records_text, FitsCall, FitsReply, IsRecord}
-use Rattle.ipc_model.specs.Store.{open_gate, batch_text, batches_text, all_records, IsClosed, AreRecords, SpellsBatches, SpellsSegment, segment_header}
+use Rattle.first_model.specs.declared.call.Call.{Call}
+use Rattle.first_model.specs.declared.call.Call.TheVariants as call
+use Rattle.first_model.specs.declared.call.Reply.{Reply}
+use Rattle.first_model.specs.declared.call.Reply.TheVariants as reply
+use Rattle.first_model.specs.declared.record.Record.{Record}
+use Rattle.words.specs.Words.{word, long_word, frame_text}
+use Rattle.words.specs.WordLaws.{same_word, same_long_word, length-word, length-long_word}
+use Rattle.first_model.specs.Step.{has_record}
+use Rattle.first_model.specs.Texts.{call_text, reply_text, record_text, records_text, FitsCall, FitsReply, IsRecord}
+use Rattle.first_model.specs.Store.{open_gate, batch_text, batches_text, all_records, IsClosed, AreRecords, SpellsBatches, SpellsSegment, segment_header}
 
 -- equal texts whose fronts have one length
 pub same_split : (xs ys us vs : List ℕ) → length xs ≡ length ys → xs ++ us ≡ ys ++ vs → (xs ≡ ys) × (us ≡ vs)

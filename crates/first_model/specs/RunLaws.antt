@@ -1,9 +1,9 @@
 -- Runs of the machine that follow one another.
 use Rattle.std.specs.Prelude.{◌≡◌, List, [], ◌∷◌, ◌++◌}
 use Rattle.std.proofs.Common.{refl, sym, subst}
-use Rattle.ipc_model.specs.declared.record.Record.{Record}
-use Rattle.ipc_model.specs.State.{State}
-use Rattle.ipc_model.specs.Step.{Step, Run}
+use Rattle.first_model.specs.declared.record.Record.{Record}
+use Rattle.first_model.specs.State.{State}
+use Rattle.first_model.specs.Step.{Step, Run}
 
 -- one step more
 pub run-push : (old mid new : State) (records : List Record) (next : Record) → Run old records mid → Step mid next.space next.call next.reply new → Run old (records ++ next ∷ []) new

@@ -1,9 +1,9 @@
 -- The texts of the store's slots, version 1.
 use Rattle.std.specs.Prelude.{◌≡◌, ◌≢◌, ◌⊎◌, ℕ, ◌+◌, ◌-◌, ◌<◌, ◌≤◌, List, [], ◌∷◌, ◌++◌, length, take}
 use Rattle.codes.specs.declared.limits.TheConstants.{MAX_RECORDS}
-use Rattle.ipc_model.specs.declared.record.Record.{Record}
-use Rattle.ipc_model.specs.Words.{word, long_word}
-use Rattle.ipc_model.specs.Texts.{records_text, IsRecord}
+use Rattle.first_model.specs.declared.record.Record.{Record}
+use Rattle.words.specs.Words.{word, long_word}
+use Rattle.first_model.specs.Texts.{records_text, IsRecord}
 
 -- A gate with this byte is open; with any other it is closed. A closed gate is written as 0.
 abbrev pub open_gate : ℕ

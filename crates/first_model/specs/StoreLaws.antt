@@ -4,9 +4,9 @@ use Rattle.std.proofs.Common.{inl, inr, refl, sym, ap, ◌∙◌, subst, arith, 
 use Rattle.std.proofs.lemmas.Bool.{cases_eq}
 use Rattle.std.proofs.lemmas.List.{append-nil, take_at}
 use Rattle.codes.specs.declared.limits.TheConstants.{MAX_RECORDS}
-use Rattle.ipc_model.specs.declared.record.Record.{Record}
-use Rattle.ipc_model.specs.Texts.{IsRecord}
-use Rattle.ipc_model.specs.Store.{open_gate, closed_gate, segment_header, batch_text, batches_text, all_records, IsClosed, NoneEmpty, AreRecords, SpellsBatches, SpellsSegment, IsInUse, with_batch, IsMidAppend}
+use Rattle.first_model.specs.declared.record.Record.{Record}
+use Rattle.first_model.specs.Texts.{IsRecord}
+use Rattle.first_model.specs.Store.{open_gate, closed_gate, segment_header, batch_text, batches_text, all_records, IsClosed, NoneEmpty, AreRecords, SpellsBatches, SpellsSegment, IsInUse, with_batch, IsMidAppend}
 
 pub all_records-push : (batches : List (List Record)) (batch : List Record) → all_records (batches ++ batch ∷ []) ≡ all_records batches ++ batch
 all_records-push [] batch = append-nil batch

@@ -1,0 +1,47 @@
+-- The notices that the kernel sends about ports (Kernel Interfaces, "Notifications").
+use Rattle.std.specs.Prelude.{ℕ, List, [], ◌∷◌, ◌++◌, true, false, None}
+use Rattle.ipc_model.specs.declared.message.Message.{Message}
+use Rattle.ipc_model.specs.declared.message.PortInMessage.TheVariants.{Live}
+use Rattle.ipc_model.specs.declared.message.RightKind.TheVariants as kind
+use Rattle.words.specs.Words.{word}
+
+-- what a notice tells of
+pub data Notice : Type 0 where
+  -- the name was in use with a dead-name request, and ceased to be
+  PortDeleted : (name : ℕ) → Notice
+  -- the receive right of the port would have been destroyed; the notice carries it
+  PortDestroyed : (serial : ℕ) → Notice
+  -- the port has no send right any more; so many were made
+  NoSenders : (count : ℕ) → Notice
+  -- a send-once right was destroyed and not used
+  SendOnce : Notice
+  -- the name has become a dead name
+  DeadName : (name : ℕ) → Notice
+
+-- MACH_NOTIFY_PORT_DELETED, _PORT_DESTROYED, _NO_SENDERS, _SEND_ONCE and _DEAD_NAME
+abbrev pub notice_id : Notice → ℕ
+notice_id (PortDeleted name) = 65
+notice_id (PortDestroyed serial) = 69
+notice_id (NoSenders count) = 70
+notice_id SendOnce = 71
+notice_id (DeadName name) = 72
+
+-- one inline item of one element: a port's name (type 15), a receive right (16), a 32-bit integer (2)
+abbrev pub notice_body : Notice → List ℕ
+notice_body (PortDeleted name) = word 0x1001200f ++ word name
+notice_body (PortDestroyed serial) = word 0x10012010 ++ word 0
+notice_body (NoSenders count) = word 0x10012002 ++ word count
+notice_body SendOnce = []
+notice_body (DeadName name) = word 0x1001200f ++ word name
+
+-- A notice as a message, which is sent by a send-once right and names no reply.
+abbrev pub notice_message : Notice → Message
+notice_message (PortDestroyed serial) = record {
+  destination = kind.SendOnce;
+  reply = None;
+  id = 69;
+  complex = true;
+  rights = (record { kind = kind.Receive; port = Live serial }) ∷ [];
+  body = notice_body (PortDestroyed serial);
+}
+notice_message notice = record { destination = kind.SendOnce; reply = None; id = notice_id notice; complex = false; rights = []; body = notice_body notice }

@@ -1,0 +1,27 @@
+-- Tests of a call, in the order in which they are made.
+use Rattle.std.specs.Prelude.{Bool, List, [], ◌∷◌, Option, None, Some, Result, Ok, Err, if◌then◌else◌}
+use Rattle.codes.specs.declared.kern_return.KernReturn.{KernReturn}
+
+-- A test is true where it fails, and then the call is refused with the code beside it.
+abbrev pub Tests : Type 0
+Tests = List (Bool × KernReturn)
+
+-- the code of the first test that fails
+abbrev pub first_failing : Tests → Option KernReturn
+first_failing [] = None
+first_failing (test ∷ tests) = if test.0 then Some test.1 else first_failing tests
+
+-- a value, or a code where there is none
+abbrev pub or_refused : {X : Type 0} → KernReturn → Option X → Result X KernReturn
+or_refused code None = Err code
+or_refused code (Some x) = Ok x
+
+-- what comes next, unless the call is refused before
+abbrev pub and_then : {X Y : Type 0} → Result X KernReturn → (X → Result Y KernReturn) → Result Y KernReturn
+and_then (Ok x) next = next x
+and_then (Err code) next = Err code
+
+-- the next value, unless a test fails
+abbrev pub unless_failing : {X : Type 0} → Tests → Result X KernReturn → Result X KernReturn
+unless_failing [] next = next
+unless_failing (test ∷ tests) next = if test.0 then Err test.1 else unless_failing tests next

@@ -1,0 +1,81 @@
+// Laws over the definitions. Each is the contract of a function that does nothing, so that the check proves it.
+ghost use Rattle.ipc_model.specs.CallsKeep.{ShownStepsKeepLawful};
+ghost use Rattle.ipc_model.specs.EffectRanks.{EffectsKeepGrounded, SettledIsLawful};
+ghost use Rattle.ipc_model.specs.EffectsKeep.{EffectsKeepLawful};
+ghost use Rattle.ipc_model.specs.NameChanges.{NamesMoveLawfully};
+ghost use Rattle.ipc_model.specs.OpeningLaws.{OpeningIsLawful};
+ghost use Rattle.ipc_model.specs.OtherSpaces.{OthersFade};
+ghost use Rattle.ipc_model.specs.PortChanges.{PortMovesLawfully};
+ghost use Rattle.ipc_model.specs.Settling.{AlwaysSettles, EffectsLower};
+ghost use Rattle.ipc_model.specs.TextLaws.{RecordsHaveOneText};
+ghost use Rattle.ipc_model.specs.StepLaws.{OneEnd, OneNewState};
+
+/// A reply shows each choice that the machine made: from a lawful state, a call of a task that is answered so
+/// leaves one state, sends and receipts too.
+pub fn one_new_state()
+    ensures { OneNewState }
+{}
+
+/// Each effect lowers the measure: carried reply and body rights, requests, live ports, and effects left.
+pub fn effects_lower()
+    ensures { EffectsLower }
+{}
+
+/// So every list of effects settles.
+pub fn always_settles()
+    ensures { AlwaysSettles }
+{}
+
+/// Effects settle in one state.
+pub fn one_end()
+    ensures { OneEnd }
+{}
+
+/// A step changes no name of a space that its caller isn't in, save that names of ports that die become dead
+/// names, and requests whose target's port dies go.
+pub fn others_fade()
+    ensures { OthersFade }
+{}
+
+/// The opening state is lawful and grounded.
+pub fn opening_is_lawful()
+    ensures { OpeningIsLawful }
+{}
+
+/// Each effect keeps a state lawful, where the rights that wait among the effects count as placed: each live port
+/// keeps its one receive right, and no right is left to a dead one.
+pub fn effects_keep_lawful()
+    ensures { EffectsKeepLawful }
+{}
+
+/// Each effect keeps a lawful state grounded: no ports come to carry one another in a circle.
+pub fn effects_keep_grounded()
+    ensures { EffectsKeepGrounded }
+{}
+
+/// So what effects settle in is lawful and grounded.
+pub fn settled_is_lawful()
+    ensures { SettledIsLawful }
+{}
+
+/// A change of a space's names keeps a state lawful with its effects, where rights only move between names and
+/// effects.
+pub fn names_move_lawfully()
+    ensures { NamesMoveLawfully }
+{}
+
+/// A change of what a live port keeps beside its rights keeps a state lawful with its effects, and grounded.
+pub fn port_moves_lawfully()
+    ensures { PortMovesLawfully }
+{}
+
+/// The steps of calls that change nothing, and of those that set a port's limit, counts or set, leave a lawful and
+/// grounded state.
+pub fn shown_steps_keep_lawful()
+    ensures { ShownStepsKeepLawful }
+{}
+
+/// A record has one text: what begins with the texts of two records begins with one record, of one number.
+pub fn record_once()
+    ensures { RecordsHaveOneText }
+{}

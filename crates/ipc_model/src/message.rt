@@ -1,0 +1,47 @@
+use crate::Sequence;
+
+/// The kinds of right that a message carries, under their names as received (`mach_msg_type_name_t`).
+#[derive(Clone, Copy, Debug, PartialEq, Eq)]
+pub enum RightKind {
+    /// `MACH_MSG_TYPE_PORT_RECEIVE`.
+    Receive = 16,
+    /// `MACH_MSG_TYPE_PORT_SEND`.
+    Send = 17,
+    /// `MACH_MSG_TYPE_PORT_SEND_ONCE`.
+    SendOnce = 18,
+}
+
+/// What stands in the place of a port in a message.
+#[derive(Clone, Copy, Debug, PartialEq, Eq)]
+pub enum PortInMessage {
+    /// `MACH_PORT_NULL`: no port.
+    Null,
+    /// `MACH_PORT_DEAD`: a port that is dead.
+    Dead,
+    /// The port of this serial.
+    Live(u64),
+}
+
+/// A right that a message carries.
+#[derive(Clone, Copy, Debug, PartialEq, Eq)]
+pub struct CarriedRight {
+    pub kind: RightKind,
+    pub port: PortInMessage,
+}
+
+/// A message in a port's queue.
+#[derive(Debug, Drop)]
+pub struct Message {
+    /// The right that it was sent by: a send right or a send-once right of the port whose queue it is in.
+    pub destination: RightKind,
+    /// The right to reply by, if the header names one.
+    pub reply: Option<CarriedRight>,
+    /// The message id.
+    pub id: u32,
+    /// Whether the body has an item of ports (`MACH_MSGH_BITS_COMPLEX`).
+    pub complex: bool,
+    /// The rights of the body's ports, in their order.
+    pub rights: Sequence<CarriedRight>,
+    /// The body's bytes. Descriptors of ports have the types as received, and 0 stands in a port's place.
+    pub body: Sequence<u8>,
+}

@@ -1,0 +1,21 @@
+use super::*;
+use std::test::Fail;
+
+#[test]
+fn a_sequence_gives_its_items_back(rt: HostRuntime) -> Result<(), Fail> {
+    let names = Sequence::new(vec![in rt.alloc(); 0x100_u32, 0x101]?);
+    assert_eq!(rt; names.as_slice(), &[0x100, 0x101][..]);
+    assert_eq!(rt; names.into_vec().as_slice(), &[0x100, 0x101][..]);
+    Ok(())
+}
+
+#[test]
+fn kinds_have_their_numbers(rt: HostRuntime) {
+    for (kind, number) in [
+        (RightKind::Receive, 16),
+        (RightKind::Send, 17),
+        (RightKind::SendOnce, 18),
+    ] {
+        assert_eq!(rt; kind as u32, number, "{kind:?}");
+    }
+}
