@@ -18,8 +18,6 @@ use Rattle.ipc_model.specs.Actions as actions
 use Rattle.ipc_model.specs.Actions.{Action, Acts, ActsOn, Done}
 use Rattle.ipc_model.specs.Circular.{Grounded}
 use Rattle.ipc_model.specs.Effects.{Effect}
-use Rattle.ipc_model.specs.EffectRanks.{settled_is_lawful}
-use Rattle.ipc_model.specs.Step.{Step, ActsIn, ActsFrom}
 use Rattle.ipc_model.specs.EffectsKeep.{dangles_none, entry_part}
 use Rattle.ipc_model.specs.Lawful.{LawfulBut, Lawful, IsHeldBesideSet, IsReleased}
 use Rattle.ipc_model.specs.ListLaws.{some_same}
@@ -36,7 +34,7 @@ pub record Kept (new : State) (effects : List Effect) : Type 0 where
   pub lawful : LawfulBut new effects
   pub grounded : Grounded new
 
-kept_as : (old new : State) (effects : List Effect) → Lawful old → Grounded old → new ≡ old → effects ≡ [] → Kept new effects
+pub kept_as : (old new : State) (effects : List Effect) → Lawful old → Grounded old → new ≡ old → effects ≡ [] → Kept new effects
 kept_as old new effects lawful grounded same none =
     subst (λ (s : State). Kept s effects) (sym same) (subst (λ (l : List Effect). Kept old l) (sym none) (record { lawful = lawful; grounded = grounded }))
 
@@ -76,7 +74,7 @@ set_kept old new space name names entry change effects lawful grounded there at 
 
 -- tests that pass
 
-first_passes : (test : Bool × KernReturn) (tests : Tests) → first_failing (test ∷ tests) ≡ None → (test.0 ≡ false) × (first_failing tests ≡ None)
+pub first_passes : (test : Bool × KernReturn) (tests : Tests) → first_failing (test ∷ tests) ≡ None → (test.0 ≡ false) × (first_failing tests ≡ None)
 first_passes test tests none = elim test.0 as (λ (b : Bool). (if b then Some test.1 else first_failing tests) ≡ None → (b ≡ false) × (first_failing tests ≡ None)) [
   | true ↦ λ (e : _). absurd (cc e)
   | false ↦ λ (e : _). (refl, e)
@@ -229,26 +227,3 @@ ShownCallsKeep = (refusal : Option KernReturn) (old : State) (space : ℕ) (name
 pub shown_calls_keep : ShownCallsKeep
 shown_calls_keep None old space names c answer new effects is shown fits lawful grounded there called = done_kept old space names c answer new effects (shown refl) fits lawful grounded there (sym is) called
 shown_calls_keep (Some code) old space names c answer new effects is shown fits lawful grounded there called = kept_as old new effects lawful grounded called.1 called.2
-
--- So a step of such a call leaves a lawful and grounded state.
-
-shown_acts : (old : State) (space : ℕ) (names : Names) (c : Call) (answer : Reply) (new : State) (effects : List Effect) → is_shown c ≡ true → FitsCall c → Lawful old → Grounded old → finmap.get old.spaces space ≡ Some names
-    → ActsIn old space names c answer new effects → Kept new effects
-shown_acts old space names (call.Send message) answer new effects shown fits lawful grounded there acts = absurd (cc shown)
-shown_acts old space names (call.Receive limit large name waited) answer new effects shown fits lawful grounded there acts = absurd (cc shown)
-shown_acts old space names c answer new effects shown fits lawful grounded there acts =
-    shown_calls_keep (first_failing (tests_of old space names c)) old space names c answer new effects refl (λ (_ : _). shown) fits lawful grounded there acts
-
-shown_from : (old : State) (space : ℕ) (o : Option Names) (c : Call) (answer : Reply) (new : State) (effects : List Effect) → finmap.get old.spaces space ≡ o → is_shown c ≡ true → FitsCall c → Lawful old → Grounded old
-    → ActsFrom old space o c answer new effects → Kept new effects
-shown_from old space None c answer new effects there shown fits lawful grounded acts = kept_as old new effects lawful grounded acts.1 acts.2
-shown_from old space (Some names) c answer new effects there shown fits lawful grounded acts = shown_acts old space names c answer new effects shown fits lawful grounded there acts
-
-abbrev pub ShownStepsKeepLawful : Type 0
-ShownStepsKeepLawful = (old : State) (space : ℕ) (c : Call) (answer : Reply) (new : State) → is_shown c ≡ true → FitsCall c → Lawful old → Grounded old → Step old space c answer new → Lawful new × Grounded new
-
-pub shown_steps_keep_lawful : ShownStepsKeepLawful
-unfolding Step
-shown_steps_keep_lawful old space c answer new shown fits lawful grounded step =
-    let kept = shown_from old space (finmap.get old.spaces space) c answer step.0 step.1 refl shown fits lawful grounded step.2 in
-    settled_is_lawful step.0 step.1 new kept.lawful kept.grounded step.3

@@ -34,7 +34,7 @@ use Rattle.ipc_model.specs.Weights.{Weight, target_weigh, entry_weigh, place_wei
 abbrev pub NoneDangles : State → Type 0
 NoneDangles state = (q : ℕ) → lives state q ≡ false → state_weigh (any_of q) state ≡ 0
 
-not_equal : (m n : ℕ) → m ≢ n → (m == n) ≡ false
+pub not_equal : (m n : ℕ) → m ≢ n → (m == n) ≡ false
 not_equal m n apart = elim (m == n) as (λ (b : Bool). (m == n) ≡ b → b ≡ false) [ true ↦ λ (e : _). absurd (apart (number_same m n e)) | false ↦ λ (e : _). refl ] refl
 
 -- a live port isn't one that is dead

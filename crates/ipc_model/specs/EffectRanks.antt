@@ -5,6 +5,8 @@ use Rattle.std.specs.List.{list_any}
 use Rattle.std.specs.Ordering.{nat_cmp}
 use Rattle.std.specs.FinMap as finmap
 use Rattle.std.specs.FinMap.{FinMap}
+use Rattle.ipc_model.specs.declared.entry.Entry.{Entry}
+use Rattle.ipc_model.specs.declared.entry.Entry.TheVariants.{Port, SendOnce, Set, Dead}
 use Rattle.ipc_model.specs.declared.message.CarriedRight.{CarriedRight}
 use Rattle.ipc_model.specs.declared.message.Message.{Message}
 use Rattle.ipc_model.specs.declared.message.PortInMessage.{PortInMessage}
@@ -28,8 +30,8 @@ use Rattle.ipc_model.specs.Notices as notice
 use Rattle.ipc_model.specs.Others.{number_same, number_decided}
 use Rattle.ipc_model.specs.Placed.{send_count, same_kind}
 use Rattle.ipc_model.specs.Ranks.{met_more, one_carrier, few_above, meets_itself, TravelsOnce, no_and}
-use Rattle.ipc_model.specs.State.{State, with_port, lives}
-use Rattle.ipc_model.specs.Weights.{Weight, target_weigh, place_weigh, carried_weigh, reply_weigh, message_weigh, port_weigh, state_weigh, effect_weigh, receive_of, any_of, count-receive}
+use Rattle.ipc_model.specs.State.{State, Names, with_port, lives}
+use Rattle.ipc_model.specs.Weights.{Weight, target_weigh, place_weigh, carried_weigh, reply_weigh, message_weigh, port_weigh, state_weigh, effect_weigh, receive_of, any_of, count-receive, entry_weigh, names_weigh}
 
 -- fewer edges keep their ranks
 
@@ -178,7 +180,7 @@ sent_grounded state serial target once free (rank, grows) =
 
 -- a receive right travels in one queue at most, in a lawful state
 
-receive_is_any : (q : ℕ) (what : RightKind) (serial : ℕ) → receive_of q what serial ≤ any_of q what serial
+pub receive_is_any : (q : ℕ) (what : RightKind) (serial : ℕ) → receive_of q what serial ≤ any_of q what serial
 receive_is_any q kind.Receive serial = omega arith
 receive_is_any q kind.Send serial = omega arith
 receive_is_any q kind.SendOnce serial = omega arith
@@ -216,6 +218,32 @@ port_less w v less serial port =
 
 ports_less : (w v : Weight) → ((k : RightKind) (s : ℕ) → w k s ≤ v k s) → (ports : FinMap nat_cmp PortState) → total (port_weigh w) ports ≤ total (port_weigh v) ports
 ports_less w v less ports = weigh-le (λ (e : ℕ × PortState). port_weigh w e.0 e.1) (λ (e : ℕ × PortState). port_weigh v e.0 e.1) (λ (e : ℕ × PortState). port_less w v less e.0 e.1) (finmap.entries ports)
+
+send_less : (b : Bool) (m n : ℕ) → m ≤ n → (if b then 0 else m) ≤ (if b then 0 else n)
+send_less true m n le = omega arith
+send_less false m n le = le
+
+entry_less : (w v : Weight) → ((k : RightKind) (s : ℕ) → w k s ≤ v k s) → (entry : Entry) → entry_weigh w entry ≤ entry_weigh v entry
+entry_less w v less (Port rights) =
+    elim rights.receive as (λ (b : Bool). (if b then w kind.Receive rights.port else 0) + ((if rights.send == 0 then 0 else w kind.Send rights.port) + target_weigh w rights.dead_name_target)
+    ≤ (if b then v kind.Receive rights.port else 0) + ((if rights.send == 0 then 0 else v kind.Send rights.port) + target_weigh v rights.dead_name_target)) [
+      | true ↦ omega (arith, less kind.Receive rights.port, send_less (rights.send == 0) (w kind.Send rights.port) (v kind.Send rights.port) (less kind.Send rights.port), target_less w v less rights.dead_name_target)
+      | false ↦ omega (arith, send_less (rights.send == 0) (w kind.Send rights.port) (v kind.Send rights.port) (less kind.Send rights.port), target_less w v less rights.dead_name_target)
+    ]
+entry_less w v less (SendOnce port target) = omega (arith, less kind.SendOnce port, target_less w v less target)
+entry_less w v less Set = omega arith
+entry_less w v less (Dead references) = omega arith
+
+-- a lighter weight of each right is a lighter weight of the state
+pub state_less : (w v : Weight) → ((k : RightKind) (s : ℕ) → w k s ≤ v k s) → (state : State) → state_weigh w state ≤ state_weigh v state
+unfolding state_weigh
+state_less w v less state =
+    omega (
+      arith,
+      ports_less w v less state.ports,
+      weigh-le (λ (s : ℕ × Names). names_weigh w s.1) (λ (s : ℕ × Names). names_weigh v s.1) (λ (s : ℕ × Names).
+          weigh-le (λ (e : ℕ × Entry). entry_weigh w e.1) (λ (e : ℕ × Entry). entry_weigh v e.1) (λ (e : ℕ × Entry). entry_less w v less e.1) (finmap.entries s.1)) (finmap.entries state.spaces),
+    )
 
 ports_in_state : (w : Weight) (state : State) → total (port_weigh w) state.ports ≤ state_weigh w state
 unfolding state_weigh

@@ -168,7 +168,7 @@ told_members state serial port (Some target) effects members =
     notified_members (with_port state serial (λ (p : PortState). record p { no_senders_target = None })) target (notice.NoSenders port.make_send_count) effects
     (port_members state serial (λ (p : PortState). record p { no_senders_target = None }) effects (λ (p : PortState). refl) members)
 
-serial_of : Effect → ℕ
+unfoldable pub serial_of : Effect → ℕ
 serial_of (release what serial) = serial
 serial_of (notify target what) = 0
 

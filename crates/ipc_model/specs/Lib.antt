@@ -1,4 +1,5 @@
 pub mod Actions
+pub mod AllocateKeep
 pub mod CallsKeep
 pub mod Circular
 pub mod CopyIn
@@ -10,6 +11,8 @@ pub mod EffectRanks
 pub mod EffectWeights
 pub mod Effects
 pub mod EffectsKeep
+pub mod EntryChanges
+pub mod ImageLaws
 pub mod Images
 pub mod Items
 pub mod Lawful
@@ -29,6 +32,7 @@ pub mod Ranks
 pub mod ReceiptLaws
 pub mod ReceiveLaws
 pub mod Receiving
+pub mod ReferencesKeep
 pub mod RowRules
 pub mod RowStates
 pub mod RowsCalls
@@ -37,13 +41,17 @@ pub mod RowsMessages
 pub mod RowsNames
 pub mod RowsReceipts
 pub mod RowsRights
+pub mod RowsRules
 pub mod RowsSteps
+pub mod RowsStore
 pub mod RowsTexts
 pub mod Sending
 pub mod Settling
 pub mod State
 pub mod Step
 pub mod StepLaws
+pub mod StepsKeep
+pub mod Store
 pub mod Tests
 pub mod TextLaws
 pub mod TextReading

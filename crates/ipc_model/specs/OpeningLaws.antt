@@ -73,6 +73,6 @@ opening_is_lawful = (
 )
 
 -- What is to be shown of every step: from a lawful and grounded state, a call whose arguments are in range leaves one.
--- (Shown so far of the effects of a call, but for ranks.)
+-- (Shown so far of all effects, of every refusal, and of the calls of `is_kept`.)
 abbrev pub StepsKeepLawful : Type 0
 StepsKeepLawful = (old : State) (space : ℕ) (c : Call) (answer : Reply) (new : State) → FitsCall c → Lawful old → Grounded old → Step old space c answer new → Lawful new × Grounded new

@@ -1,7 +1,8 @@
 // Laws over the definitions. Each is the contract of a function that does nothing, so that the check proves it.
-ghost use Rattle.ipc_model.specs.CallsKeep.{ShownStepsKeepLawful};
+ghost use Rattle.ipc_model.specs.StepsKeep.{ShownStepsKeepLawful};
 ghost use Rattle.ipc_model.specs.EffectRanks.{EffectsKeepGrounded, SettledIsLawful};
 ghost use Rattle.ipc_model.specs.EffectsKeep.{EffectsKeepLawful};
+ghost use Rattle.ipc_model.specs.ImageLaws.{ImagesHaveOneText};
 ghost use Rattle.ipc_model.specs.NameChanges.{NamesMoveLawfully};
 ghost use Rattle.ipc_model.specs.OpeningLaws.{OpeningIsLawful};
 ghost use Rattle.ipc_model.specs.OtherSpaces.{OthersFade};
@@ -78,4 +79,10 @@ pub fn shown_steps_keep_lawful()
 /// A record has one text: what begins with the texts of two records begins with one record, of one number.
 pub fn record_once()
     ensures { RecordsHaveOneText }
+{}
+
+/// An image has one text, of states whose numbers fit it: what begins with the texts of two states begins with one
+/// state.
+pub fn image_once()
+    ensures { ImagesHaveOneText }
 {}

@@ -1,0 +1,130 @@
+-- The calls whose steps are shown to leave lawful and grounded states.
+use Rattle.std.specs.Prelude.{◌^◌, not, ◌≡◌, ◌⊎◌, ℕ, zero, suc, ◌-◌, ◌<◌, Bool, true, false, ◌&&◌, ◌||◌, ◌==◌, List, [], ◌∷◌, Option, None, Some, is_some, if◌then◌else◌, refl}
+use Rattle.std.proofs.Common.{sym, subst, inl, inr, arith}
+use Rattle.std.specs.FinMap as finmap
+use Rattle.codes.specs.declared.kern_return.KernReturn.{KernReturn}
+use Rattle.codes.specs.declared.kern_return.KernReturn.TheVariants.{InvalidName, InvalidRight, InvalidValue, NoSpace, NameExists, ResourceShortage}
+use Rattle.codes.specs.declared.right.Right.TheVariants as right
+use Rattle.ipc_model.specs.declared.call.Call.{Call}
+use Rattle.ipc_model.specs.declared.call.Call.TheVariants as call
+use Rattle.ipc_model.specs.declared.call.Reply.{Reply}
+use Rattle.ipc_model.specs.declared.entry.Entry.{Entry}
+use Rattle.ipc_model.specs.declared.entry.Entry.TheVariants.{Port, SendOnce, Set, Dead}
+use Rattle.ipc_model.specs.declared.entry.PortRights.{PortRights}
+use Rattle.ipc_model.specs.Actions as actions
+use Rattle.ipc_model.specs.Actions.{ActsOn, Acts, Done}
+use Rattle.ipc_model.specs.AllocateKeep.{allocated_kept, chosen_unused}
+use Rattle.ipc_model.specs.CallsKeep.{Kept, kept_as, first_passes, shown_calls_keep, is_shown}
+use Rattle.ipc_model.specs.Circular.{Grounded}
+use Rattle.ipc_model.specs.EffectRanks.{settled_is_lawful}
+use Rattle.ipc_model.specs.Dangling.{not_equal}
+use Rattle.ipc_model.specs.Effects.{Effect}
+use Rattle.ipc_model.specs.Lawful.{Lawful, LawfulEntry}
+use Rattle.ipc_model.specs.PortCalls.{tests_of, is_allocatable, is_full, is_in_use, is_right, is_no_name, entry_is, name_is, is_set, has_receive, send_references}
+use Rattle.ipc_model.specs.ReferencesKeep.{send_left_kept, dead_left_kept, gone_kept, changed_space}
+use Rattle.ipc_model.specs.State.{State, Names, is_null_or_dead, ports_are_used_up}
+use Rattle.ipc_model.specs.Step.{Step, ActsIn, ActsFrom}
+use Rattle.ipc_model.specs.StepLaws.{Called}
+use Rattle.ipc_model.specs.Tests.{Tests, first_failing}
+use Rattle.ipc_model.specs.Texts.{FitsCall}
+
+-- mach_port_deallocate
+
+-- no receive right alone
+some_left : (receive : Bool) (port send : ℕ) → (receive ≡ true) ⊎ (0 < send) → (is_some (if receive then Some port else None) && send == 0) ≡ false → (send == 0) ≡ false
+some_left true port send either passes = passes
+some_left false port send (inl receive) passes = absurd (cc receive)
+some_left false port zero (inr less) passes = absurd (omega (arith, less))
+some_left false port (suc send) (inr less) passes = not_equal (suc send) 0 (λ (e : _). absurd (omega (arith, e)))
+
+has_references : (rights : PortRights) → LawfulEntry (Port rights) → (false || (has_receive (Port rights) && rights.send == 0)) ≡ false → (rights.send == 0) ≡ false
+has_references rights lawful passes = some_left rights.receive rights.port rights.send lawful.0 passes
+
+deallocated_kept : (old : State) (space name : ℕ) (names : Names) (entry : Entry) → Lawful old → Grounded old → finmap.get old.spaces space ≡ Some names → finmap.get names name ≡ Some entry
+    → (is_set entry || (has_receive entry && send_references entry == 0)) ≡ false → Kept (actions.deallocated old space names name entry).state (actions.deallocated old space names name entry).effects
+deallocated_kept old space name names (Port rights) lawful grounded there at passes =
+    let own = ((lawful.spaces space names there).2.named name (Port rights) at).2 in
+    send_left_kept old space name names rights (rights.send - 1) 7 lawful grounded there at (has_references rights own passes) (omega (arith, own.1))
+deallocated_kept old space name names (SendOnce port target) lawful grounded there at passes =
+    subst (λ (s : State). Kept s (actions.effects_of_name name (SendOnce port target))) (sym (changed_space old space names (λ (n : Names). finmap.remove n name) there)) (gone_kept old space name names (SendOnce port target) lawful grounded there at tt)
+deallocated_kept old space name names Set lawful grounded there at passes = absurd (cc passes)
+deallocated_kept old space name names (Dead references) lawful grounded there at passes =
+    let own = ((lawful.spaces space names there).2.named name (Dead references) at).2 in
+    dead_left_kept old space name names references (references - 1) 7 lawful grounded there at (omega (arith, own.1))
+
+deallocate_kept : (old : State) (space name : ℕ) (names : Names) (answer : Reply) (new : State) (effects : List Effect) → Lawful old → Grounded old → finmap.get old.spaces space ≡ Some names
+    → first_failing (tests_of old space names (call.Deallocate name)) ≡ None → Done old space names (call.Deallocate name) answer new effects → Kept new effects
+unfolding Done tests_of
+deallocate_kept old space name names answer new effects lawful grounded there passes done =
+    let barred : Bool = name_is (λ entry. is_set entry || (has_receive entry && send_references entry == 0)) names name in
+    let second : first_failing ((barred, InvalidRight) ∷ []) ≡ None = (first_passes (is_no_name names name, InvalidName) ((barred, InvalidRight) ∷ []) passes).1 in
+    let free : barred ≡ false = (first_passes (barred, InvalidRight) [] second).0 in
+    elim (finmap.get names name) as (λ (o : Option Entry). finmap.get names name ≡ o → entry_is (λ entry. is_set entry || (has_receive entry && send_references entry == 0)) o ≡ false → ActsOn o (actions.deallocated old space names name) answer new effects → Kept new effects) [
+      | None ↦ λ (_ : _) (_ : _) (acts : _). absurd acts
+      | Some entry ↦ λ (at : _) (allowed : _) (acts : _).
+          subst (λ (s : State). Kept s effects) (sym acts.1) (subst (λ (l : List Effect). Kept (actions.deallocated old space names name entry).state l) (sym acts.2) (deallocated_kept old space name names entry lawful grounded there at allowed))
+    ] refl free done
+
+-- mach_port_allocate and mach_port_allocate_name
+
+given_as : (state new : State) (effects : List Effect) → Kept state [] → new ≡ state → effects ≡ [] → Kept new effects
+given_as state new effects kept same none = subst (λ (s : State). Kept s effects) (sym same) (subst (λ (l : List Effect). Kept state l) (sym none) kept)
+
+allocate_kept : (old : State) (space which : ℕ) (names : Names) (answer : Reply) (new : State) (effects : List Effect) → Lawful old → Grounded old → finmap.get old.spaces space ≡ Some names
+    → first_failing (tests_of old space names (call.Allocate which)) ≡ None → Done old space names (call.Allocate which) answer new effects → Kept new effects
+unfolding Done tests_of
+allocate_kept old space which names answer new effects lawful grounded there passes done =
+    let second : first_failing ((is_full names, NoSpace) ∷ (is_right which right.Receive && ports_are_used_up old, ResourceShortage) ∷ []) ≡ None =
+    (first_passes (not (is_allocatable which), InvalidValue) ((is_full names, NoSpace) ∷ (is_right which right.Receive && ports_are_used_up old, ResourceShortage) ∷ []) passes).1 in
+    let room = first_passes (is_full names, NoSpace) ((is_right which right.Receive && ports_are_used_up old, ResourceShortage) ∷ []) second in
+    let ports = first_passes (is_right which right.Receive && ports_are_used_up old, ResourceShortage) [] room.1 in
+    given_as (actions.allocated old space names which done.0) new effects (allocated_kept old space names which done.0 lawful grounded there done.1 room.0 ports.0) done.3 done.4
+
+allocate_name_kept : (old : State) (space which name : ℕ) (names : Names) (answer : Reply) (new : State) (effects : List Effect) → name < 2 ^ 32 → Lawful old → Grounded old → finmap.get old.spaces space ≡ Some names
+    → first_failing (tests_of old space names (call.AllocateName which name)) ≡ None → Done old space names (call.AllocateName which name) answer new effects → Kept new effects
+unfolding Done tests_of
+allocate_name_kept old space which name names answer new effects fits lawful grounded there passes done =
+    let last : Tests = (is_right which right.Receive && ports_are_used_up old, ResourceShortage) ∷ [] in
+    let real = first_passes (is_null_or_dead name, InvalidValue) ((not (is_allocatable which), InvalidValue) ∷ (is_in_use names name, NameExists) ∷ (is_full names, NoSpace) ∷ last) passes in
+    let allowed = first_passes (not (is_allocatable which), InvalidValue) ((is_in_use names name, NameExists) ∷ (is_full names, NoSpace) ∷ last) real.1 in
+    let free = first_passes (is_in_use names name, NameExists) ((is_full names, NoSpace) ∷ last) allowed.1 in
+    let room = first_passes (is_full names, NoSpace) last free.1 in
+    let ports = first_passes (is_right which right.Receive && ports_are_used_up old, ResourceShortage) [] room.1 in
+    given_as (actions.allocated old space names which name) new effects (allocated_kept old space names which name lawful grounded there (chosen_unused names name real.0 free.0 fits) room.0 ports.0) done.1 done.2
+
+-- the calls that are shown here
+abbrev pub is_kept : Call → Bool
+is_kept (call.AllocateName which name) = true
+is_kept (call.Allocate which) = true
+is_kept (call.Deallocate name) = true
+is_kept c = is_shown c
+
+kept_called : (refusal : Option KernReturn) (old : State) (space : ℕ) (names : Names) (c : Call) (answer : Reply) (new : State) (effects : List Effect) → refusal ≡ first_failing (tests_of old space names c) → is_kept c ≡ true → FitsCall c
+    → Lawful old → Grounded old → finmap.get old.spaces space ≡ Some names → Called refusal old space names c answer new effects → Kept new effects
+kept_called None old space names (call.AllocateName which name) answer new effects is kept fits lawful grounded there called = allocate_name_kept old space which name names answer new effects fits.1 lawful grounded there (sym is) called
+kept_called None old space names (call.Allocate which) answer new effects is kept fits lawful grounded there called = allocate_kept old space which names answer new effects lawful grounded there (sym is) called
+kept_called None old space names (call.Deallocate name) answer new effects is kept fits lawful grounded there called = deallocate_kept old space name names answer new effects lawful grounded there (sym is) called
+kept_called (Some code) old space names c answer new effects is kept fits lawful grounded there called = kept_as old new effects lawful grounded called.1 called.2
+kept_called None old space names c answer new effects is kept fits lawful grounded there called = shown_calls_keep None old space names c answer new effects is (λ (_ : _). kept) fits lawful grounded there called
+
+kept_acts : (old : State) (space : ℕ) (names : Names) (c : Call) (answer : Reply) (new : State) (effects : List Effect) → is_kept c ≡ true → FitsCall c → Lawful old → Grounded old → finmap.get old.spaces space ≡ Some names
+    → ActsIn old space names c answer new effects → Kept new effects
+kept_acts old space names (call.Send message) answer new effects kept fits lawful grounded there acts = absurd (cc kept)
+kept_acts old space names (call.Receive limit large name waited) answer new effects kept fits lawful grounded there acts = absurd (cc kept)
+kept_acts old space names c answer new effects kept fits lawful grounded there acts =
+    kept_called (first_failing (tests_of old space names c)) old space names c answer new effects refl kept fits lawful grounded there acts
+
+kept_from : (old : State) (space : ℕ) (o : Option Names) (c : Call) (answer : Reply) (new : State) (effects : List Effect) → finmap.get old.spaces space ≡ o → is_kept c ≡ true → FitsCall c → Lawful old → Grounded old
+    → ActsFrom old space o c answer new effects → Kept new effects
+kept_from old space None c answer new effects there kept fits lawful grounded acts = kept_as old new effects lawful grounded acts.1 acts.2
+kept_from old space (Some names) c answer new effects there kept fits lawful grounded acts = kept_acts old space names c answer new effects kept fits lawful grounded there acts
+
+-- A step of such a call leaves a lawful and grounded state.
+abbrev pub ShownStepsKeepLawful : Type 0
+ShownStepsKeepLawful = (old : State) (space : ℕ) (c : Call) (answer : Reply) (new : State) → is_kept c ≡ true → FitsCall c → Lawful old → Grounded old → Step old space c answer new → Lawful new × Grounded new
+
+pub shown_steps_keep_lawful : ShownStepsKeepLawful
+unfolding Step
+shown_steps_keep_lawful old space c answer new kept fits lawful grounded step =
+    let acted = kept_from old space (finmap.get old.spaces space) c answer step.0 step.1 refl kept fits lawful grounded step.2 in
+    settled_is_lawful step.0 step.1 new acted.lawful acted.grounded step.3
