@@ -199,7 +199,7 @@ receive_kept old space name names lawful grounded there unused few few_ports nex
       grounded = with_port.grounded;
     }
 
-neither : (b c : Bool) → (b || c) ≡ false → (b ≡ false) × (c ≡ false)
+pub neither : (b c : Bool) → (b || c) ≡ false → (b ≡ false) × (c ≡ false)
 neither true c e = absurd (cc e)
 neither false c e = (refl, e)
 

@@ -20,6 +20,7 @@ pub mod ListLaws
 pub mod MapLaws
 pub mod MapSums
 pub mod Messages
+pub mod ModRefsKeep
 pub mod NameChanges
 pub mod Notices
 pub mod OpeningLaws
@@ -46,6 +47,7 @@ pub mod RowsSteps
 pub mod RowsStore
 pub mod RowsTexts
 pub mod Sending
+pub mod SetsKeep
 pub mod Settling
 pub mod State
 pub mod Step

@@ -36,7 +36,7 @@ changed_space old space names change there = ap (λ (o : Option Names). elim o a
 abbrev pub left_of : Entry → Option Entry
 left_of entry = if is_empty_entry entry then None else Some entry
 
-left_state : (old : State) (space name : ℕ) (names : Names) (entry : Entry) → finmap.get old.spaces space ≡ Some names → with_left old space name entry ≡ with_names old space (changed names name (left_of entry))
+pub left_state : (old : State) (space name : ℕ) (names : Names) (entry : Entry) → finmap.get old.spaces space ≡ Some names → with_left old space name entry ≡ with_names old space (changed names name (left_of entry))
 left_state old space name names entry there =
     elim (is_empty_entry entry) as (λ (b : Bool). (if b then with_changed old space (λ (n : Names). finmap.remove n name) else with_changed old space (λ (n : Names). finmap.insert n name entry))
     ≡ with_names old space (changed names name (if b then None else Some entry))) [
@@ -53,10 +53,10 @@ deleted_waits : (name : ℕ) (target : Option ℕ) → AllWaiting (port_deleted 
 deleted_waits name None = tt
 deleted_waits name (Some target) = (tt, tt)
 
-left_receive : (q name : ℕ) (entry : Entry) → weigh (effect_weigh (receive_of q)) (notices_of_left name entry) ≡ 0
+pub left_receive : (q name : ℕ) (entry : Entry) → weigh (effect_weigh (receive_of q)) (notices_of_left name entry) ≡ 0
 left_receive q name entry = elim (is_empty_entry entry) as (λ (b : Bool). weigh (effect_weigh (receive_of q)) (if b then port_deleted name (request_of entry) else []) ≡ 0) [ true ↦ deleted_receive q name (request_of entry) | false ↦ refl ]
 
-left_waits : (name : ℕ) (entry : Entry) → AllWaiting (notices_of_left name entry)
+pub left_waits : (name : ℕ) (entry : Entry) → AllWaiting (notices_of_left name entry)
 left_waits name entry = elim (is_empty_entry entry) as (λ (b : Bool). AllWaiting (if b then port_deleted name (request_of entry) else [])) [ true ↦ deleted_waits name (request_of entry) | false ↦ tt ]
 
 -- references of a send right
@@ -75,7 +75,7 @@ no_target q None = refl
 no_target q (Some serial) = refl
 
 -- (the entry with its receive right and its references as they may be)
-left_weighs : (q port send : ℕ) (receive : Bool) (target : Option ℕ)
+pub left_weighs : (q port send : ℕ) (receive : Bool) (target : Option ℕ)
     → under (receive_of q) (left_of (Port (record { port = port; receive = receive; send = send; dead_name_target = target }))) ≡ (if receive then receive_of q kind.Receive port else 0)
 left_weighs q port send true target = elim (send == 0) as (λ (b : Bool). receive_of q kind.Receive port + ((if b then 0 else receive_of q kind.Send port) + target_weigh (receive_of q) target) ≡ receive_of q kind.Receive port) [
   | true ↦ omega (arith, no_target q target)
@@ -86,7 +86,7 @@ left_weighs q port send false target = elim (send == 0) as (λ (b : Bool). under
   | false ↦ elim (send == 0) as (λ (b : Bool). 0 + ((if b then 0 else receive_of q kind.Send port) + target_weigh (receive_of q) target) ≡ 0) [ true ↦ omega (arith, no_target q target) | false ↦ omega (arith, no_target q target) ]
 ]
 
-port_weighs : (q port send : ℕ) (receive : Bool) (target : Option ℕ) → entry_weigh (receive_of q) (Port (record { port = port; receive = receive; send = send; dead_name_target = target })) ≡ (if receive then receive_of q kind.Receive port else 0)
+pub port_weighs : (q port send : ℕ) (receive : Bool) (target : Option ℕ) → entry_weigh (receive_of q) (Port (record { port = port; receive = receive; send = send; dead_name_target = target })) ≡ (if receive then receive_of q kind.Receive port else 0)
 port_weighs q port send receive target = elim (send == 0) as (λ (b : Bool). (if receive then receive_of q kind.Receive port else 0) + ((if b then 0 else receive_of q kind.Send port) + target_weigh (receive_of q) target) ≡ (if receive then receive_of q kind.Receive port else 0)) [
   | true ↦ omega (arith, no_target q target)
   | false ↦ omega (arith, no_target q target)
@@ -110,19 +110,19 @@ held_still : (port send left serial : ℕ) (receive : Bool) (target : Option ℕ
 held_still port send left serial true target is = is
 held_still port send left serial false target is = absurd (cc is)
 
-not_set : (rights : PortRights) → Some (Port rights) ≡ Some Set → ⊥
+pub not_set : (rights : PortRights) → Some (Port rights) ≡ Some Set → ⊥
 not_set rights e = cc e
 
-none_released : (serial : ℕ) → IsReleased [] serial → ⊥
+pub none_released : (serial : ℕ) → IsReleased [] serial → ⊥
 none_released serial (k, less, is) = absurd (omega (arith, less))
 
-not_empty : (receive : Bool) (left : ℕ) → (not receive && left == 0) ≡ false → (receive ≡ true) ⊎ (0 < left)
+pub not_empty : (receive : Bool) (left : ℕ) → (not receive && left == 0) ≡ false → (receive ≡ true) ⊎ (0 < left)
 not_empty true left e = inl refl
 not_empty false zero e = absurd (cc e)
 not_empty false (suc left) e = inr (omega arith)
 
 -- the names with fewer references under one
-left_lawful : (names : Names) (name : ℕ) (rights : PortRights) (entry : Entry) → LawfulNames names → finmap.get names name ≡ Some (Port rights) → port_held entry ≡ Some rights.port → (is_empty_entry entry ≡ false → LawfulEntry entry) → LawfulNames (changed names name (left_of entry))
+pub left_lawful : (names : Names) (name : ℕ) (rights : PortRights) (entry : Entry) → LawfulNames names → finmap.get names name ≡ Some (Port rights) → port_held entry ≡ Some rights.port → (is_empty_entry entry ≡ false → LawfulEntry entry) → LawfulNames (changed names name (left_of entry))
 left_lawful names name rights entry lawful at same fits =
     elim (is_empty_entry entry) as (λ (b : Bool). is_empty_entry entry ≡ b → LawfulNames (changed names name (if b then None else Some entry))) [
       | true ↦ λ (_ : _). remove_lawful names name lawful
@@ -243,7 +243,7 @@ later_released : (xs rest : List Effect) (serial : ℕ) → IsReleased rest seri
 later_released [] rest serial r = r
 later_released (x ∷ xs) rest serial r = let later = later_released xs rest serial r in (suc later.0, omega (arith, later.1), later.2)
 
-first_released : (serial : ℕ) (rest : List Effect) → IsReleased (release kind.Receive serial ∷ rest) serial
+pub first_released : (serial : ℕ) (rest : List Effect) → IsReleased (release kind.Receive serial ∷ rest) serial
 first_released serial rest = (zero, omega arith, refl)
 
 name_releases : (name serial : ℕ) (entry : Entry) → received_under (Some entry) ≡ Some serial → IsReleased (actions.effects_of_name name entry) serial

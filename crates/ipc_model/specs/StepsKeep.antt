@@ -20,8 +20,10 @@ use Rattle.ipc_model.specs.EffectRanks.{settled_is_lawful}
 use Rattle.ipc_model.specs.Dangling.{not_equal}
 use Rattle.ipc_model.specs.Effects.{Effect}
 use Rattle.ipc_model.specs.Lawful.{Lawful, LawfulEntry}
-use Rattle.ipc_model.specs.PortCalls.{tests_of, is_allocatable, is_full, is_in_use, is_right, is_no_name, entry_is, name_is, is_set, has_receive, send_references}
+use Rattle.ipc_model.specs.ModRefsKeep.{modified_kept}
+use Rattle.ipc_model.specs.PortCalls.{is_no_right, references_of, tests_of_delta, tests_of, is_allocatable, is_full, is_in_use, is_right, is_no_name, entry_is, name_is, is_set, has_receive, send_references}
 use Rattle.ipc_model.specs.ReferencesKeep.{send_left_kept, dead_left_kept, gone_kept, changed_space}
+use Rattle.ipc_model.specs.SetsKeep.{destroyed_kept}
 use Rattle.ipc_model.specs.State.{State, Names, is_null_or_dead, ports_are_used_up}
 use Rattle.ipc_model.specs.Step.{Step, ActsIn, ActsFrom}
 use Rattle.ipc_model.specs.StepLaws.{Called}
@@ -92,10 +94,47 @@ allocate_name_kept old space which name names answer new effects fits lawful gro
     let ports = first_passes (is_right which right.Receive && ports_are_used_up old, ResourceShortage) [] room.1 in
     given_as (actions.allocated old space names which name) new effects (allocated_kept old space names which name lawful grounded there (chosen_unused names name real.0 free.0 fits) room.0 ports.0) done.1 done.2
 
+-- mach_port_destroy
+
+destroy_kept : (old : State) (space name : ℕ) (names : Names) (answer : Reply) (new : State) (effects : List Effect) → Lawful old → Grounded old → finmap.get old.spaces space ≡ Some names
+    → Done old space names (call.Destroy name) answer new effects → Kept new effects
+unfolding Done
+destroy_kept old space name names answer new effects lawful grounded there done =
+    elim (finmap.get names name) as (λ (o : Option Entry). finmap.get names name ≡ o → ActsOn o (actions.destroyed old space names name) answer new effects → Kept new effects) [
+      | None ↦ λ (_ : _) (acts : _). absurd acts
+      | Some entry ↦ λ (at : _) (acts : _).
+          subst (λ (s : State). Kept s effects) (sym acts.1) (subst (λ (l : List Effect). Kept (actions.destroyed old space names name entry).state l) (sym acts.2) (destroyed_kept old space name names entry lawful grounded there at))
+    ] refl done
+
+-- mach_port_mod_refs
+
+abbrev references_in : ℕ → Option Entry → ℕ
+references_in which None = 0
+references_in which (Some entry) = references_of which entry
+
+modify_kept : (old : State) (space name which delta : ℕ) (names : Names) (answer : Reply) (new : State) (effects : List Effect) → Lawful old → Grounded old → finmap.get old.spaces space ≡ Some names
+    → first_failing (tests_of old space names (call.ModRefs name which delta)) ≡ None → Done old space names (call.ModRefs name which delta) answer new effects → Kept new effects
+unfolding Done tests_of
+modify_kept old space name which delta names answer new effects lawful grounded there passes done =
+    elim (finmap.get names name) as (λ (o : Option Entry). finmap.get names name ≡ o
+    → first_failing ((is_no_right which, InvalidValue) ∷ (is_no_name names name, InvalidName) ∷ (references_in which o == 0, InvalidRight) ∷ tests_of_delta which (references_in which o) delta) ≡ None
+    → ActsOn o (λ entry. actions.modified old space names name entry which delta) answer new effects → Kept new effects) [
+      | None ↦ λ (_ : _) (_ : _) (acts : _). absurd acts
+      | Some entry ↦ λ (at : _) (tests : _) (acts : _).
+          let last : Tests = tests_of_delta which (references_of which entry) delta in
+          let known = first_passes (is_no_right which, InvalidValue) ((is_no_name names name, InvalidName) ∷ (references_of which entry == 0, InvalidRight) ∷ last) tests in
+          let named = first_passes (is_no_name names name, InvalidName) ((references_of which entry == 0, InvalidRight) ∷ last) known.1 in
+          let some = first_passes (references_of which entry == 0, InvalidRight) last named.1 in
+          subst (λ (s : State). Kept s effects) (sym acts.1) (subst (λ (l : List Effect). Kept (actions.modified old space names name entry which delta).state l) (sym acts.2)
+          (modified_kept old space name names entry which delta lawful grounded there at known.0 some.0 some.1))
+    ] refl passes done
+
 -- the calls that are shown here
 abbrev pub is_kept : Call → Bool
 is_kept (call.AllocateName which name) = true
 is_kept (call.Allocate which) = true
+is_kept (call.Destroy name) = true
+is_kept (call.ModRefs name which delta) = true
 is_kept (call.Deallocate name) = true
 is_kept c = is_shown c
 
@@ -103,6 +142,8 @@ kept_called : (refusal : Option KernReturn) (old : State) (space : ℕ) (names :
     → Lawful old → Grounded old → finmap.get old.spaces space ≡ Some names → Called refusal old space names c answer new effects → Kept new effects
 kept_called None old space names (call.AllocateName which name) answer new effects is kept fits lawful grounded there called = allocate_name_kept old space which name names answer new effects fits.1 lawful grounded there (sym is) called
 kept_called None old space names (call.Allocate which) answer new effects is kept fits lawful grounded there called = allocate_kept old space which names answer new effects lawful grounded there (sym is) called
+kept_called None old space names (call.ModRefs name which delta) answer new effects is kept fits lawful grounded there called = modify_kept old space name which delta names answer new effects lawful grounded there (sym is) called
+kept_called None old space names (call.Destroy name) answer new effects is kept fits lawful grounded there called = destroy_kept old space name names answer new effects lawful grounded there called
 kept_called None old space names (call.Deallocate name) answer new effects is kept fits lawful grounded there called = deallocate_kept old space name names answer new effects lawful grounded there (sym is) called
 kept_called (Some code) old space names c answer new effects is kept fits lawful grounded there called = kept_as old new effects lawful grounded called.1 called.2
 kept_called None old space names c answer new effects is kept fits lawful grounded there called = shown_calls_keep None old space names c answer new effects is (λ (_ : _). kept) fits lawful grounded there called
