@@ -112,7 +112,7 @@ new_port_kept old lawful grounded few next =
 -- The new name, by what it stands for.
 
 -- a name more, which holds no port that has a name already
-unnamed_lawful : (names : Names) (name : ℕ) (entry : Entry) → LawfulNames names → IsUnused names name → finmap.len names < MAX_NAMES → LawfulEntry entry
+pub unnamed_lawful : (names : Names) (name : ℕ) (entry : Entry) → LawfulNames names → IsUnused names name → finmap.len names < MAX_NAMES → LawfulEntry entry
     → ((other serial : ℕ) (e : Entry) → finmap.get names other ≡ Some e → port_held entry ≡ Some serial → port_held e ≡ Some serial → ⊥) → LawfulNames (finmap.insert names name entry)
 unnamed_lawful names name entry lawful unused few fits alone =
     insert_lawful names name entry lawful unused.least unused.below_dead fits (λ (_ : _). few) (λ (other serial : ℕ) (e : Entry) (_ : _) (there : _) (held : _) (held_too : _). alone other serial e there held held_too)
@@ -148,7 +148,7 @@ own_any : (q : ℕ) (what : RightKind) → any_of q what q ≡ 1
 own_any q what = ap {B = ℕ} (λ (b : Bool). cond b 1 0) (eq-eqb q q refl)
 
 -- a lawful entry that holds a port weighs by it
-held_weighs : (serial : ℕ) (entry : Entry) → LawfulEntry entry → port_held entry ≡ Some serial → 1 ≤ entry_weigh (any_of serial) entry
+pub held_weighs : (serial : ℕ) (entry : Entry) → LawfulEntry entry → port_held entry ≡ Some serial → 1 ≤ entry_weigh (any_of serial) entry
 held_weighs serial (Port rights) lawful is =
     let port : rights.port ≡ serial = some_same rights.port serial is in
     let receive : any_of serial kind.Receive rights.port ≡ 1 = ap (any_of serial kind.Receive) port ∙ own_any serial kind.Receive in

@@ -40,7 +40,7 @@ kept_as old new effects lawful grounded same none =
 
 -- a port whose receive right stands under a name is live
 
-received_weighs : (serial : ℕ) (entry : Entry) → received_port entry ≡ Some serial → 1 ≤ entry_weigh (any_of serial) entry
+pub received_weighs : (serial : ℕ) (entry : Entry) → received_port entry ≡ Some serial → 1 ≤ entry_weigh (any_of serial) entry
 received_weighs serial (Port rights) is =
     elim rights.receive as (λ (b : Bool). (if b then Some rights.port else None) ≡ Some serial → 1 ≤ (if b then any_of serial kind.Receive rights.port else 0) + ((if rights.send == 0 then 0 else any_of serial kind.Send rights.port) + target_weigh (any_of serial) rights.dead_name_target)) [
       | true ↦ λ (e : _). omega (arith, ap {B = ℕ} (λ (b : Bool). cond b 1 0) (eq-eqb rights.port serial (some_same rights.port serial e)))

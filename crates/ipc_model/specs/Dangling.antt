@@ -38,14 +38,14 @@ pub not_equal : (m n : ℕ) → m ≢ n → (m == n) ≡ false
 not_equal m n apart = elim (m == n) as (λ (b : Bool). (m == n) ≡ b → b ≡ false) [ true ↦ λ (e : _). absurd (apart (number_same m n e)) | false ↦ λ (e : _). refl ] refl
 
 -- a live port isn't one that is dead
-live_apart : (state : State) (live dead : ℕ) → lives state live ≡ true → lives state dead ≡ false → live ≢ dead
+pub live_apart : (state : State) (live dead : ℕ) → lives state live ≡ true → lives state dead ≡ false → live ≢ dead
 live_apart state live dead alive gone same = absurd (cc (sym alive ∙ ap (lives state) same ∙ gone))
 
-apart_zero : (q serial : ℕ) (kind : RightKind) → serial ≢ q → any_of q kind serial ≡ 0
+pub apart_zero : (q serial : ℕ) (kind : RightKind) → serial ≢ q → any_of q kind serial ≡ 0
 apart_zero q serial what apart = ap (λ (b : Bool). cond b 1 0) (not_equal serial q apart)
 
 -- a port's own part of the weight
-port_part : (w : Weight) (state : State) (serial : ℕ) (port : PortState) → finmap.get state.ports serial ≡ Some port → port_weigh w serial port ≤ state_weigh w state
+pub port_part : (w : Weight) (state : State) (serial : ℕ) (port : PortState) → finmap.get state.ports serial ≡ Some port → port_weigh w serial port ≤ state_weigh w state
 unfolding state_weigh
 port_part w state serial port there =
     let taken : total (port_weigh w) (finmap.remove state.ports serial) + port_weigh w serial port ≡ total (port_weigh w) state.ports =

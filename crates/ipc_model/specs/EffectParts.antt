@@ -44,12 +44,12 @@ pub record Parts (state : State) : Type 0 where
 
 -- a live port changes
 
-with_port_there : (state : State) (serial : ℕ) (change : PortState → PortState) (port : PortState) → finmap.get state.ports serial ≡ Some port
+pub with_port_there : (state : State) (serial : ℕ) (change : PortState → PortState) (port : PortState) → finmap.get state.ports serial ≡ Some port
     → with_port state serial change ≡ record state { ports = finmap.insert state.ports serial (change port) }
 with_port_there state serial change port there =
     ap (λ (o : Option PortState). elim o as (λ _. State) [ None ↦ state | Some p ↦ record state { ports = finmap.insert state.ports serial (change p) } ]) there
 
-inserted_parts : (state : State) (serial : ℕ) (port changed : PortState) → finmap.get state.ports serial ≡ Some port → LawfulPort changed → Parts state → Parts (record state { ports = finmap.insert state.ports serial changed })
+pub inserted_parts : (state : State) (serial : ℕ) (port changed : PortState) → finmap.get state.ports serial ≡ Some port → LawfulPort changed → Parts state → Parts (record state { ports = finmap.insert state.ports serial changed })
 inserted_parts state serial port changed there lawful parts = record {
   first_space = parts.first_space;
   spaces = parts.spaces;

@@ -53,7 +53,7 @@ changed_edges state serial change less outer inner edge =
       ]
     ] refl edge
 
-any_more : {A : Type 0} (test : A → Bool) (xs : List A) (y : A) → list_any test (xs ++ y ∷ []) ≡ true → (list_any test xs ≡ true) ⊎ (test y ≡ true)
+pub any_more : {A : Type 0} (test : A → Bool) (xs : List A) (y : A) → list_any test (xs ++ y ∷ []) ≡ true → (list_any test xs ≡ true) ⊎ (test y ≡ true)
 any_more test [] y is = elim (test y) as (λ (b : Bool). test y ≡ b → (b || false) ≡ true → (false ≡ true) ⊎ (b ≡ true)) [
   | true ↦ λ (e : _) (_ : _). inr refl
   | false ↦ λ (e : _) (h : _). inr h
@@ -117,7 +117,7 @@ right_edge serial inner right is =
       ]
     ] is
 
-or_later : (b c : Bool) → c ≡ true → (b || c) ≡ true
+pub or_later : (b c : Bool) → c ≡ true → (b || c) ≡ true
 or_later true c e = refl
 or_later false c e = e
 
@@ -216,7 +216,7 @@ port_less w v less serial port =
       weigh-le (message_weigh w serial) (message_weigh v serial) (message_less w v less serial) port.messages,
     )
 
-ports_less : (w v : Weight) → ((k : RightKind) (s : ℕ) → w k s ≤ v k s) → (ports : FinMap nat_cmp PortState) → total (port_weigh w) ports ≤ total (port_weigh v) ports
+pub ports_less : (w v : Weight) → ((k : RightKind) (s : ℕ) → w k s ≤ v k s) → (ports : FinMap nat_cmp PortState) → total (port_weigh w) ports ≤ total (port_weigh v) ports
 ports_less w v less ports = weigh-le (λ (e : ℕ × PortState). port_weigh w e.0 e.1) (λ (e : ℕ × PortState). port_weigh v e.0 e.1) (λ (e : ℕ × PortState). port_less w v less e.0 e.1) (finmap.entries ports)
 
 send_less : (b : Bool) (m n : ℕ) → m ≤ n → (if b then 0 else m) ≤ (if b then 0 else n)
@@ -245,7 +245,7 @@ state_less w v less state =
           weigh-le (λ (e : ℕ × Entry). entry_weigh w e.1) (λ (e : ℕ × Entry). entry_weigh v e.1) (λ (e : ℕ × Entry). entry_less w v less e.1) (finmap.entries s.1)) (finmap.entries state.spaces),
     )
 
-ports_in_state : (w : Weight) (state : State) → total (port_weigh w) state.ports ≤ state_weigh w state
+pub ports_in_state : (w : Weight) (state : State) → total (port_weigh w) state.ports ≤ state_weigh w state
 unfolding state_weigh
 ports_in_state w state = omega arith
 

@@ -33,7 +33,7 @@ use Rattle.ipc_model.specs.Weights.{Weight, entry_weigh, names_weigh, state_weig
 
 -- what is added waits
 
-waiting-append : (xs ys : List Effect) → AllWaiting xs → AllWaiting ys → AllWaiting (xs ++ ys)
+pub waiting-append : (xs ys : List Effect) → AllWaiting xs → AllWaiting ys → AllWaiting (xs ++ ys)
 waiting-append [] ys first second = second
 waiting-append (x ∷ xs) ys first second = (first.0, waiting-append xs ys first.1 second)
 
@@ -96,7 +96,7 @@ entry_part w state space name names entry there at =
     subst (λ (o : Option Names). total (λ s n. names_weigh w n) (finmap.remove state.spaces space) + weight (λ s n. names_weigh w n) space o ≡ total (λ s n. names_weigh w n) state.spaces) there (total-remove (λ s n. names_weigh w n) state.spaces space) in
     omega (arith, in_names, in_spaces)
 
-own_weight : (q : ℕ) → receive_of q kind.Receive q ≡ 1
+pub own_weight : (q : ℕ) → receive_of q kind.Receive q ≡ 1
 own_weight q = ap (λ (b : Bool). cond b 1 0) (eq-eqb q q refl)
 
 receive_counts : (q : ℕ) (rights : PortRights) → rights.port ≡ q → (rights.receive ≡ true) → 1 ≤ entry_weigh (receive_of q) (Port rights)
@@ -105,7 +105,7 @@ receive_counts q rights is holds =
     ap (λ (b : Bool). if b then receive_of q kind.Receive rights.port else 0) holds ∙ ap (receive_of q kind.Receive) is ∙ own_weight q in
     omega (arith, weighs)
 
-not_received : (state : State) (serial : ℕ) → state_weigh (receive_of serial) state ≡ 0 → NotReceived state serial
+pub not_received : (state : State) (serial : ℕ) → state_weigh (receive_of serial) state ≡ 0 → NotReceived state serial
 not_received state serial none space name names rights there at is =
     elim rights.receive as (λ (b : Bool). rights.receive ≡ b → b ≡ false) [
       | true ↦ λ (holds : _). absurd (omega (arith, none, receive_counts serial rights is holds, entry_part (receive_of serial) state space name names (Port rights) there at))
@@ -214,7 +214,7 @@ moved_members state serial port rest there members =
     ])
 
 -- after a death, other members are still held beside their sets
-held_port : (rights : PortRights) (other : ℕ) → (if rights.receive then Some rights.port else None) ≡ Some other → rights.port ≡ other
+pub held_port : (rights : PortRights) (other : ℕ) → (if rights.receive then Some rights.port else None) ≡ Some other → rights.port ≡ other
 held_port rights other is = elim rights.receive as (λ (b : Bool). (if b then Some rights.port else None) ≡ Some other → rights.port ≡ other) [
   | true ↦ λ (e : _). some_same rights.port other e
   | false ↦ λ (e : _). absurd (cc e)

@@ -54,19 +54,19 @@ abbrev pub changed : Names → ℕ → Option Entry → Names
 changed names name None = finmap.remove names name
 changed names name (Some entry) = finmap.insert names name entry
 
-changed_weight : (w : Weight) (names : Names) (name : ℕ) (before after : Option Entry) → finmap.get names name ≡ before → names_weigh w (changed names name after) + under w before ≡ names_weigh w names + under w after
+pub changed_weight : (w : Weight) (names : Names) (name : ℕ) (before after : Option Entry) → finmap.get names name ≡ before → names_weigh w (changed names name after) + under w before ≡ names_weigh w names + under w after
 changed_weight w names name before None at = omega (arith, removed_weight w names name before at)
 changed_weight w names name before (Some entry) at = inserted_weight w names name entry before at
 
-changed_here : (names : Names) (name : ℕ) (after : Option Entry) → finmap.get (changed names name after) name ≡ after
+pub changed_here : (names : Names) (name : ℕ) (after : Option Entry) → finmap.get (changed names name after) name ≡ after
 changed_here names name None = get-gone names name
 changed_here names name (Some entry) = get-here names name entry
 
-changed_there : (names : Names) (name other : ℕ) (after : Option Entry) → other ≢ name → finmap.get (changed names name after) other ≡ finmap.get names other
+pub changed_there : (names : Names) (name other : ℕ) (after : Option Entry) → other ≢ name → finmap.get (changed names name after) other ≡ finmap.get names other
 changed_there names name other None apart = get-left names name other apart
 changed_there names name other (Some entry) apart = get-there names name entry other apart
 
-entry_of : (o : Option Entry) (serial : ℕ) → received_under o ≡ Some serial → (entry : Entry) × (o ≡ Some entry) × (received_port entry ≡ Some serial)
+pub entry_of : (o : Option Entry) (serial : ℕ) → received_under o ≡ Some serial → (entry : Entry) × (o ≡ Some entry) × (received_port entry ≡ Some serial)
 entry_of None serial is = absurd (cc is)
 entry_of (Some entry) serial is = (entry, refl, is)
 

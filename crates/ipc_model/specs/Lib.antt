@@ -1,5 +1,6 @@
 pub mod Actions
 pub mod AllocateKeep
+pub mod Arrivals
 pub mod CallsKeep
 pub mod Circular
 pub mod CopyIn
@@ -12,6 +13,7 @@ pub mod EffectWeights
 pub mod Effects
 pub mod EffectsKeep
 pub mod EntryChanges
+pub mod Hands
 pub mod ImageLaws
 pub mod Images
 pub mod Items
@@ -34,6 +36,7 @@ pub mod ReceiptLaws
 pub mod ReceiveLaws
 pub mod Receiving
 pub mod ReferencesKeep
+pub mod RightsKeep
 pub mod RowRules
 pub mod RowStates
 pub mod RowsCalls
@@ -54,6 +57,7 @@ pub mod Step
 pub mod StepLaws
 pub mod StepsKeep
 pub mod Store
+pub mod Takes
 pub mod Tests
 pub mod TextLaws
 pub mod TextReading

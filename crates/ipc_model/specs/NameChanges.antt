@@ -21,7 +21,7 @@ use Rattle.ipc_model.specs.State.{State, Names, with_names, lives, port_held}
 use Rattle.ipc_model.specs.Weights.{Weight, names_weigh, state_weigh, effect_weigh, receive_of, any_of, count-receive, count-any}
 
 -- other names in a space that is there
-names_change : (w : Weight) (state : State) (space : ℕ) (names after : Names) → finmap.get state.spaces space ≡ Some names
+pub names_change : (w : Weight) (state : State) (space : ℕ) (names after : Names) → finmap.get state.spaces space ≡ Some names
     → state_weigh w (with_names state space after) + names_weigh w names ≡ state_weigh w state + names_weigh w after
 unfolding state_weigh
 names_change w state space names after there =
@@ -41,7 +41,7 @@ pub record NamesMove (state : State) (space : ℕ) (names after : Names) (effect
   pub members : (serial set : ℕ) (port : PortState) → finmap.get state.ports serial ≡ Some port → port.set ≡ Some set → IsHeldBesideSet state serial set ⊎ IsReleased effects serial
       → IsHeldBesideSet (with_names state space after) serial set ⊎ IsReleased later serial
 
-one_space : (state : State) (space other : ℕ) (after names : Names) → finmap.get (finmap.insert state.spaces space after) other ≡ Some names
+pub one_space : (state : State) (space other : ℕ) (after names : Names) → finmap.get (finmap.insert state.spaces space after) other ≡ Some names
     → ((other ≡ space) × (after ≡ names)) ⊎ (finmap.get state.spaces other ≡ Some names)
 one_space state space other after names at = elim (number_decided other space) as (λ _. ((other ≡ space) × (after ≡ names)) ⊎ (finmap.get state.spaces other ≡ Some names)) [
   | inl apart ↦ inr (sym (get-there state.spaces space after other apart) ∙ at)
@@ -49,7 +49,7 @@ one_space state space other after names at = elim (number_decided other space) a
 ]
 
 -- the first space is still there
-first_there : (state : State) (space : ℕ) (after names : Names) → finmap.get state.spaces 1 ≡ Some names → (n : Names) × (finmap.get (finmap.insert state.spaces space after) 1 ≡ Some n)
+pub first_there : (state : State) (space : ℕ) (after names : Names) → finmap.get state.spaces 1 ≡ Some names → (n : Names) × (finmap.get (finmap.insert state.spaces space after) 1 ≡ Some n)
 first_there state space after names first = elim (number_decided 1 space) as (λ _. (n : Names) × (finmap.get (finmap.insert state.spaces space after) 1 ≡ Some n)) [
   | inl apart ↦ (names, get-there state.spaces space after 1 apart ∙ first)
   | inr same ↦ (after, ap (finmap.get (finmap.insert state.spaces space after)) same ∙ get-here state.spaces space after)

@@ -26,10 +26,10 @@ no_entries : {A : Type 0} (es : List A) → length es ≡ 0 → es ≡ []
 no_entries [] e = refl
 no_entries (e ∷ es) long = absurd (omega (arith, long))
 
-total-empty : {X : Type 0} (f : ℕ → X → ℕ) → total f (finmap.empty {X = X} {R = nat_cmp}) ≡ 0
+pub total-empty : {X : Type 0} (f : ℕ → X → ℕ) → total f (finmap.empty {X = X} {R = nat_cmp}) ≡ 0
 total-empty {X} f = ap (weigh (λ (e : ℕ × X). f e.0 e.1)) (no_entries (finmap.entries (finmap.empty {X = X} {R = nat_cmp})) (sym (len-entries {R = nat_cmp} (finmap.empty {X = X})) ∙ len-empty nat_cmp X))
 
-no_names_lawful : LawfulNames finmap.empty
+pub no_names_lawful : LawfulNames finmap.empty
 no_names_lawful = record {
   few = omega (arith, len-empty nat_cmp Entry);
   named = λ (name : ℕ) (entry : Entry) (at : _). absurd (none_in_empty name entry at);

@@ -26,7 +26,7 @@ use Rattle.ipc_model.specs.Weights.{place_weigh, carried_weigh, message_weigh, p
 
 -- which entry a search finds
 
-found_by : {X : Type 0} (test : ℕ × X → Bool) (es : List (ℕ × X)) (e : ℕ × X) → T (is_sorted nat_cmp es) → find test es ≡ Some e → (finmap.find nat_cmp e.0 es ≡ Some e.1) × (test e ≡ true)
+pub found_by : {X : Type 0} (test : ℕ × X → Bool) (es : List (ℕ × X)) (e : ℕ × X) → T (is_sorted nat_cmp es) → find test es ≡ Some e → (finmap.find nat_cmp e.0 es ≡ Some e.1) × (test e ≡ true)
 found_by test [] e sorted is = absurd (cc is)
 found_by {X = X} test (x ∷ es) e sorted is =
     elim (test x) as (λ (b : Bool). test x ≡ b → cond b (Some x) (find test es) ≡ Some e → (finmap.find nat_cmp e.0 (x ∷ es) ≡ Some e.1) × (test e ≡ true)) [
@@ -39,7 +39,7 @@ found_by {X = X} test (x ∷ es) e sorted is =
     ] refl is
 
 -- a search that an entry passes finds one
-finds_one : {X : Type 0} (test : ℕ × X → Bool) (es : List (ℕ × X)) (k : ℕ) (x : X) → ((q : ℕ) → (q ≡ k) → test (q, x) ≡ true) → finmap.find nat_cmp k es ≡ Some x → (e : ℕ × X) × (find test es ≡ Some e)
+pub finds_one : {X : Type 0} (test : ℕ × X → Bool) (es : List (ℕ × X)) (k : ℕ) (x : X) → ((q : ℕ) → (q ≡ k) → test (q, x) ≡ true) → finmap.find nat_cmp k es ≡ Some x → (e : ℕ × X) × (find test es ≡ Some e)
 finds_one test [] k x passes there = absurd (cc there)
 finds_one {X = X} test (y ∷ es) k x passes there =
     elim (test y) as (λ (b : Bool). test y ≡ b → (e : ℕ × X) × (cond b (Some y) (find test es) ≡ Some e)) [

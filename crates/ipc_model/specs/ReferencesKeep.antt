@@ -45,11 +45,11 @@ left_state old space name names entry there =
     ]
 
 -- notices of names that cease to be carry no receive right, and wait
-deleted_receive : (q name : ℕ) (target : Option ℕ) → weigh (effect_weigh (receive_of q)) (port_deleted name target) ≡ 0
+pub deleted_receive : (q name : ℕ) (target : Option ℕ) → weigh (effect_weigh (receive_of q)) (port_deleted name target) ≡ 0
 deleted_receive q name None = refl
 deleted_receive q name (Some target) = refl
 
-deleted_waits : (name : ℕ) (target : Option ℕ) → AllWaiting (port_deleted name target)
+pub deleted_waits : (name : ℕ) (target : Option ℕ) → AllWaiting (port_deleted name target)
 deleted_waits name None = tt
 deleted_waits name (Some target) = (tt, tt)
 
@@ -70,7 +70,7 @@ send_weighs q true serial rest = omega arith
 send_weighs q false serial rest = refl
 
 -- an entry that is left weighs as itself by receive rights, also where it is empty
-no_target : (q : ℕ) (target : Option ℕ) → target_weigh (receive_of q) target ≡ 0
+pub no_target : (q : ℕ) (target : Option ℕ) → target_weigh (receive_of q) target ≡ 0
 no_target q None = refl
 no_target q (Some serial) = refl
 
@@ -93,7 +93,7 @@ port_weighs q port send receive target = elim (send == 0) as (λ (b : Bool). (if
 ]
 
 -- fewer references are no more rights
-fewer_weigh : (w : Weight) (port send left : ℕ) (receive : Bool) (target : Option ℕ) → (send == 0) ≡ false
+pub fewer_weigh : (w : Weight) (port send left : ℕ) (receive : Bool) (target : Option ℕ) → (send == 0) ≡ false
     → under w (left_of (Port (record { port = port; receive = receive; send = left; dead_name_target = target }))) ≤ entry_weigh w (Port (record { port = port; receive = receive; send = send; dead_name_target = target }))
 fewer_weigh w port send left receive target some =
     elim (not receive && left == 0) as (λ (b : Bool). under w (if b then None else Some (Port (record { port = port; receive = receive; send = left; dead_name_target = target }))) ≤ (if receive then w kind.Receive port else 0) + ((if send == 0 then 0 else w kind.Send port) + target_weigh w target)) [
@@ -160,15 +160,15 @@ send_left_kept old space name names rights left number lawful grounded there at 
 
 -- Fewer or more references of a dead name, which goes with the last.
 
-dead_weighs : (w : Weight) (left : ℕ) → under w (left_of (Dead left)) ≡ 0
+pub dead_weighs : (w : Weight) (left : ℕ) → under w (left_of (Dead left)) ≡ 0
 dead_weighs w left = elim (left == 0) as (λ (b : Bool). under w (if b then None else Some (Dead left)) ≡ 0) [ true ↦ refl | false ↦ refl ]
 
-above_zero : (n : ℕ) → (n == 0) ≡ false → 0 < n
+pub above_zero : (n : ℕ) → (n == 0) ≡ false → 0 < n
 above_zero zero e = absurd (cc e)
 above_zero (suc n) e = omega arith
 
 -- the names with a dead name's references
-dead_lawful : (names : Names) (name references left : ℕ) → LawfulNames names → finmap.get names name ≡ Some (Dead references) → left ≤ MAX_DEAD_REFERENCES → LawfulNames (changed names name (left_of (Dead left)))
+pub dead_lawful : (names : Names) (name references left : ℕ) → LawfulNames names → finmap.get names name ≡ Some (Dead references) → left ≤ MAX_DEAD_REFERENCES → LawfulNames (changed names name (left_of (Dead left)))
 dead_lawful names name references left lawful at fits =
     elim (left == 0) as (λ (b : Bool). (left == 0) ≡ b → LawfulNames (changed names name (if b then None else Some (Dead left)))) [
       | true ↦ λ (_ : _). remove_lawful names name lawful
