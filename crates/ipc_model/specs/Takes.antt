@@ -16,7 +16,7 @@ use Rattle.ipc_model.specs.AllocateKeep.{held_weighs}
 use Rattle.ipc_model.specs.Circular.{Grounded, carries}
 use Rattle.ipc_model.specs.CopyIn.{Taken, copy_in, taken_leaving, taken_keeping, taken_of_port, taken_of_send_once, taken_of_dead, taken_of_entry, moved_port, with_left, notices_of_left}
 use Rattle.ipc_model.specs.Dangling.{live_apart, apart_zero}
-use Rattle.ipc_model.specs.Dispositions.{Disposition, MoveReceive, MoveSend, MoveSendOnce, CopySend, MakeSend, MakeSendOnce}
+use Rattle.ipc_model.specs.Dispositions.{Disposition, MoveReceive, MoveSend, MoveSendOnce, CopySend, MakeSend, MakeSendOnce, received_kind}
 use Rattle.ipc_model.specs.Effects.{Effect, port_deleted}
 use Rattle.ipc_model.specs.EffectParts.{with_port_there}
 use Rattle.ipc_model.specs.EffectRanks.{fewer_edges, changed_edges}
@@ -349,3 +349,50 @@ taken_mid state hand space name names disposition taken mid there is =
       | None ↦ λ (_ : _) (e : _). absurd (cc e)
       | Some entry ↦ λ (at : _) (e : _). entry_taken state hand space name names disposition entry taken mid there at e
     ] refl (ap (option_and_then (taken_of_entry state space name disposition)) (sym under_name) ∙ is)
+
+-- the kind of what is taken is the one that the disposition says
+
+same_kind_taken : (what : RightKind) (one taken : Taken) → one.right.kind ≡ what → Some one ≡ Some taken → taken.right.kind ≡ what
+same_kind_taken what one taken is same = ap (λ (t : Taken). t.right.kind) (sym (some_same one taken same)) ∙ is
+
+kind_if : (b : Bool) (what : RightKind) (one taken : Taken) → one.right.kind ≡ what → (if b then Some one else None) ≡ Some taken → taken.right.kind ≡ what
+kind_if true what one taken is same = same_kind_taken what one taken is same
+kind_if false what one taken is same = absurd (cc same)
+
+kind_unless : (b : Bool) (what : RightKind) (one taken : Taken) → one.right.kind ≡ what → (if b then None else Some one) ≡ Some taken → taken.right.kind ≡ what
+kind_unless true what one taken is same = absurd (cc same)
+kind_unless false what one taken is same = same_kind_taken what one taken is same
+
+entry_kind : (state : State) (space name : ℕ) (disposition : Disposition) (entry : Entry) (taken : Taken) → taken_of_entry state space name disposition entry ≡ Some taken → taken.right.kind ≡ received_kind disposition
+entry_kind state space name MoveReceive (Port rights) taken is =
+    kind_if rights.receive kind.Receive (taken_leaving (moved_port state rights.port) space name (record { kind = kind.Receive; port = Live rights.port }) (Port (record rights { receive = false }))) taken refl is
+entry_kind state space name MoveSend (Port rights) taken is =
+    kind_unless (rights.send == 0) kind.Send (taken_leaving state space name (record { kind = kind.Send; port = Live rights.port }) (Port (record rights { send = rights.send - 1 }))) taken refl is
+entry_kind state space name MoveSendOnce (Port rights) taken is = absurd (cc is)
+entry_kind state space name CopySend (Port rights) taken is = kind_unless (rights.send == 0) kind.Send (taken_keeping state (record { kind = kind.Send; port = Live rights.port })) taken refl is
+entry_kind state space name MakeSend (Port rights) taken is = kind_if rights.receive kind.Send (taken_keeping (with_port state rights.port counted) (record { kind = kind.Send; port = Live rights.port })) taken refl is
+entry_kind state space name MakeSendOnce (Port rights) taken is = kind_if rights.receive kind.SendOnce (taken_keeping state (record { kind = kind.SendOnce; port = Live rights.port })) taken refl is
+entry_kind state space name MoveSendOnce (SendOnce port target) taken is =
+    same_kind_taken kind.SendOnce (record { right = record { kind = kind.SendOnce; port = Live port }; state = without_name state space name; notices = port_deleted name target }) taken refl is
+entry_kind state space name MoveReceive (SendOnce port target) taken is = absurd (cc is)
+entry_kind state space name MoveSend (SendOnce port target) taken is = absurd (cc is)
+entry_kind state space name CopySend (SendOnce port target) taken is = absurd (cc is)
+entry_kind state space name MakeSend (SendOnce port target) taken is = absurd (cc is)
+entry_kind state space name MakeSendOnce (SendOnce port target) taken is = absurd (cc is)
+entry_kind state space name disposition Set taken is = absurd (cc is)
+entry_kind state space name CopySend (Dead references) taken is = same_kind_taken kind.Send (taken_keeping state (record { kind = kind.Send; port = in_message.Dead })) taken refl is
+entry_kind state space name MoveSend (Dead references) taken is =
+    same_kind_taken kind.Send (taken_leaving state space name (record { kind = kind.Send; port = in_message.Dead }) (Dead (references - 1))) taken refl is
+entry_kind state space name MoveSendOnce (Dead references) taken is =
+    same_kind_taken kind.SendOnce (taken_leaving state space name (record { kind = kind.SendOnce; port = in_message.Dead }) (Dead (references - 1))) taken refl is
+entry_kind state space name MoveReceive (Dead references) taken is = absurd (cc is)
+entry_kind state space name MakeSend (Dead references) taken is = absurd (cc is)
+entry_kind state space name MakeSendOnce (Dead references) taken is = absurd (cc is)
+
+pub kind_taken : (state : State) (space name : ℕ) (disposition : Disposition) (taken : Taken) → copy_in state space name disposition ≡ Some taken → taken.right.kind ≡ received_kind disposition
+unfolding copy_in
+kind_taken state space name disposition taken is =
+    elim (entry_at state space name) as (λ (o : Option Entry). option_and_then (taken_of_entry state space name disposition) o ≡ Some taken → taken.right.kind ≡ received_kind disposition) [
+      | None ↦ λ (e : _). absurd (cc e)
+      | Some entry ↦ λ (e : _). entry_kind state space name disposition entry taken e
+    ] is
