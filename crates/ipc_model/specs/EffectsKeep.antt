@@ -37,7 +37,7 @@ pub waiting-append : (xs ys : List Effect) → AllWaiting xs → AllWaiting ys �
 waiting-append [] ys first second = second
 waiting-append (x ∷ xs) ys first second = (first.0, waiting-append xs ys first.1 second)
 
-waiting-flat_map : {A : Type 0} (f : A → List Effect) (xs : List A) → ((x : A) → AllWaiting (f x)) → AllWaiting (flat_map f xs)
+pub waiting-flat_map : {A : Type 0} (f : A → List Effect) (xs : List A) → ((x : A) → AllWaiting (f x)) → AllWaiting (flat_map f xs)
 waiting-flat_map f [] each = tt
 waiting-flat_map f (x ∷ xs) each = waiting-append (f x) (flat_map f xs) (each x) (waiting-flat_map f xs each)
 

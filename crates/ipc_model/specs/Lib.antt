@@ -53,6 +53,7 @@ pub mod RowsTexts
 pub mod Sending
 pub mod SetsKeep
 pub mod Settling
+pub mod SpacesKeep
 pub mod State
 pub mod Step
 pub mod StepLaws

@@ -211,7 +211,7 @@ zero_either true = refl
 zero_either false = refl
 
 -- what goes weighs as much as its effects, by receive rights
-name_weighs : (q name : ℕ) (entry : Entry) → weigh (effect_weigh (receive_of q)) (actions.effects_of_name name entry) ≡ entry_weigh (receive_of q) entry
+pub name_weighs : (q name : ℕ) (entry : Entry) → weigh (effect_weigh (receive_of q)) (actions.effects_of_name name entry) ≡ entry_weigh (receive_of q) entry
 name_weighs q name (Port rights) =
     omega (
       arith,
@@ -232,7 +232,7 @@ release_waits : (b : Bool) (first : Effect) (rest : List Effect) → AllWaiting 
 release_waits true first rest one waits = (one.0, waits)
 release_waits false first rest one waits = waits
 
-name_waits : (name : ℕ) (entry : Entry) → AllWaiting (actions.effects_of_name name entry)
+pub name_waits : (name : ℕ) (entry : Entry) → AllWaiting (actions.effects_of_name name entry)
 name_waits name (Port rights) =
     release_waits (not (rights.send == 0)) (release kind.Send rights.port) _ (tt, tt) (release_waits rights.receive (release kind.Receive rights.port) (port_deleted name rights.dead_name_target) (tt, tt) (deleted_waits name rights.dead_name_target))
 name_waits name (SendOnce port target) = (tt, deleted_waits name target)

@@ -84,19 +84,19 @@ still_in state (serial ∷ serials) other set port at is =
     let first = one_out state serial other set port later.1 is in
     ((λ (a : Among other (serial ∷ serials)). elim a as (λ _. ⊥) [ inl same ↦ first.0 same | inr among ↦ later.0 among ]), first.1)
 
-among_more : (n : ℕ) (o : Option ℕ) (ms : List ℕ) → Among n ms → Among n (cons_option o ms)
+pub among_more : (n : ℕ) (o : Option ℕ) (ms : List ℕ) → Among n ms → Among n (cons_option o ms)
 among_more n None ms among = among
 among_more n (Some m) ms among = inr among
 
 -- an entry that holds the receive right of a port in the set is one of a member
-member_of : (old : State) (set other : ℕ) (entry : Entry) (port : PortState) → received_port entry ≡ Some other → finmap.get old.ports other ≡ Some port → port.set ≡ Some set → is_member old set entry ≡ true
+pub member_of : (old : State) (set other : ℕ) (entry : Entry) (port : PortState) → received_port entry ≡ Some other → finmap.get old.ports other ≡ Some port → port.set ≡ Some set → is_member old set entry ≡ true
 member_of old set other entry port held there is =
     ap (λ (o : Option ℕ). elim (option_and_then (λ serial. finmap.get old.ports serial) o) as (λ _. Bool) [ None ↦ false | Some p ↦ is_number p.set set ]) held
     ∙ ap (λ (o : Option PortState). elim o as (λ _. Bool) [ None ↦ false | Some p ↦ is_number p.set set ]) there
     ∙ ap (λ (o : Option ℕ). is_number o set) is ∙ eq-eqb set set refl
 
 -- Every member that a name of the space holds is among those that are taken out.
-found_among : (test : Entry → Bool) (es : List (ℕ × Entry)) (name serial : ℕ) (entry : Entry) → find nat_cmp name es ≡ Some entry → test entry ≡ true → received_port entry ≡ Some serial
+pub found_among : (test : Entry → Bool) (es : List (ℕ × Entry)) (name serial : ℕ) (entry : Entry) → find nat_cmp name es ≡ Some entry → test entry ≡ true → received_port entry ≡ Some serial
     → Among serial (filter_map (λ e. received_port e.1) (filter (λ e. test e.1) es))
 found_among test [] name serial entry there passes is = absurd (cc there)
 found_among test (e ∷ es) name serial entry there passes is =
