@@ -69,7 +69,7 @@ changed_parts state serial change port there keeps parts =
     subst Parts (sym (with_port_there state serial change port there)) (inserted_parts state serial port (change port) there (keeps port (parts.ports serial port there).2) parts)
 
 -- whether the port lives or not
-any_changed_parts : (state : State) (serial : ℕ) (change : PortState → PortState) → ((p : PortState) → LawfulPort p → LawfulPort (change p)) → Parts state → Parts (with_port state serial change)
+pub any_changed_parts : (state : State) (serial : ℕ) (change : PortState → PortState) → ((p : PortState) → LawfulPort p → LawfulPort (change p)) → Parts state → Parts (with_port state serial change)
 any_changed_parts state serial change keeps parts =
     elim (finmap.get state.ports serial) as (λ (o : Option PortState). finmap.get state.ports serial ≡ o → Parts (with_port state serial change)) [
       | None ↦ λ (none : _). subst Parts (sym (ap (λ (o : Option PortState). elim o as (λ _. State) [ None ↦ state | Some p ↦ record state { ports = finmap.insert state.ports serial (change p) } ]) none)) parts

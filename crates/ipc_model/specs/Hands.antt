@@ -110,7 +110,7 @@ pub record NamesStep (state : State) (space : ℕ) (names after : Names) (hand l
   pub none_dead : (q : ℕ) → lives state q ≡ false → names_weigh (any_of q) after + later (any_of q) ≤ names_weigh (any_of q) names + hand (any_of q)
   pub members : (serial set : ℕ) (port : PortState) → finmap.get state.ports serial ≡ Some port → port.set ≡ Some set → IsHeldBesideSet state serial set → IsHeldBesideSet (with_names state space after) serial set
 
-named_parts : (state : State) (space : ℕ) (names after : Names) → finmap.get state.spaces space ≡ Some names → LawfulNames after → Parts state → Parts (with_names state space after)
+pub named_parts : (state : State) (space : ℕ) (names after : Names) → finmap.get state.spaces space ≡ Some names → LawfulNames after → Parts state → Parts (with_names state space after)
 named_parts state space names after there lawful parts = record {
   first_space = first_there state space after parts.first_space.0 parts.first_space.1;
   spaces = λ (other : ℕ) (n : Names) (at : _). elim (one_space state space other after n at) as (λ _. (0 < other) × (other ≤ MAX_SPACES) × LawfulNames n) [

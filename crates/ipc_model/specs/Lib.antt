@@ -36,6 +36,7 @@ pub mod ReceiptLaws
 pub mod ReceiveLaws
 pub mod Receiving
 pub mod ReferencesKeep
+pub mod RenameKeep
 pub mod RequestsKeep
 pub mod RightsKeep
 pub mod RowRules
