@@ -205,7 +205,7 @@ live_serial in_message.Null = 0
 live_serial in_message.Dead = 0
 live_serial (in_message.Live serial) = serial
 
-same_live : (one other : ℕ) → in_message.Live one ≡ in_message.Live other → one ≡ other
+pub same_live : (one other : ℕ) → in_message.Live one ≡ in_message.Live other → one ≡ other
 unfolding live_serial
 same_live one other e = ap live_serial e
 

@@ -33,6 +33,7 @@ pub mod PortCalls
 pub mod PortChanges
 pub mod Ranks
 pub mod ReceiptLaws
+pub mod ReceiveKeep
 pub mod ReceiveLaws
 pub mod Receiving
 pub mod ReferencesKeep

@@ -211,7 +211,7 @@ take_make_once state hand space name names rights mid there at =
 abbrev counted : PortState → PortState
 counted p = record p { make_send_count = next_count p.make_send_count }
 
-next_fits : (n : ℕ) → n < 2 ^ 32 → next_count n < 2 ^ 32
+pub next_fits : (n : ℕ) → n < 2 ^ 32 → next_count n < 2 ^ 32
 next_fits n fits = elim (n == 2 ^ 32 - 1) as (λ (b : Bool). (n == 2 ^ 32 - 1) ≡ b → (if b then 0 else n + 1) < 2 ^ 32) [
   | true ↦ λ (_ : _). omega arith
   | false ↦ λ (e : _). omega (arith, eqb-false n (2 ^ 32 - 1) e)
