@@ -16,6 +16,7 @@ pub mod EntryChanges
 pub mod Hands
 pub mod ImageLaws
 pub mod Images
+pub mod ItemLaws
 pub mod Items
 pub mod Lawful
 pub mod ListLaws
@@ -31,6 +32,7 @@ pub mod Others
 pub mod Placed
 pub mod PortCalls
 pub mod PortChanges
+pub mod PortItems
 pub mod Ranks
 pub mod ReceiptLaws
 pub mod ReceiveKeep
