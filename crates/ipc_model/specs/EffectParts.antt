@@ -84,7 +84,7 @@ all_none P k d less = absurd (omega (arith, less))
 no_bytes : AreBytes []
 no_bytes i = omega arith
 
-byte_more : (b : ℕ) (bytes : List ℕ) → b < 256 → AreBytes bytes → AreBytes (b ∷ bytes)
+pub byte_more : (b : ℕ) (bytes : List ℕ) → b < 256 → AreBytes bytes → AreBytes (b ∷ bytes)
 byte_more b bytes first rest zero = first
 byte_more b bytes first rest (suc i) = rest i
 

@@ -54,6 +54,7 @@ pub mod RowsRules
 pub mod RowsSteps
 pub mod RowsStore
 pub mod RowsTexts
+pub mod SendKeep
 pub mod Sending
 pub mod SetsKeep
 pub mod Settling
