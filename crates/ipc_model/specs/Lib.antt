@@ -34,6 +34,7 @@ pub mod PortCalls
 pub mod PortChanges
 pub mod PortItems
 pub mod Ranks
+pub mod ReadyKeep
 pub mod ReceiptLaws
 pub mod ReceiveKeep
 pub mod ReceiveLaws

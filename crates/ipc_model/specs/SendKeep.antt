@@ -12,7 +12,7 @@ use Rattle.ipc_model.specs.declared.message.PortInMessage.TheVariants as in_mess
 use Rattle.ipc_model.specs.declared.message.RightKind.{RightKind}
 use Rattle.ipc_model.specs.declared.message.RightKind.TheVariants as kind
 use Rattle.ipc_model.specs.CopyIn.{Taken, copy_in}
-use Rattle.ipc_model.specs.Dispositions.{Disposition, MoveReceive, disposition_of, received_kind}
+use Rattle.ipc_model.specs.Dispositions.{Disposition, MoveSend, MoveSendOnce, CopySend, MakeSend, MakeSendOnce, disposition_of, received_kind}
 use Rattle.ipc_model.specs.Effects.{Effect}
 use Rattle.ipc_model.specs.Hands.{Hand, MidCall, empty_hand, mid_hand}
 use Rattle.ipc_model.specs.Items.{Item, names_in, words_of, is_port_item, as_stored}
@@ -266,3 +266,31 @@ header_mid space remote local state names destination reply sends by mid there =
 
 SendsBy : ℕ → Type 0
 SendsBy n = (n == 16) ≡ false → (disposition : Disposition) → disposition_of n ≡ Some disposition → received_kind disposition ≢ kind.Receive
+
+sends_one : (n : ℕ) (is : Disposition) → received_kind is ≢ kind.Receive → disposition_of n ≡ Some is → SendsBy n
+unfolding SendsBy
+sends_one n is sends known apart disposition e same = sends (ap received_kind (some_same is disposition (sym known ∙ e)) ∙ same)
+
+sends_by : (n : ℕ) → SendsBy n
+unfolding SendsBy
+sends_by = by_type SendsBy (λ (apart : _) (_ : Disposition) (_ : _) (_ : _). cc apart) (sends_one 17 MoveSend (λ (e : _). cc e) refl) (sends_one 18 MoveSendOnce (λ (e : _). cc e) refl) (sends_one 19 CopySend (λ (e : _). cc e) refl)
+    (sends_one 20 MakeSend (λ (e : _). cc e) refl) (sends_one 21 MakeSendOnce (λ (e : _). cc e) refl) (λ (n : ℕ) (none : _) (_ : _) (_ : _) (disposition : Disposition) (e : _) (_ : _). cc (sym none ∙ e))
+
+pub header_sends : (n : ℕ) → IfSome (sending.header_disposition n) (λ (disposition : Disposition). received_kind disposition ≢ kind.Receive)
+unfolding SendsBy
+header_sends n = elim (n == 16) as (λ (b : Bool). (n == 16) ≡ b → IfSome (if b then None else disposition_of n) (λ (disposition : Disposition). received_kind disposition ≢ kind.Receive)) [
+  | true ↦ λ (_ : _). tt
+  | false ↦ λ (apart : _). elim (disposition_of n) as (λ (o : Option Disposition). disposition_of n ≡ o → IfSome o (λ (disposition : Disposition). received_kind disposition ≢ kind.Receive)) [
+    | None ↦ λ (_ : _). tt
+    | Some disposition ↦ λ (known : _). sends_by n apart disposition known
+  ] refl
+] refl
+
+pub reply_sends : (n name : ℕ) → IfOk (sending.reply_disposition n name) RepliesBy
+reply_sends n name =
+    if_if RepliesBy (n == 0 && name == MACH_PORT_NULL) _ _ tt
+    (elim (sending.header_disposition n) as (λ (o : Option Disposition). IfSome o (λ (disposition : Disposition). received_kind disposition ≢ kind.Receive)
+    → IfOk (and_then (or_refused SendInvalidHeader o) (λ (disposition : Disposition). Ok (Some disposition))) RepliesBy) [
+      | None ↦ λ (_ : _). tt
+      | Some disposition ↦ λ (sends : _). sends
+    ] (header_sends n))
