@@ -64,7 +64,7 @@ any_more test (x ∷ xs) y is = elim (test x) as (λ (b : Bool). (b || list_any 
 ] is
 
 -- a message is queued: at most the edges of its receive rights are new
-queued_edges : (state : State) (serial : ℕ) (message : Message) (outer inner : ℕ) → Carries (queued state serial message) outer inner → Carries state outer inner ⊎ ((outer ≡ serial) × (list_any (is_receive_right inner) message.rights ≡ true))
+pub queued_edges : (state : State) (serial : ℕ) (message : Message) (outer inner : ℕ) → Carries (queued state serial message) outer inner → Carries state outer inner ⊎ ((outer ≡ serial) × (list_any (is_receive_right inner) message.rights ≡ true))
 queued_edges state serial message outer inner edge =
     let change : PortState → PortState = λ p. record p { messages = p.messages ++ message ∷ [] } in
     elim (finmap.get state.ports serial) as (λ (o : Option PortState). finmap.get state.ports serial ≡ o

@@ -57,6 +57,7 @@ pub mod RowsStore
 pub mod RowsTexts
 pub mod SendKeep
 pub mod Sending
+pub mod SentKeep
 pub mod SetsKeep
 pub mod Settling
 pub mod SpacesKeep

@@ -73,7 +73,7 @@ weighs_live state hand space name serial names entry mid there at weighs = elim 
   | false ↦ λ (dead : _). absurd (omega (arith, mid.none_dangles serial dead, entry_part (any_of serial) state space name names entry there at, weighs))
 ] refl
 
-own_weight : (q : ℕ) (what : RightKind) → any_of q what q ≡ 1
+pub own_weight : (q : ℕ) (what : RightKind) → any_of q what q ≡ 1
 own_weight q what = ap {B = ℕ} (λ (b : Bool). cond b 1 0) (eq-eqb q q refl)
 
 pub port_live : (state : State) (hand : Hand) (space name : ℕ) (names : Names) (rights : PortRights) → MidCall state hand → finmap.get state.spaces space ≡ Some names → finmap.get names name ≡ Some (Port rights) → lives state rights.port ≡ true
