@@ -1,35 +1,31 @@
 -- Rights that arrive in a space go from a call's hand under names, and leave the state lawful.
-use Rattle.std.specs.Prelude.{◌≡◌, ◌≢◌, ◌⊎◌, ℕ, ◌+◌, ◌<◌, ◌≤◌, min, Bool, true, false, cond, not, ◌&&◌, ◌||◌, ◌==◌, nat_lt, find, List, [], ◌∷◌, Option, None, Some, is_some, is_none, option_map, MatchOption, if◌then◌else◌, refl}
+use Rattle.std.specs.Prelude.{◌≡◌, ◌≢◌, ℕ, ◌+◌, ◌<◌, ◌≤◌, min, Bool, true, false, cond, not, ◌&&◌, ◌==◌, find, [], Option, None, Some, is_some, is_none, option_map, MatchOption, if◌then◌else◌, refl}
 use Rattle.std.proofs.Common.{sym, ◌∙◌, ap, subst, inl, inr, arith}
-use Rattle.std.proofs.lemmas.Bool.{eq-eqb, ltb-false}
+use Rattle.std.proofs.lemmas.Bool.{eq-eqb}
 use Rattle.std.specs.Cmp.{nat_cmp_total}
-use Rattle.std.specs.List.{list_any}
 use Rattle.std.specs.FinMap as finmap
 use Rattle.std.specs.FinMap.{entries_sorted, get-entries, len-insert}
 use Rattle.codes.specs.declared.limits.TheConstants.{MAX_NAMES, MAX_SEND_REFERENCES}
-use Rattle.codes.specs.declared.name.TheConstants.{MACH_PORT_DEAD}
 use Rattle.ipc_model.specs.declared.entry.Entry.{Entry}
 use Rattle.ipc_model.specs.declared.entry.Entry.TheVariants.{Port, SendOnce, Set, Dead}
 use Rattle.ipc_model.specs.declared.entry.PortRights.{PortRights}
-use Rattle.ipc_model.specs.declared.message.CarriedRight.{CarriedRight}
 use Rattle.ipc_model.specs.declared.message.PortInMessage.{PortInMessage}
 use Rattle.ipc_model.specs.declared.message.PortInMessage.TheVariants as in_message
 use Rattle.ipc_model.specs.declared.message.RightKind.{RightKind}
 use Rattle.ipc_model.specs.declared.message.RightKind.TheVariants as kind
 use Rattle.ipc_model.specs.declared.port.PortState.{PortState}
-use Rattle.ipc_model.specs.AllocateKeep.{held_weighs, unnamed_lawful}
-use Rattle.ipc_model.specs.CopyOut.{MayArrive, MayBeNamed, Arrives, new_entry, merged_rights, merged_entry, names_after, wants_name, named_with, names_wanted}
+use Rattle.ipc_model.specs.AllocateKeep.{unnamed_lawful}
+use Rattle.ipc_model.specs.CopyOut.{MayArrive, new_entry, merged_rights, merged_entry, names_after, wants_name}
 use Rattle.ipc_model.specs.EffectsKeep.{not_received, own_weight}
-use Rattle.ipc_model.specs.EntryChanges.{changed, under, received_under}
-use Rattle.ipc_model.specs.Hands.{Hand, MidCall, EntryStep, mid_hand, mid_entry}
+use Rattle.ipc_model.specs.Hands.{Hand, MidCall, mid_hand, mid_entry}
 use Rattle.ipc_model.specs.Lawful.{LawfulNames, LawfulEntry}
 use Rattle.ipc_model.specs.ListLaws.{some_same}
 use Rattle.ipc_model.specs.MapLaws.{get-here, get-there}
-use Rattle.ipc_model.specs.MapSums.{weigh, insert-insert, insert-same}
+use Rattle.ipc_model.specs.MapSums.{insert-same}
 use Rattle.ipc_model.specs.NameChanges.{insert_lawful}
 use Rattle.ipc_model.specs.Others.{number_same, number_decided}
 use Rattle.ipc_model.specs.Ranks.{found_by, finds_one}
-use Rattle.ipc_model.specs.ReferencesKeep.{not_set, none_released}
+use Rattle.ipc_model.specs.ReferencesKeep.{not_set}
 use Rattle.ipc_model.specs.State.{State, Names, IsUnused, with_names, lives, port_held, name_of_port, is_number}
 use Rattle.ipc_model.specs.Takes.{with_right, port_live}
 use Rattle.ipc_model.specs.Weights.{Weight, target_weigh, entry_weigh, carried_weigh, receive_of, any_of}

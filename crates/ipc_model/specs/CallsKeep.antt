@@ -24,7 +24,6 @@ use Rattle.ipc_model.specs.ListLaws.{some_same}
 use Rattle.ipc_model.specs.PortCalls.{tests_of, name_is, entry_is, is_set, is_no_name, has_receive, is_in_some_set}
 use Rattle.ipc_model.specs.PortChanges.{PortMove, port_moves_lawfully}
 use Rattle.ipc_model.specs.State.{State, Names, with_port, received_port}
-use Rattle.ipc_model.specs.StepLaws.{Called}
 use Rattle.ipc_model.specs.Tests.{Tests, first_failing}
 use Rattle.ipc_model.specs.Texts.{FitsCall}
 use Rattle.ipc_model.specs.Weights.{Weight, target_weigh, entry_weigh, any_of}
@@ -150,19 +149,19 @@ not_not : (b : Bool) → not b ≡ false → b ≡ true
 not_not true e = refl
 not_not false e = absurd (cc e)
 
--- The calls that are shown here.
-abbrev pub is_shown : Call → Bool
-is_shown (call.Attach space) = true
-is_shown call.Names = true
-is_shown (call.Type name) = true
-is_shown (call.GetRefs name kind) = true
-is_shown (call.GetReceiveStatus name) = true
-is_shown (call.GetSetStatus name) = true
-is_shown (call.SetQlimit name limit) = true
-is_shown (call.SetMscount name count) = true
-is_shown (call.SetSeqno name seqno) = true
-is_shown (call.MoveMember member after) = true
-is_shown c = false
+-- The calls that change nothing, or what a port keeps beside its rights.
+abbrev pub is_simple : Call → Bool
+is_simple (call.Attach space) = true
+is_simple call.Names = true
+is_simple (call.Type name) = true
+is_simple (call.GetRefs name kind) = true
+is_simple (call.GetReceiveStatus name) = true
+is_simple (call.GetSetStatus name) = true
+is_simple (call.SetQlimit name limit) = true
+is_simple (call.SetMscount name count) = true
+is_simple (call.SetSeqno name seqno) = true
+is_simple (call.MoveMember member after) = true
+is_simple c = false
 
 same_kept : (old new : State) (action : Action) (answer : Reply) (effects : List Effect) → Lawful old → Grounded old → action.state ≡ old → action.effects ≡ [] → Acts action answer new effects → Kept new effects
 same_kept old new action answer effects lawful grounded same none acts = kept_as old new effects lawful grounded (acts.1 ∙ same) (acts.2 ∙ none)
@@ -196,34 +195,25 @@ after_is_set old names member after passes named =
     let second = (first_passes (is_no_name names after, InvalidName) ((not (name_is is_set names after), InvalidRight) ∷ []) named_tests).1 in
     is_set_entry (finmap.get names after) (not_not (name_is is_set names after) (first_passes (not (name_is is_set names after), InvalidRight) [] second).0)
 
-done_kept : (old : State) (space : ℕ) (names : Names) (c : Call) (answer : Reply) (new : State) (effects : List Effect) → is_shown c ≡ true → FitsCall c → Lawful old → Grounded old → finmap.get old.spaces space ≡ Some names
+-- Such a call's own action leaves a state that is lawful with its effects, and grounded.
+pub simple_kept : (old : State) (space : ℕ) (names : Names) (c : Call) (answer : Reply) (new : State) (effects : List Effect) → is_simple c ≡ true → FitsCall c → Lawful old → Grounded old → finmap.get old.spaces space ≡ Some names
     → first_failing (tests_of old space names c) ≡ None → Done old space names c answer new effects → Kept new effects
 unfolding Done tests_of tests_of_after
-done_kept old space names (call.Attach other) answer new effects shown fits lawful grounded there passes done = same_kept old new _ answer effects lawful grounded refl refl done
-done_kept old space names call.Names answer new effects shown fits lawful grounded there passes done = same_kept old new _ answer effects lawful grounded refl refl done
-done_kept old space names (call.Type name) answer new effects shown fits lawful grounded there passes done = same_on_kept old new _ _ answer effects lawful grounded (λ (e : Entry). refl) (λ (e : Entry). refl) done
-done_kept old space names (call.GetRefs name kind) answer new effects shown fits lawful grounded there passes done = same_on_kept old new _ _ answer effects lawful grounded (λ (e : Entry). refl) (λ (e : Entry). refl) done
-done_kept old space names (call.GetReceiveStatus name) answer new effects shown fits lawful grounded there passes done =
+simple_kept old space names (call.Attach other) answer new effects shown fits lawful grounded there passes done = same_kept old new _ answer effects lawful grounded refl refl done
+simple_kept old space names call.Names answer new effects shown fits lawful grounded there passes done = same_kept old new _ answer effects lawful grounded refl refl done
+simple_kept old space names (call.Type name) answer new effects shown fits lawful grounded there passes done = same_on_kept old new _ _ answer effects lawful grounded (λ (e : Entry). refl) (λ (e : Entry). refl) done
+simple_kept old space names (call.GetRefs name kind) answer new effects shown fits lawful grounded there passes done = same_on_kept old new _ _ answer effects lawful grounded (λ (e : Entry). refl) (λ (e : Entry). refl) done
+simple_kept old space names (call.GetReceiveStatus name) answer new effects shown fits lawful grounded there passes done =
     same_on_kept old new (finmap.get names name) (λ (entry : Entry). actions.status_action_of old (received_port entry)) answer effects lawful grounded (λ (e : Entry). status_same old (received_port e)) (λ (e : Entry). status_none old (received_port e)) done
-done_kept old space names (call.GetSetStatus name) answer new effects shown fits lawful grounded there passes done = same_kept old new _ answer effects lawful grounded refl refl done
-done_kept old space names (call.SetQlimit name limit) answer new effects shown fits lawful grounded there passes done =
+simple_kept old space names (call.GetSetStatus name) answer new effects shown fits lawful grounded there passes done = same_kept old new _ answer effects lawful grounded refl refl done
+simple_kept old space names (call.SetQlimit name limit) answer new effects shown fits lawful grounded there passes done =
     let small : limit ≤ MAX_QUEUE_LIMIT = limit_fits limit (first_passes (nat_lt MAX_QUEUE_LIMIT limit, InvalidValue) ((is_no_name names name, InvalidName) ∷ (not (name_is has_receive names name), InvalidRight) ∷ []) passes).0 in
     by_entry_kept old new space name names (λ (p : PortState). record p { limit = limit }) 10 answer effects lawful grounded there (λ (entry : Entry) (serial : ℕ) (port : PortState) (at : _) (held : _) (live : _). limit_move old serial limit port lawful live small) done
-done_kept old space names (call.SetMscount name count) answer new effects shown fits lawful grounded there passes done =
+simple_kept old space names (call.SetMscount name count) answer new effects shown fits lawful grounded there passes done =
     by_entry_kept old new space name names (λ (p : PortState). record p { make_send_count = count }) 11 answer effects lawful grounded there (λ (entry : Entry) (serial : ℕ) (port : PortState) (at : _) (held : _) (live : _). make_send_move old serial count port lawful live fits.1) done
-done_kept old space names (call.SetSeqno name seqno) answer new effects shown fits lawful grounded there passes done =
+simple_kept old space names (call.SetSeqno name seqno) answer new effects shown fits lawful grounded there passes done =
     by_entry_kept old new space name names (λ (p : PortState). record p { sequence_number = seqno }) 12 answer effects lawful grounded there (λ (entry : Entry) (serial : ℕ) (port : PortState) (at : _) (held : _) (live : _). sequence_move old serial seqno port lawful live fits.1) done
-done_kept old space names (call.MoveMember member after) answer new effects shown fits lawful grounded there passes done =
+simple_kept old space names (call.MoveMember member after) answer new effects shown fits lawful grounded there passes done =
     by_entry_kept old new space member names (λ (p : PortState). record p { set = actions.set_named after }) 15 answer effects lawful grounded there
     (λ (entry : Entry) (serial : ℕ) (port : PortState) (at : _) (held : _) (live : _). set_move old space member serial after names entry port lawful there at held live (after_is_set old names member after passes)) done
-done_kept old space names c answer new effects shown fits lawful grounded there passes done = absurd (cc shown)
-
--- Such a call's own action leaves a state that is lawful with its effects, and grounded; so does every call that is refused.
-abbrev pub ShownCallsKeep : Type 0
-ShownCallsKeep = (refusal : Option KernReturn) (old : State) (space : ℕ) (names : Names) (c : Call) (answer : Reply) (new : State) (effects : List Effect)
-    → refusal ≡ first_failing (tests_of old space names c) → (refusal ≡ None → is_shown c ≡ true) → FitsCall c → Lawful old → Grounded old → finmap.get old.spaces space ≡ Some names
-    → Called refusal old space names c answer new effects → Kept new effects
-
-pub shown_calls_keep : ShownCallsKeep
-shown_calls_keep None old space names c answer new effects is shown fits lawful grounded there called = done_kept old space names c answer new effects (shown refl) fits lawful grounded there (sym is) called
-shown_calls_keep (Some code) old space names c answer new effects is shown fits lawful grounded there called = kept_as old new effects lawful grounded called.1 called.2
+simple_kept old space names c answer new effects shown fits lawful grounded there passes done = absurd (cc shown)

@@ -1,5 +1,5 @@
 -- A state in the midst of a call: some rights are in the call's hands, and stand in no place.
-use Rattle.std.specs.Prelude.{◌≡◌, ◌≢◌, ◌⊎◌, ℕ, ◌+◌, ◌<◌, ◌≤◌, Bool, true, false, List, [], Option, None, Some, is_some, refl}
+use Rattle.std.specs.Prelude.{◌≡◌, ℕ, ◌+◌, ◌<◌, ◌≤◌, Bool, true, false, List, [], Option, Some, is_some, refl}
 use Rattle.std.proofs.Common.{sym, ◌∙◌, ap, subst, inl, inr, arith}
 use Rattle.std.specs.FinMap as finmap
 use Rattle.codes.specs.declared.limits.TheConstants.{MAX_SPACES}
@@ -13,9 +13,9 @@ use Rattle.ipc_model.specs.Effects.{Effect}
 use Rattle.ipc_model.specs.EffectParts.{Parts, with_port_there, inserted_parts}
 use Rattle.ipc_model.specs.EffectRanks.{receive_is_any, ports_in_state, ports_less}
 use Rattle.ipc_model.specs.EffectWeights.{with_port_weigh}
-use Rattle.ipc_model.specs.EffectsKeep.{dangles_none, parts_of, entry_part}
+use Rattle.ipc_model.specs.EffectsKeep.{dangles_none, parts_of}
 use Rattle.ipc_model.specs.EntryChanges.{changed, under, received_under, changed_weight, changed_here, changed_there, entry_of}
-use Rattle.ipc_model.specs.Lawful.{Lawful, LawfulNames, LawfulPort, AllWaiting, IsHeldBesideSet, IsReleased}
+use Rattle.ipc_model.specs.Lawful.{Lawful, LawfulNames, LawfulPort, AllWaiting, IsHeldBesideSet}
 use Rattle.ipc_model.specs.ListLaws.{some_same}
 use Rattle.ipc_model.specs.MapLaws.{get-here, get-there}
 use Rattle.ipc_model.specs.MapSums.{weigh, total, weight, total-remove}
@@ -23,7 +23,7 @@ use Rattle.ipc_model.specs.NameChanges.{names_change, first_there, one_space}
 use Rattle.ipc_model.specs.Others.{number_decided, with_port_spaces}
 use Rattle.ipc_model.specs.Ranks.{TravelsOnce}
 use Rattle.ipc_model.specs.ReferencesKeep.{none_released}
-use Rattle.ipc_model.specs.State.{State, Names, with_names, with_port, lives, received_port}
+use Rattle.ipc_model.specs.State.{State, Names, with_names, with_port, lives}
 use Rattle.ipc_model.specs.Weights.{Weight, names_weigh, port_weigh, state_weigh, effect_weigh, receive_of, any_of, count-receive, count-any}
 
 -- what the rights in hand weigh; their order is of no account

@@ -1,14 +1,13 @@
 -- Items that are read from a body fit their descriptors, keep its length as they are stored, and are read back.
-use Rattle.std.specs.Prelude.{◌≡◌, ℕ, zero, suc, ◌+◌, ◌-◌, ◌*◌, ◌/◌, ◌%◌, ◌^◌, ◌<◌, ◌≤◌, Bool, true, false, ◌==◌, ◌&&◌, ◌||◌, not, nat_le, nat_lt, All, List, [], ◌∷◌, ◌++◌, length, take, drop, map, replicate, slice_index, None, Some, Result, Ok, Err, if◌then◌else◌, refl}
-use Rattle.std.proofs.Common.{sym, ◌∙◌, ap, subst, inl, inr, arith, append_assoc, length-append, length-take, length-drop, take_at, drop_at}
+use Rattle.std.specs.Prelude.{◌≡◌, ℕ, zero, suc, ◌+◌, ◌*◌, ◌/◌, ◌%◌, ◌^◌, ◌<◌, ◌≤◌, Bool, true, false, ◌==◌, ◌&&◌, ◌||◌, not, nat_lt, List, [], ◌∷◌, ◌++◌, length, take, drop, None, Some, Result, Ok, Err, if◌then◌else◌, refl}
+use Rattle.std.proofs.Common.{sym, ◌∙◌, ap, subst, arith, append_assoc, length-append, length-take, length-drop, take_at, drop_at}
 use Rattle.std.proofs.lemmas.Bool.{ltb-false, ltb-true as ltb-is, eqb-true, eq-eqb}
-use Rattle.std.proofs.lemmas.List.{length-replicate, length-map}
 use Rattle.byteorder.specs.Endian.{little_number, little_bytes}
-use Rattle.byteorder.specs.Numbers.{little_from-lt, little_number-reads_back, length-bytes_low_first}
+use Rattle.byteorder.specs.Numbers.{little_from-lt, little_number-reads_back}
 use Rattle.codes.specs.declared.kern_return.KernReturn.{KernReturn}
 use Rattle.codes.specs.declared.kern_return.KernReturn.TheVariants.{SendMsgTooSmall, SendInvalidMemory, SendInvalidType}
 use Rattle.ipc_model.specs.CallsKeep.{first_passes}
-use Rattle.ipc_model.specs.Items.{Item, items_of, items_within, item_of, item_text, items_text, after_item, as_stored, tests_of_item, is_long_form, is_inline, has_other_bit, type_name_in, bits_in, number_in, descriptor_length, descriptor_text, data_length, padded, is_port_type, is_port_item, received_type}
+use Rattle.ipc_model.specs.Items.{Item, items_of, items_within, item_of, item_text, items_text, after_item, is_long_form, is_inline, has_other_bit, type_name_in, bits_in, number_in, descriptor_length, descriptor_text, data_length, padded, is_port_type, is_port_item}
 use Rattle.ipc_model.specs.Tests.{Tests, first_failing, and_then, unless_failing}
 use Rattle.words.specs.WordLaws.{AreBytes, little_number-word, length-word}
 use Rattle.words.specs.Words.{word}

@@ -1,11 +1,9 @@
--- The opening state is lawful and grounded; and what is to be shown of every step.
+-- The opening state is lawful and grounded.
 use Rattle.std.specs.Prelude.{◌≡◌, ℕ, true, List, [], ◌∷◌, Some, is_some, length, refl}
 use Rattle.std.proofs.Common.{sym, ◌∙◌, ap, subst, inl, inr, arith}
 use Rattle.std.specs.Ordering.{nat_cmp}
 use Rattle.std.specs.FinMap as finmap
 use Rattle.std.specs.FinMap.{get-empty, len-empty, len-entries}
-use Rattle.ipc_model.specs.declared.call.Call.{Call}
-use Rattle.ipc_model.specs.declared.call.Reply.{Reply}
 use Rattle.ipc_model.specs.declared.entry.Entry.{Entry}
 use Rattle.ipc_model.specs.declared.port.PortState.{PortState}
 use Rattle.ipc_model.specs.Circular.{Grounded, Carries}
@@ -14,9 +12,7 @@ use Rattle.ipc_model.specs.ListLaws.{some_same}
 use Rattle.ipc_model.specs.MapLaws.{get-here, get-there}
 use Rattle.ipc_model.specs.MapSums.{total, total-new, weigh}
 use Rattle.ipc_model.specs.Others.{number_decided}
-use Rattle.ipc_model.specs.State.{State, Names, opening_state, lives}
-use Rattle.ipc_model.specs.Step.{Step}
-use Rattle.ipc_model.specs.Texts.{FitsCall}
+use Rattle.ipc_model.specs.State.{Names, opening_state, lives}
 use Rattle.ipc_model.specs.Weights.{Weight, state_weigh, any_of, names_weigh, entry_weigh, port_weigh, count-any}
 
 none_in_empty : {X : Type 0} (k : ℕ) (x : X) → finmap.get (finmap.empty {X = X} {R = nat_cmp}) k ≡ Some x → ⊥
@@ -71,8 +67,3 @@ opening_is_lawful = (
   },
   (λ (serial : ℕ). 0, λ (outer inner : ℕ) (carries : Carries opening_state outer inner). absurd (none_in_empty outer carries.0 carries.1)),
 )
-
--- What is to be shown of every step: from a lawful and grounded state, a call whose arguments are in range leaves one.
--- (Shown so far of all effects, of every refusal, and of the calls of `is_kept`.)
-abbrev pub StepsKeepLawful : Type 0
-StepsKeepLawful = (old : State) (space : ℕ) (c : Call) (answer : Reply) (new : State) → FitsCall c → Lawful old → Grounded old → Step old space c answer new → Lawful new × Grounded new

@@ -1,5 +1,5 @@
 -- Port items as messages keep them: they fit their descriptors, are as long as before, and tell the kinds of their rights.
-use Rattle.std.specs.Prelude.{◌≡◌, ℕ, zero, suc, ◌+◌, ◌*◌, ◌/◌, ◌^◌, ◌<◌, ◌≤◌, Bool, true, false, ◌==◌, ◌&&◌, not, nat_le, All, List, [], ◌∷◌, ◌++◌, length, map, replicate, flat_map, Option, None, Some, MatchBool, if◌then◌else◌, refl}
+use Rattle.std.specs.Prelude.{◌≡◌, ℕ, zero, suc, ◌*◌, ◌<◌, ◌≤◌, Bool, true, false, ◌==◌, ◌&&◌, nat_le, All, List, [], ◌∷◌, length, map, replicate, None, Some, MatchBool, if◌then◌else◌, refl}
 use Rattle.std.proofs.Common.{sym, ◌∙◌, ap, subst, arith, length-append}
 use Rattle.std.proofs.lemmas.Bool.{leb-true, eqb-true, eqb-false}
 use Rattle.std.proofs.lemmas.List.{length-replicate}
@@ -7,7 +7,7 @@ use Rattle.std.proofs.lemmas.List.Elements.{All-replicate, All-cons, All-nil}
 use Rattle.ipc_model.specs.declared.message.RightKind.{RightKind}
 use Rattle.ipc_model.specs.declared.message.RightKind.TheVariants as kind
 use Rattle.ipc_model.specs.Dispositions.{Disposition, MoveReceive, MoveSend, MoveSendOnce, CopySend, MakeSend, MakeSendOnce, disposition_of, received_kind, number_of_kind}
-use Rattle.ipc_model.specs.Items.{Item, item_text, items_text, as_stored, is_port_type, is_port_item, received_type, padded, descriptor_length}
+use Rattle.ipc_model.specs.Items.{Item, item_text, items_text, as_stored, is_port_type, is_port_item, received_type, padded}
 use Rattle.ipc_model.specs.ItemLaws.{ItemFits, AllFit, name_bound, item_length}
 use Rattle.ipc_model.specs.Lawful.{IsStoredItem, kinds_of_item, kind_of_number}
 use Rattle.ipc_model.specs.ListLaws.{some_same}

@@ -1,17 +1,16 @@
 -- A message that is ready to be queued is lawful, and its rights are in the call's hand.
-use Rattle.std.specs.Prelude.{◌≡◌, ◌≢◌, ◌⊎◌, ℕ, zero, suc, ◌+◌, ◌-◌, ◌*◌, ◌%◌, ◌/◌, ◌^◌, ◌<◌, ◌≤◌, Bool, true, false, not, ◌&&◌, ◌||◌, ◌==◌, nat_le, nat_lt, All, Contains, List, [], ◌∷◌, ◌++◌, length, drop, map, flat_map, replicate, Option, None, Some, Result, Ok, Err, IfOk, IfSome, MatchBool, if◌then◌else◌, refl}
-use Rattle.std.proofs.Common.{sym, ◌∙◌, ap, subst, inl, inr, arith, append_assoc, length-append, length-drop}
+use Rattle.std.specs.Prelude.{◌≡◌, ◌≢◌, ℕ, suc, ◌+◌, ◌-◌, ◌*◌, ◌%◌, ◌/◌, ◌^◌, ◌≤◌, Bool, true, false, not, ◌||◌, ◌==◌, nat_lt, Contains, List, [], ◌∷◌, ◌++◌, length, drop, map, flat_map, Option, None, Some, Result, Ok, Err, IfOk, MatchBool, if◌then◌else◌, refl}
+use Rattle.std.proofs.Common.{sym, ◌∙◌, ap, arith, length-append, length-drop}
 use Rattle.std.proofs.lemmas.Bool.{ltb-false, eqb-true}
 use Rattle.std.proofs.lemmas.List.{length-map, length-replicate, nil_from_length}
 use Rattle.std.specs.List.{list_any}
 use Rattle.std.specs.FinMap as finmap
-use Rattle.byteorder.specs.Endian.{little_number, little_bytes}
+use Rattle.byteorder.specs.Endian.{little_bytes}
 use Rattle.byteorder.specs.Numbers.{little_from-lt}
 use Rattle.codes.specs.declared.kern_return.KernReturn.{KernReturn}
 use Rattle.codes.specs.declared.kern_return.KernReturn.TheVariants.{SendInvalidDest, SendInvalidRight, SendInvalidHeader, SendMsgTooSmall, SendNoBuffer}
 use Rattle.codes.specs.declared.limits.TheConstants.{MAX_MESSAGE_SIZE, MAX_MESSAGE_PORTS}
 use Rattle.ipc_model.specs.declared.message.CarriedRight.{CarriedRight}
-use Rattle.ipc_model.specs.declared.message.Message.{Message}
 use Rattle.ipc_model.specs.declared.message.RightKind.{RightKind}
 use Rattle.ipc_model.specs.declared.message.RightKind.TheVariants as kind
 use Rattle.ipc_model.specs.CallsKeep.{first_passes}
@@ -19,20 +18,18 @@ use Rattle.ipc_model.specs.Dispositions.{Disposition, disposition_of, received_k
 use Rattle.ipc_model.specs.EffectParts.{word_more, byte_more}
 use Rattle.ipc_model.specs.Hands.{Hand, MidCall, empty_hand, mid_hand}
 use Rattle.ipc_model.specs.Items.{Item, items_of, items_text, item_text, descriptor_text, names_in, words_of, is_port_item, as_stored}
-use Rattle.ipc_model.specs.ItemLaws.{ItemFits, AllFit, ItemsRead, items_read, items_back, back_bytes}
-use Rattle.ipc_model.specs.Lawful.{LawfulMessage, HoldsPorts, IsStoredItem, kinds_of_item}
-use Rattle.ipc_model.specs.MapSums.{weigh}
-use Rattle.ipc_model.specs.Messages.{bits_of, remote_of, local_of, id_of, body_of, remote_disposition, local_disposition, is_complex, header_length}
-use Rattle.ipc_model.specs.PortItems.{IsKept, is_kept, stored_fit, stored_long, all_stored, kinds_of_type, stored_kinds, no_kinds}
-use Rattle.ipc_model.specs.Receiving.{message_size}
+use Rattle.ipc_model.specs.ItemLaws.{ItemFits, AllFit, items_read, items_back, back_bytes}
+use Rattle.ipc_model.specs.Lawful.{LawfulMessage, HoldsPorts, kinds_of_item}
+use Rattle.ipc_model.specs.Messages.{bits_of, remote_of, local_of, body_of, remote_disposition, local_disposition, is_complex, header_length}
+use Rattle.ipc_model.specs.PortItems.{is_kept, stored_fit, stored_long, all_stored, kinds_of_type, stored_kinds, no_kinds}
 use Rattle.ipc_model.specs.Sending as sending
 use Rattle.ipc_model.specs.Sending.{TakenRights, TakenHeader, Ready, ready_to_send, ready_message, take_items, take_header}
 use Rattle.ipc_model.specs.SendKeep.{MidRights, MidHeader, kinds, rights_hand, names_long, items_mid, header_mid, header_sends, reply_sends, RepliesBy}
-use Rattle.ipc_model.specs.State.{State, Names, lives, is_null_or_dead}
+use Rattle.ipc_model.specs.State.{State, Names, is_null_or_dead}
 use Rattle.ipc_model.specs.Takes.{Quiet, quiet_none, quiet_both}
-use Rattle.ipc_model.specs.Tests.{Tests, first_failing, and_then, or_refused, unless_failing}
+use Rattle.ipc_model.specs.Tests.{Tests, first_failing, or_refused, unless_failing}
 use Rattle.ipc_model.specs.UntouchedMessages.{and_then_if, unless_if, or_if}
-use Rattle.ipc_model.specs.Weights.{Weight, carried_weigh, reply_weigh, message_weigh, receive_of, any_of}
+use Rattle.ipc_model.specs.Weights.{reply_weigh, message_weigh}
 use Rattle.words.specs.WordLaws.{AreBytes}
 use Rattle.words.specs.Words.{word}
 
@@ -239,10 +236,10 @@ of_items_mid old space names bytes destination reply items mid there fits size s
     pass_if MidReady ((nat_lt MAX_MESSAGE_PORTS (sending.ports_in items), SendNoBuffer) ∷ (is_null_or_dead (remote_of bytes), SendInvalidDest) ∷ []) _ (λ (passes : _).
     let few : sending.ports_in items ≤ MAX_MESSAGE_PORTS = ltb-false MAX_MESSAGE_PORTS (sending.ports_in items) (first_passes (nat_lt MAX_MESSAGE_PORTS (sending.ports_in items), SendNoBuffer) ((is_null_or_dead (remote_of bytes), SendInvalidDest) ∷ []) passes).0 in
     and_then_if (MidHeader space) MidReady (take_header old space (remote_of bytes) destination (local_of bytes) reply) _ (header_mid space (remote_of bytes) (local_of bytes) old names destination reply sends by mid there) (λ (header : TakenHeader) (head : _).
-        let start : TakenRights = record { rights = []; state = header.state; notices = [] } in
-        and_then_if (MidRights space (header_hand header) ([] ++ flat_map kinds_of_item (map as_stored items))) MidReady (or_refused SendInvalidRight (take_items space items start)) _
-        (or_if (MidRights space (header_hand header) ([] ++ flat_map kinds_of_item (map as_stored items))) SendInvalidRight (take_items space items start) (items_mid space (header_hand header) [] items start (start_rights space header head)))
-        (λ (taken : TakenRights) (rights : _). unless_if MidReady (sending.tests_of_queue (ready_message bytes items header taken)) (Ok (ready_message bytes items header taken)) (ready_of_taken bytes items header taken space fits size body few head rights))))
+    let start : TakenRights = record { rights = []; state = header.state; notices = [] } in
+    and_then_if (MidRights space (header_hand header) ([] ++ flat_map kinds_of_item (map as_stored items))) MidReady (or_refused SendInvalidRight (take_items space items start)) _
+    (or_if (MidRights space (header_hand header) ([] ++ flat_map kinds_of_item (map as_stored items))) SendInvalidRight (take_items space items start) (items_mid space (header_hand header) [] items start (start_rights space header head)))
+    (λ (taken : TakenRights) (rights : _). unless_if MidReady (sending.tests_of_queue (ready_message bytes items header taken)) (Ok (ready_message bytes items header taken)) (ready_of_taken bytes items header taken space fits size body few head rights))))
 
 -- What a task's bytes become is ready with its rights in hand.
 pub ready_mid : (old : State) (space : ℕ) (names : Names) (bytes : List ℕ) → AreBytes bytes → MidCall old empty_hand → finmap.get old.spaces space ≡ Some names → IfOk (ready_to_send old space bytes) MidReady
@@ -253,4 +250,4 @@ ready_mid old space names bytes fits mid there =
     (or_if (λ (d : Disposition). received_kind d ≢ kind.Receive) SendInvalidHeader (sending.header_disposition (remote_disposition (bits_of bytes))) (header_sends (remote_disposition (bits_of bytes)))) (λ (destination : Disposition) (sends : _).
     and_then_if RepliesBy MidReady (sending.reply_disposition (local_disposition (bits_of bytes)) (local_of bytes)) _ (reply_sends (local_disposition (bits_of bytes)) (local_of bytes)) (λ (reply : Option Disposition) (by : _).
     and_then_if (BodyItems bytes) MidReady (sending.items_if_complex (bits_of bytes) (body_of bytes)) _ (body_items bytes fits) (λ (items : List Item) (body : _).
-        of_items_mid old space names bytes destination reply items mid there fits (size_fits bytes passes) sends by body))))
+    of_items_mid old space names bytes destination reply items mid there fits (size_fits bytes passes) sends by body))))

@@ -1,6 +1,6 @@
 -- A receipt leaves a state that is lawful with the effects: the message's rights go through the call's hand to names, or are released.
-use Rattle.std.specs.Prelude.{◌≡◌, ◌≢◌, ◌⊎◌, ℕ, zero, suc, ◌+◌, ◌<◌, ◌≤◌, Bool, true, false, cond, not, ◌&&◌, ◌||◌, ◌==◌, nat_lt, All, drop, List, [], ◌∷◌, ◌++◌, Option, None, Some, is_some, is_none, MatchOption, MatchBool, if◌then◌else◌, refl}
-use Rattle.std.proofs.Common.{sym, ◌∙◌, ap, subst, inl, inr, arith}
+use Rattle.std.specs.Prelude.{◌≡◌, ◌≢◌, ℕ, ◌+◌, ◌≤◌, Bool, true, false, not, ◌&&◌, ◌||◌, ◌==◌, nat_lt, All, drop, List, [], ◌∷◌, ◌++◌, Option, None, Some, is_none, MatchOption, MatchBool, if◌then◌else◌, refl}
+use Rattle.std.proofs.Common.{sym, ◌∙◌, ap, subst, arith}
 use Rattle.std.proofs.lemmas.Bool.{ltb-false}
 use Rattle.std.proofs.lemmas.List.Elements.{All-tail}
 use Rattle.std.specs.List.{list_any}
@@ -17,22 +17,22 @@ use Rattle.ipc_model.specs.declared.message.PortInMessage.TheVariants as in_mess
 use Rattle.ipc_model.specs.declared.message.RightKind.{RightKind}
 use Rattle.ipc_model.specs.declared.message.RightKind.TheVariants as kind
 use Rattle.ipc_model.specs.declared.port.PortState.{PortState}
-use Rattle.ipc_model.specs.Arrivals.{HasName, MidArrived, arrived_mid, not_unnamed, named_there, same_live}
+use Rattle.ipc_model.specs.Arrivals.{HasName, arrived_mid, not_unnamed, named_there, same_live}
 use Rattle.ipc_model.specs.CallsKeep.{Kept, kept_as}
-use Rattle.ipc_model.specs.Circular.{Grounded, carries, is_receive_right}
+use Rattle.ipc_model.specs.Circular.{Grounded, is_receive_right}
 use Rattle.ipc_model.specs.CopyOut.{Arrives, names_after, wants_name, named_with, names_wanted}
 use Rattle.ipc_model.specs.Effects.{Effect, releases_of}
 use Rattle.ipc_model.specs.EffectRanks.{fewer_edges, changed_edges, or_later}
 use Rattle.ipc_model.specs.EffectWeights.{releases_carry}
 use Rattle.ipc_model.specs.EffectsKeep.{releases_wait, waiting-append}
-use Rattle.ipc_model.specs.Hands.{Hand, MidCall, PortStep, empty_hand, mid_of, mid_hand, mid_port, kept_of_mid}
-use Rattle.ipc_model.specs.Lawful.{Lawful, LawfulPort, LawfulMessage, AllWaiting}
+use Rattle.ipc_model.specs.Hands.{Hand, MidCall, empty_hand, mid_of, mid_hand, mid_port, kept_of_mid}
+use Rattle.ipc_model.specs.Lawful.{Lawful, LawfulPort, LawfulMessage}
 use Rattle.ipc_model.specs.MapLaws.{get-here}
 use Rattle.ipc_model.specs.MapSums.{weigh, weigh-append, insert-insert, insert-same}
 use Rattle.ipc_model.specs.Others.{number_same, with_port_spaces}
 use Rattle.ipc_model.specs.ReceiveLaws.{Takes}
 use Rattle.ipc_model.specs.Receiving.{Receipt, Receives, TakesOut, TooLarge, Received, receive_refusal, message_size, lacks_names, without_oldest, destination_consumed, arriving, reply_right, without_message}
-use Rattle.ipc_model.specs.State.{State, Names, with_names, with_port, lives, next_count, name_of_port}
+use Rattle.ipc_model.specs.State.{State, Names, with_names, with_port, next_count, name_of_port}
 use Rattle.ipc_model.specs.Takes.{Quiet, with_right, next_fits}
 use Rattle.ipc_model.specs.Weights.{Weight, carried_weigh, reply_weigh, message_weigh, port_weigh, effect_weigh, receive_of, any_of}
 
@@ -95,12 +95,12 @@ destroyed_kept state serial message mid lawful =
     kept_of_mid state (message_hand serial message) (destination_consumed message.destination serial ++ releases_of message) mid
     (waiting-append (destination_consumed message.destination serial) (releases_of message) consumed.waits (releases_wait message))
     (λ (q : ℕ). omega (
-        arith,
-        weigh-append (effect_weigh (receive_of q)) (destination_consumed message.destination serial) (releases_of message),
-        consumed.receives q,
-        releases_carry (receive_of q) serial message,
-        no_receive q serial message.destination lawful.destination,
-      ))
+      arith,
+      weigh-append (effect_weigh (receive_of q)) (destination_consumed message.destination serial) (releases_of message),
+      consumed.receives q,
+      releases_carry (receive_of q) serial message,
+      no_receive q serial message.destination lawful.destination,
+    ))
 
 -- Rights arrive one after another.
 
@@ -178,10 +178,10 @@ arrives_mid state space start now named (right ∷ rights) given after hand mid 
     let moved : MidCall (with_names state space next) later = subst (λ (s : finmap.FinMap nat_cmp Names). MidCall (record state { spaces = s }) later) (insert-insert state.spaces space now next) arrived.mid in
     arrives_mid state space start next (named_with named right.kind right.port) rights others after hand moved (record {
       room = elim wants as (λ (b : Bool). wants ≡ b → finmap.len now + ((if b then 1 else 0) + names_wanted start (named_with named right.kind right.port) rights) ≤ MAX_NAMES
-      → finmap.len next + names_wanted start (named_with named right.kind right.port) rights ≤ MAX_NAMES) [
-        | true ↦ λ (_ : _) (room : _). omega (arith, room, arrived.more)
-        | false ↦ λ (unwanted : _) (room : _). omega (arith, room, arrived.same (has_one start now named (right ∷ rights) right.kind right.port fits unwanted))
-      ] refl fits.room;
+          → finmap.len next + names_wanted start (named_with named right.kind right.port) rights ≤ MAX_NAMES) [
+            | true ↦ λ (_ : _) (room : _). omega (arith, room, arrived.more)
+            | false ↦ λ (unwanted : _) (room : _). omega (arith, room, arrived.same (has_one start now named (right ∷ rights) right.kind right.port fits unwanted))
+          ] refl fits.room;
       known = known_later start now next named (right ∷ rights) right.kind right.port fits arrived.still arrived.own;
     }) rest
 

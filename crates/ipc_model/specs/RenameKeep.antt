@@ -1,15 +1,14 @@
 -- mach_port_rename leaves lawful and grounded states: an entry goes under another name, and a set takes its members along.
-use Rattle.std.specs.Prelude.{◌≡◌, ◌≢◌, ◌⊎◌, ℕ, ◌+◌, ◌-◌, ◌^◌, ◌<◌, ◌≤◌, Bool, true, false, cond, not, T, ◌==◌, List, [], ◌∷◌, Option, None, Some, is_some, filter, filter_map, refl}
+use Rattle.std.specs.Prelude.{◌≡◌, ◌≢◌, ◌⊎◌, ℕ, ◌-◌, ◌^◌, ◌<◌, ◌≤◌, Bool, true, false, cond, T, List, [], ◌∷◌, Option, None, Some, is_some, filter, filter_map, refl}
 use Rattle.std.proofs.Common.{sym, ◌∙◌, ap, subst, inl, inr, arith}
 use Rattle.std.specs.Cmp.{nat_cmp_total}
 use Rattle.std.specs.List.{cons_option}
-use Rattle.std.specs.Ordering.{nat_cmp, eq_by_cmp}
+use Rattle.std.specs.Ordering.{nat_cmp}
 use Rattle.std.specs.FinMap as finmap
 use Rattle.std.specs.FinMap.{find, get-entries, len-remove, entries_sorted, is_sorted}
 use Rattle.std.specs.FinMap.Entries.{below_all}
 use Rattle.codes.specs.declared.kern_return.KernReturn.TheVariants.{InvalidName, InvalidValue, NameExists}
 use Rattle.codes.specs.declared.limits.TheConstants.{MAX_NAMES}
-use Rattle.codes.specs.declared.name.TheConstants.{MACH_PORT_DEAD}
 use Rattle.ipc_model.specs.declared.call.Call.TheVariants as call
 use Rattle.ipc_model.specs.declared.call.Reply.{Reply}
 use Rattle.ipc_model.specs.declared.entry.Entry.{Entry}
@@ -22,22 +21,22 @@ use Rattle.ipc_model.specs.CallsKeep.{Kept, first_passes}
 use Rattle.ipc_model.specs.Circular.{Grounded, Carries}
 use Rattle.ipc_model.specs.Dangling.{left_apart, later_found, front_of, back_of}
 use Rattle.ipc_model.specs.Effects.{Effect}
-use Rattle.ipc_model.specs.EffectParts.{Parts, with_port_there, any_changed_parts}
+use Rattle.ipc_model.specs.EffectParts.{Parts, any_changed_parts}
 use Rattle.ipc_model.specs.EffectRanks.{fewer_edges, changed_edges}
 use Rattle.ipc_model.specs.EffectWeights.{with_port_weigh, no_port, still_lives}
-use Rattle.ipc_model.specs.EntryChanges.{changed, under, changed_weight}
-use Rattle.ipc_model.specs.Hands.{Hand, MidCall, NamesStep, empty_hand, mid_of, mid_names, named_parts, kept_of_mid}
-use Rattle.ipc_model.specs.Lawful.{Lawful, LawfulNames, LawfulPort, IsHeldBesideSet}
+use Rattle.ipc_model.specs.EntryChanges.{changed_weight}
+use Rattle.ipc_model.specs.Hands.{MidCall, empty_hand, mid_of, mid_names, named_parts, kept_of_mid}
+use Rattle.ipc_model.specs.Lawful.{Lawful, LawfulNames, IsHeldBesideSet}
 use Rattle.ipc_model.specs.ListLaws.{some_same}
-use Rattle.ipc_model.specs.MapLaws.{get-here, get-there, get-left, get-gone}
+use Rattle.ipc_model.specs.MapLaws.{get-here, get-there, get-left}
 use Rattle.ipc_model.specs.MapSums.{same_key}
 use Rattle.ipc_model.specs.NameChanges.{names_change, insert_lawful, remove_lawful}
-use Rattle.ipc_model.specs.Others.{number_same, number_decided, with_port_lives, with_port_spaces}
+use Rattle.ipc_model.specs.Others.{number_decided, with_port_lives, with_port_spaces}
 use Rattle.ipc_model.specs.PortCalls.{tests_of, is_no_name, is_in_use}
 use Rattle.ipc_model.specs.SetsKeep.{Among, found_among, member_of}
-use Rattle.ipc_model.specs.State.{State, Names, IsUnused, is_null_or_dead, with_names, with_port, lives, port_held, received_port, is_member}
+use Rattle.ipc_model.specs.State.{State, Names, IsUnused, is_null_or_dead, with_names, with_port, lives, received_port, is_member}
 use Rattle.ipc_model.specs.Tests.{Tests, first_failing}
-use Rattle.ipc_model.specs.Weights.{Weight, entry_weigh, names_weigh, port_weigh, state_weigh, receive_of, any_of}
+use Rattle.ipc_model.specs.Weights.{Weight, names_weigh, state_weigh, receive_of, any_of}
 
 -- One entry goes under another name.
 
@@ -58,8 +57,8 @@ moved_lawful names from to entry lawful at unused =
     insert_lawful (finmap.remove names from) to entry (remove_lawful names from lawful) unused.least unused.below_dead (lawful.named from entry at).2
     (λ (_ : _). omega (arith, lawful.few, len-remove nat_cmp_total names from ∙ ap (λ (b : Bool). cond b (finmap.len names - 1) (finmap.len names)) (ap is_some at)))
     (λ (other serial : ℕ) (e : Entry) (_ : _) (there : _) (held : _) (held_too : _).
-        let apart : other ≢ from = left_apart names from other e there in
-        apart (lawful.one_name other from serial e entry (sym (get-left names from other apart) ∙ there) at held_too held))
+    let apart : other ≢ from = left_apart names from other e there in
+    apart (lawful.one_name other from serial e entry (sym (get-left names from other apart) ∙ there) at held_too held))
 
 moved_weigh : (w : Weight) (names : Names) (from to : ℕ) (entry : Entry) → finmap.get names from ≡ Some entry → finmap.get names to ≡ None → names_weigh w (moved_names names from to entry) ≡ names_weigh w names
 moved_weigh w names from to entry at free =
@@ -259,8 +258,8 @@ set_moved old space from to names lawful grounded there at unused =
                 let held_along : IsHeldBesideSet along serial set = subst (λ (s : finmap.FinMap nat_cmp Names). IsHeldBesideSet (record old { spaces = s }) serial set) (sym put.spaces) held in
                 not_moved_beside along space from to serial set names there_along at unused.free
                 (λ (name : ℕ) (entry : Entry) (named : _) (receives : _) (same : set ≡ from).
-                    before.0 (found_among (is_member old from) (finmap.entries names) name serial entry (sym (get-entries names name) ∙ named)
-                    (member_of old from serial entry before.1 receives before.2 (before.3 ∙ ap (λ k. Some k) same)) receives)) held_along
+                before.0 (found_among (is_member old from) (finmap.entries names) name serial entry (sym (get-entries names name) ∙ named)
+                (member_of old from serial entry before.1 receives before.2 (before.3 ∙ ap (λ k. Some k) same)) receives)) held_along
           ];
       grounded = fewer_edges old (with_names along space after) put.edges mid.grounded;
     }) tt (λ (q : ℕ). refl)

@@ -1,11 +1,10 @@
 -- mach_port_request_notification leaves a state that is lawful with the effects.
-use Rattle.std.specs.Prelude.{◌≡◌, ◌≢◌, ◌⊎◌, ℕ, ◌+◌, ◌^◌, ◌<◌, ◌≤◌, Bool, true, false, not, ◌&&◌, ◌||◌, ◌==◌, nat_le, List, [], ◌∷◌, ◌++◌, Option, None, Some, is_some, is_none, option_and_then, if◌then◌else◌, refl}
-use Rattle.std.proofs.Common.{sym, ◌∙◌, ap, subst, inl, inr, arith}
+use Rattle.std.specs.Prelude.{◌≡◌, ℕ, ◌+◌, ◌<◌, Bool, true, false, not, ◌&&◌, ◌||◌, ◌==◌, nat_le, List, [], ◌∷◌, ◌++◌, Option, None, Some, is_some, is_none, option_and_then, if◌then◌else◌, refl}
+use Rattle.std.proofs.Common.{sym, ◌∙◌, ap, subst, arith}
 use Rattle.std.proofs.lemmas.Bool.{leb-false}
 use Rattle.std.specs.Cmp.{nat_cmp_total}
 use Rattle.std.specs.FinMap as finmap
 use Rattle.std.specs.FinMap.{len-insert}
-use Rattle.codes.specs.declared.kern_return.KernReturn.{KernReturn}
 use Rattle.codes.specs.declared.kern_return.KernReturn.TheVariants.{InvalidName, InvalidRight, InvalidValue, InvalidArgument, InvalidCapability, UrefsOverflow, NoSpace}
 use Rattle.codes.specs.declared.limits.TheConstants.{MAX_NAMES, MAX_DEAD_REFERENCES}
 use Rattle.codes.specs.declared.name.TheConstants.{MACH_PORT_NULL}
@@ -13,23 +12,21 @@ use Rattle.ipc_model.specs.declared.call.Call.TheVariants as call
 use Rattle.ipc_model.specs.declared.call.Reply.{Reply}
 use Rattle.ipc_model.specs.declared.entry.Entry.{Entry}
 use Rattle.ipc_model.specs.declared.entry.Entry.TheVariants.{Port, SendOnce, Set, Dead}
-use Rattle.ipc_model.specs.declared.entry.PortRights.{PortRights}
 use Rattle.ipc_model.specs.declared.message.PortInMessage.{PortInMessage}
 use Rattle.ipc_model.specs.declared.message.PortInMessage.TheVariants as in_message
 use Rattle.ipc_model.specs.declared.message.RightKind.{RightKind}
 use Rattle.ipc_model.specs.declared.message.RightKind.TheVariants as kind
 use Rattle.ipc_model.specs.declared.port.PortState.{PortState}
-use Rattle.ipc_model.specs.Actions.{Done, Requested, TakenTarget, taken_target, target_for, GivesBack, request_set, request_set_under, port_request_set, dead_name_request_set, lacks_senders, make_send_count_of}
+use Rattle.ipc_model.specs.Actions.{Done, Requested, TakenTarget, taken_target, GivesBack, request_set, request_set_under, port_request_set, dead_name_request_set, lacks_senders, make_send_count_of}
 use Rattle.ipc_model.specs.Arrivals.{fresh_mid}
 use Rattle.ipc_model.specs.CallsKeep.{Kept, first_passes, received_weighs}
 use Rattle.ipc_model.specs.Circular.{Grounded}
-use Rattle.ipc_model.specs.CopyIn.{Taken, copy_in, taken_of_entry}
+use Rattle.ipc_model.specs.CopyIn.{Taken, copy_in}
 use Rattle.ipc_model.specs.Dispositions.{Disposition, MoveSendOnce, MakeSendOnce, received_kind}
 use Rattle.ipc_model.specs.Effects.{Effect, notify}
 use Rattle.ipc_model.specs.EffectRanks.{fewer_edges, changed_edges}
 use Rattle.ipc_model.specs.EffectWeights.{lives_some}
-use Rattle.ipc_model.specs.EntryChanges.{changed}
-use Rattle.ipc_model.specs.Hands.{Hand, MidCall, EntryStep, PortStep, empty_hand, mid_of, mid_hand, mid_entry, mid_port, kept_of_mid}
+use Rattle.ipc_model.specs.Hands.{Hand, MidCall, PortStep, empty_hand, mid_of, mid_hand, mid_entry, mid_port, kept_of_mid}
 use Rattle.ipc_model.specs.Lawful.{Lawful, LawfulNames, LawfulEntry, LawfulPort}
 use Rattle.ipc_model.specs.ListLaws.{some_same}
 use Rattle.ipc_model.specs.MapLaws.{get-here}
@@ -37,10 +34,10 @@ use Rattle.ipc_model.specs.NameChanges.{insert_lawful}
 use Rattle.ipc_model.specs.Notices as notice
 use Rattle.ipc_model.specs.Others.{number_same, with_port_spaces}
 use Rattle.ipc_model.specs.PortCalls.{tests_of, tests_of_copy_in, tests_of_notify, tests_of_request, tests_of_variant, names_in, is_no_name, is_full, is_variant, name_is, entry_is, is_set, is_dead, dead_references, notify_disposition, target_under, target_now, target_of_port}
-use Rattle.ipc_model.specs.ReferencesKeep.{changed_space, not_set}
-use Rattle.ipc_model.specs.RightsKeep.{CopiedIn, copied_in, names_are}
+use Rattle.ipc_model.specs.ReferencesKeep.{changed_space}
+use Rattle.ipc_model.specs.RightsKeep.{copied_in, names_are}
 use Rattle.ipc_model.specs.Sending.{live_port}
-use Rattle.ipc_model.specs.State.{State, Names, IsUnused, with_names, with_entry, with_port, lives, port_held, received_port, request_of, entry_at}
+use Rattle.ipc_model.specs.State.{State, Names, IsUnused, with_names, with_entry, with_port, port_held, received_port, request_of, entry_at}
 use Rattle.ipc_model.specs.Takes.{Quiet, quiet_none, quiet_both, MidTaken, taken_mid, kind_taken, with_right, weighs_live}
 use Rattle.ipc_model.specs.Tests.{Tests, first_failing}
 use Rattle.ipc_model.specs.Weights.{Weight, target_weigh, entry_weigh, receive_of, any_of}

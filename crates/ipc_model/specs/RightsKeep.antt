@@ -1,5 +1,5 @@
 -- mach_port_insert_right, mach_port_extract_right and the making of a space leave states that are lawful with the effects.
-use Rattle.std.specs.Prelude.{◌≡◌, ◌≢◌, ◌⊎◌, ℕ, ◌+◌, ◌^◌, ◌<◌, ◌≤◌, Bool, true, false, cond, not, ◌&&◌, ◌||◌, ◌==◌, nat_le, nat_lt, List, [], ◌∷◌, ◌++◌, Option, None, Some, is_some, is_none, option_and_then, if◌then◌else◌, refl}
+use Rattle.std.specs.Prelude.{◌≡◌, ◌≢◌, ℕ, ◌+◌, ◌^◌, ◌<◌, ◌≤◌, Bool, true, false, cond, not, ◌&&◌, ◌||◌, ◌==◌, nat_le, nat_lt, List, [], ◌∷◌, Option, None, Some, is_some, is_none, option_and_then, if◌then◌else◌, refl}
 use Rattle.std.proofs.Common.{sym, ◌∙◌, ap, subst, inl, inr, arith}
 use Rattle.std.proofs.lemmas.Bool.{ltb-false, leb-false, eq-eqb}
 use Rattle.std.specs.List.{list_any}
@@ -12,7 +12,6 @@ use Rattle.codes.specs.declared.limits.TheConstants.{MAX_NAMES, MAX_SPACES}
 use Rattle.ipc_model.specs.declared.call.Call.TheVariants as call
 use Rattle.ipc_model.specs.declared.call.Reply.{Reply}
 use Rattle.ipc_model.specs.declared.entry.Entry.{Entry}
-use Rattle.ipc_model.specs.declared.entry.Entry.TheVariants.{Set}
 use Rattle.ipc_model.specs.declared.message.CarriedRight.{CarriedRight}
 use Rattle.ipc_model.specs.declared.message.PortInMessage.{PortInMessage}
 use Rattle.ipc_model.specs.declared.message.PortInMessage.TheVariants as in_message
@@ -21,29 +20,28 @@ use Rattle.ipc_model.specs.declared.message.RightKind.TheVariants as kind
 use Rattle.ipc_model.specs.declared.port.PortState.{PortState}
 use Rattle.ipc_model.specs.Actions.{Done, Inserted, Extracted, Created, IsUnusedSpace, taken_by}
 use Rattle.ipc_model.specs.AllocateKeep.{chosen_unused}
-use Rattle.ipc_model.specs.Arrivals.{HasName, MidArrived, with_one, arrived_mid, fresh_arrived, merged_after}
+use Rattle.ipc_model.specs.Arrivals.{HasName, with_one, arrived_mid, fresh_arrived, merged_after}
 use Rattle.ipc_model.specs.CallsKeep.{Kept, first_passes}
 use Rattle.ipc_model.specs.Circular.{Grounded}
 use Rattle.ipc_model.specs.CopyIn.{Taken, copy_in}
-use Rattle.ipc_model.specs.CopyOut.{MayArrive, new_entry, merged_entry, names_after, wants_name, names_wanted}
+use Rattle.ipc_model.specs.CopyOut.{merged_entry, names_after, wants_name, names_wanted}
 use Rattle.ipc_model.specs.Dangling.{not_equal}
 use Rattle.ipc_model.specs.Dispositions.{Disposition, disposition_of}
 use Rattle.ipc_model.specs.Effects.{Effect}
-use Rattle.ipc_model.specs.EffectParts.{Parts}
 use Rattle.ipc_model.specs.Hands.{Hand, MidCall, empty_hand, mid_of, kept_of_mid}
 use Rattle.ipc_model.specs.Lawful.{Lawful, LawfulNames, IsHeldBesideSet}
 use Rattle.ipc_model.specs.ListLaws.{some_same}
 use Rattle.ipc_model.specs.MapLaws.{get-here, get-there}
-use Rattle.ipc_model.specs.MapSums.{total, total-new, insert-insert, key_is}
+use Rattle.ipc_model.specs.MapSums.{total-new, insert-insert, key_is}
 use Rattle.ipc_model.specs.NameChanges.{first_there, one_space}
 use Rattle.ipc_model.specs.OpeningLaws.{total-empty, no_names_lawful}
-use Rattle.ipc_model.specs.Others.{number_same, number_decided}
+use Rattle.ipc_model.specs.Others.{number_same}
 use Rattle.ipc_model.specs.PortCalls.{tests_of, tests_of_copy_in, tests_of_taken, tests_of_insert, tests_of_extract, names_in, is_no_name, is_in_use, is_full, stands_elsewhere, is_taken_otherwise, passes_bound, is_send_once_kind}
 use Rattle.ipc_model.specs.Sending.{live_port}
-use Rattle.ipc_model.specs.State.{State, Names, IsUnused, is_null_or_dead, with_names, port_held, is_number}
+use Rattle.ipc_model.specs.State.{State, Names, is_null_or_dead, with_names, port_held, is_number}
 use Rattle.ipc_model.specs.Takes.{MidTaken, taken_mid, with_right}
 use Rattle.ipc_model.specs.Tests.{Tests, first_failing}
-use Rattle.ipc_model.specs.Weights.{Weight, names_weigh, entry_weigh, port_weigh, state_weigh, receive_of, any_of}
+use Rattle.ipc_model.specs.Weights.{Weight, names_weigh, entry_weigh, state_weigh, receive_of, any_of}
 
 -- what the tests of a right that is copied in show where they pass: it was taken, and names a port
 pub record CopiedIn (old : State) (space name : ℕ) (disposition : Option Disposition) (later : Taken → ℕ → Tests) : Type 0 where
@@ -131,7 +129,7 @@ no_name_else names name serial free nowhere has =
     let apart : has.name ≢ name = λ (same : _). cc (sym free ∙ ap (finmap.get names) (sym same) ∙ has.at) in
     let is_that : is_number (port_held has.entry) serial ≡ true = ap (λ (o : Option ℕ). is_number o serial) has.held ∙ eq-eqb serial serial refl in
     cc (sym (any_found (λ (e : ℕ × Entry). is_number (port_held e.1) serial && not (e.0 == name)) (finmap.entries names) has.name has.entry (sym (get-entries names has.name) ∙ has.at) (λ (q : ℕ) (same : _).
-        ap (λ (b : Bool). b && not (q == name)) is_that ∙ ap (λ (b : Bool). not b) (not_equal q name (λ (e : _). apart (sym same ∙ e))))) ∙ nowhere)
+    ap (λ (b : Bool). b && not (q == name)) is_that ∙ ap (λ (b : Bool). not b) (not_equal q name (λ (e : _). apart (sym same ∙ e))))) ∙ nowhere)
 
 unless_once : (what : RightKind) (b : Bool) → what ≢ kind.SendOnce → (not (is_send_once_kind what) && b) ≡ false → b ≡ false
 unless_once kind.Receive b apart e = e

@@ -1,10 +1,9 @@
 -- A send takes its rights into the call's hand, and queues a lawful message with them, or releases them.
-use Rattle.std.specs.Prelude.{◌≡◌, ◌≢◌, ◌⊎◌, ℕ, zero, suc, ◌+◌, ◌-◌, ◌%◌, ◌/◌, ◌^◌, ◌<◌, ◌≤◌, Bool, true, false, not, ◌&&◌, ◌||◌, ◌==◌, nat_le, nat_lt, All, Contains, List, [], ◌∷◌, ◌++◌, length, drop, map, flat_map, replicate, Option, None, Some, is_some, option_map, Result, Ok, Err, IfOk, IfSome, MatchBool, if◌then◌else◌, refl}
-use Rattle.std.proofs.Common.{sym, ◌∙◌, ap, subst, inl, inr, arith, append_assoc, length-append}
-use Rattle.std.proofs.lemmas.List.{append-nil, map-append, length-map, length-replicate}
+use Rattle.std.specs.Prelude.{◌≡◌, ◌≢◌, ℕ, zero, suc, ◌+◌, Bool, true, false, ◌&&◌, ◌==◌, List, [], ◌∷◌, ◌++◌, length, drop, map, flat_map, replicate, Option, None, Some, option_map, Ok, IfOk, IfSome, if◌then◌else◌, refl}
+use Rattle.std.proofs.Common.{sym, ◌∙◌, ap, subst, arith, append_assoc}
+use Rattle.std.proofs.lemmas.List.{append-nil, map-append}
 use Rattle.std.specs.FinMap as finmap
-use Rattle.codes.specs.declared.kern_return.KernReturn.{KernReturn}
-use Rattle.codes.specs.declared.kern_return.KernReturn.TheVariants.{SendInvalidDest, SendInvalidReply, SendInvalidRight, SendInvalidHeader}
+use Rattle.codes.specs.declared.kern_return.KernReturn.TheVariants.{SendInvalidDest, SendInvalidReply, SendInvalidHeader}
 use Rattle.codes.specs.declared.name.TheConstants.{MACH_PORT_NULL}
 use Rattle.ipc_model.specs.declared.message.CarriedRight.{CarriedRight}
 use Rattle.ipc_model.specs.declared.message.PortInMessage.{PortInMessage}
@@ -13,7 +12,6 @@ use Rattle.ipc_model.specs.declared.message.RightKind.{RightKind}
 use Rattle.ipc_model.specs.declared.message.RightKind.TheVariants as kind
 use Rattle.ipc_model.specs.CopyIn.{Taken, copy_in}
 use Rattle.ipc_model.specs.Dispositions.{Disposition, MoveSend, MoveSendOnce, CopySend, MakeSend, MakeSendOnce, disposition_of, received_kind}
-use Rattle.ipc_model.specs.Effects.{Effect}
 use Rattle.ipc_model.specs.Hands.{Hand, MidCall, empty_hand, mid_hand}
 use Rattle.ipc_model.specs.Items.{Item, names_in, words_of, is_port_item, as_stored}
 use Rattle.ipc_model.specs.Lawful.{LawfulReply, kinds_of_item}
@@ -23,8 +21,8 @@ use Rattle.ipc_model.specs.PortItems.{by_type, kinds_of_type, stored_kinds, no_k
 use Rattle.ipc_model.specs.Sending as sending
 use Rattle.ipc_model.specs.Sending.{TakenRights, TakenHeader, TakenReply, passed, take_right, take_rights, take_item, take_items, take_destination, take_reply, take_header, live_port}
 use Rattle.ipc_model.specs.State.{State, Names, is_null_or_dead}
-use Rattle.ipc_model.specs.Takes.{Quiet, quiet_none, quiet_both, MidTaken, taken_mid, kind_taken, with_right}
-use Rattle.ipc_model.specs.Tests.{Tests, and_then, or_refused}
+use Rattle.ipc_model.specs.Takes.{Quiet, quiet_none, quiet_both, taken_mid, kind_taken, with_right}
+use Rattle.ipc_model.specs.Tests.{and_then, or_refused}
 use Rattle.ipc_model.specs.UntouchedMessages.{and_then_if, if_if}
 use Rattle.ipc_model.specs.Weights.{Weight, carried_weigh, reply_weigh, receive_of, any_of}
 
@@ -208,12 +206,12 @@ reply_mid space name state hand names (Some disposition) by mid there =
     elim (is_null_or_dead name) as (λ (b : Bool). IfOk (if b then Ok (record { reply = Some (record { kind = what; port = passed name }); state = state; notices = [] })
     else and_then (or_refused SendInvalidReply (copy_in state space name disposition)) (λ (taken : Taken). Ok (record { reply = Some taken.right; state = taken.state; notices = taken.notices }))) (MidReply space hand)) [
       | true ↦ record {
-          mid = mid_hand state hand (λ w. hand w + carried_weigh w (record { kind = what; port = passed name })) mid (λ (q : ℕ). omega (arith, passed_zero (receive_of q) what name)) (λ (q : ℕ) (dead : _). omega (arith, passed_zero (any_of q) what name));
-          quiet = quiet_none;
-          names = names;
-          there = there;
-          sends = by;
-        }
+        mid = mid_hand state hand (λ w. hand w + carried_weigh w (record { kind = what; port = passed name })) mid (λ (q : ℕ). omega (arith, passed_zero (receive_of q) what name)) (λ (q : ℕ) (dead : _). omega (arith, passed_zero (any_of q) what name));
+        quiet = quiet_none;
+        names = names;
+        there = there;
+        sends = by;
+      }
       | false ↦ elim (copy_in state space name disposition) as (λ (o : Option Taken). copy_in state space name disposition ≡ o
           → IfOk (and_then (or_refused SendInvalidReply o) (λ (taken : Taken). Ok (record { reply = Some taken.right; state = taken.state; notices = taken.notices }))) (MidReply space hand)) [
             | None ↦ λ (_ : _). tt
@@ -232,13 +230,13 @@ header_of_reply space remote local state names destination reply sends by mid th
     and_then_if (MidDestination space (λ w. empty_hand w + reply_weigh w first.reply)) (MidHeader space) (take_destination first.state space remote destination) _
     (destination_mid space remote first.state (λ w. empty_hand w + reply_weigh w first.reply) one.names destination sends one.mid one.there)
     (λ (second : Taken × ℕ) (two : _). record {
-        mid = mid_hand second.0.state _ (λ w. w second.0.right.kind second.1 + reply_weigh w first.reply) two.mid (λ (q : ℕ). omega arith) (λ (q : ℕ) (dead : _). omega arith);
-        quiet = quiet_both first.notices second.0.notices one.quiet two.quiet;
-        names = two.names;
-        there = two.there;
-        sends = two.sends;
-        replies = one.sends;
-      }))
+      mid = mid_hand second.0.state _ (λ w. w second.0.right.kind second.1 + reply_weigh w first.reply) two.mid (λ (q : ℕ). omega arith) (λ (q : ℕ) (dead : _). omega arith);
+      quiet = quiet_both first.notices second.0.notices one.quiet two.quiet;
+      names = two.names;
+      there = two.there;
+      sends = two.sends;
+      replies = one.sends;
+    }))
 
 header_of_destination : (space remote local : ℕ) (state : State) (names : Names) (destination : Disposition) (reply : Option Disposition) → received_kind destination ≢ kind.Receive → RepliesBy reply → MidCall state empty_hand → finmap.get state.spaces space ≡ Some names
     → IfOk (and_then (take_destination state space remote destination) (λ (first : Taken × ℕ).
@@ -249,13 +247,13 @@ header_of_destination space remote local state names destination reply sends by 
     and_then_if (MidReply space (λ w. empty_hand w + w first.0.right.kind first.1)) (MidHeader space) (take_reply first.0.state space local reply) _
     (reply_mid space local first.0.state (λ w. empty_hand w + w first.0.right.kind first.1) one.names reply by one.mid one.there)
     (λ (second : TakenReply) (two : _). record {
-        mid = mid_hand second.state _ (λ w. w first.0.right.kind first.1 + reply_weigh w second.reply) two.mid (λ (q : ℕ). omega arith) (λ (q : ℕ) (dead : _). omega arith);
-        quiet = quiet_both first.0.notices second.notices one.quiet two.quiet;
-        names = two.names;
-        there = two.there;
-        sends = one.sends;
-        replies = two.sends;
-      }))
+      mid = mid_hand second.state _ (λ w. w first.0.right.kind first.1 + reply_weigh w second.reply) two.mid (λ (q : ℕ). omega arith) (λ (q : ℕ) (dead : _). omega arith);
+      quiet = quiet_both first.0.notices second.notices one.quiet two.quiet;
+      names = two.names;
+      there = two.there;
+      sends = one.sends;
+      replies = two.sends;
+    }))
 
 pub header_mid : (space remote local : ℕ) (state : State) (names : Names) (destination : Disposition) (reply : Option Disposition) → received_kind destination ≢ kind.Receive → RepliesBy reply → MidCall state empty_hand → finmap.get state.spaces space ≡ Some names
     → IfOk (take_header state space remote destination local reply) (MidHeader space)

@@ -1,5 +1,5 @@
 -- A message that is queued, or destroyed because it would travel in a circle, leaves a state that is lawful with the effects, and grounded.
-use Rattle.std.specs.Prelude.{◌≡◌, ◌≢◌, ◌⊎◌, ℕ, ◌+◌, ◌<◌, ◌≤◌, Bool, true, false, cond, ◌&&◌, ◌||◌, ◌==◌, All, List, [], ◌∷◌, ◌++◌, length, Option, None, Some, Result, Ok, Err, IfOk, MatchResult, if◌then◌else◌, refl}
+use Rattle.std.specs.Prelude.{◌≡◌, ℕ, ◌+◌, ◌<◌, Bool, true, false, cond, ◌&&◌, ◌||◌, ◌==◌, List, [], ◌∷◌, ◌++◌, None, Some, Result, Ok, Err, IfOk, MatchResult, if◌then◌else◌, refl}
 use Rattle.std.proofs.Common.{sym, ◌∙◌, ap, subst, inl, inr, arith}
 use Rattle.std.proofs.lemmas.List.Elements.{All-push}
 use Rattle.std.specs.List.{list_any}
@@ -13,17 +13,15 @@ use Rattle.ipc_model.specs.declared.message.Message.{Message}
 use Rattle.ipc_model.specs.declared.message.PortInMessage.{PortInMessage}
 use Rattle.ipc_model.specs.declared.message.PortInMessage.TheVariants as in_message
 use Rattle.ipc_model.specs.declared.message.PortInMessage.TheVariants.{Null, Live}
-use Rattle.ipc_model.specs.declared.message.RightKind.{RightKind}
 use Rattle.ipc_model.specs.declared.message.RightKind.TheVariants as kind
 use Rattle.ipc_model.specs.declared.port.PortState.{PortState}
 use Rattle.ipc_model.specs.CallsKeep.{Kept, kept_as}
-use Rattle.ipc_model.specs.Circular.{Grounded, Carries, carries, is_circular, is_receive_right, is_port, meets}
+use Rattle.ipc_model.specs.Circular.{Grounded, is_circular, is_receive_right, is_port, meets}
 use Rattle.ipc_model.specs.Effects.{Effect, Outcome, release, releases_of, queued}
 use Rattle.ipc_model.specs.EffectRanks.{queued_edges}
 use Rattle.ipc_model.specs.EffectWeights.{releases_carry, lives_some}
 use Rattle.ipc_model.specs.EffectsKeep.{releases_wait, waiting-append}
-use Rattle.ipc_model.specs.Dangling.{live_apart}
-use Rattle.ipc_model.specs.Hands.{Hand, MidCall, PortStep, empty_hand, mid_of, mid_port, kept_of_mid, mid_travels_once}
+use Rattle.ipc_model.specs.Hands.{Hand, MidCall, empty_hand, mid_of, mid_port, kept_of_mid, mid_travels_once}
 use Rattle.ipc_model.specs.Lawful.{Lawful, LawfulPort, LawfulMessage}
 use Rattle.ipc_model.specs.MapSums.{weigh, weigh-append}
 use Rattle.ipc_model.specs.Others.{number_same}
@@ -32,10 +30,10 @@ use Rattle.ipc_model.specs.Ranks.{TravelsOnce, met_more, one_carrier, few_above,
 use Rattle.ipc_model.specs.ReadyKeep.{MidReady, ready_mid}
 use Rattle.ipc_model.specs.Receiving.{without_message}
 use Rattle.ipc_model.specs.Sending.{Ready, ready_to_send, sent, goes_in_circle, live_port}
-use Rattle.ipc_model.specs.State.{State, Names, with_port, lives}
+use Rattle.ipc_model.specs.State.{State, Names, lives}
 use Rattle.ipc_model.specs.Step.{ActsIn}
 use Rattle.ipc_model.specs.Takes.{own_weight}
-use Rattle.ipc_model.specs.Weights.{Weight, carried_weigh, reply_weigh, message_weigh, port_weigh, effect_weigh, receive_of, any_of}
+use Rattle.ipc_model.specs.Weights.{Weight, message_weigh, port_weigh, effect_weigh, receive_of, any_of}
 use Rattle.words.specs.WordLaws.{AreBytes}
 
 -- Ports stay ranked when a message is queued whose receive rights make no circle: the ports above the queue are raised by

@@ -1,5 +1,5 @@
 -- A space that goes with all its names leaves a state that is lawful with the effects.
-use Rattle.std.specs.Prelude.{◌≡◌, ◌≢◌, ℕ, ◌+◌, ◌<◌, ◌≤◌, Bool, true, false, cond, ◌==◌, filter_map, flat_map, List, [], ◌∷◌, Option, None, Some, refl}
+use Rattle.std.specs.Prelude.{◌≡◌, ℕ, ◌+◌, Bool, true, false, cond, ◌==◌, filter_map, flat_map, List, [], ◌∷◌, Option, None, Some, refl}
 use Rattle.std.proofs.Common.{sym, ◌∙◌, ap, subst, inl, inr, arith}
 use Rattle.std.proofs.lemmas.Bool.{eqb-false}
 use Rattle.std.specs.List.{cons_option}
@@ -7,7 +7,6 @@ use Rattle.std.specs.Ordering.{nat_cmp, eq_by_cmp}
 use Rattle.std.specs.FinMap as finmap
 use Rattle.std.specs.FinMap.{find, get-entries}
 use Rattle.codes.specs.declared.kern_return.KernReturn.TheVariants.{Failure}
-use Rattle.codes.specs.declared.limits.TheConstants.{MAX_SPACES}
 use Rattle.ipc_model.specs.declared.call.Call.TheVariants as call
 use Rattle.ipc_model.specs.declared.call.Reply.{Reply}
 use Rattle.ipc_model.specs.declared.entry.Entry.{Entry}
@@ -18,9 +17,9 @@ use Rattle.ipc_model.specs.CallsKeep.{Kept, first_passes}
 use Rattle.ipc_model.specs.Circular.{Grounded}
 use Rattle.ipc_model.specs.Effects.{Effect}
 use Rattle.ipc_model.specs.EffectsKeep.{waiting-flat_map}
-use Rattle.ipc_model.specs.Hands.{Hand, MidCall, empty_hand, mid_of, kept_of_mid}
+use Rattle.ipc_model.specs.Hands.{MidCall, empty_hand, mid_of, kept_of_mid}
 use Rattle.ipc_model.specs.Dangling.{left_apart}
-use Rattle.ipc_model.specs.Lawful.{Lawful, LawfulNames, IsHeldBesideSet}
+use Rattle.ipc_model.specs.Lawful.{Lawful, IsHeldBesideSet}
 use Rattle.ipc_model.specs.ListLaws.{some_same}
 use Rattle.ipc_model.specs.MapLaws.{get-left}
 use Rattle.ipc_model.specs.MapSums.{weigh, total, weight, weigh-flat_map, weigh-same, total-remove}
@@ -30,7 +29,7 @@ use Rattle.ipc_model.specs.ReferencesKeep.{name_weighs, name_waits}
 use Rattle.ipc_model.specs.SetsKeep.{Among, among_more, taken_out, all_out_kept, all_out_spaces, still_in}
 use Rattle.ipc_model.specs.State.{State, Names, received_port}
 use Rattle.ipc_model.specs.Tests.{first_failing}
-use Rattle.ipc_model.specs.Weights.{Weight, entry_weigh, names_weigh, port_weigh, state_weigh, effect_weigh, receive_of, any_of}
+use Rattle.ipc_model.specs.Weights.{Weight, entry_weigh, names_weigh, state_weigh, effect_weigh, receive_of, any_of}
 
 -- every port whose receive right a name of the space holds is among those that are taken out of their sets
 held_among : (es : List (ℕ × Entry)) (name serial : ℕ) (entry : Entry) → find nat_cmp name es ≡ Some entry → received_port entry ≡ Some serial → Among serial (filter_map (λ e. received_port e.1) es)
@@ -101,7 +100,7 @@ space_destroy_kept old space names answer new effects lawful grounded there pass
     let gone : MidCall (record outside { spaces = finmap.remove outside.spaces space }) (λ w. names_weigh w names) =
     space_gone_mid outside space names not_first there_still (mid_of outside kept.lawful kept.grounded)
     (λ (serial set : ℕ) (port : PortState) (at : _) (is : _) (name : ℕ) (entry : Entry) (named : _) (receives : _).
-        (still_in old (actions.received_serials names) serial set port at is).0 (held_among (finmap.entries names) name serial entry (sym (get-entries names name) ∙ named) receives)) in
+    (still_in old (actions.received_serials names) serial set port at is).0 (held_among (finmap.entries names) name serial entry (sym (get-entries names name) ∙ named) receives)) in
     let as_said : MidCall (record outside { spaces = finmap.remove old.spaces space }) (λ w. names_weigh w names) =
     subst (λ (s : finmap.FinMap nat_cmp Names). MidCall (record outside { spaces = finmap.remove s space }) (λ w. names_weigh w names)) spaces gone in
     subst (λ (s : State). Kept s effects) (sym done.1) (subst (λ (l : List Effect). Kept (record outside { spaces = finmap.remove old.spaces space }) l) (sym done.2)

@@ -14,7 +14,8 @@ use Rattle.ipc_model.specs.declared.entry.PortRights.{PortRights}
 use Rattle.ipc_model.specs.Actions as actions
 use Rattle.ipc_model.specs.Actions.{ActsOn, Acts, Done}
 use Rattle.ipc_model.specs.AllocateKeep.{allocated_kept, chosen_unused}
-use Rattle.ipc_model.specs.CallsKeep.{Kept, kept_as, first_passes, shown_calls_keep, is_shown}
+use Rattle.ipc_model.specs.declared.record.Record.{Record}
+use Rattle.ipc_model.specs.CallsKeep.{Kept, kept_as, first_passes, simple_kept}
 use Rattle.ipc_model.specs.Circular.{Grounded}
 use Rattle.ipc_model.specs.EffectRanks.{settled_is_lawful}
 use Rattle.ipc_model.specs.Dangling.{not_equal}
@@ -22,10 +23,16 @@ use Rattle.ipc_model.specs.Effects.{Effect}
 use Rattle.ipc_model.specs.Lawful.{Lawful, LawfulEntry}
 use Rattle.ipc_model.specs.ModRefsKeep.{modified_kept}
 use Rattle.ipc_model.specs.PortCalls.{is_no_right, references_of, tests_of_delta, tests_of, is_allocatable, is_full, is_in_use, is_right, is_no_name, entry_is, name_is, is_set, has_receive, send_references}
+use Rattle.ipc_model.specs.ReceiveKeep.{receive_kept}
+use Rattle.ipc_model.specs.RenameKeep.{rename_kept}
+use Rattle.ipc_model.specs.RequestsKeep.{request_kept}
+use Rattle.ipc_model.specs.RightsKeep.{insert_kept, extract_kept, create_kept}
+use Rattle.ipc_model.specs.SentKeep.{send_kept}
+use Rattle.ipc_model.specs.SpacesKeep.{space_destroy_kept}
 use Rattle.ipc_model.specs.ReferencesKeep.{send_left_kept, dead_left_kept, gone_kept, changed_space}
 use Rattle.ipc_model.specs.SetsKeep.{destroyed_kept}
 use Rattle.ipc_model.specs.State.{State, Names, is_null_or_dead, ports_are_used_up}
-use Rattle.ipc_model.specs.Step.{Step, ActsIn, ActsFrom}
+use Rattle.ipc_model.specs.Step.{Step, Run, ActsIn, ActsFrom}
 use Rattle.ipc_model.specs.StepLaws.{Called}
 use Rattle.ipc_model.specs.Tests.{Tests, first_failing}
 use Rattle.ipc_model.specs.Texts.{FitsCall}
@@ -129,43 +136,74 @@ modify_kept old space name which delta names answer new effects lawful grounded 
           (modified_kept old space name names entry which delta lawful grounded there at known.0 some.0 some.1))
     ] refl passes done
 
--- the calls that are shown here
-abbrev pub is_kept : Call → Bool
-is_kept (call.AllocateName which name) = true
-is_kept (call.Allocate which) = true
-is_kept (call.Destroy name) = true
-is_kept (call.ModRefs name which delta) = true
-is_kept (call.Deallocate name) = true
-is_kept c = is_shown c
+-- every call that passes its tests
+done_kept : (old : State) (space : ℕ) (names : Names) (c : Call) (answer : Reply) (new : State) (effects : List Effect) → FitsCall c → Lawful old → Grounded old → finmap.get old.spaces space ≡ Some names
+    → first_failing (tests_of old space names c) ≡ None → Done old space names c answer new effects → Kept new effects
+unfolding Done
+done_kept old space names (call.Rename from to) answer new effects fits lawful grounded there passes done = rename_kept old space from to names answer new effects fits.1 lawful grounded there passes done
+done_kept old space names (call.AllocateName which name) answer new effects fits lawful grounded there passes done = allocate_name_kept old space which name names answer new effects fits.1 lawful grounded there passes done
+done_kept old space names (call.Allocate which) answer new effects fits lawful grounded there passes done = allocate_kept old space which names answer new effects lawful grounded there passes done
+done_kept old space names (call.Destroy name) answer new effects fits lawful grounded there passes done = destroy_kept old space name names answer new effects lawful grounded there done
+done_kept old space names (call.Deallocate name) answer new effects fits lawful grounded there passes done = deallocate_kept old space name names answer new effects lawful grounded there passes done
+done_kept old space names (call.ModRefs name which delta) answer new effects fits lawful grounded there passes done = modify_kept old space name which delta names answer new effects lawful grounded there passes done
+done_kept old space names (call.RequestNotification name variant sync notify disposition) answer new effects fits lawful grounded there passes done =
+    request_kept old space name variant sync notify disposition names answer new effects lawful grounded there passes done
+done_kept old space names (call.InsertRight name right_name disposition) answer new effects fits lawful grounded there passes done =
+    insert_kept old space name right_name disposition names answer new effects fits.0 lawful grounded there passes done
+done_kept old space names (call.ExtractRight name disposition) answer new effects fits lawful grounded there passes done = extract_kept old space name disposition names answer new effects lawful grounded there passes done
+done_kept old space names (call.SpaceCreate name disposition) answer new effects fits lawful grounded there passes done = create_kept old space name disposition names answer new effects lawful grounded there passes done
+done_kept old space names call.SpaceDestroy answer new effects fits lawful grounded there passes done = space_destroy_kept old space names answer new effects lawful grounded there passes done
+done_kept old space names (call.Send message) answer new effects fits lawful grounded there passes done = absurd done
+done_kept old space names (call.Receive limit large name waited) answer new effects fits lawful grounded there passes done = absurd done
+done_kept old space names (call.Attach other) answer new effects fits lawful grounded there passes done = simple_kept old space names (call.Attach other) answer new effects refl fits lawful grounded there passes done
+done_kept old space names call.Names answer new effects fits lawful grounded there passes done = simple_kept old space names call.Names answer new effects refl fits lawful grounded there passes done
+done_kept old space names (call.Type name) answer new effects fits lawful grounded there passes done = simple_kept old space names (call.Type name) answer new effects refl fits lawful grounded there passes done
+done_kept old space names (call.GetRefs name which) answer new effects fits lawful grounded there passes done = simple_kept old space names (call.GetRefs name which) answer new effects refl fits lawful grounded there passes done
+done_kept old space names (call.SetQlimit name limit) answer new effects fits lawful grounded there passes done = simple_kept old space names (call.SetQlimit name limit) answer new effects refl fits lawful grounded there passes done
+done_kept old space names (call.SetMscount name count) answer new effects fits lawful grounded there passes done = simple_kept old space names (call.SetMscount name count) answer new effects refl fits lawful grounded there passes done
+done_kept old space names (call.SetSeqno name seqno) answer new effects fits lawful grounded there passes done = simple_kept old space names (call.SetSeqno name seqno) answer new effects refl fits lawful grounded there passes done
+done_kept old space names (call.GetReceiveStatus name) answer new effects fits lawful grounded there passes done = simple_kept old space names (call.GetReceiveStatus name) answer new effects refl fits lawful grounded there passes done
+done_kept old space names (call.GetSetStatus name) answer new effects fits lawful grounded there passes done = simple_kept old space names (call.GetSetStatus name) answer new effects refl fits lawful grounded there passes done
+done_kept old space names (call.MoveMember member after) answer new effects fits lawful grounded there passes done = simple_kept old space names (call.MoveMember member after) answer new effects refl fits lawful grounded there passes done
 
-kept_called : (refusal : Option KernReturn) (old : State) (space : ℕ) (names : Names) (c : Call) (answer : Reply) (new : State) (effects : List Effect) → refusal ≡ first_failing (tests_of old space names c) → is_kept c ≡ true → FitsCall c
+called_kept : (refusal : Option KernReturn) (old : State) (space : ℕ) (names : Names) (c : Call) (answer : Reply) (new : State) (effects : List Effect) → refusal ≡ first_failing (tests_of old space names c) → FitsCall c
     → Lawful old → Grounded old → finmap.get old.spaces space ≡ Some names → Called refusal old space names c answer new effects → Kept new effects
-kept_called None old space names (call.AllocateName which name) answer new effects is kept fits lawful grounded there called = allocate_name_kept old space which name names answer new effects fits.1 lawful grounded there (sym is) called
-kept_called None old space names (call.Allocate which) answer new effects is kept fits lawful grounded there called = allocate_kept old space which names answer new effects lawful grounded there (sym is) called
-kept_called None old space names (call.ModRefs name which delta) answer new effects is kept fits lawful grounded there called = modify_kept old space name which delta names answer new effects lawful grounded there (sym is) called
-kept_called None old space names (call.Destroy name) answer new effects is kept fits lawful grounded there called = destroy_kept old space name names answer new effects lawful grounded there called
-kept_called None old space names (call.Deallocate name) answer new effects is kept fits lawful grounded there called = deallocate_kept old space name names answer new effects lawful grounded there (sym is) called
-kept_called (Some code) old space names c answer new effects is kept fits lawful grounded there called = kept_as old new effects lawful grounded called.1 called.2
-kept_called None old space names c answer new effects is kept fits lawful grounded there called = shown_calls_keep None old space names c answer new effects is (λ (_ : _). kept) fits lawful grounded there called
+called_kept None old space names c answer new effects is fits lawful grounded there called = done_kept old space names c answer new effects fits lawful grounded there (sym is) called
+called_kept (Some code) old space names c answer new effects is fits lawful grounded there called = kept_as old new effects lawful grounded called.1 called.2
 
-kept_acts : (old : State) (space : ℕ) (names : Names) (c : Call) (answer : Reply) (new : State) (effects : List Effect) → is_kept c ≡ true → FitsCall c → Lawful old → Grounded old → finmap.get old.spaces space ≡ Some names
+acts_kept : (old : State) (space : ℕ) (names : Names) (c : Call) (answer : Reply) (new : State) (effects : List Effect) → FitsCall c → Lawful old → Grounded old → finmap.get old.spaces space ≡ Some names
     → ActsIn old space names c answer new effects → Kept new effects
-kept_acts old space names (call.Send message) answer new effects kept fits lawful grounded there acts = absurd (cc kept)
-kept_acts old space names (call.Receive limit large name waited) answer new effects kept fits lawful grounded there acts = absurd (cc kept)
-kept_acts old space names c answer new effects kept fits lawful grounded there acts =
-    kept_called (first_failing (tests_of old space names c)) old space names c answer new effects refl kept fits lawful grounded there acts
+acts_kept old space names (call.Send message) answer new effects fits lawful grounded there acts = send_kept old space names message answer new effects fits.bytes lawful grounded there acts
+acts_kept old space names (call.Receive limit large name waited) answer new effects fits lawful grounded there acts =
+    receive_kept old space names (record { limit = limit; large = large; name = name; waited = waited }) answer new effects lawful grounded there acts
+acts_kept old space names c answer new effects fits lawful grounded there acts =
+    called_kept (first_failing (tests_of old space names c)) old space names c answer new effects refl fits lawful grounded there acts
 
-kept_from : (old : State) (space : ℕ) (o : Option Names) (c : Call) (answer : Reply) (new : State) (effects : List Effect) → finmap.get old.spaces space ≡ o → is_kept c ≡ true → FitsCall c → Lawful old → Grounded old
+from_kept : (old : State) (space : ℕ) (o : Option Names) (c : Call) (answer : Reply) (new : State) (effects : List Effect) → finmap.get old.spaces space ≡ o → FitsCall c → Lawful old → Grounded old
     → ActsFrom old space o c answer new effects → Kept new effects
-kept_from old space None c answer new effects there kept fits lawful grounded acts = kept_as old new effects lawful grounded acts.1 acts.2
-kept_from old space (Some names) c answer new effects there kept fits lawful grounded acts = kept_acts old space names c answer new effects kept fits lawful grounded there acts
+from_kept old space None c answer new effects there fits lawful grounded acts = kept_as old new effects lawful grounded acts.1 acts.2
+from_kept old space (Some names) c answer new effects there fits lawful grounded acts = acts_kept old space names c answer new effects fits lawful grounded there acts
 
--- A step of such a call leaves a lawful and grounded state.
-abbrev pub ShownStepsKeepLawful : Type 0
-ShownStepsKeepLawful = (old : State) (space : ℕ) (c : Call) (answer : Reply) (new : State) → is_kept c ≡ true → FitsCall c → Lawful old → Grounded old → Step old space c answer new → Lawful new × Grounded new
+-- Every step keeps a state lawful and grounded, where the call's arguments are in range.
+abbrev pub StepsKeepLawful : Type 0
+StepsKeepLawful = (old : State) (space : ℕ) (c : Call) (answer : Reply) (new : State) → FitsCall c → Lawful old → Grounded old → Step old space c answer new → Lawful new × Grounded new
 
-pub shown_steps_keep_lawful : ShownStepsKeepLawful
+pub steps_keep_lawful : StepsKeepLawful
 unfolding Step
-shown_steps_keep_lawful old space c answer new kept fits lawful grounded step =
-    let acted = kept_from old space (finmap.get old.spaces space) c answer step.0 step.1 refl kept fits lawful grounded step.2 in
+steps_keep_lawful old space c answer new fits lawful grounded step =
+    let acted = from_kept old space (finmap.get old.spaces space) c answer step.0 step.1 refl fits lawful grounded step.2 in
     settled_is_lawful step.0 step.1 new acted.lawful acted.grounded step.3
+
+-- So every run of records from a lawful and grounded state ends in one.
+abbrev pub FitCalls : List Record → Type 0
+FitCalls [] = Unit {0}
+FitCalls (first ∷ records) = FitsCall first.call × FitCalls records
+
+abbrev pub RunsKeepLawful : Type 0
+RunsKeepLawful = (old : State) (records : List Record) (new : State) → FitCalls records → Lawful old → Grounded old → Run old records new → Lawful new × Grounded new
+
+pub runs_keep_lawful : RunsKeepLawful
+runs_keep_lawful old [] new fits lawful grounded run = (subst Lawful (sym run) lawful, subst Grounded (sym run) grounded)
+runs_keep_lawful old (first ∷ records) new fits lawful grounded (mid, step, rest) =
+    let kept = steps_keep_lawful old first.space first.call first.reply mid fits.0 lawful grounded step in
+    runs_keep_lawful mid records new fits.1 kept.0 kept.1 rest

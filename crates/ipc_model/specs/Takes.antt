@@ -1,6 +1,6 @@
 -- Copy in takes a right into a call's hand, and leaves the rest lawful.
-use Rattle.std.specs.Prelude.{◌≡◌, ◌≢◌, ℕ, ◌+◌, ◌-◌, ◌^◌, ◌<◌, ◌≤◌, Bool, true, false, cond, not, ◌&&◌, ◌==◌, List, [], ◌∷◌, ◌++◌, Option, None, Some, is_some, option_and_then, if◌then◌else◌, refl}
-use Rattle.std.proofs.Common.{sym, ◌∙◌, ap, subst, inl, inr, arith}
+use Rattle.std.specs.Prelude.{◌≡◌, ℕ, ◌+◌, ◌-◌, ◌^◌, ◌<◌, ◌≤◌, Bool, true, false, cond, ◌==◌, List, [], ◌++◌, Option, None, Some, option_and_then, if◌then◌else◌, refl}
+use Rattle.std.proofs.Common.{sym, ◌∙◌, ap, subst, arith}
 use Rattle.std.proofs.lemmas.Bool.{eq-eqb, eqb-false}
 use Rattle.std.specs.FinMap as finmap
 use Rattle.ipc_model.specs.declared.entry.Entry.{Entry}
@@ -13,8 +13,7 @@ use Rattle.ipc_model.specs.declared.message.RightKind.{RightKind}
 use Rattle.ipc_model.specs.declared.message.RightKind.TheVariants as kind
 use Rattle.ipc_model.specs.declared.port.PortState.{PortState}
 use Rattle.ipc_model.specs.AllocateKeep.{held_weighs}
-use Rattle.ipc_model.specs.Circular.{Grounded, carries}
-use Rattle.ipc_model.specs.CopyIn.{Taken, copy_in, taken_leaving, taken_keeping, taken_of_port, taken_of_send_once, taken_of_dead, taken_of_entry, moved_port, with_left, notices_of_left}
+use Rattle.ipc_model.specs.CopyIn.{Taken, copy_in, taken_leaving, taken_keeping, taken_of_entry, moved_port, with_left, notices_of_left}
 use Rattle.ipc_model.specs.Dangling.{live_apart, apart_zero}
 use Rattle.ipc_model.specs.Dispositions.{Disposition, MoveReceive, MoveSend, MoveSendOnce, CopySend, MakeSend, MakeSendOnce, received_kind}
 use Rattle.ipc_model.specs.Effects.{Effect, port_deleted}
@@ -23,16 +22,16 @@ use Rattle.ipc_model.specs.EffectRanks.{fewer_edges, changed_edges}
 use Rattle.ipc_model.specs.EffectWeights.{lives_some}
 use Rattle.ipc_model.specs.EffectsKeep.{entry_part, waiting-append, held_port}
 use Rattle.ipc_model.specs.EntryChanges.{changed, under, received_under}
-use Rattle.ipc_model.specs.Hands.{Hand, MidCall, EntryStep, PortStep, mid_hand, mid_entry, mid_port}
-use Rattle.ipc_model.specs.Lawful.{LawfulNames, LawfulEntry, LawfulPort, AllWaiting}
+use Rattle.ipc_model.specs.Hands.{Hand, MidCall, mid_hand, mid_entry, mid_port}
+use Rattle.ipc_model.specs.Lawful.{LawfulPort, AllWaiting}
 use Rattle.ipc_model.specs.ListLaws.{some_same}
 use Rattle.ipc_model.specs.MapLaws.{get-here}
 use Rattle.ipc_model.specs.MapSums.{weigh, weigh-append}
 use Rattle.ipc_model.specs.NameChanges.{remove_lawful}
 use Rattle.ipc_model.specs.Others.{with_port_spaces}
 use Rattle.ipc_model.specs.ReferencesKeep.{left_of, left_state, left_receive, left_waits, deleted_receive, deleted_waits, no_target, left_weighs, port_weighs, fewer_weigh, left_lawful, dead_weighs, dead_lawful, not_set, not_empty, changed_space}
-use Rattle.ipc_model.specs.State.{State, Names, with_names, with_port, without_name, lives, next_count, entry_at, is_empty_entry, received_port}
-use Rattle.ipc_model.specs.Weights.{Weight, target_weigh, entry_weigh, carried_weigh, port_weigh, state_weigh, effect_weigh, receive_of, any_of}
+use Rattle.ipc_model.specs.State.{State, Names, with_names, with_port, without_name, lives, next_count, entry_at, is_empty_entry}
+use Rattle.ipc_model.specs.Weights.{Weight, entry_weigh, carried_weigh, effect_weigh, receive_of, any_of}
 
 -- effects that hold no receive right, and wait
 pub record Quiet (effects : List Effect) : Type 0 where

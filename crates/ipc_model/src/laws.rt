@@ -1,5 +1,5 @@
 // Laws over the definitions. Each is the contract of a function that does nothing, so that the check proves it.
-ghost use Rattle.ipc_model.specs.StepsKeep.{ShownStepsKeepLawful};
+ghost use Rattle.ipc_model.specs.StepsKeep.{RunsKeepLawful, StepsKeepLawful};
 ghost use Rattle.ipc_model.specs.EffectRanks.{EffectsKeepGrounded, SettledIsLawful};
 ghost use Rattle.ipc_model.specs.EffectsKeep.{EffectsKeepLawful};
 ghost use Rattle.ipc_model.specs.ImageLaws.{ImagesHaveOneText};
@@ -70,10 +70,14 @@ pub fn port_moves_lawfully()
     ensures { PortMovesLawfully }
 {}
 
-/// The steps of calls that change nothing, and of those that set a port's limit, counts or set, leave a lawful and
-/// grounded state.
-pub fn shown_steps_keep_lawful()
-    ensures { ShownStepsKeepLawful }
+/// Every step keeps a state lawful and grounded, sends and receipts too.
+pub fn steps_keep_lawful()
+    ensures { StepsKeepLawful }
+{}
+
+/// So every run of records from a lawful and grounded state ends in one.
+pub fn runs_keep_lawful()
+    ensures { RunsKeepLawful }
 {}
 
 /// A record has one text: what begins with the texts of two records begins with one record, of one number.

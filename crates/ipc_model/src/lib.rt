@@ -16,7 +16,7 @@ pub use entry::{Entry, PortRights};
 pub use laws::{
     always_settles, effects_keep_grounded, effects_keep_lawful, effects_lower, image_once,
     names_move_lawfully, one_end, one_new_state, opening_is_lawful, others_fade,
-    port_moves_lawfully, record_once, settled_is_lawful, shown_steps_keep_lawful,
+    port_moves_lawfully, record_once, runs_keep_lawful, settled_is_lawful, steps_keep_lawful,
 };
 pub use message::{CarriedRight, Message, PortInMessage, RightKind};
 pub use port::PortState;
