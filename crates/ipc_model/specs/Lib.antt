@@ -61,6 +61,7 @@ pub mod SentKeep
 pub mod SetsKeep
 pub mod Settling
 pub mod SpacesKeep
+pub mod Spelling
 pub mod State
 pub mod Step
 pub mod StepLaws

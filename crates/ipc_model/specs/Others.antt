@@ -200,24 +200,27 @@ spaces_stay old new space same before there = (before, ap (λ (s : finmap.FinMap
 pub record Passing (old new : State) : Type 0 where
   pub fewer : Fewer (lives old) (lives new)
   pub fades : (space : ℕ) → SpaceFades old new space
+  pub absent : (space : ℕ) → finmap.get old.spaces space ≡ None → finmap.get new.spaces space ≡ None
 
 passing_on : (old mid new : State) → Passing old mid → Passing mid new → Passing old new
 passing_on old mid new first second = record {
   fewer = λ (serial : ℕ) (dead : _). second.fewer serial (first.fewer serial dead);
   fades = λ (space : ℕ). space_fades_on old mid new space second.fewer (first.fades space) (second.fades space);
+  absent = λ (space : ℕ) (none : _). second.absent space (first.absent space none);
 }
 
 nothing_passes : (state : State) → Passing state state
-nothing_passes state = record { fewer = λ (serial : ℕ) (dead : _). dead; fades = λ (space : ℕ). spaces_stay state state space refl }
+nothing_passes state = record { fewer = λ (serial : ℕ) (dead : _). dead; fades = λ (space : ℕ). spaces_stay state state space refl; absent = λ (space : ℕ) (none : _). none }
 
 port_changes : (state : State) (serial : ℕ) (change : PortState → PortState) → Passing state (with_port state serial change)
 port_changes state serial change = record {
   fewer = with_port_lives state serial change;
   fades = λ (space : ℕ). spaces_stay state (with_port state serial change) space (with_port_spaces state serial change);
+  absent = λ (space : ℕ) (none : _). ap (λ (s : finmap.FinMap nat_cmp Names). finmap.get s space) (with_port_spaces state serial change) ∙ none;
 }
 
 port_dies : (state : State) (serial : ℕ) → Passing state (after_death state serial)
-port_dies state serial = record { fewer = after_death_lives state serial; fades = λ (space : ℕ). death_fades state serial space }
+port_dies state serial = record { fewer = after_death_lives state serial; fades = λ (space : ℕ). death_fades state serial space; absent = λ (space : ℕ) (none : _). get-map_values (map_values (entry_after_death serial)) state.spaces space ∙ ap (option_map (map_values (entry_after_death serial))) none }
 
 notice_goes : (state : State) (target : ℕ) (what : Notice) → Passing state (notified state target what)
 notice_goes state target what = port_changes state target (λ (port : PortState). record port { messages = port.messages ++ notice_message what ∷ [] })

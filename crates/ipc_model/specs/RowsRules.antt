@@ -4,16 +4,20 @@ use Rattle.codes.specs.declared.kern_return.KernReturn.TheVariants.{InvalidName,
 use Rattle.ipc_model.specs.declared.call.Call.TheVariants as call
 use Rattle.ipc_model.specs.declared.call.Reply.TheVariants as reply
 use Rattle.ipc_model.specs.declared.entry.Entry.{Entry}
-use Rattle.ipc_model.specs.declared.entry.Entry.TheVariants.{Port, SendOnce, Dead}
+use Rattle.ipc_model.specs.declared.entry.Entry.TheVariants.{Port, SendOnce, Set, Dead}
 use Rattle.ipc_model.specs.declared.message.RightKind.TheVariants as kind
-use Rattle.ipc_model.specs.Actions.{space_destroyed, set_named}
+use Rattle.ipc_model.specs.Actions.{space_destroyed, set_named, port_request_set}
 use Rattle.ipc_model.specs.CopyIn.{copy_in}
-use Rattle.ipc_model.specs.Effects.{release, notify}
+use Rattle.ipc_model.specs.Effects.{release, notify, effect, entry_after_death}
+use Rattle.ipc_model.specs.Circular.{is_circular}
+use Rattle.ipc_model.specs.Notices.{notice_message}
 use Rattle.ipc_model.specs.Notices as notice
-use Rattle.ipc_model.specs.PortCalls.{tests_of}
+use Rattle.ipc_model.specs.Placed.{placed}
+use Rattle.ipc_model.specs.Receiving.{sources}
+use Rattle.ipc_model.specs.PortCalls.{tests_of, target_of_port}
 use Rattle.ipc_model.specs.RowRules.{rows}
-use Rattle.ipc_model.specs.RowStates.{rights_to, names_of, in_space_1}
-use Rattle.ipc_model.specs.Sending.{ports_in}
+use Rattle.ipc_model.specs.RowStates.{rights_to, names_of, in_space_1, plain, queue_of, message_count}
+use Rattle.ipc_model.specs.Sending.{Ready, ports_in, sent}
 use Rattle.ipc_model.specs.State.{State, new_port}
 use Rattle.ipc_model.specs.Step.{refused, has_record}
 use Rattle.ipc_model.specs.Tests.{first_failing}
@@ -69,3 +73,47 @@ kept-records = (refl, refl, refl, refl, refl, refl, refl, refl)
 -- MACH_PORT_NULL as a set takes a member out
 pub out-of-set : set_named 0 ≡ None
 out-of-set = refl
+
+-- a name whose port dies gets the further reference for its dead-name request, though the notice would go to that port itself
+pub own_target-dead : entry_after_death 1 (Port (record { port = 1; receive = false; send = 1; dead_name_target = Some 1 })) ≡ Dead 2
+own_target-dead = refl
+
+-- or to a port that died before the notice's turn, where the notice is dropped
+pub dropped-notice : effect crowded_dead (notify 2 (notice.DeadName 0x100)) ≡ (crowded_dead, [])
+unfolding effect
+dropped-notice = simp rows
+
+-- but where the target died first, the request has gone, and there is no further reference
+pub former_target-dead : entry_after_death 1 (entry_after_death 2 (Port (record { port = 1; receive = false; send = 1; dead_name_target = Some 2 }))) ≡ Dead 1
+former_target-dead = refl
+
+-- a no-senders request is kept where fewer send rights were made than its sync says; the sync itself is forgotten
+abbrev pub sendless : State
+sendless = in_space_1 ((0x100, rights_to 1 true 0) ∷ (0x101, rights_to 2 true 0) ∷ []) ((1, record new_port { make_send_count = 3 }) ∷ (2, new_port) ∷ [])
+
+abbrev pub requesting : State
+requesting = in_space_1 ((0x100, rights_to 1 true 0) ∷ (0x101, rights_to 2 true 0) ∷ []) ((1, record new_port { make_send_count = 3; no_senders_target = Some 2 }) ∷ (2, new_port) ∷ [])
+
+pub kept-request : target_of_port (port_request_set sendless 70 9 1 (Some 2)).0 70 (Some 1) ≡ Some 2
+unfolding placed
+kept-request = simp rows
+
+-- and the first release that leaves no send right sets it off, with the count as it is then
+pub first-release : queue_of (effect requesting (release kind.Send 1)).0 2 ≡ Some (notice_message (notice.NoSenders 3) ∷ [])
+unfolding effect placed
+first-release = simp rows
+
+-- a message is queued, and only then do the notices of its copy in go out
+abbrev pub with_notice : Ready
+with_notice = record { message = plain kind.Send 7 []; port = 1; state = sendless; notices = notify 2 (notice.PortDeleted 0x102) ∷ [] }
+
+pub queued-first : (message_count (sent with_notice).0 1 ≡ Some 1) × ((sent with_notice).1 ≡ notify 2 (notice.PortDeleted 0x102) ∷ [])
+unfolding sent is_circular
+queued-first = (simp rows, refl)
+
+-- a receipt from a set may take the oldest message of any member: every member is a source
+abbrev pub two_members : State
+two_members = in_space_1 ((0x100, rights_to 1 true 0) ∷ (0x101, rights_to 2 true 0) ∷ (0x102, Set) ∷ []) ((1, record new_port { set = Some 0x102 }) ∷ (2, record new_port { set = Some 0x102 }) ∷ [])
+
+pub each-member : sources two_members (names_of ((0x100, rights_to 1 true 0) ∷ (0x101, rights_to 2 true 0) ∷ (0x102, Set) ∷ [])) 0x102 (Some Set) ≡ Some (0x100 ∷ 0x101 ∷ [])
+each-member = simp rows

@@ -1,6 +1,6 @@
 -- The calls whose steps are shown to leave lawful and grounded states.
 use Rattle.std.specs.Prelude.{◌^◌, not, ◌≡◌, ◌⊎◌, ℕ, zero, suc, ◌-◌, ◌<◌, Bool, true, false, ◌&&◌, ◌||◌, ◌==◌, List, [], ◌∷◌, Option, None, Some, is_some, if◌then◌else◌, refl}
-use Rattle.std.proofs.Common.{sym, subst, inl, inr, arith}
+use Rattle.std.proofs.Common.{◌∙◌, sym, subst, inl, inr, arith}
 use Rattle.std.specs.FinMap as finmap
 use Rattle.codes.specs.declared.kern_return.KernReturn.{KernReturn}
 use Rattle.codes.specs.declared.kern_return.KernReturn.TheVariants.{InvalidName, InvalidRight, InvalidValue, NoSpace, NameExists, ResourceShortage}
@@ -33,7 +33,7 @@ use Rattle.ipc_model.specs.ReferencesKeep.{send_left_kept, dead_left_kept, gone_
 use Rattle.ipc_model.specs.SetsKeep.{destroyed_kept}
 use Rattle.ipc_model.specs.State.{State, Names, is_null_or_dead, ports_are_used_up}
 use Rattle.ipc_model.specs.Step.{Step, Run, ActsIn, ActsFrom}
-use Rattle.ipc_model.specs.StepLaws.{Called}
+use Rattle.ipc_model.specs.StepLaws.{Called, one_new_state}
 use Rattle.ipc_model.specs.Tests.{Tests, first_failing}
 use Rattle.ipc_model.specs.Texts.{FitsCall}
 
@@ -207,3 +207,14 @@ runs_keep_lawful old [] new fits lawful grounded run = (subst Lawful (sym run) l
 runs_keep_lawful old (first ∷ records) new fits lawful grounded (mid, step, rest) =
     let kept = steps_keep_lawful old first.space first.call first.reply mid fits.0 lawful grounded step in
     runs_keep_lawful mid records new fits.1 kept.0 kept.1 rest
+
+-- and in one state alone: what recovery replays from the opening state is determined by the records.
+abbrev pub OneRun : Type 0
+OneRun = (old : State) (records : List Record) (one other : State) → FitCalls records → Lawful old → Grounded old → Run old records one → Run old records other → one ≡ other
+
+pub one_run : OneRun
+one_run old [] one other fits lawful grounded here there = here ∙ sym there
+one_run old (first ∷ records) one other fits lawful grounded (mid, step, rest) (middle, step_too, rest_too) =
+    let same : middle ≡ mid = one_new_state old first.space first.call first.reply middle mid lawful step_too step in
+    let kept = steps_keep_lawful old first.space first.call first.reply mid fits.0 lawful grounded step in
+    one_run mid records one other fits.1 kept.0 kept.1 rest (subst (λ (s : State). Run s records other) same rest_too)

@@ -1,12 +1,13 @@
 // Laws over the definitions. Each is the contract of a function that does nothing, so that the check proves it.
-ghost use Rattle.ipc_model.specs.StepsKeep.{RunsKeepLawful, StepsKeepLawful};
+ghost use Rattle.ipc_model.specs.StepsKeep.{OneRun, RunsKeepLawful, StepsKeepLawful};
 ghost use Rattle.ipc_model.specs.EffectRanks.{EffectsKeepGrounded, SettledIsLawful};
 ghost use Rattle.ipc_model.specs.EffectsKeep.{EffectsKeepLawful};
 ghost use Rattle.ipc_model.specs.ImageLaws.{ImagesHaveOneText};
 ghost use Rattle.ipc_model.specs.NameChanges.{NamesMoveLawfully};
 ghost use Rattle.ipc_model.specs.OpeningLaws.{OpeningIsLawful};
-ghost use Rattle.ipc_model.specs.OtherSpaces.{OthersFade};
+ghost use Rattle.ipc_model.specs.OtherSpaces.{OthersFade, SpacesAreMade};
 ghost use Rattle.ipc_model.specs.PortChanges.{PortMovesLawfully};
+ghost use Rattle.ipc_model.specs.Spelling.{LawfulIsSpellable};
 ghost use Rattle.ipc_model.specs.Settling.{AlwaysSettles, EffectsLower};
 ghost use Rattle.ipc_model.specs.TextLaws.{RecordsHaveOneText};
 ghost use Rattle.ipc_model.specs.StepLaws.{OneEnd, OneNewState};
@@ -36,6 +37,11 @@ pub fn one_end()
 /// names, and requests whose target's port dies go.
 pub fn others_fade()
     ensures { OthersFade }
+{}
+
+/// A space comes by number 20 alone, and its reply names the one.
+pub fn spaces_are_made()
+    ensures { SpacesAreMade }
 {}
 
 /// The opening state is lawful and grounded.
@@ -80,6 +86,11 @@ pub fn runs_keep_lawful()
     ensures { RunsKeepLawful }
 {}
 
+/// And it ends in one state: records determine the state that they lead to.
+pub fn one_run()
+    ensures { OneRun }
+{}
+
 /// A record has one text: what begins with the texts of two records begins with one record, of one number.
 pub fn record_once()
     ensures { RecordsHaveOneText }
@@ -89,4 +100,9 @@ pub fn record_once()
 /// state.
 pub fn image_once()
     ensures { ImagesHaveOneText }
+{}
+
+/// An image can spell every lawful state whose queues hold fewer than 2^32 messages.
+pub fn lawful_is_spellable()
+    ensures { LawfulIsSpellable }
 {}

@@ -15,8 +15,9 @@ pub use call::{Call, NamedType, ReceiveStatus, Reply};
 pub use entry::{Entry, PortRights};
 pub use laws::{
     always_settles, effects_keep_grounded, effects_keep_lawful, effects_lower, image_once,
-    names_move_lawfully, one_end, one_new_state, opening_is_lawful, others_fade,
-    port_moves_lawfully, record_once, runs_keep_lawful, settled_is_lawful, steps_keep_lawful,
+    lawful_is_spellable, names_move_lawfully, one_end, one_new_state, one_run, opening_is_lawful,
+    others_fade, port_moves_lawfully, record_once, runs_keep_lawful, settled_is_lawful,
+    spaces_are_made, steps_keep_lawful,
 };
 pub use message::{CarriedRight, Message, PortInMessage, RightKind};
 pub use port::PortState;
