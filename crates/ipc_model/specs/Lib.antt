@@ -1,6 +1,7 @@
 pub mod Actions
 pub mod AllocateKeep
 pub mod Arrivals
+pub mod BatchLaws
 pub mod CallsKeep
 pub mod Circular
 pub mod CopyIn
@@ -55,6 +56,7 @@ pub mod RowsRules
 pub mod RowsSteps
 pub mod RowsStore
 pub mod RowsTexts
+pub mod RunLaws
 pub mod SendKeep
 pub mod Sending
 pub mod SentKeep
@@ -63,10 +65,12 @@ pub mod Settling
 pub mod SpacesKeep
 pub mod Spelling
 pub mod State
+pub mod StateCode
 pub mod Step
 pub mod StepLaws
 pub mod StepsKeep
 pub mod Store
+pub mod StoreLaws
 pub mod Takes
 pub mod Tests
 pub mod TextLaws
