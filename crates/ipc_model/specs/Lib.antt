@@ -40,6 +40,8 @@ pub mod ReceiptLaws
 pub mod ReceiveKeep
 pub mod ReceiveLaws
 pub mod Receiving
+pub mod Recovery
+pub mod RecoveryLaws
 pub mod ReferencesKeep
 pub mod RenameKeep
 pub mod RequestsKeep
