@@ -81,3 +81,4 @@ pub mod Texts
 pub mod Untouched
 pub mod UntouchedMessages
 pub mod Weights
+pub mod World
