@@ -53,11 +53,13 @@ pub mod RowsDeaths
 pub mod RowsMessages
 pub mod RowsNames
 pub mod RowsReceipts
+pub mod RowsRecovery
 pub mod RowsRights
 pub mod RowsRules
 pub mod RowsSteps
 pub mod RowsStore
 pub mod RowsTexts
+pub mod RowsWorld
 pub mod RunLaws
 pub mod SendKeep
 pub mod Sending

@@ -15,7 +15,7 @@ use Rattle.ipc_model.specs.Others.{number_decided}
 use Rattle.ipc_model.specs.State.{Names, opening_state, lives}
 use Rattle.ipc_model.specs.Weights.{Weight, state_weigh, any_of, names_weigh, entry_weigh, port_weigh, count-any}
 
-none_in_empty : {X : Type 0} (k : ℕ) (x : X) → finmap.get (finmap.empty {X = X} {R = nat_cmp}) k ≡ Some x → ⊥
+pub none_in_empty : {X : Type 0} (k : ℕ) (x : X) → finmap.get (finmap.empty {X = X} {R = nat_cmp}) k ≡ Some x → ⊥
 none_in_empty {X} k x there = absurd (cc (sym (get-empty nat_cmp k) ∙ there))
 
 no_entries : {A : Type 0} (es : List A) → length es ≡ 0 → es ≡ []

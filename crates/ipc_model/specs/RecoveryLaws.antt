@@ -1,29 +1,28 @@
 -- A disk spells one thing, and what is recovered from it is one lawful and grounded state.
-use Rattle.std.specs.Prelude.{◌≡◌, ◌≢◌, ◌⊎◌, ℕ, zero, suc, ◌+◌, ◌%◌, ◌^◌, ◌<◌, ◌≤◌, ◌∷◌, [], ◌++◌, List, length, take, drop, slice_index, refl}
-use Rattle.std.proofs.Common.{sym, ◌∙◌, ap, subst, inl, inr, arith, append_assoc, length-append}
+use Rattle.std.specs.Prelude.{◌≡◌, ℕ, ◌+◌, ◌%◌, ◌^◌, ◌<◌, ◌∷◌, [], ◌++◌, List, length, drop, slice_index, refl}
+use Rattle.std.proofs.Common.{sym, ◌∙◌, ap, subst, inl, inr, arith}
 use Rattle.ipc_model.specs.declared.record.Record.{Record}
 use Rattle.ipc_model.specs.BatchLaws.{one_segment}
 use Rattle.ipc_model.specs.Circular.{Grounded}
 use Rattle.ipc_model.specs.ImageLaws.{image_once}
 use Rattle.ipc_model.specs.Images.{image_text}
 use Rattle.ipc_model.specs.Lawful.{Lawful}
-use Rattle.ipc_model.specs.ListLaws.{same_front, same_back}
 use Rattle.ipc_model.specs.OpeningLaws.{opening_is_lawful}
-use Rattle.ipc_model.specs.Recovery.{Slots, IsOpen, IsOfEpoch, HeadersFit, IsNew, HoldsImage, Continues, IsStored, Spells, Recovered, IsOtherVersion, HasOtherVersion, image_header, segment_header_length}
+use Rattle.ipc_model.specs.Recovery.{Slots, IsOpen, IsOfEpoch, IsNew, HoldsImage, Continues, IsStored, Spells, Recovered, IsOtherVersion, HasOtherVersion, image_header, segment_header_length}
 use Rattle.ipc_model.specs.Spelling.{lawful_is_spellable}
-use Rattle.ipc_model.specs.State.{State, opening_state}
+use Rattle.ipc_model.specs.State.{State}
 use Rattle.ipc_model.specs.Step.{Run}
 use Rattle.ipc_model.specs.StepsKeep.{FitCalls, one_run, runs_keep_lawful}
-use Rattle.ipc_model.specs.Store.{SpellsSegment, AreRecords, open_gate, epoch_text, segment_header, image_content}
-use Rattle.words.specs.WordLaws.{same_long_word, length-long_word}
+use Rattle.ipc_model.specs.Store.{SpellsSegment, AreRecords, open_gate, segment_header, image_content}
+use Rattle.words.specs.WordLaws.{same_long_word}
 use Rattle.words.specs.Words.{long_word}
 
 -- a header tells one epoch
-one_epoch : (one other : ℕ) (xs ys : List ℕ) → one < 2 ^ 64 → other < 2 ^ 64 → segment_header open_gate one ++ xs ≡ segment_header open_gate other ++ ys → one ≡ other
+pub one_epoch : (one other : ℕ) (xs ys : List ℕ) → one < 2 ^ 64 → other < 2 ^ 64 → segment_header open_gate one ++ xs ≡ segment_header open_gate other ++ ys → one ≡ other
 one_epoch one other xs ys fits fits_too is = same_long_word one other xs ys fits fits_too (ap (λ (l : List ℕ). drop 8 l) is)
 
 -- an image is of its epoch, and open
-image_header_is : (epoch : ℕ) (slot : List ℕ) (state : State) → epoch < 2 ^ 64 → HoldsImage epoch slot state → IsOfEpoch (epoch % 2) epoch slot
+pub image_header_is : (epoch : ℕ) (slot : List ℕ) (state : State) → epoch < 2 ^ 64 → HoldsImage epoch slot state → IsOfEpoch (epoch % 2) epoch slot
 image_header_is epoch slot state fits image = record {
   rest = (long_word (length (image_text state)) ++ image_text state) ++ image.rest;
   text = image.text;
@@ -31,7 +30,7 @@ image_header_is epoch slot state fits image = record {
   of_number = refl;
 }
 
-image_is_open : (epoch : ℕ) (slot : List ℕ) (state : State) → HoldsImage epoch slot state → IsOpen image_header slot
+pub image_is_open : (epoch : ℕ) (slot : List ℕ) (state : State) → HoldsImage epoch slot state → IsOpen image_header slot
 image_is_open epoch slot state image = subst (IsOpen image_header) (sym image.text) (omega arith, refl)
 
 parity_small : (n : ℕ) → n % 2 < 2
@@ -56,10 +55,10 @@ one_image epoch slot one other first second =
 
 -- what the other segment adds is determined
 
-segment_epoch : (number epoch before : ℕ) (slot : List ℕ) (records : List Record) → SpellsSegment epoch slot records → epoch < 2 ^ 64 → IsOfEpoch number before slot → before ≡ epoch
+pub segment_epoch : (number epoch before : ℕ) (slot : List ℕ) (records : List Record) → SpellsSegment epoch slot records → epoch < 2 ^ 64 → IsOfEpoch number before slot → before ≡ epoch
 segment_epoch number epoch before slot records spelled fits header = one_epoch before epoch header.rest spelled.content header.fits fits (sym header.text ∙ spelled.text)
 
-segment_is_open : (epoch : ℕ) (slot : List ℕ) (records : List Record) → SpellsSegment epoch slot records → IsOpen segment_header_length slot
+pub segment_is_open : (epoch : ℕ) (slot : List ℕ) (records : List Record) → SpellsSegment epoch slot records → IsOpen segment_header_length slot
 segment_is_open epoch slot records spelled = subst (IsOpen segment_header_length) (sym spelled.text) (omega arith, refl)
 
 header_is_open : (number epoch : ℕ) (slot : List ℕ) → IsOfEpoch number epoch slot → IsOpen segment_header_length slot
@@ -139,10 +138,10 @@ beginning : (slots : Slots) (base : State) (records : List Record) → Spells sl
 beginning slots base records spelled = elim spelled.reading as (λ _. Beginning base records) [
   | inl new ↦ record { lawful = subst Lawful (sym new.1) opening_is_lawful.0; grounded = subst Grounded (sym new.1) opening_is_lawful.1; fit = subst FitCalls (sym new.2) tt }
   | inr stored ↦ record {
-      lawful = stored.image.lawful;
-      grounded = stored.image.grounded;
-      fit = subst FitCalls (sym stored.joined) (fit_both stored.first stored.next (records_fit stored.first stored.segment.spelled.canonical) (next_fit stored.epoch (slots.segment ((stored.epoch + 1) % 2)) stored.next stored.other));
-    }
+    lawful = stored.image.lawful;
+    grounded = stored.image.grounded;
+    fit = subst FitCalls (sym stored.joined) (fit_both stored.first stored.next (records_fit stored.first stored.segment.spelled.canonical) (next_fit stored.epoch (slots.segment ((stored.epoch + 1) % 2)) stored.next stored.other));
+  }
 ]
 
 -- One state at most is recovered from a disk, and it is lawful and grounded.

@@ -7,6 +7,7 @@ ghost use Rattle.ipc_model.specs.NameChanges.{NamesMoveLawfully};
 ghost use Rattle.ipc_model.specs.OpeningLaws.{OpeningIsLawful};
 ghost use Rattle.ipc_model.specs.OtherSpaces.{OthersFade, SpacesAreMade};
 ghost use Rattle.ipc_model.specs.PortChanges.{PortMovesLawfully};
+ghost use Rattle.ipc_model.specs.RecoveryLaws.{RecoversLawful, RecoversOnce, RecoversVersionOne, SpellsOnce};
 ghost use Rattle.ipc_model.specs.Spelling.{LawfulIsSpellable};
 ghost use Rattle.ipc_model.specs.Settling.{AlwaysSettles, EffectsLower};
 ghost use Rattle.ipc_model.specs.TextLaws.{RecordsHaveOneText};
@@ -105,4 +106,24 @@ pub fn image_once()
 /// An image can spell every lawful state whose queues hold fewer than 2^32 messages.
 pub fn lawful_is_spellable()
     ensures { LawfulIsSpellable }
+{}
+
+/// The slots of a store spell at most one base with one list of records.
+pub fn spells_once()
+    ensures { SpellsOnce }
+{}
+
+/// So one state at most is recovered from them,
+pub fn recovers_once()
+    ensures { RecoversOnce }
+{}
+
+/// it is lawful and grounded,
+pub fn recovers_lawful()
+    ensures { RecoversLawful }
+{}
+
+/// and no slot is of another version then.
+pub fn recovers_version_one()
+    ensures { RecoversVersionOne }
 {}
