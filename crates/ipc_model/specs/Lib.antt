@@ -84,3 +84,4 @@ pub mod Untouched
 pub mod UntouchedMessages
 pub mod Weights
 pub mod World
+pub mod WorldLaws

@@ -12,6 +12,7 @@ ghost use Rattle.ipc_model.specs.Spelling.{LawfulIsSpellable};
 ghost use Rattle.ipc_model.specs.Settling.{AlwaysSettles, EffectsLower};
 ghost use Rattle.ipc_model.specs.TextLaws.{RecordsHaveOneText};
 ghost use Rattle.ipc_model.specs.StepLaws.{OneEnd, OneNewState};
+ghost use Rattle.ipc_model.specs.WorldLaws.{ToldWithinApplied};
 
 /// A reply shows each choice that the machine made: from a lawful state, a call of a task that is answered so
 /// leaves one state, sends and receipts too.
@@ -126,4 +127,9 @@ pub fn recovers_lawful()
 /// and no slot is of another version then.
 pub fn recovers_version_one()
     ensures { RecoversVersionOne }
+{}
+
+/// Whatever events come after an opening, no more is told than was applied, and no more is stored.
+pub fn told_within_applied()
+    ensures { ToldWithinApplied }
 {}

@@ -18,7 +18,7 @@ pub use laws::{
     lawful_is_spellable, names_move_lawfully, one_end, one_new_state, one_run, opening_is_lawful,
     others_fade, port_moves_lawfully, record_once, recovers_lawful, recovers_once,
     recovers_version_one, runs_keep_lawful, settled_is_lawful, spaces_are_made, spells_once,
-    steps_keep_lawful,
+    steps_keep_lawful, told_within_applied,
 };
 pub use message::{CarriedRight, Message, PortInMessage, RightKind};
 pub use port::PortState;
