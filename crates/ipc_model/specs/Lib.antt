@@ -1,5 +1,6 @@
 pub mod Actions
 pub mod AllocateKeep
+pub mod BatchLaws
 pub mod CallsKeep
 pub mod Circular
 pub mod CopyIn
@@ -46,14 +47,17 @@ pub mod RowsRules
 pub mod RowsSteps
 pub mod RowsStore
 pub mod RowsTexts
+pub mod RunLaws
 pub mod Sending
 pub mod SetsKeep
 pub mod Settling
 pub mod State
+pub mod StateCode
 pub mod Step
 pub mod StepLaws
 pub mod StepsKeep
 pub mod Store
+pub mod StoreLaws
 pub mod Tests
 pub mod TextLaws
 pub mod TextReading
