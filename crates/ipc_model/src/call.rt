@@ -118,6 +118,83 @@ pub enum Call {
     SpaceDestroy,
 }
 
+impl Call {
+    ghost use Rattle.std.specs.Prelude.{◌≡◌};
+    ghost use Rattle.ipc_model.specs.Step.{number_of_call, is_recorded, succeeded, destroyed_message, has_record};
+
+    /// The number of the call in its frame.
+    pub fn number(&self) -> u32
+        ensures { result ≡ number_of_call self.now }
+    {
+        match self {
+            Call::Attach { .. } => 0,
+            Call::Names => 1,
+            Call::Type { .. } => 2,
+            Call::Rename { .. } => 3,
+            Call::AllocateName { .. } => 4,
+            Call::Allocate { .. } => 5,
+            Call::Destroy { .. } => 6,
+            Call::Deallocate { .. } => 7,
+            Call::GetRefs { .. } => 8,
+            Call::ModRefs { .. } => 9,
+            Call::SetQlimit { .. } => 10,
+            Call::SetMscount { .. } => 11,
+            Call::SetSeqno { .. } => 12,
+            Call::GetReceiveStatus { .. } => 13,
+            Call::GetSetStatus { .. } => 14,
+            Call::MoveMember { .. } => 15,
+            Call::RequestNotification { .. } => 16,
+            Call::InsertRight { .. } => 17,
+            Call::ExtractRight { .. } => 18,
+            Call::Send { .. } | Call::Receive { .. } => 19,
+            Call::SpaceCreate { .. } => 20,
+            Call::SpaceDestroy => 21,
+        }
+    }
+
+    /// Whether the call, answered so, has a record: it may have changed the state.
+    pub fn has_record(&self, reply: &Reply) -> bool
+        ensures { result ≡ has_record self.now reply.now }
+    {
+        self.is_recorded() && (self.succeeded(reply) || self.destroyed_message(reply))
+    }
+
+    fn is_recorded(&self) -> bool
+        ensures { result ≡ is_recorded self.now }
+    {
+        match self {
+            Call::Attach { .. }
+            | Call::Names
+            | Call::Type { .. }
+            | Call::GetRefs { .. }
+            | Call::GetReceiveStatus { .. }
+            | Call::GetSetStatus { .. } => false,
+            _ => true,
+        }
+    }
+
+    fn succeeded(&self, reply: &Reply) -> bool
+        ensures { result ≡ succeeded self.now reply.now }
+    {
+        match reply {
+            Reply::Refused { .. } => false,
+            Reply::Message { code, .. } => *code == KernReturn::Success,
+            _ => true,
+        }
+    }
+
+    fn destroyed_message(&self, reply: &Reply) -> bool
+        ensures { result ≡ destroyed_message self.now reply.now }
+    {
+        match (self, reply) {
+            (Call::Receive { large: false, .. }, Reply::Message { code, .. }) => {
+                *code == KernReturn::RcvTooLarge
+            }
+            _ => false,
+        }
+    }
+}
+
 /// A name with its type bits.
 #[derive(Clone, Copy, Debug, PartialEq, Eq)]
 pub struct NamedType {
