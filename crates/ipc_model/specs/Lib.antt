@@ -35,6 +35,7 @@ pub mod ReceiptLaws
 pub mod ReceiveLaws
 pub mod Receiving
 pub mod ReferencesKeep
+pub mod Refusals
 pub mod RowRules
 pub mod RowStates
 pub mod RowsCalls

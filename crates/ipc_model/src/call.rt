@@ -1,5 +1,9 @@
 use crate::{RightKind, Sequence};
-use codes::KernReturn;
+use codes::{KernReturn, MACH_PORT_NULL};
+use std::alloc::Global;
+
+/// The number of `mach_msg`, which shows its results in any case.
+pub const MACH_MSG: u32 = 19;
 
 /// A call of a task. Arguments are kept as they were sent, whether they are allowed or not.
 #[derive(Debug, Drop)]
@@ -176,11 +180,7 @@ impl Call {
     fn succeeded(&self, reply: &Reply) -> bool
         ensures { result ≡ succeeded self.now reply.now }
     {
-        match reply {
-            Reply::Refused { .. } => false,
-            Reply::Message { code, .. } => *code == KernReturn::Success,
-            _ => true,
-        }
+        reply.is_success()
     }
 
     fn destroyed_message(&self, reply: &Reply) -> bool
@@ -278,4 +278,46 @@ pub enum Reply {
         space: u32,
         name: u32,
     },
+}
+
+impl Reply {
+    ghost use Rattle.std.specs.Prelude.{◌≡◌};
+    ghost use Rattle.ipc_model.specs.declared.call.Call.{Call};
+    ghost use Rattle.ipc_model.specs.Receiving.{without_message};
+    ghost use Rattle.ipc_model.specs.Refusals.{refused_of};
+    ghost use Rattle.ipc_model.specs.Step.{succeeded};
+
+    /// What `mach_msg` answers that received no message. It takes no memory.
+    pub fn without_message(alloc: Global, code: KernReturn, size: u32, member: u32) -> Self
+        ensures { result ≡ without_message code size member }
+    {
+        Reply::Message {
+            code,
+            size,
+            member,
+            message: Sequence::new(Vec::new(alloc)),
+        }
+    }
+
+    /// The reply that refuses the call of a number. It takes no memory.
+    pub fn refused(alloc: Global, number: u32, code: KernReturn) -> Self
+        ensures { result ≡ refused_of number code }
+    {
+        if number == MACH_MSG {
+            Reply::without_message(alloc, code, 0, MACH_PORT_NULL)
+        } else {
+            Reply::Refused { number, code }
+        }
+    }
+
+    /// Whether the call was done: its code is 0.
+    pub fn is_success(&self) -> bool
+        ensures { (call : Call) → result ≡ succeeded call self.now }
+    {
+        match self {
+            Reply::Refused { .. } => false,
+            Reply::Message { code, .. } => *code == KernReturn::Success,
+            _ => true,
+        }
+    }
 }

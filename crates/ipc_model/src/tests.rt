@@ -32,3 +32,20 @@ fn what_changed_the_state_has_a_record(rt: HostRuntime) {
     };
     assert!(rt; !call.has_record(&full));
 }
+
+#[test]
+fn mach_msg_is_refused_with_its_results(rt: HostRuntime) {
+    let full = Reply::refused(rt.alloc(), 5, KernReturn::NoSpace);
+    assert!(rt; matches!(full, Reply::Refused { .. }) && !full.is_success());
+    let unsent = Reply::refused(rt.alloc(), MACH_MSG, KernReturn::SendTimedOut);
+    assert!(rt;
+        matches!(
+            unsent,
+            Reply::Message {
+                size: 0,
+                member: 0,
+                ..
+            }
+        ) && !unsent.is_success()
+    );
+}

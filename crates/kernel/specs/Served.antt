@@ -1,16 +1,14 @@
 -- The steps that are served today. A call that isn't served yet is refused, and changes nothing.
-use Rattle.std.specs.Prelude.{◌≡◌, ℕ, Bool, true, false, List, [], ◌∷◌, Option, None, Some, Result, Ok, Err, is_some, ◌==◌, MatchBool, if◌then◌else◌}
+use Rattle.std.specs.Prelude.{◌≡◌, ℕ, Bool, true, false, List, [], ◌∷◌, Option, None, Some, Result, Ok, Err, is_some, MatchBool, if◌then◌else◌}
 use Rattle.std.specs.FinMap as finmap
 use Rattle.codes.specs.declared.kern_return.KernReturn.{KernReturn}
 use Rattle.codes.specs.declared.kern_return.KernReturn.TheVariants.{InvalidArgument, InvalidTask}
-use Rattle.codes.specs.declared.name.TheConstants.{MACH_PORT_NULL}
 use Rattle.ipc_model.specs.declared.call.Call.{Call}
 use Rattle.ipc_model.specs.declared.call.Call.TheVariants as call
 use Rattle.ipc_model.specs.declared.call.Reply.{Reply}
 use Rattle.ipc_model.specs.declared.call.Reply.TheVariants as reply
 use Rattle.ipc_model.specs.declared.record.Record.{Record}
 use Rattle.ipc_model.specs.PortCalls.{tests_of}
-use Rattle.ipc_model.specs.Receiving.{without_message}
 use Rattle.ipc_model.specs.State.{State, Names}
 use Rattle.ipc_model.specs.Step.{Step, refused}
 use Rattle.ipc_model.specs.Tests.{first_failing}
@@ -42,10 +40,6 @@ refusal_in state space (Some names) c = first_failing (tests_of state space name
 
 abbrev pub refusal : State → ℕ → Call → Option KernReturn
 refusal state space c = refusal_in state space (finmap.get state.spaces space) c
-
--- the reply that refuses the call of a number; mach_msg, 19, shows its results in any case
-abbrev pub refused_of : ℕ → KernReturn → Reply
-refused_of number code = if number == 19 then without_message code 0 MACH_PORT_NULL else reply.Refused number code
 
 -- what mach_port_type answers: type bits, or the code that it is refused with
 abbrev pub type_reply : Result ℕ KernReturn → Reply

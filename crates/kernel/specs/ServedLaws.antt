@@ -17,7 +17,7 @@ use Rattle.ipc_model.specs.State.{State, Names, type_of}
 use Rattle.ipc_model.specs.Step.{Step, ActsFrom, refused, number_of_call, has_record}
 use Rattle.ipc_model.specs.StepLaws.{one_end, same_done}
 use Rattle.ipc_model.specs.Tests.{first_failing}
-use Rattle.kernel.specs.Served.{is_served, unserved_code, refusal, refused_of, ServedStep, ServedRun}
+use Rattle.kernel.specs.Served.{is_served, unserved_code, refusal, ServedStep, ServedRun}
 
 -- Steps without effects.
 
@@ -159,12 +159,6 @@ unrecorded_step old space c answer new step unrecorded = by_case (is_served c) r
     by_case : (served : Bool) → is_served c ≡ served → ServedAs served old space c answer new → new ≡ old
     by_case true is step = alone_unchanged (finmap.get old.spaces space) old space c answer new is unrecorded (acted_alone old space c answer new is step)
     by_case false is step = step.1
-
--- each call is refused as its number says
-pub refused_by_number : (c : Call) (code : KernReturn) → refused c code ≡ refused_of (number_of_call c) code
-refused_by_number (call.Send message) code = refl
-refused_by_number (call.Receive limit large name waited) code = refl
-refused_by_number c code = refl
 
 -- Runs.
 

@@ -6,7 +6,7 @@ ghost use Rattle.kernel.specs.Served as served;
 ghost use Rattle.kernel.specs.Served.{ServedStep};
 
 use crate::types::{
-    allocated_entry, is_allocatable, is_null_or_dead, is_refused, is_type_reply, refused, type_of,
+    allocated_entry, is_allocatable, is_null_or_dead, is_refused, is_type_reply, type_of,
 };
 use codes::{DEFAULT_QUEUE_LIMIT, KernReturn, MAX_PORTS, Right};
 use ipc_model::{Call, PortState, Record, Reply, Sequence};
@@ -111,7 +111,7 @@ impl Kernel {
             × (model.has_record (Call.Allocate right) reply ≡ true)) }
     {
         match self.refusal_of_allocate(space, right) {
-            Some(code) => Some(refused(self.alloc, 5, code)),
+            Some(code) => Some(Reply::refused(self.alloc, 5, code)),
             None => self.none_for_allocate(right),
         }
     }
@@ -159,7 +159,7 @@ impl Kernel {
     fn unserved(&self, space: u32, call: &Call) -> Reply
         ensures { result ≡ model.refused call.now (served.unserved_code self.now space) }
     {
-        refused(self.alloc, call.number(), self.unserved_code(space))
+        Reply::refused(self.alloc, call.number(), self.unserved_code(space))
     }
 
     fn unserved_code(&self, space: u32) -> KernReturn
@@ -241,7 +241,7 @@ impl Kernel {
         ensures err { OnErr result (self.new ≡ self.old) }
     {
         if let Some(code) = self.refusal_of_allocate(space, right) {
-            return Ok(refused(self.alloc, 5, code));
+            return Ok(Reply::refused(self.alloc, 5, code));
         }
         let name = self.names.free_name();
         self.add_name(right, name)?;

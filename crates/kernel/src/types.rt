@@ -3,11 +3,11 @@ ghost use Rattle.ipc_model.specs.State as model;
 ghost use Rattle.ipc_model.specs.Actions.{allocated_entry};
 ghost use Rattle.ipc_model.specs.PortCalls.{is_allocatable};
 ghost use Rattle.ipc_model.specs.Receiving.{without_message};
+ghost use Rattle.ipc_model.specs.Refusals.{refused_of};
 ghost use Rattle.kernel.specs.Served as served;
 
 use codes::{KernReturn, MACH_PORT_DEAD, MACH_PORT_NULL, Right};
-use ipc_model::{Entry, PortRights, Reply, Sequence};
-use std::alloc::Global;
+use ipc_model::{Entry, MACH_MSG, PortRights, Reply};
 
 const REQUEST_BIT: u32 = 1 << 31;
 
@@ -81,28 +81,9 @@ pub fn is_null_or_dead(name: u32) -> bool
     name == MACH_PORT_NULL || name == MACH_PORT_DEAD
 }
 
-/// The number of `mach_msg`, which shows its results in any case.
-const MACH_MSG: u32 = 19;
-
-/// The reply that refuses the call of a number. It takes no memory.
-pub fn refused(alloc: Global, number: u32, code: KernReturn) -> Reply
-    ensures { result ≡ served.refused_of number code }
-{
-    if number == MACH_MSG {
-        Reply::Message {
-            code,
-            size: 0,
-            member: MACH_PORT_NULL,
-            message: Sequence::new(Vec::new(alloc)),
-        }
-    } else {
-        Reply::Refused { number, code }
-    }
-}
-
 /// Whether a reply refuses the call of a number with a code.
 pub fn is_refused(reply: &Reply, number: u32, code: KernReturn) -> bool
-    ensures { IsTrue result ↔ (reply.now ≡ served.refused_of number code) }
+    ensures { IsTrue result ↔ (reply.now ≡ refused_of number code) }
 {
     if number == MACH_MSG {
         is_empty_message(reply, code)
