@@ -3,7 +3,7 @@
 #![tactic(auto)]
 
 use disk::FileDisk;
-use first_model::{Call, Reply};
+use ipc_model::{Call, Reply};
 use recover::open;
 use server::{Alone, Caller};
 use std::fs::File;
@@ -53,11 +53,11 @@ fn time_calls(rt: &HostRuntime, folder: &str) -> Result<Duration, Fault> {
     let Ok(opened) = open(rt.alloc(), disk) else {
         return Err(Fault::Store);
     };
-    let mut caller = Alone::new(opened);
+    let mut caller = Alone::new(rt.alloc(), opened);
     let start = Instant::now(rt)?;
     for _ in 0..ROUNDS {
         if !matches!(
-            caller.call(&Call::Allocate { right: 4 }),
+            caller.call(Call::Allocate { right: 4 }),
             Ok(Reply::Allocate { .. })
         ) {
             return Err(Fault::Call);

@@ -1,0 +1,5 @@
+pub mod Kept
+pub mod Recorded
+pub mod Requests
+pub mod Rows
+pub mod Shapes

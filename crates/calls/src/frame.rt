@@ -1,46 +1,110 @@
-ghost use Rattle.std.specs.Prelude.{◌≡◌, ◌≤◌, IfOk, Ok};
-ghost use Rattle.first_model.specs.Texts.{call_text, reply_text, FitsCall};
+ghost use Rattle.std.specs.Prelude.{◌≡◌, ◌+◌, ◌*◌, ◌≤◌, ◌++◌, length, flat_map};
+ghost use Rattle.ipc_model.specs.Texts.{reply_text, done_text, status_text};
+ghost use Rattle.words.specs.Words.{word};
+ghost use Rattle.calls.specs.Rows.{names_text};
 
-use crate::read_call;
-use codes::{KernReturn, MAX_FRAME_CONTENT};
-use first_model::{Call, Reply};
+use crate::spell::{bool_number, kind_number};
+use codes::MAX_FRAME_CONTENT;
+use ipc_model::{NamedType, ReceiveStatus, Reply};
 use wire::Frame;
 
-/// Why a frame is no request.
-#[derive(Clone, Copy, Debug, PartialEq, Eq)]
-pub enum CallFault {
-    /// The number is that of no call, or the arguments have another length than the call's.
-    NoCall = 1,
-}
-
-/// The call that a frame spells.
-pub fn read_request(frame: &Frame) -> Result<Call, CallFault>
-    ensures found { IfOk result (λ call. frame.now.content ≡ call_text call) }
-    ensures only { (call : Call) → FitsCall call → frame.now.content ≡ call_text call → result ≡ Ok call }
+/// Adds numbers of four bytes.
+fn put_words(frame: &mut Frame, numbers: &[u32])
+    requires room { length frame.old.content + 4 * length numbers.now ≤ frame.old.room }
+    requires limit { length frame.old.content + 4 * length numbers.now ≤ MAX_FRAME_CONTENT }
+    ensures content { frame.new.content ≡ frame.old.content ++ flat_map word numbers.now }
+    ensures room { frame.new.room ≡ frame.old.room }
 {
-    read_call(frame.content()).ok_or(CallFault::NoCall)
+    for &number in numbers {
+        frame.put_word(number);
+    }
 }
 
+/// Makes this a frame of a call's number, a code and these numbers.
+fn start_reply(frame: &mut Frame, number: u32, code: u32, numbers: &[u32])
+    requires room { MAX_FRAME_CONTENT ≤ frame.old.room }
+    requires limit { 8 + 4 * length numbers.now ≤ MAX_FRAME_CONTENT }
+    ensures content { frame.new.content ≡ word number ++ (word code ++ flat_map word numbers.now) }
+    ensures room { frame.old.room ≤ frame.new.room }
+{
+    frame.start(number);
+    frame.put_word(code);
+    put_words(frame, numbers);
+}
+
+/// Adds names with their type bits.
+fn put_names(frame: &mut Frame, names: &[NamedType])
+    requires room { length frame.old.content + 8 * length names.now ≤ frame.old.room }
+    requires limit { length frame.old.content + 8 * length names.now ≤ MAX_FRAME_CONTENT }
+    ensures content { frame.new.content ≡ frame.old.content ++ names_text names.now }
+    ensures room { frame.new.room ≡ frame.old.room }
+{
+    for named in names {
+        put_words(frame, &[named.name, named.bits]);
+    }
+}
+
+/// Makes this the frame of the state of a port.
+fn start_status(frame: &mut Frame, status: &ReceiveStatus)
+    requires { MAX_FRAME_CONTENT ≤ frame.old.room }
+    ensures content { frame.new.content ≡ done_text 13 (status_text status.now) }
+    ensures room { frame.old.room ≤ frame.new.room }
+{
+    start_reply(
+        frame,
+        13,
+        0,
+        &[
+            status.set,
+            status.sequence_number,
+            status.make_send_count,
+            status.limit,
+            status.messages,
+            status.send_once_count,
+            bool_number(status.has_senders),
+            bool_number(status.has_port_destroyed_request),
+            bool_number(status.has_no_senders_request),
+        ],
+    );
+}
+
+#[tactic(auto, unfolding(ipc_model::specs::Texts::reply_text))]
 /// Writes a reply into a frame. It takes no memory.
 pub fn reply_frame(reply: &Reply, frame: &mut Frame)
-    requires { MAX_FRAME_CONTENT ≤ frame.old.room }
+    requires room { MAX_FRAME_CONTENT ≤ frame.old.room }
+    // The names of a space and of a set's members fit, and so does a message of the greatest size.
+    requires limit { length (reply_text reply.now) ≤ MAX_FRAME_CONTENT }
     ensures content { frame.new.content ≡ reply_text reply.now }
     ensures room { frame.old.room ≤ frame.new.room }
 {
-    match *reply {
-        Reply::Refused { number, code } => {
-            frame.start(number);
-            frame.put_word(code.number());
+    match reply {
+        Reply::Refused { number, code } => start_reply(frame, *number, code.number(), &[]),
+        Reply::Done { number } => start_reply(frame, *number, 0, &[]),
+        Reply::Names { names } => {
+            let names = names.as_slice();
+            start_reply(frame, 1, 0, &[names.len() as u32]);
+            put_names(frame, names);
         }
-        Reply::Type { bits } => {
-            frame.start(2);
-            frame.put_word(KernReturn::Success.number());
-            frame.put_word(bits);
+        Reply::Type { bits } => start_reply(frame, 2, 0, &[*bits]),
+        Reply::Allocate { name } => start_reply(frame, 5, 0, &[*name]),
+        Reply::References { count } => start_reply(frame, 8, 0, &[*count]),
+        Reply::ReceiveStatus { status } => start_status(frame, status),
+        Reply::SetStatus { members } => {
+            let members = members.as_slice();
+            start_reply(frame, 14, 0, &[members.len() as u32]);
+            put_words(frame, members);
         }
-        Reply::Allocate { name } => {
-            frame.start(5);
-            frame.put_word(KernReturn::Success.number());
-            frame.put_word(name);
+        Reply::PreviousTarget { name } => start_reply(frame, 16, 0, &[*name]),
+        Reply::Extracted { name, kind } => start_reply(frame, 18, 0, &[*name, kind_number(*kind)]),
+        Reply::Message {
+            code,
+            size,
+            member,
+            message,
+        } => {
+            start_reply(frame, 19, code.number(), &[*size, *member]);
+            frame.put_bytes(message.as_slice());
         }
+        Reply::SpaceCreated { space, name } => start_reply(frame, 20, 0, &[*space, *name]),
     }
 }

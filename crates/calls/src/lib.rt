@@ -1,10 +1,19 @@
 //! Calls and replies as bytes and as frames, one spelling each.
 #![tactic(auto)]
 
+mod arguments;
 mod frame;
+mod kept;
+mod read;
+mod request;
+mod results;
+mod run;
+mod spell;
 #[cfg(test)]
 mod tests;
-mod text;
 
-pub use frame::{CallFault, read_request, reply_frame};
-pub use text::{push_call, push_reply, read_call, read_recorded_reply};
+pub use frame::reply_frame;
+pub use read::read_call;
+pub use request::{CallFault, MessageRequest, Request, read_request};
+pub use results::read_recorded_reply;
+pub use spell::{push_call, push_reply};

@@ -43,6 +43,7 @@ pub mod Receiving
 pub mod Recovery
 pub mod RecoveryLaws
 pub mod ReferencesKeep
+pub mod Refusals
 pub mod RenameKeep
 pub mod RequestsKeep
 pub mod RightsKeep

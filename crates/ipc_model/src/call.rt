@@ -1,5 +1,9 @@
 use crate::{RightKind, Sequence};
-use codes::KernReturn;
+use codes::{KernReturn, MACH_PORT_NULL};
+use std::alloc::Global;
+
+/// The number of `mach_msg`, which shows its results in any case.
+pub const MACH_MSG: u32 = 19;
 
 /// A call of a task. Arguments are kept as they were sent, whether they are allowed or not.
 #[derive(Debug, Drop)]
@@ -118,6 +122,79 @@ pub enum Call {
     SpaceDestroy,
 }
 
+impl Call {
+    ghost use Rattle.std.specs.Prelude.{◌≡◌};
+    ghost use Rattle.ipc_model.specs.Step.{number_of_call, is_recorded, succeeded, destroyed_message, has_record};
+
+    /// The number of the call in its frame.
+    pub fn number(&self) -> u32
+        ensures { result ≡ number_of_call self.now }
+    {
+        match self {
+            Call::Attach { .. } => 0,
+            Call::Names => 1,
+            Call::Type { .. } => 2,
+            Call::Rename { .. } => 3,
+            Call::AllocateName { .. } => 4,
+            Call::Allocate { .. } => 5,
+            Call::Destroy { .. } => 6,
+            Call::Deallocate { .. } => 7,
+            Call::GetRefs { .. } => 8,
+            Call::ModRefs { .. } => 9,
+            Call::SetQlimit { .. } => 10,
+            Call::SetMscount { .. } => 11,
+            Call::SetSeqno { .. } => 12,
+            Call::GetReceiveStatus { .. } => 13,
+            Call::GetSetStatus { .. } => 14,
+            Call::MoveMember { .. } => 15,
+            Call::RequestNotification { .. } => 16,
+            Call::InsertRight { .. } => 17,
+            Call::ExtractRight { .. } => 18,
+            Call::Send { .. } | Call::Receive { .. } => 19,
+            Call::SpaceCreate { .. } => 20,
+            Call::SpaceDestroy => 21,
+        }
+    }
+
+    /// Whether the call, answered so, has a record: it may have changed the state.
+    pub fn has_record(&self, reply: &Reply) -> bool
+        ensures { result ≡ has_record self.now reply.now }
+    {
+        self.is_recorded() && (self.succeeded(reply) || self.destroyed_message(reply))
+    }
+
+    fn is_recorded(&self) -> bool
+        ensures { result ≡ is_recorded self.now }
+    {
+        match self {
+            Call::Attach { .. }
+            | Call::Names
+            | Call::Type { .. }
+            | Call::GetRefs { .. }
+            | Call::GetReceiveStatus { .. }
+            | Call::GetSetStatus { .. } => false,
+            _ => true,
+        }
+    }
+
+    fn succeeded(&self, reply: &Reply) -> bool
+        ensures { result ≡ succeeded self.now reply.now }
+    {
+        reply.is_success()
+    }
+
+    fn destroyed_message(&self, reply: &Reply) -> bool
+        ensures { result ≡ destroyed_message self.now reply.now }
+    {
+        match (self, reply) {
+            (Call::Receive { large: false, .. }, Reply::Message { code, .. }) => {
+                *code == KernReturn::RcvTooLarge
+            }
+            _ => false,
+        }
+    }
+}
+
 /// A name with its type bits.
 #[derive(Clone, Copy, Debug, PartialEq, Eq)]
 pub struct NamedType {
@@ -201,4 +278,46 @@ pub enum Reply {
         space: u32,
         name: u32,
     },
+}
+
+impl Reply {
+    ghost use Rattle.std.specs.Prelude.{◌≡◌};
+    ghost use Rattle.ipc_model.specs.declared.call.Call.{Call};
+    ghost use Rattle.ipc_model.specs.Receiving.{without_message};
+    ghost use Rattle.ipc_model.specs.Refusals.{refused_of};
+    ghost use Rattle.ipc_model.specs.Step.{succeeded};
+
+    /// What `mach_msg` answers that received no message. It takes no memory.
+    pub fn without_message(alloc: Global, code: KernReturn, size: u32, member: u32) -> Self
+        ensures { result ≡ without_message code size member }
+    {
+        Reply::Message {
+            code,
+            size,
+            member,
+            message: Sequence::new(Vec::new(alloc)),
+        }
+    }
+
+    /// The reply that refuses the call of a number. It takes no memory.
+    pub fn refused(alloc: Global, number: u32, code: KernReturn) -> Self
+        ensures { result ≡ refused_of number code }
+    {
+        if number == MACH_MSG {
+            Reply::without_message(alloc, code, 0, MACH_PORT_NULL)
+        } else {
+            Reply::Refused { number, code }
+        }
+    }
+
+    /// Whether the call was done: its code is 0.
+    pub fn is_success(&self) -> bool
+        ensures { (call : Call) → result ≡ succeeded call self.now }
+    {
+        match self {
+            Reply::Refused { .. } => false,
+            Reply::Message { code, .. } => *code == KernReturn::Success,
+            _ => true,
+        }
+    }
 }

@@ -11,7 +11,7 @@ mod sequence;
 #[cfg(test)]
 mod tests;
 
-pub use call::{Call, NamedType, ReceiveStatus, Reply};
+pub use call::{Call, MACH_MSG, NamedType, ReceiveStatus, Reply};
 pub use entry::{Entry, PortRights};
 pub use laws::{
     always_settles, effects_keep_grounded, effects_keep_lawful, effects_lower, image_once,

@@ -1,4 +1,5 @@
 use super::*;
+use codes::KernReturn;
 use std::test::Fail;
 
 #[test]
@@ -18,4 +19,33 @@ fn kinds_have_their_numbers(rt: HostRuntime) {
     ] {
         assert_eq!(rt; kind as u32, number, "{kind:?}");
     }
+}
+
+#[test]
+fn what_changed_the_state_has_a_record(rt: HostRuntime) {
+    let call = Call::Allocate { right: 1 };
+    assert_eq!(rt; call.number(), 5);
+    assert!(rt; call.has_record(&Reply::Allocate { name: 0x100 }));
+    let full = Reply::Refused {
+        number: 5,
+        code: KernReturn::NoSpace,
+    };
+    assert!(rt; !call.has_record(&full));
+}
+
+#[test]
+fn mach_msg_is_refused_with_its_results(rt: HostRuntime) {
+    let full = Reply::refused(rt.alloc(), 5, KernReturn::NoSpace);
+    assert!(rt; matches!(full, Reply::Refused { .. }) && !full.is_success());
+    let unsent = Reply::refused(rt.alloc(), MACH_MSG, KernReturn::SendTimedOut);
+    assert!(rt;
+        matches!(
+            unsent,
+            Reply::Message {
+                size: 0,
+                member: 0,
+                ..
+            }
+        ) && !unsent.is_success()
+    );
 }

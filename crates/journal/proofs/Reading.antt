@@ -5,10 +5,10 @@ use Rattle.std.proofs.lemmas.List.{take_at}
 use Rattle.codes.specs.declared.limits.TheConstants.{MAX_RECORDS}
 use Rattle.words.specs.Words.{word, long_word}
 use Rattle.words.specs.WordLaws.{same_word}
-use Rattle.first_model.specs.BatchLaws.{same_heads, batch_apart, length-records_text, same_batches, are_records-front, are_records-back}
-use Rattle.first_model.specs.declared.record.Record.{Record}
-use Rattle.first_model.specs.Texts.{record_text, records_text, IsRecord}
-use Rattle.first_model.specs.Store.{batch_text, batches_text, all_records, open_gate, IsClosed, NoneEmpty, AreRecords, SpellsBatches}
+use Rattle.ipc_model.specs.BatchLaws.{same_heads, batch_apart, records_are_short, same_batches, are_records-front, are_records-back}
+use Rattle.ipc_model.specs.declared.record.Record.{Record}
+use Rattle.ipc_model.specs.Texts.{record_text, records_text, IsRecord}
+use Rattle.ipc_model.specs.Store.{batch_text, batches_text, all_records, open_gate, IsClosed, NoneEmpty, AreRecords, SpellsBatches}
 use Rattle.journal.specs.Reading.{IsContent, IsBatch}
 
 -- the content of a batch, whatever its records
@@ -51,7 +51,7 @@ pub batch_parts : (n count size : ℕ) (bytes one two rest : List ℕ) (records 
 batch_parts n count size bytes one two rest records first second count_fits size_fits is =
     let whole : bytes ≡ word count ++ (long_word size ++ two) = first ∙ ap (λ l. word count ++ l) second in
     same_heads (length records) count (length (records_text n records)) size (records_text n records ++ rest) two
-    (omega (arith, is.bounded)) count_fits (omega (arith, is.bounded, length-records_text n records is.canonical)) size_fits
+    (omega (arith, is.bounded)) count_fits (records_are_short n records is.canonical (omega (arith, is.bounded))) size_fits
     (sym (batch_apart n records rest) ∙ sym is.text ∙ whole)
 
 -- open batches, numbered from n, up to a gate that isn't open

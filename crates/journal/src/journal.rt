@@ -1,16 +1,17 @@
-ghost use Rattle.std.specs.Prelude.{◌≡◌, ◌≢◌, ◌↔◌, ◌⊎◌, ◌+◌, ◌-◌, ◌<◌, ◌≤◌, ◌++◌, ◌∷◌, [], length, take, true, false, IsTrue, OnOk, OnErr, IfOk, IsErrOf};
+ghost use Rattle.std.specs.Prelude.{◌≡◌, ◌≢◌, ◌↔◌, ◌⊎◌, ◌+◌, ◌-◌, ◌<◌, ◌≤◌, ◌^◌, ◌++◌, ◌∷◌, [], length, take, true, false, IsTrue, OnOk, OnErr, IfOk, IsErrOf};
 ghost use Rattle.disk.specs.Slots.{slot_of, with_slot};
 ghost use Rattle.disk.specs.Moments.{IsSynced, Passes, Follows, Grew, CountsFailure};
-ghost use Rattle.first_model.specs.Step.{has_record};
-ghost use Rattle.first_model.specs.Texts.{IsRecord};
-ghost use Rattle.first_model.specs.Store.{with_batch, batch_text, open_gate, closed_gate, IsMidAppend};
+ghost use Rattle.ipc_model.specs.Step.{number_of_call, has_record};
+ghost use Rattle.ipc_model.specs.Texts.{call_text, reply_text, number_of_reply, IsRecord};
+ghost use Rattle.record.specs.Ranges.{IsKeptCall};
+ghost use Rattle.ipc_model.specs.Store.{with_batch, batch_text, open_gate, closed_gate, IsMidAppend};
 ghost use Rattle.journal.specs.Storing.{IsMidStore};
 
 use crate::StoreFault;
 use codes::MAX_RECORDS;
 use disk::{Disk, DiskFault, Slot};
-use first_model::Record;
-use record::push_record;
+use ipc_model::Record;
+use record::{in_range, push_record};
 use std::alloc::{AllocError, Global};
 use std::marker::Model;
 use words::{push_long_word, push_word};
@@ -44,9 +45,11 @@ impl<D: Disk> Model for Journal<D> {
     ghost invariant = { λ j. j.failed ≡ false → D.honest → 0 < length (D.view j.disk).seen.segment0 };
 }
 
-#[tactic(auto, unfolding(first_model::specs::Store::batch_text))]
+#[tactic(auto, unfolding(ipc_model::specs::Store::batch_text))]
 /// The text behind a batch's gate, and the closed gate behind it.
 fn batch_of(alloc: Global, number: u64, entry: &Record) -> Result<Vec<u8>, AllocError>
+    requires call { length (call_text entry.now.call) < 2 ^ 32 }
+    requires reply { length (reply_text entry.now.reply) < 2 ^ 32 }
     ensures { IfOk result (λ text. text.items ≡ batch_text number (entry.now ∷ []) ++ closed_gate ∷ []) }
 {
     let mut content = Vec::new(alloc);
@@ -57,14 +60,6 @@ fn batch_of(alloc: Global, number: u64, entry: &Record) -> Result<Vec<u8>, Alloc
     text.extend_from_slice(&content)?;
     text.push(CLOSED_GATE)?;
     Ok(text)
-}
-
-/// The same record: its numbers are in the ranges of their types.
-fn in_range(entry: Record) -> Record
-    ensures same { result ≡ entry }
-    ensures fits { IsTrue (has_record entry.reply) → IsRecord entry }
-{
-    entry
 }
 
 /// Writes a batch behind a slot's last gate, and opens that gate once the batch is on the disk.
@@ -126,6 +121,8 @@ impl<D: Disk> Journal<D> {
     /// holds `MAX_RECORDS` records. `NoMemory`: nothing changed. `Device`: the device failed, and whether the
     /// record is stored isn't known until the store is opened again.
     pub fn append(&mut self, entry: &Record) -> Result<(), StoreFault>
+        requires call { length (call_text entry.now.call) < 2 ^ 32 }
+        requires reply { length (reply_text entry.now.reply) < 2 ^ 32 }
         ensures stored { D.honest → OnOk result ((D.view self.new.disk).seen ≡ with_slot (D.view self.old.disk).seen Slot.Segment0
             (with_batch (D.view self.old.disk).seen.segment0 (batch_text self.old.records (entry.now ∷ [])))) }
         ensures synced { D.honest → OnOk result (IsSynced (D.view self.new.disk) Slot.Segment0) }
@@ -135,7 +132,8 @@ impl<D: Disk> Journal<D> {
             → Passes (D.view self.old.disk) (D.view self.new.disk) (Follows (D.view self.old.disk) Slot.Segment0
             (λ before after. IsMidAppend before (batch_text self.old.records (entry.now ∷ [])) after)) }
         // The numbers of a record are in the ranges of their types: one of a call that has a record is fit to be kept.
-        ensures fits { IsTrue (has_record entry.now.reply) → IsRecord entry.now }
+        ensures fits { IsKeptCall entry.now.call → number_of_reply entry.now.reply ≡ number_of_call entry.now.call
+            → IsTrue (has_record entry.now.call entry.now.reply) → IsRecord entry.now }
         ensures counted { OnOk result ((self.new.records ≡ self.old.records + 1) × (self.new.failed ≡ false)) }
 
         ensures failed { IsErrOf result StoreFault.Failed ↔ (self.old.failed ≡ true) }
@@ -145,14 +143,14 @@ impl<D: Disk> Journal<D> {
         ensures no_other { (result ≢ Err StoreFault.Damaged) × (result ≢ Err StoreFault.Version) }
         ensures unchanged { OnErr result ((result ≡ Err StoreFault.Device) ⊎ (self.new ≡ self.old)) }
     {
-        let next = in_range(*entry);
+        in_range(entry);
         if self.failed {
             return Err(StoreFault::Failed);
         }
         if self.records >= MAX_RECORDS {
             return Err(StoreFault::Full);
         }
-        let text = batch_of(self.alloc, self.records, &next)?;
+        let text = batch_of(self.alloc, self.records, entry)?;
         if store(&mut self.disk, Slot::Segment0, &text).is_err() {
             self.failed = true;
             return Err(StoreFault::Device);

@@ -1,18 +1,23 @@
 ghost use Rattle.std.specs.Prelude.{◌≡◌, ◌⊎◌, ◌≤◌, ◌++◌, ℕ, List, length, drop, ◌∷◌, Err, OnOk, OnErr, IfOk, IfSome, IfNone, IsErrOf};
-ghost use Rattle.first_model.specs.declared.record.Record.{Record};
-ghost use Rattle.first_model.specs.Store.{open_gate, IsClosed, SpellsBatches};
+ghost use Rattle.ipc_model.specs.declared.record.Record.{Record};
+ghost use Rattle.ipc_model.specs.Store.{open_gate, IsClosed, SpellsBatches};
 ghost use Rattle.journal.specs.Reading.{IsContent, IsBatch};
 
 use crate::StoreFault;
 use crate::journal::OPEN_GATE;
 use codes::MAX_RECORDS;
-use first_model::Record;
+use ipc_model::Record;
 use record::take_record;
 use std::alloc::Global;
 use words::{take_long_word, take_word};
 
 /// Adds the records of a batch's content, which are numbered on from those that are there.
-fn take_records(records: &mut Vec<Record>, content: &[u8], count: u32) -> Result<(), StoreFault>
+fn take_records(
+    alloc: Global,
+    records: &mut Vec<Record>,
+    content: &[u8],
+    count: u32,
+) -> Result<(), StoreFault>
     requires { length records.old.items ≤ MAX_RECORDS }
     ensures added { OnOk result (let added = drop (length records.old.items) records.new.items in
         (records.new.items ≡ records.old.items ++ added) × IsContent (length records.old.items) count content.now added) }
@@ -22,7 +27,7 @@ fn take_records(records: &mut Vec<Record>, content: &[u8], count: u32) -> Result
 {
     let mut rest = content;
     for _ in 0..count {
-        let Some((number, entry, after)) = take_record(rest) else {
+        let Some((number, entry, after)) = take_record(alloc, rest)? else {
             return Err(StoreFault::Damaged);
         };
         if number != records.len() as u64 || number >= MAX_RECORDS {
@@ -39,7 +44,11 @@ fn take_records(records: &mut Vec<Record>, content: &[u8], count: u32) -> Result
 }
 
 /// Adds the records of the batch whose open gate stands before these bytes, and gives what stands behind it.
-fn take_batch<'a>(records: &mut Vec<Record>, bytes: &'a [u8]) -> Result<&'a [u8], StoreFault>
+fn take_batch<'a>(
+    alloc: Global,
+    records: &mut Vec<Record>,
+    bytes: &'a [u8],
+) -> Result<&'a [u8], StoreFault>
     requires { length records.old.items ≤ MAX_RECORDS }
     ensures added { IfOk result (λ rest. let added = drop (length records.old.items) records.new.items in
         (records.new.items ≡ records.old.items ++ added) × IsBatch (length records.old.items) bytes.now added rest.now) }
@@ -57,7 +66,7 @@ fn take_batch<'a>(records: &mut Vec<Record>, bytes: &'a [u8]) -> Result<&'a [u8]
         return Err(StoreFault::Damaged);
     }
     let (content, behind) = rest.split_at(length as usize);
-    take_records(records, content, count)?;
+    take_records(alloc, records, content, count)?;
     Ok(behind)
 }
 
@@ -86,7 +95,7 @@ pub fn read_batches(alloc: Global, bytes: &[u8]) -> Result<(Vec<Record>, usize),
     let mut records = Vec::new(alloc);
     let mut rest = bytes;
     while let Some(batch) = behind_open_gate(rest) {
-        rest = take_batch(&mut records, batch)?;
+        rest = take_batch(alloc, &mut records, batch)?;
     }
     Ok((records, bytes.len() - rest.len()))
 }

@@ -1,6 +1,9 @@
+ghost use Rattle.std.specs.Prelude.{◌<◌, ◌^◌, length};
+ghost use Rattle.ipc_model.specs.Texts.{call_text, reply_text};
+
 use super::*;
 use disk::{MemDisk, Slot, Torn};
-use first_model::{Call, Record, Reply};
+use ipc_model::{Call, Record, Reply};
 use std::test::Fail;
 
 // A segment of epoch 0 with one batch: that of the record 0, which is the allocation of the name 0x100.
@@ -13,17 +16,23 @@ const SEGMENT: [u8; 70] = [
 // A segment of epoch 0 with no batch.
 const NEW_SEGMENT: [u8; 17] = [0x5a, 1, 0, 0, 0, 0, 0, 0, 0, 0, 0, 0, 0, 0, 0, 0, 0];
 
-const RECORD: Record = Record {
-    space: 1,
-    call: Call::Allocate { right: 1 },
-    reply: Reply::Allocate { name: 0x100 },
-};
+#[tactic(auto, unfolding(ipc_model::specs::Texts::call_text, ipc_model::specs::Texts::reply_text))]
+fn allocation() -> Record
+    ensures call { length (call_text result.call) < 2 ^ 32 }
+    ensures reply { length (reply_text result.reply) < 2 ^ 32 }
+{
+    Record {
+        space: 1,
+        call: Call::Allocate { right: 1 },
+        reply: Reply::Allocate { name: 0x100 },
+    }
+}
 
 #[test]
 fn a_batch_is_stored(rt: HostRuntime) -> Result<(), Fail> {
     let disk = MemDisk::with_slots(rt.alloc(), &[], &[], &NEW_SEGMENT, &[])?;
     let mut journal = Journal::new(rt.alloc(), disk, 0);
-    journal.append(&RECORD)?;
+    journal.append(&allocation())?;
     assert_eq!(rt; journal.records(), 1);
     assert_eq!(rt; journal.into_disk().content(Slot::Segment0), &SEGMENT[..]);
     Ok(())
@@ -36,12 +45,12 @@ fn a_failure_is_remembered(rt: HostRuntime) -> Result<(), Fail> {
         disk.plan(None, Some(call), Torn::Old);
         let mut journal = Journal::new(rt.alloc(), disk, 0);
         assert_eq!(rt;
-            journal.append(&RECORD),
+            journal.append(&allocation()),
             Err(StoreFault::Device),
             "at call {call}"
         );
         assert_eq!(rt;
-            journal.append(&RECORD),
+            journal.append(&allocation()),
             Err(StoreFault::Failed),
             "at call {call}"
         );
@@ -52,7 +61,12 @@ fn a_failure_is_remembered(rt: HostRuntime) -> Result<(), Fail> {
 #[test]
 fn batches_are_read(rt: HostRuntime) -> Result<(), Fail> {
     let (records, size) = read_batches(rt.alloc(), &SEGMENT[16..])?;
-    assert_eq!(rt; records.as_slice(), &[RECORD][..]);
+    let [record] = records.as_slice() else {
+        return Err(Fail::from("one record is read"));
+    };
+    assert_eq!(rt; record.space, 1);
+    assert!(rt; matches!(record.call, Call::Allocate { right: 1 }));
+    assert!(rt; matches!(record.reply, Reply::Allocate { name: 0x100 }));
     assert_eq!(rt; size, 53);
     // A second batch of the same number doesn't follow the first.
     let mut twice = SEGMENT[16..69].to_vec(rt.alloc())?;

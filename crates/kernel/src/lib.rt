@@ -2,9 +2,11 @@
 #![tactic(auto)]
 
 mod kernel;
+mod laws;
 mod types;
 
 pub use kernel::{Kernel, ReplayFault};
+pub use laws::{one_served_state, recorded_steps_are_steps, unrecorded_steps_change_nothing};
 
 #[cfg(test)]
 mod tests;

@@ -1,9 +1,13 @@
 ghost use Rattle.std.specs.Prelude.{◌≡◌, ◌↔◌, IsTrue};
-ghost use Rattle.first_model.specs.State as model;
-ghost use Rattle.first_model.specs.Step.{is_allocatable, allocated_entry};
+ghost use Rattle.ipc_model.specs.State as model;
+ghost use Rattle.ipc_model.specs.Actions.{allocated_entry};
+ghost use Rattle.ipc_model.specs.PortCalls.{is_allocatable};
+ghost use Rattle.ipc_model.specs.Receiving.{without_message};
+ghost use Rattle.ipc_model.specs.Refusals.{refused_of};
+ghost use Rattle.kernel.specs.Served as served;
 
-use codes::Right;
-use first_model::{Entry, PortRights, Reply};
+use codes::{KernReturn, MACH_PORT_DEAD, MACH_PORT_NULL, Right};
+use ipc_model::{Entry, MACH_MSG, PortRights, Reply};
 
 const REQUEST_BIT: u32 = 1 << 31;
 
@@ -70,9 +74,70 @@ pub fn type_of(entry: &Entry) -> u32
     }
 }
 
-/// Whether two replies are the same.
-pub fn is_same_reply(a: &Reply, b: &Reply) -> bool
-    ensures { IsTrue result ↔ (a.now ≡ b.now) }
+/// Whether a name is `MACH_PORT_NULL` or `MACH_PORT_DEAD`.
+pub fn is_null_or_dead(name: u32) -> bool
+    ensures { result ≡ model.is_null_or_dead name }
 {
-    a == b
+    name == MACH_PORT_NULL || name == MACH_PORT_DEAD
+}
+
+/// Whether a reply refuses the call of a number with a code.
+pub fn is_refused(reply: &Reply, number: u32, code: KernReturn) -> bool
+    ensures { IsTrue result ↔ (reply.now ≡ refused_of number code) }
+{
+    if number == MACH_MSG {
+        is_empty_message(reply, code)
+    } else {
+        is_plain_refusal(reply, number, code)
+    }
+}
+
+fn is_plain_refusal(reply: &Reply, number: u32, code: KernReturn) -> bool
+    ensures { IsTrue result ↔ (reply.now ≡ Reply.Refused number code) }
+{
+    match reply {
+        Reply::Refused {
+            number: refused,
+            code: given,
+        } => *refused == number && *given == code,
+        _ => false,
+    }
+}
+
+fn is_empty_message(reply: &Reply, code: KernReturn) -> bool
+    ensures { IsTrue result ↔ (reply.now ≡ without_message code 0 MACH_PORT_NULL) }
+{
+    match reply {
+        Reply::Message {
+            code: given,
+            size,
+            member,
+            message,
+        } => {
+            *given == code
+                && *size == 0
+                && *member == MACH_PORT_NULL
+                && message.as_slice().is_empty()
+        }
+        _ => false,
+    }
+}
+
+/// Whether a reply is what `mach_port_type` answers.
+pub fn is_type_reply(reply: &Reply, answer: Result<u32, KernReturn>) -> bool
+    ensures { IsTrue result ↔ (reply.now ≡ served.type_reply answer) }
+{
+    match answer {
+        Ok(bits) => is_type(reply, bits),
+        Err(code) => is_refused(reply, 2, code),
+    }
+}
+
+fn is_type(reply: &Reply, bits: u32) -> bool
+    ensures { IsTrue result ↔ (reply.now ≡ Reply.Type bits) }
+{
+    match reply {
+        Reply::Type { bits: given } => *given == bits,
+        _ => false,
+    }
 }

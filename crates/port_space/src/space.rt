@@ -1,9 +1,9 @@
 ghost use Rattle.std.specs.Prelude.{◌≡◌, ℕ, ◌+◌, ◌≤◌, ◌<◌, ◌↔◌, ◌==◌, nat_le, IfOk, OnOk, OnErr, IsSome, IsTrue, is_some, None};
 ghost use Rattle.std.specs.FinMap as map;
-ghost use Rattle.first_model.specs.State.{IsUnused};
+ghost use Rattle.ipc_model.specs.State.{IsUnused};
 
 use codes::{FIRST_NAME, MACH_PORT_DEAD, MACH_PORT_NULL, MAX_NAMES};
-use first_model::Entry;
+use ipc_model::Entry;
 use number_map::NumberMap;
 use std::alloc::{AllocError, Global};
 use std::marker::Model;
@@ -21,8 +21,8 @@ impl Model for PortSpace {
     ghost use Rattle.std.specs.FinMap as map;
     ghost use Rattle.std.specs.Coded.{coded_ℕ};
     ghost use Rattle.codes.specs.declared.limits.TheConstants.{MAX_NAMES};
-    ghost use Rattle.first_model.specs.declared.entry.Entry.{Entry};
-    ghost use Rattle.first_model.specs.contracts.entry.Entry as entry;
+    ghost use Rattle.ipc_model.specs.declared.entry.Entry.{Entry};
+    ghost use Rattle.ipc_model.specs.contracts.entry.Entry as entry;
 
     ghost Value = { map.FinMap nat_cmp Entry };
 

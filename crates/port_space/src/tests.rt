@@ -1,5 +1,5 @@
 use super::*;
-use first_model::Entry;
+use ipc_model::Entry;
 use std::test::Fail;
 
 #[test]

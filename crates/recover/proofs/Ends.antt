@@ -1,9 +1,9 @@
 -- A segment that was ended behind its batches is in use.
 use Rattle.std.proofs.Common.{◌≡◌, inl, ℕ, ◌+◌, List, [], ◌∷◌, ◌++◌, length, take, refl, sym, ap, subst, ◌∙◌, arith, append_assoc, length-append}
 use Rattle.std.proofs.Math.Seq.{take-append-add}
-use Rattle.first_model.specs.declared.record.Record.{Record}
-use Rattle.first_model.specs.State.{State, opening_state}
-use Rattle.first_model.specs.Store.{SpellsBatches, IsInUse, IsClosed, open_gate, closed_gate, segment_header, image_content, batches_text}
+use Rattle.ipc_model.specs.declared.record.Record.{Record}
+use Rattle.ipc_model.specs.State.{State, opening_state}
+use Rattle.ipc_model.specs.Store.{SpellsBatches, IsInUse, IsClosed, open_gate, closed_gate, segment_header, image_content, batches_text}
 use Rattle.disk.specs.Slots.{Slots, with_slot}
 use Rattle.disk.specs.declared.slot.Slot.TheVariants.{Image0, Segment0}
 use Rattle.recover.specs.Recovered.{IsOpen, HoldsOpeningImage, Recovers, Follows, IsReady, opening_text}

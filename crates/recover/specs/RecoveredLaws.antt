@@ -1,12 +1,12 @@
 -- A store stands for one state, and no slot of it is of another version.
 use Rattle.std.specs.Prelude.{◌≡◌, ℕ, ◌++◌, List, length, drop, slice_index}
 use Rattle.std.proofs.Common.{inl, inr, sym, ap, subst, ◌∙◌, refl, arith}
-use Rattle.first_model.specs.declared.record.Record.{Record}
-use Rattle.first_model.specs.BatchLaws.{one_reading}
-use Rattle.first_model.specs.State.{State, opening_state}
-use Rattle.first_model.specs.Step.{Run}
-use Rattle.first_model.specs.StepLaws.{one_run}
-use Rattle.first_model.specs.Store.{SpellsBatches, SpellsSegment, open_gate, segment_header}
+use Rattle.ipc_model.specs.declared.record.Record.{Record}
+use Rattle.ipc_model.specs.BatchLaws.{one_reading}
+use Rattle.ipc_model.specs.State.{State, opening_state}
+use Rattle.kernel.specs.Served.{ServedRun}
+use Rattle.kernel.specs.ServedLaws.{one_run}
+use Rattle.ipc_model.specs.Store.{SpellsBatches, SpellsSegment, open_gate, segment_header}
 use Rattle.disk.specs.Slots.{Slots}
 use Rattle.recover.specs.Recovered.{IsOpen, HasOtherVersion, IsOtherVersion, HoldsOpeningImage, Follows, Recovers}
 
@@ -19,7 +19,7 @@ one_list segment one two a b =
 one_end : (segment : List ℕ) (state other : State) (count number : ℕ) → Follows segment state count → Follows segment other number → (state ≡ other) × (count ≡ number)
 one_end segment state other count number a b =
     let same : a.records ≡ b.records = one_list segment a.records b.records a.spelled b.spelled in (
-      one_run opening_state state other b.records (subst (λ (l : List Record). Run opening_state l state) same a.run) b.run,
+      one_run opening_state state other b.records (subst (λ (l : List Record). ServedRun opening_state l state) same a.run) b.run,
       a.counted ∙ ap length same ∙ sym b.counted,
     )
 

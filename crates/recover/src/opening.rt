@@ -1,10 +1,10 @@
 ghost use Rattle.std.specs.Prelude.{◌≡◌, ◌≢◌, ◌<◌, ◌≤◌, ◌++◌, ℕ, List, false, length, take, IfOk, IfErr, OnOk, OnErr, IsErrOf, ◌⊎◌, Err};
 ghost use Rattle.disk.specs.Slots.{Slots, slot_of, with_slot};
 ghost use Rattle.disk.specs.Moments.{Grew, MayLeave};
-ghost use Rattle.first_model.specs.declared.record.Record.{Record};
-ghost use Rattle.first_model.specs.State.{State, opening_state};
-ghost use Rattle.first_model.specs.Step.{Run};
-ghost use Rattle.first_model.specs.Store.{segment_header, open_gate, SpellsBatches, IsInUse};
+ghost use Rattle.ipc_model.specs.declared.record.Record.{Record};
+ghost use Rattle.ipc_model.specs.State.{State, opening_state};
+ghost use Rattle.kernel.specs.Served.{ServedRun};
+ghost use Rattle.ipc_model.specs.Store.{segment_header, open_gate, SpellsBatches, IsInUse};
 ghost use Rattle.recover.specs.AtRest.{IsAtRest};
 ghost use Rattle.recover.specs.Fronts.{four_slots, fronts_of};
 ghost use Rattle.recover.specs.Kept.{IsKept};
@@ -107,9 +107,9 @@ fn read_fronts<D: Disk>(alloc: Global, disk: &mut D) -> Result<Fronts, StoreFaul
 /// The state after the records of these batches, how many records they are, and how many bytes they have.
 fn replay_batches(alloc: Global, batches: &[u8]) -> Result<(Kernel, u64, usize), StoreFault>
     ensures state { IfOk result (λ r. (records : List Record) × SpellsBatches batches.now records r.2
-        × Run opening_state records r.0 × (r.1 ≡ length records)) }
+        × ServedRun opening_state records r.0 × (r.1 ≡ length records)) }
     ensures damaged { IsErrOf result StoreFault.Damaged → (records : List Record) → (size : ℕ) → (state : State)
-        → SpellsBatches batches.now records size → Run opening_state records state → ⊥ }
+        → SpellsBatches batches.now records size → ServedRun opening_state records state → ⊥ }
     ensures faults { OnErr result ((result ≡ Err StoreFault.Damaged) ⊎ (result ≡ Err StoreFault.NoMemory)) }
 {
     let (records, size) = read_batches(alloc, batches)?;

@@ -1,7 +1,9 @@
+ghost use Rattle.std.specs.Prelude.{◌<◌, ◌^◌, length};
+ghost use Rattle.ipc_model.specs.Texts.{call_text, reply_text};
+
 use super::*;
-use codes::KernReturn;
 use disk::{MemDisk, Slot, Torn};
-use first_model::{Call, Record, Reply};
+use ipc_model::{Call, Record, Reply};
 use journal::{Journal, StoreFault};
 use std::alloc::Global;
 use std::test::Fail;
@@ -22,33 +24,36 @@ const SEGMENT: [u8; 70] = [
 // A segment of epoch 0 with no batch.
 const NEW_SEGMENT: [u8; 17] = [0x5a, 1, 0, 0, 0, 0, 0, 0, 0, 0, 0, 0, 0, 0, 0, 0, 0];
 
-const RECORD: Record = Record {
-    space: 1,
-    call: Call::Allocate { right: 1 },
-    reply: Reply::Allocate { name: 0x100 },
-};
+#[tactic(auto, unfolding(ipc_model::specs::Texts::call_text, ipc_model::specs::Texts::reply_text))]
+fn allocation() -> Record
+    ensures call { length (call_text result.call) < 2 ^ 32 }
+    ensures reply { length (reply_text result.reply) < 2 ^ 32 }
+{
+    Record {
+        space: 1,
+        call: Call::Allocate { right: 1 },
+        reply: Reply::Allocate { name: 0x100 },
+    }
+}
 
-// What opening a store gave: how many records it holds, what the type of the name 0x100 is, and how long
-// segment 0 is now.
-type Found = Result<(u64, Reply, usize), StoreFault>;
+// What opening a store gave: how many records it holds, the type bits of the name 0x100, 0 where it isn't in use,
+// and how long segment 0 is now.
+type Found = Result<(u64, u32, usize), StoreFault>;
 
-const EMPTY: Found = Ok((
-    0,
-    Reply::Refused {
-        number: 2,
-        code: KernReturn::InvalidName,
-    },
-    17,
-));
+const EMPTY: Found = Ok((0, 0, 17));
 
-const STORED: Found = Ok((1, Reply::Type { bits: 0x20000 }, 70));
+const STORED: Found = Ok((1, 0x20000, 70));
 
 fn reopened(alloc: Global, disk: MemDisk) -> Found {
     match open(alloc, disk) {
         Ok(Opened { kernel, journal }) => {
             let records = journal.records();
             let length = journal.into_disk().content(Slot::Segment0).len();
-            Ok((records, kernel.port_type(1, 0x100), length))
+            let bits = match kernel.port_type(1, 0x100) {
+                Reply::Type { bits } => bits,
+                _ => 0,
+            };
+            Ok((records, bits, length))
         }
         Err((fault, _)) => Err(fault),
     }
@@ -65,7 +70,7 @@ fn a_new_store_is_made(rt: HostRuntime) -> Result<(), Fail> {
         return Err("it is made".into());
     };
     let mut journal = opened.journal;
-    journal.append(&RECORD)?;
+    journal.append(&allocation())?;
     let disk = journal.into_disk();
     assert_eq!(rt; disk.content(Slot::Image0), &IMAGE[..]);
     assert_eq!(rt; disk.content(Slot::Segment0), &SEGMENT[..]);
@@ -144,7 +149,7 @@ fn stopped(alloc: Global, stop_at: u64, torn: Torn) -> Result<Found, Fail> {
     let mut disk = MemDisk::with_slots(alloc, &IMAGE, &[], &NEW_SEGMENT, &[])?;
     disk.plan(Some(stop_at), None, torn);
     let mut journal = Journal::new(alloc, disk, 0);
-    let _ = journal.append(&RECORD);
+    let _ = journal.append(&allocation());
     Ok(reopened(alloc, journal.into_disk().after_stop()?))
 }
 

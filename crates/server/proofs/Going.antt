@@ -3,9 +3,9 @@ use Rattle.std.proofs.Common.{◌≡◌, ℕ, Bool, true, false, cond, nat_lt, t
 use Rattle.std.proofs.lemmas.List.{append-nil}
 use Rattle.std.proofs.Math.Dec.{eqb-suc-zero}
 use Rattle.std.specs.Io.KnownBytes.{Appends, Keeps}
-use Rattle.first_model.specs.declared.call.Call.{Call}
-use Rattle.first_model.specs.declared.call.Reply.{Reply}
-use Rattle.first_model.specs.Texts.{reply_text}
+use Rattle.ipc_model.specs.declared.call.Call.{Call}
+use Rattle.ipc_model.specs.declared.call.Reply.{Reply}
+use Rattle.ipc_model.specs.Texts.{reply_text}
 use Rattle.words.specs.Words.{frame_text}
 use Rattle.byteorder.specs.Endian.{little_number}
 use Rattle.wire.specs.declared.fault.WireFault.TheVariants.{Short, TooLong}

@@ -1,23 +1,20 @@
 -- What a store stands for while a call's record is appended to it, and after that.
-use Rattle.std.proofs.Common.{◌≡◌, ◌⊎◌, inl, inr, ℕ, ◌+◌, ◌<◌, ◌≤◌, true, false, List, [], ◌∷◌, ◌++◌, Option, None, Some, MatchOption, length, sym, ap, subst, ◌∙◌, arith, length-append}
+use Rattle.std.proofs.Common.{◌≡◌, ◌⊎◌, inl, inr, ℕ, ◌+◌, ◌<◌, ◌≤◌, true, List, [], ◌∷◌, ◌++◌, length, sym, ap, subst, ◌∙◌, arith, length-append}
 use Rattle.std.proofs.lemmas.Bool.{cases_lt}
-use Rattle.std.specs.FinMap as map
 use Rattle.codes.specs.declared.limits.TheConstants.{MAX_RECORDS}
-use Rattle.codes.specs.declared.kern_return.KernReturn.{KernReturn}
 use Rattle.disk.specs.Moments.{View, LeftSince, MayLeave, Passes, Follows, IsSynced}
 use Rattle.disk.specs.Slots.{Slots, with_slot}
 use Rattle.disk.specs.declared.slot.Slot.TheVariants.{Segment0}
-use Rattle.first_model.specs.declared.call.Call.{Call}
-use Rattle.first_model.specs.declared.call.Call.TheVariants as call
-use Rattle.first_model.specs.declared.call.Reply.{Reply}
-use Rattle.first_model.specs.declared.call.Reply.TheVariants as reply
-use Rattle.first_model.specs.declared.record.Record.{Record}
-use Rattle.first_model.specs.RunLaws.{run-push}
-use Rattle.first_model.specs.State.{State, Names, opening_state}
-use Rattle.first_model.specs.Step.{Step, Run, SucceedsIn, has_record, number_of_call, refusal}
-use Rattle.first_model.specs.Store.{IsInUse, IsMidAppend, SpellsSegment, batch_text, with_batch}
-use Rattle.first_model.specs.StoreLaws.{appended_in_use, in_use_spells, mid_append_spells}
-use Rattle.first_model.specs.Texts.{IsRecord}
+use Rattle.ipc_model.specs.declared.call.Call.{Call}
+use Rattle.ipc_model.specs.declared.call.Reply.{Reply}
+use Rattle.ipc_model.specs.declared.record.Record.{Record}
+use Rattle.kernel.specs.ServedLaws.{run-push}
+use Rattle.ipc_model.specs.State.{State, opening_state}
+use Rattle.ipc_model.specs.Step.{has_record}
+use Rattle.kernel.specs.Served.{ServedStep, ServedRun}
+use Rattle.ipc_model.specs.Store.{IsInUse, IsMidAppend, SpellsSegment, batch_text, with_batch}
+use Rattle.ipc_model.specs.StoreLaws.{appended_in_use, in_use_spells, mid_append_spells}
+use Rattle.ipc_model.specs.Texts.{IsRecord}
 use Rattle.recover.specs.Kept.{IsKept}
 use Rattle.recover.specs.Recovered.{IsOpen, HoldsOpeningImage, Recovers}
 use Rattle.server.specs.Keeping.{IsBeforeOrAfter}
@@ -27,7 +24,7 @@ abbrev pub entry_of : Call → Reply → Record
 entry_of c answer = record { space = 1; call = c; reply = answer }
 
 -- slots as those of a kept store but for segment 0, which spells other records
-recovers_from : (disk : View) (before state : State) (count number : ℕ) → IsKept disk before count → (c : Slots) (bytes : List ℕ) → c ≡ with_slot disk.seen Segment0 bytes → (records : List Record) → SpellsSegment 0 bytes records → Run opening_state records state
+recovers_from : (disk : View) (before state : State) (count number : ℕ) → IsKept disk before count → (c : Slots) (bytes : List ℕ) → c ≡ with_slot disk.seen Segment0 bytes → (records : List Record) → SpellsSegment 0 bytes records → ServedRun opening_state records state
     → number ≡ length records → Recovers c state number
 recovers_from disk before state count number kept c bytes is records spelled run counted =
     subst (λ (s : Slots). Recovers s state number) (sym is) (record {
@@ -47,7 +44,7 @@ counted_more : (records : List Record) (next : Record) (count : ℕ) → count �
 counted_more records next count is = omega (arith, is, length-append records (next ∷ []))
 
 -- A stop at a moment of an append.
-pub mid_append_stands : (old : View) (before after : State) (count : ℕ) (c : Call) (answer : Reply) → IsKept old before count → Step before 1 c answer after → IsRecord (entry_of c answer) → has_record answer ≡ true → count < MAX_RECORDS → (left : Slots)
+pub mid_append_stands : (old : View) (before after : State) (count : ℕ) (c : Call) (answer : Reply) → IsKept old before count → ServedStep before 1 c answer after → IsRecord (entry_of c answer) → has_record c answer ≡ true → count < MAX_RECORDS → (left : Slots)
     → Follows old Segment0 (λ was is. IsMidAppend was (batch_text count (entry_of c answer ∷ [])) is) left → IsBeforeOrAfter before count c after left
 mid_append_stands old before after count c answer kept step fits recorded room left mid =
     let ready = kept.ready in
@@ -87,7 +84,7 @@ others_rest old new before count step kept time c left = elim (left_now old new 
 ]
 
 -- After an append the store is kept, with one record more.
-pub appended_kept : (old new : View) (before after : State) (count : ℕ) (c : Call) (answer : Reply) → IsKept old before count → Step before 1 c answer after → IsRecord (entry_of c answer) → count < MAX_RECORDS
+pub appended_kept : (old new : View) (before after : State) (count : ℕ) (c : Call) (answer : Reply) → IsKept old before count → ServedStep before 1 c answer after → IsRecord (entry_of c answer) → count < MAX_RECORDS
     → new.seen ≡ with_slot old.seen Segment0 (with_batch old.seen.segment0 (batch_text count (entry_of c answer ∷ []))) → IsSynced new Segment0
     → Passes old new (Follows old Segment0 (λ was is. IsMidAppend was (batch_text count (entry_of c answer ∷ [])) is)) → IsKept new after (count + 1)
 appended_kept old new before after count c answer kept made fits room stored synced time =
@@ -128,18 +125,3 @@ since_kept old new before after count call kept time c left = elim (later_or_now
 pub no_time : {D : Type 0} (view : D → View) (old new : D) (P : Slots → Type 0) → new ≡ old → Passes (view old) (view new) P
 no_time view old new P same =
     subst (λ d. Passes (view old) (view d) P) (sym same) (record { later = omega arith; past = λ k c _. (λ left. left, λ left. left); since = λ k c later until _. absurd (omega arith) })
-
--- what a step says, by whether the call is refused and what the caller's space holds
-abbrev Leaves : Option KernReturn → Option Names → State → ℕ → Call → Reply → State → Type 0
-Leaves refused names old space c answer new =
-    MatchOption refused (SucceedsIn old space names c answer new) (λ code. (answer ≡ reply.Refused (number_of_call c) code) × (new ≡ old))
-
-unrecorded : (refused : Option KernReturn) (names : Option Names) (old : State) (space : ℕ) (c : Call) (answer : Reply) (new : State) → Leaves refused names old space c answer new → has_record answer ≡ false → new ≡ old
-unrecorded (Some code) names old space c answer new step none = step.1
-unrecorded None None old space c answer new step none = absurd step
-unrecorded None (Some names) old space (call.Type name) answer new step none = step.3
-unrecorded None (Some names) old space (call.Allocate kind) answer new step none = absurd (cc (sym none ∙ ap has_record step.2))
-
--- A step without a record changes nothing.
-pub step_unrecorded : (old : State) (space : ℕ) (c : Call) (answer : Reply) (new : State) → Step old space c answer new → has_record answer ≡ false → new ≡ old
-step_unrecorded old space c answer new step none = unrecorded (refusal old space c) (map.get old.spaces space) old space c answer new step none

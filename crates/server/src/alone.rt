@@ -1,20 +1,22 @@
-ghost use Rattle.std.specs.Prelude.{◌≡◌, ◌+◌, ◌<◌, true, false, IfOk, OnOk, OnErr, IsErrOf};
+ghost use Rattle.std.specs.Prelude.{◌≡◌, ◌+◌, ◌<◌, ◌≤◌, true, false, length, IfOk, OnOk, OnErr, IsErrOf};
 ghost use Rattle.disk.specs.Moments.{LeftSince, MayLeave, Passes};
 ghost use Rattle.disk.specs.Slots.{Slots};
 ghost use Rattle.recover.specs.Kept.{IsKept};
 ghost use Rattle.recover.specs.Recovered.{Recovers};
 ghost use Rattle.server.specs.Keeping.{AnswersStored, IsBeforeOrAfter, records_of};
-ghost use Rattle.server.specs.Serving.{StepOrShortage};
-ghost use Rattle.first_model.specs.Step.{number_of_call, has_record};
-ghost use Rattle.first_model.specs.declared.call.Call.{Call};
-ghost use Rattle.first_model.specs.declared.call.Reply.{Reply};
+ghost use Rattle.server.specs.Serving.{StepOrShortage, shortage_of};
+ghost use Rattle.ipc_model.specs.Step.{has_record};
+ghost use Rattle.ipc_model.specs.Texts.{reply_text, FitsCall};
+ghost use Rattle.ipc_model.specs.declared.call.Call.{Call};
+ghost use Rattle.ipc_model.specs.declared.call.Reply.{Reply};
 
-use codes::{KernReturn, MAX_RECORDS};
+use codes::{KernReturn, MACH_PORT_NULL, MAX_FRAME_CONTENT, MAX_RECORDS};
 use disk::Disk;
-use first_model::{Call, Record, Reply};
+use ipc_model::{Call, Record, Reply};
 use journal::{Journal, StoreFault};
 use kernel::Kernel;
 use recover::Opened;
+use std::alloc::Global;
 use std::marker::Model;
 
 /// The number of the space that a connection's task is attached to at first.
@@ -25,14 +27,18 @@ pub trait Caller {
     /// What it may answer to a call, and what it is afterwards.
     ghost answers: { Self → Call → Reply → Self → Type 0 };
 
-    /// Makes a call. A reply is given only when all that it tells of is stored.
-    fn call(&mut self, call: &Call) -> Result<Reply, StoreFault>
-        ensures { IfOk result (λ reply. answers self.old call.now reply self.new) };
+    /// Makes a call, which is as a record has it. A reply is given only when all that it tells of is stored, and it
+    /// fits in a frame.
+    fn call(&mut self, call: Call) -> Result<Reply, StoreFault>
+        requires { FitsCall call }
+        ensures answers { IfOk result (λ reply. answers self.old call reply self.new) }
+        ensures fits { IfOk result (λ reply. length (reply_text reply) ≤ MAX_FRAME_CONTENT) };
 }
 
 /// The caller of a lone connection: an opened store that nobody else uses.
 #[derive(Drop)]
 pub struct Alone<D: Disk> {
+    alloc: Global,
     kernel: Kernel,
     journal: Journal<D>,
     failed: bool,
@@ -55,7 +61,7 @@ impl<D: Disk> Model for Alone<D> {
 
 impl<D: Disk> Alone<D> {
     /// A caller that goes on from an opened store.
-    pub fn new(opened: Opened<D>) -> Self
+    pub fn new(alloc: Global, opened: Opened<D>) -> Self
         ensures kernel { result.kernel ≡ opened.kernel }
         ensures disk { result.disk ≡ opened.journal.disk }
         ensures records { result.records ≡ opened.journal.records }
@@ -63,6 +69,7 @@ impl<D: Disk> Alone<D> {
     {
         let Opened { kernel, journal } = opened;
         Alone {
+            alloc,
             kernel,
             journal,
             failed: false,
@@ -76,6 +83,7 @@ impl<D: Disk> Alone<D> {
         ensures kept { D.honest → self.failed ≡ false → IsKept (D.view result) self.kernel self.records }
     {
         let Alone {
+            alloc: _,
             kernel: _,
             journal,
             failed: _,
@@ -92,18 +100,20 @@ impl<D: Disk> Caller for Alone<D> {
     ///
     /// Where the slots stand for a state (`Recovers`), `recover::open` gives that state, and doesn't find them
     /// damaged or of another version.
-    fn call(&mut self, call: &Call) -> Result<Reply, StoreFault>
-        ensures answers { IfOk result (λ reply. AnswersStored self.old call.now reply self.new) }
+    fn call(&mut self, call: Call) -> Result<Reply, StoreFault>
+        requires { FitsCall call }
+        ensures answers { IfOk result (λ reply. AnswersStored self.old call reply self.new) }
+        ensures fits { IfOk result (λ reply. length (reply_text reply) ≤ MAX_FRAME_CONTENT) }
         // A stop at any moment from the beginning of the call to its end leaves the state before it or the state after
         // it, also where the call fails.
         ensures any_moment { D.honest → self.old.failed ≡ false → (c : Slots) → LeftSince (D.view self.new.disk) (D.view self.old.disk).moment c
-            → IsBeforeOrAfter self.old.kernel self.old.records call.now self.new.kernel c }
+            → IsBeforeOrAfter self.old.kernel self.old.records call self.new.kernel c }
         ensures passes { D.honest → Passes (D.view self.old.disk) (D.view self.new.disk)
-            (IsBeforeOrAfter self.old.kernel self.old.records call.now self.new.kernel) }
+            (IsBeforeOrAfter self.old.kernel self.old.records call self.new.kernel) }
         // A stop after the reply leaves the state after the call, so nothing that was answered is lost.
         ensures stored { D.honest → OnOk result ((c : Slots) → MayLeave (D.view self.new.disk) c → Recovers c self.new.kernel self.new.records) }
         // A call that is refused or only reads changes neither the state nor the disk.
-        ensures unrecorded { IfOk result (λ reply. has_record reply ≡ false → self.new ≡ self.old) }
+        ensures unrecorded { IfOk result (λ reply. has_record call reply ≡ false → self.new ≡ self.old) }
         ensures err { OnErr result (self.new.failed ≡ true) }
         ensures failed { self.old.failed ≡ true → (IsErrOf result StoreFault.Failed) × (self.new ≡ self.old) }
     {
@@ -111,9 +121,9 @@ impl<D: Disk> Caller for Alone<D> {
             return Err(StoreFault::Failed);
         }
         if self.journal.records() >= MAX_RECORDS {
-            return Ok(call_without_room(&self.kernel, call));
+            return Ok(call_without_room(self.alloc, &self.kernel, &call));
         }
-        let made = call_with_room(&mut self.kernel, &mut self.journal, call);
+        let made = call_with_room(self.alloc, &mut self.kernel, &mut self.journal, call);
         self.failed = made.is_err();
         made
     }
@@ -121,49 +131,62 @@ impl<D: Disk> Caller for Alone<D> {
 
 /// Makes a call while the segment has room for its record.
 fn call_with_room<D: Disk>(
+    alloc: Global,
     kernel: &mut Kernel,
     journal: &mut Journal<D>,
-    call: &Call,
+    call: Call,
 ) -> Result<Reply, StoreFault>
-    requires { journal.old.records < MAX_RECORDS }
-    ensures answers { IfOk result (λ reply. StepOrShortage kernel.old 1 call.now reply kernel.new) }
+    requires room { journal.old.records < MAX_RECORDS }
+    requires fits { FitsCall call }
+    ensures answers { IfOk result (λ reply. StepOrShortage kernel.old 1 call reply kernel.new) }
     ensures passes { D.honest → IsKept (D.view journal.old.disk) kernel.old journal.old.records
-        → Passes (D.view journal.old.disk) (D.view journal.new.disk) (IsBeforeOrAfter kernel.old journal.old.records call.now kernel.new) }
+        → Passes (D.view journal.old.disk) (D.view journal.new.disk) (IsBeforeOrAfter kernel.old journal.old.records call kernel.new) }
     ensures kept { D.honest → IsKept (D.view journal.old.disk) kernel.old journal.old.records
         → OnOk result (IsKept (D.view journal.new.disk) kernel.new journal.new.records) }
-    ensures counted { IfOk result (λ reply. journal.new.records ≡ journal.old.records + records_of reply) }
-    ensures unrecorded { IfOk result (λ reply. has_record reply ≡ false → (kernel.new ≡ kernel.old) × (journal.new ≡ journal.old)) }
+    ensures counted { IfOk result (λ reply. journal.new.records ≡ journal.old.records + records_of call reply) }
+    ensures unrecorded { IfOk result (λ reply. has_record call reply ≡ false → (kernel.new ≡ kernel.old) × (journal.new ≡ journal.old)) }
 {
-    let Ok(reply) = kernel.apply(FIRST_SPACE, call) else {
-        return Ok(shortage(call));
+    let Ok(reply) = kernel.apply(FIRST_SPACE, &call) else {
+        return Ok(shortage(alloc, &call));
     };
-    if reply.has_record() {
-        journal.append(&Record {
-            space: FIRST_SPACE,
-            call: *call,
-            reply,
-        })?;
+    if !call.has_record(&reply) {
+        return Ok(reply);
     }
-    Ok(reply)
+    let stored = Record {
+        space: FIRST_SPACE,
+        call,
+        reply,
+    };
+    journal.append(&stored)?;
+    Ok(stored.reply)
 }
 
 /// The answer to a call while the segment has no room for a record: one that would have a record is refused.
-fn call_without_room(kernel: &Kernel, call: &Call) -> Reply
+fn call_without_room(alloc: Global, kernel: &Kernel, call: &Call) -> Reply
     ensures answers { StepOrShortage kernel.now 1 call.now result kernel.now }
-    ensures unrecorded { has_record result ≡ false }
+    ensures unrecorded { has_record call.now result ≡ false }
 {
     match kernel.answer(FIRST_SPACE, call) {
         Ok(Some(reply)) => reply,
-        Ok(None) | Err(_) => shortage(call),
+        Ok(None) | Err(_) => shortage(alloc, call),
     }
 }
 
-/// The answer to a call that memory or room for its record is wanted for.
-fn shortage(call: &Call) -> Reply
-    ensures { result ≡ Reply.Refused (number_of_call call.now) KernReturn.ResourceShortage }
+/// The answer to a call that memory or room for its record is wanted for. It takes no memory.
+fn shortage(alloc: Global, call: &Call) -> Reply
+    ensures answer { result ≡ shortage_of call.now }
+    ensures unrecorded { has_record call.now result ≡ false }
 {
-    Reply::Refused {
-        number: call.number(),
-        code: KernReturn::ResourceShortage,
+    match call {
+        Call::Send { .. } => {
+            Reply::without_message(alloc, KernReturn::SendNoBuffer, 0, MACH_PORT_NULL)
+        }
+        Call::Receive { .. } => {
+            Reply::without_message(alloc, KernReturn::RcvHeaderErrorKernel, 0, MACH_PORT_NULL)
+        }
+        _ => Reply::Refused {
+            number: call.number(),
+            code: KernReturn::ResourceShortage,
+        },
     }
 }

@@ -55,7 +55,7 @@ fn serve_store<F: Files, I: Read, O: Write>(
         return Err(ServeFault::Store(StoreFault::Device));
     };
     match open(alloc, disk) {
-        Ok(opened) => serve(alloc, input, output, &mut Alone::new(opened)),
+        Ok(opened) => serve(alloc, input, output, &mut Alone::new(alloc, opened)),
         Err((fault, _disk)) => Err(ServeFault::Store(fault)),
     }
 }

@@ -1,11 +1,14 @@
-ghost use Rattle.std.specs.Prelude.{◌≡◌, ◌≤◌, ◌<◌, IfSome, OnOk};
-ghost use Rattle.first_model.specs.Texts.{reply_text};
-ghost use Rattle.server.specs.Serving.{IsAnswered, ServesAll};
+ghost use Rattle.std.specs.Prelude.{◌≡◌, ◌≤◌, ◌<◌, length, IfOk, IfSome, OnOk};
+ghost use Rattle.calls.specs.Requests.{FitsRequest};
+ghost use Rattle.ipc_model.specs.Receiving as receiving;
+ghost use Rattle.ipc_model.specs.Refusals.{refused_of};
+ghost use Rattle.ipc_model.specs.Texts.{reply_text, FitsCall};
+ghost use Rattle.server.specs.Serving.{AnswersBoth, AnswersMessage, AnswersRequest, IsAnswered, ServesAll};
 
 use crate::Caller;
-use calls::{read_request, reply_frame};
-use codes::{KernReturn, MAX_FRAME_CONTENT};
-use first_model::Reply;
+use calls::{CallFault, Request, read_request, reply_frame};
+use codes::{KernReturn, MACH_PORT_NULL, MAX_FRAME_CONTENT};
+use ipc_model::{Call, Reply};
 use journal::StoreFault;
 use std::alloc::Global;
 use std::io::{Read, Write};
@@ -60,7 +63,7 @@ pub fn serve<R: Read, W: Write, C: Caller>(
         let Some(request) = read_frame(alloc, reader)? else {
             return Ok(());
         };
-        answer(caller, &request, &mut reply)?;
+        answer(alloc, caller, &request, &mut reply)?;
         write_frame(writer, &reply)?;
         if writer.flush().is_err() {
             return Err(ServeFault::Wire(WireFault::Device));
@@ -69,21 +72,102 @@ pub fn serve<R: Read, W: Write, C: Caller>(
     Err(ServeFault::Wire(WireFault::Device))
 }
 
-/// Makes the call that a frame spells, and writes the reply into the other frame. A frame that is no call is
+/// Makes the calls that a frame asks for, and writes the reply into the other frame. A frame that asks for nothing is
 /// answered so.
-fn answer<C: Caller>(caller: &mut C, request: &Frame, reply: &mut Frame) -> Result<(), StoreFault>
+fn answer<C: Caller>(
+    alloc: Global,
+    caller: &mut C,
+    request: &Frame,
+    reply: &mut Frame,
+) -> Result<(), StoreFault>
     requires { MAX_FRAME_CONTENT ≤ reply.old.room }
     ensures room { reply.old.room ≤ reply.new.room }
     ensures answered { OnOk result ((answer : Reply) × (reply.new.content ≡ reply_text answer)
         × IsAnswered C.answers caller.old request.now.content answer caller.new) }
 {
-    let answer = match read_request(request) {
-        Ok(call) => caller.call(&call)?,
-        Err(_) => Reply::Refused {
-            number: request.number(),
-            code: KernReturn::InvalidArgument,
-        },
-    };
+    let answer = answer_of(alloc, caller, request)?;
     reply_frame(&answer, reply);
     Ok(())
+}
+
+/// The reply to a frame, after the calls that it asks for were made.
+fn answer_of<C: Caller>(alloc: Global, caller: &mut C, request: &Frame) -> Result<Reply, StoreFault>
+    ensures answered { IfOk result (λ reply. IsAnswered C.answers caller.old request.now.content reply caller.new) }
+    ensures fits { IfOk result (λ reply. length (reply_text reply) ≤ MAX_FRAME_CONTENT) }
+{
+    match read_request(alloc, request) {
+        Ok(asked) => answer_request(alloc, caller, asked),
+        Err(CallFault::NoCall) => Ok(no_call(alloc, request.number())),
+        Err(CallFault::NoMemory) => Ok(without_message(alloc, KernReturn::SendNoBuffer)),
+    }
+}
+
+/// Makes the calls that a frame asks for.
+fn answer_request<C: Caller>(
+    alloc: Global,
+    caller: &mut C,
+    asked: Request,
+) -> Result<Reply, StoreFault>
+    requires { FitsRequest asked }
+    ensures answered { IfOk result (λ reply. AnswersRequest C.answers caller.old asked reply caller.new) }
+    ensures fits { IfOk result (λ reply. length (reply_text reply) ≤ MAX_FRAME_CONTENT) }
+{
+    match asked {
+        Request::One(call) => caller.call(call),
+        Request::Message(message) => answer_message(alloc, caller, message.send, message.receive),
+        Request::Answered(code) => Ok(without_message(alloc, code)),
+    }
+}
+
+/// Makes the calls of a `mach_msg`.
+fn answer_message<C: Caller>(
+    alloc: Global,
+    caller: &mut C,
+    send: Option<Call>,
+    receive: Option<Call>,
+) -> Result<Reply, StoreFault>
+    requires send { IfSome send FitsCall }
+    requires receive { IfSome receive FitsCall }
+    ensures answered { IfOk result (λ reply. AnswersMessage C.answers caller.old send receive reply caller.new) }
+    ensures fits { IfOk result (λ reply. length (reply_text reply) ≤ MAX_FRAME_CONTENT) }
+{
+    match (send, receive) {
+        (Some(send), Some(receive)) => send_and_receive(caller, send, receive),
+        (Some(call), None) | (None, Some(call)) => caller.call(call),
+        (None, None) => Ok(without_message(alloc, KernReturn::Success)),
+    }
+}
+
+/// Makes a send, and where it is done a receipt.
+fn send_and_receive<C: Caller>(
+    caller: &mut C,
+    send: Call,
+    receive: Call,
+) -> Result<Reply, StoreFault>
+    requires send { FitsCall send }
+    requires receive { FitsCall receive }
+    ensures answered { IfOk result (λ reply. AnswersBoth C.answers caller.old send receive reply caller.new) }
+    ensures fits { IfOk result (λ reply. length (reply_text reply) ≤ MAX_FRAME_CONTENT) }
+{
+    let sent = caller.call(send)?;
+    if !sent.is_success() {
+        return Ok(sent);
+    }
+    caller.call(receive)
+}
+
+/// The answer to a frame that asks for nothing.
+fn no_call(alloc: Global, number: u32) -> Reply
+    ensures answer { result ≡ refused_of number KernReturn.InvalidArgument }
+    ensures fits { length (reply_text result) ≤ MAX_FRAME_CONTENT }
+{
+    Reply::refused(alloc, number, KernReturn::InvalidArgument)
+}
+
+/// What `mach_msg` answers where no message is told of.
+fn without_message(alloc: Global, code: KernReturn) -> Reply
+    ensures answer { result ≡ receiving.without_message code 0 MACH_PORT_NULL }
+    ensures fits { length (reply_text result) ≤ MAX_FRAME_CONTENT }
+{
+    Reply::without_message(alloc, code, 0, MACH_PORT_NULL)
 }

@@ -1,6 +1,6 @@
 use crate::{Alone, ServeFault, lone, serve};
 use disk::{Disk, MemDisk, Slot, Torn};
-use first_model::Reply;
+use ipc_model::Reply;
 use journal::StoreFault;
 use recover::open;
 use std::alloc::Global;
@@ -25,7 +25,7 @@ fn served(
     let Ok(opened) = open(alloc, disk) else {
         return Err(Fail::from("the store can't be opened"));
     };
-    let mut caller = Alone::new(opened);
+    let mut caller = Alone::new(alloc, opened);
     let mut rest = input;
     let mut output = Vec::new(alloc);
     let end = serve(alloc, &mut rest, &mut output, &mut caller);
@@ -94,6 +94,57 @@ fn frames_that_are_no_calls_are_answered(rt: HostRuntime) -> Result<(), Fail> {
     Ok(())
 }
 
+// A call of each number from 0 to 21 but 2 and 5, which are served.
+#[test]
+fn other_calls_are_refused(rt: HostRuntime) -> Result<(), Fail> {
+    let alloc = rt.alloc();
+    let words: [u8; 22] = [
+        1, 0, 1, 2, 2, 1, 1, 1, 2, 3, 2, 2, 2, 1, 1, 2, 5, 3, 2, 4, 2, 0,
+    ];
+    for number in 0..22u8 {
+        if number == 2 || number == 5 {
+            continue;
+        }
+        let count = words[number as usize];
+        let mut input = Vec::new(alloc);
+        input.extend_from_slice(&[4 + 4 * count, 0, 0, 0, number, 0, 0, 0])?;
+        for _ in 0..count {
+            // As an option of mach_msg, 1 asks for a send.
+            input.extend_from_slice(&[1, 0, 0, 0])?;
+        }
+        let (output, end, disk) = served(alloc, MemDisk::new(alloc), &input)?;
+        assert_eq!(rt; end, Ok(()));
+        let mut reply = Vec::new(alloc);
+        let results = if number == 19 { 8 } else { 0 };
+        reply.extend_from_slice(&[8 + results, 0, 0, 0, number, 0, 0, 0, 4, 0, 0, 0])?;
+        if number == 19 {
+            reply.extend_from_slice(&[0; 8])?;
+        }
+        assert_eq!(rt; output.as_slice(), reply.as_slice(), "{number}");
+        assert_eq!(rt; disk.length(Slot::Segment0), 17);
+    }
+    Ok(())
+}
+
+#[test]
+fn options_of_mach_msg(rt: HostRuntime) -> Result<(), Fail> {
+    let alloc = rt.alloc();
+    // Neither option, an unknown one, a receipt, and a send with a receipt.
+    for (option, code) in [(0, 0), (4, 4), (2, 4), (3, 4)] {
+        let mut input = [0; 24];
+        input[0] = 20;
+        input[4] = 19;
+        input[8] = option;
+        let (output, end, _) = served(alloc, MemDisk::new(alloc), &input)?;
+        assert_eq!(rt; end, Ok(()));
+        let reply = [
+            16, 0, 0, 0, 19, 0, 0, 0, code, 0, 0, 0, 0, 0, 0, 0, 0, 0, 0, 0,
+        ];
+        assert_eq!(rt; output.as_slice(), reply.as_slice(), "{option}");
+    }
+    Ok(())
+}
+
 #[test]
 fn a_wire_fault_ends_behind_whole_replies(rt: HostRuntime) -> Result<(), Fail> {
     let alloc = rt.alloc();
@@ -136,7 +187,7 @@ fn stopped(alloc: Global, stop_at: u64, torn: Torn) -> Result<(u64, MemDisk), Fa
     let mut disk = MemDisk::new(alloc);
     disk.plan(Some(stop_at), None, torn);
     let mut caller = match open(alloc, disk) {
-        Ok(opened) => Alone::new(opened),
+        Ok(opened) => Alone::new(alloc, opened),
         Err((_, disk)) => return Ok((0, disk.after_stop()?)),
     };
     let mut input = ALLOCATE.to_vec(alloc)?;
@@ -170,7 +221,10 @@ fn a_stop_leaves_the_calls_that_were_answered(rt: HostRuntime) -> Result<(), Fai
             // The call after the last answered one was being made; the third has no record.
             assert!(rt; told.min(2) <= found && found <= told.saturating_add(1).min(2));
             for (records, name, bits) in [(1, 0x100, 0x20000), (2, 0x101, 0x80000)] {
-                let has_name = opened.kernel.port_type(1, name) == Reply::Type { bits };
+                let has_name = match opened.kernel.port_type(1, name) {
+                    Reply::Type { bits: told } => told == bits,
+                    _ => false,
+                };
                 assert_eq!(rt; has_name, records <= found);
             }
             assert_eq!(rt; told == 3, stop_at == 33);

@@ -8,20 +8,24 @@ loop-init c = nothing_added c.args.records.now.items c.args.count c.args.content
 
 pub loop-preserved : goal.loop-preserved
 loop-preserved c =
+    let found = rw c.in-Some.is at c.in_ok-number.ensures.found in
+    let only = rw c.in-Some.is at c.in_ok-number.ensures.only in
     adds_more c.args.records.now.items c.loop.records.items c.push.new.self.items c.in-Some.entry c.args.count c.loop.counter c.in-Some.number c.args.content.now c.loop.rest.now c.in-Some.after.now
-    c.loop.invariant c.loop-test.true c.in_ok-push.ensures.items c.in-Some.ensures.found.0 c.in-Some.ensures.found.1 (c.if-number-len.false ∙ c.len.ensures ∙ c.loop.records.ok.0) (omega arith) c.in-Some.ensures.only
+    c.loop.invariant c.loop-test.true c.in_ok-push.ensures.items found.0 found.1 (c.if-number-len.false ∙ c.len.ensures ∙ c.loop.records.ok.0) (omega arith) only
 
 -- the record that is wanted next isn't there
 pub returns-in_default-clause-damaged : goal.returns-in_default-clause-damaged
 returns-in_default-clause-damaged c = λ failed added is.
     let first = content_first (length c.loop.records.items) _ c.loop.rest.now (c.loop.invariant.remains (added, is)) (omega arith) in
-    c.in_default.ensures.only (length c.loop.records.items) first.first first.behind (omega (arith, first.room)) first.fits first.text
+    let only = rw c.in_default.is at c.in_ok-number.ensures.only in
+    only (length c.loop.records.items) first.first first.behind (omega (arith, first.room)) first.fits first.text
 
 -- its number is another, or too high
 pub returns-then-number-len-clause-damaged : goal.returns-then-number-len-clause-damaged
 returns-then-number-len-clause-damaged c = λ failed added is.
     let first = content_first (length c.loop.records.items) _ c.loop.rest.now (c.loop.invariant.remains (added, is)) (omega arith) in
-    let same = c.in-Some.ensures.only (length c.loop.records.items) first.first first.behind (omega (arith, first.room)) first.fits first.text in
+    let only = rw c.in-Some.is at c.in_ok-number.ensures.only in
+    let same = only (length c.loop.records.items) first.first first.behind (omega (arith, first.room)) first.fits first.text in
     not_numbered (length c.loop.records.items) c.in-Some.number c.len.result same.0 (c.len.ensures ∙ c.loop.records.ok.0) first.room c.then-number-len.either
 
 pub returns-then-is_empty-clause-added : goal.returns-then-is_empty-clause-added

@@ -1,7 +1,7 @@
 use Rattle.std.proofs.Common.{◌≡◌, sym, ◌∙◌, subst}
 use Rattle.std.proofs.lemmas.Result.{err_from_is_err_and}
-use Rattle.first_model.specs.Step.{Run}
-use Rattle.first_model.specs.BatchLaws.{one_reading}
+use Rattle.kernel.specs.Served.{ServedRun}
+use Rattle.ipc_model.specs.BatchLaws.{one_reading}
 use Rattle.recover.proofs.opening.replay_batches.Goals as goal
 
 pub returns-in_err-records-clause-damaged : goal.returns-in_err-records-clause-damaged
@@ -14,4 +14,4 @@ returns-in_err-kernel-clause-damaged c = λ is records size state spelled run.
     let p = err_from_is_err_and c.from_residual-in_err-kernel.result c.from_residual-in_err-kernel.ensures.1 in
     let same : c.in_ok-records.records.items ≡ records = (one_reading c.args.batches.now c.in_ok-records.records.items records c.in_ok-records.size size c.in_ok-records.ensures.spelled spelled).0 in
     c.in_err-kernel.ensures.damaged (cc (p.1, p.2, is)) state
-    (subst (λ l. Run c.opening.result l state) (sym (c.deref.ensures.value ∙ same)) (subst (λ s. Run s records state) (sym c.opening.ensures) run))
+    (subst (λ l. ServedRun c.opening.result l state) (sym (c.deref.ensures.value ∙ same)) (subst (λ s. ServedRun s records state) (sym c.opening.ensures) run))

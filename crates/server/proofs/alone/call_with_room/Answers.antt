@@ -1,35 +1,54 @@
-use Rattle.std.proofs.Common.{◌≡◌, true, ℕ, sym, ap, subst, ◌∙◌}
+use Rattle.std.proofs.Common.{◌≡◌, true, ℕ, refl, sym, ap, subst, ◌∙◌, arith}
 use Rattle.disk.specs.Slots.{Slots}
-use Rattle.first_model.specs.State.{State}
-use Rattle.first_model.specs.Step.{has_record}
+use Rattle.ipc_model.specs.State.{State}
+use Rattle.ipc_model.specs.Step.{has_record}
 use Rattle.recover.specs.Kept.{IsKept}
-use Rattle.server.proofs.Keeping.{mid_append_stands, appended_kept, passes_so, step_unrecorded}
+use Rattle.kernel.specs.ServedLaws.{unrecorded_step}
+use Rattle.server.proofs.Answered.{fit_to_be_kept}
+use Rattle.server.proofs.Keeping.{mid_append_stands, appended_kept, passes_so}
 use Rattle.server.proofs.alone.call_with_room.Goals as goal
+
+pub append-requires-clause-call : goal.append-requires-clause-call
+append-requires-clause-call g c =
+    (fit_to_be_kept c.args.kernel.now 1 c.args.call c.in-Ok.reply c.apply.new.self (omega arith) c.requires.fits (sym c.has_record.ensures ∙ c.if-not-has_record.false) c.in-Ok.ensures.step).frames.0
+
+pub append-requires-clause-reply : goal.append-requires-clause-reply
+append-requires-clause-reply g c =
+    (fit_to_be_kept c.args.kernel.now 1 c.args.call c.in-Ok.reply c.apply.new.self (omega arith) c.requires.fits (sym c.has_record.ensures ∙ c.if-not-has_record.false) c.in-Ok.ensures.step).frames.1
+
+pub returns-then-not-has_record-clause-kept : goal.returns-then-not-has_record-clause-kept
+returns-then-not-has_record-clause-kept g c = λ honest kept.
+    let same = unrecorded_step c.args.kernel.now 1 c.args.call c.in-Ok.reply c.apply.new.self c.in-Ok.ensures.step (sym c.has_record.ensures ∙ c.if-not-has_record.true) in
+    subst (λ (s : State). IsKept (g.D.Disk.view c.args.journal.now.disk) s c.args.journal.now.records) (sym same) kept
+
+pub returns-then-not-has_record-clause-unrecorded : goal.returns-then-not-has_record-clause-unrecorded
+returns-then-not-has_record-clause-unrecorded g c = λ none. (
+  unrecorded_step c.args.kernel.now 1 c.args.call c.in-Ok.reply c.apply.new.self c.in-Ok.ensures.step none,
+  refl,
+)
 
 pub returns-in_err-append-clause-passes : goal.returns-in_err-append-clause-passes
 returns-in_err-append-clause-passes g c = λ honest kept.
     let old = g.D.Disk.view c.args.journal.now.disk in
-    let recorded : has_record c.in-Ok.reply ≡ true = sym c.has_record.ensures ∙ c.if-has_record.true in
+    let recorded : has_record c.args.call c.in-Ok.reply ≡ true = sym c.has_record.ensures ∙ c.if-not-has_record.false in
+    let fits = fit_to_be_kept c.args.kernel.now 1 c.args.call c.in-Ok.reply c.apply.new.self (omega arith) c.requires.fits recorded c.in-Ok.ensures.step in
     passes_so old (g.D.Disk.view c.append.new.self.disk) _ _ (c.append.ensures.any_moment honest (λ left may. ap (λ (s : Slots). s.segment0) (kept.at_rest left may)))
-    (mid_append_stands old c.args.kernel.now c.apply.new.self c.args.journal.now.records c.args.call.now c.in-Ok.reply kept c.in-Ok.ensures.step (c.append.ensures.fits recorded) recorded c.requires)
+    (mid_append_stands old c.args.kernel.now c.apply.new.self c.args.journal.now.records c.args.call c.in-Ok.reply kept c.in-Ok.ensures.step fits recorded c.requires.room)
 
-pub returns-in_ok-append-clause-passes : goal.returns-in_ok-append-clause-passes
-returns-in_ok-append-clause-passes g c = λ honest kept.
+pub returns-clause-passes : goal.returns-clause-passes
+returns-clause-passes g c = λ honest kept.
     let old = g.D.Disk.view c.args.journal.now.disk in
-    let recorded : has_record c.in-Ok.reply ≡ true = sym c.has_record.ensures ∙ c.if-has_record.true in
+    let recorded : has_record c.args.call c.in-Ok.reply ≡ true = sym c.has_record.ensures ∙ c.if-not-has_record.false in
+    let fits = fit_to_be_kept c.args.kernel.now 1 c.args.call c.in-Ok.reply c.apply.new.self (omega arith) c.requires.fits recorded c.in-Ok.ensures.step in
     passes_so old (g.D.Disk.view c.append.new.self.disk) _ _ (c.append.ensures.any_moment honest (λ left may. ap (λ (s : Slots). s.segment0) (kept.at_rest left may)))
-    (mid_append_stands old c.args.kernel.now c.apply.new.self c.args.journal.now.records c.args.call.now c.in-Ok.reply kept c.in-Ok.ensures.step (c.append.ensures.fits recorded) recorded c.requires)
+    (mid_append_stands old c.args.kernel.now c.apply.new.self c.args.journal.now.records c.args.call c.in-Ok.reply kept c.in-Ok.ensures.step fits recorded c.requires.room)
 
-pub returns-in_ok-append-clause-kept : goal.returns-in_ok-append-clause-kept
-returns-in_ok-append-clause-kept g c = λ honest kept.
+pub returns-clause-kept : goal.returns-clause-kept
+returns-clause-kept g c = λ honest kept.
     let old = g.D.Disk.view c.args.journal.now.disk in
     let new = g.D.Disk.view c.append.new.self.disk in
-    let recorded : has_record c.in-Ok.reply ≡ true = sym c.has_record.ensures ∙ c.if-has_record.true in
+    let recorded : has_record c.args.call c.in-Ok.reply ≡ true = sym c.has_record.ensures ∙ c.if-not-has_record.false in
+    let fits = fit_to_be_kept c.args.kernel.now 1 c.args.call c.in-Ok.reply c.apply.new.self (omega arith) c.requires.fits recorded c.in-Ok.ensures.step in
     subst (λ (n : ℕ). IsKept new c.apply.new.self n) (sym c.in_ok-append.ensures.counted.0)
-    (appended_kept old new c.args.kernel.now c.apply.new.self c.args.journal.now.records c.args.call.now c.in-Ok.reply kept c.in-Ok.ensures.step (c.append.ensures.fits recorded) c.requires
+    (appended_kept old new c.args.kernel.now c.apply.new.self c.args.journal.now.records c.args.call c.in-Ok.reply kept c.in-Ok.ensures.step fits c.requires.room
     (c.in_ok-append.ensures.stored honest) (c.in_ok-append.ensures.synced honest) (c.append.ensures.any_moment honest (λ left may. ap (λ (s : Slots). s.segment0) (kept.at_rest left may))))
-
-pub returns-else-has_record-clause-kept : goal.returns-else-has_record-clause-kept
-returns-else-has_record-clause-kept g c = λ honest kept.
-    let same = step_unrecorded c.args.kernel.now 1 c.args.call.now c.in-Ok.reply c.apply.new.self c.in-Ok.ensures.step (sym c.has_record.ensures ∙ c.if-has_record.false) in
-    subst (λ (s : State). IsKept (g.D.Disk.view c.args.journal.now.disk) s c.args.journal.now.records) (sym same) kept

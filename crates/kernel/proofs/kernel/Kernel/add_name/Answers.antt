@@ -1,7 +1,7 @@
 use Rattle.std.proofs.Common.{◌≡◌, sym, ◌∙◌, ap, arith, ◌+◌}
 use Rattle.std.specs.FinMap as map
-use Rattle.first_model.specs.Step.{allocated_entry}
-use Rattle.kernel.proofs.FirstSpace.{seen, names_now, has_room, added, with_name, with_port, remove-insert, still_unused}
+use Rattle.ipc_model.specs.Actions.{allocated_entry}
+use Rattle.kernel.proofs.FirstSpace.{seen, names_now, has_room, added, serial_left, with_name, with_port, remove-insert, still_unused}
 use Rattle.kernel.proofs.kernel.Kernel.add_name.Goals as goal
 
 pub insert-requires : goal.insert-requires
@@ -46,3 +46,9 @@ returns-clause-ok c =
     (ap (λ n. seen n c.insert-2.new.self (next + 1)) (names_after ∙ ap (λ e. map.insert names c.args.name e) c.allocated_entry-entry.ensures)
     ∙ ap (λ m. seen (map.insert names c.args.name (allocated_entry next c.args.right)) m (next + 1)) (ports_after ∙ ap (λ p. map.insert c.self.inside.ports next p) c.new_port.ensures)
     ∙ with_port names c.self.inside.ports next c.args.self.now c.self.view_is c.args.right c.args.name (c.if-right-number.false ∙ c.number.ensures))
+
+pub overflow_add-self : goal.overflow_add-self
+overflow_add-self c =
+    let next = c.self.inside.next in
+    let left = serial_left c.self.inside.names c.self.inside.ports next c.args.self.now c.self.view_is c.args.right (c.if-right-number.false ∙ c.number.ensures) c.requires.allowed c.self.ranges.1.1.1.0.1 in
+    omega (arith, left)

@@ -1,8 +1,9 @@
 use Rattle.std.proofs.Common.{◌≡◌, None, sym, subst, ◌∙◌}
-use Rattle.first_model.specs.State.{IsUnused}
-use Rattle.first_model.specs.Step.{Step, refusal}
-use Rattle.first_model.specs.declared.call.Call.TheVariants as call
-use Rattle.first_model.specs.declared.call.Reply.TheVariants as reply
+use Rattle.ipc_model.specs.State.{IsUnused}
+use Rattle.ipc_model.specs.Step.{Step}
+use Rattle.kernel.specs.Served.{refusal}
+use Rattle.ipc_model.specs.declared.call.Call.TheVariants as call
+use Rattle.ipc_model.specs.declared.call.Reply.TheVariants as reply
 use Rattle.kernel.proofs.FirstSpace.{names_now, refused_as, same_some}
 use Rattle.kernel.proofs.kernel.Kernel.allocate.Goals as goal
 

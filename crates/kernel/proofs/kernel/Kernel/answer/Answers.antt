@@ -1,20 +1,12 @@
-use Rattle.std.proofs.Common.{Option, None, Some, IfNone, refl, sym, subst}
-use Rattle.first_model.specs.Step.{Step}
-use Rattle.first_model.specs.declared.call.Call.TheVariants as call
-use Rattle.first_model.specs.declared.call.Reply.TheVariants as reply
+use Rattle.std.proofs.Common.{◌≡◌, true, IfNone, sym, subst}
+use Rattle.ipc_model.specs.declared.call.Call.{Call}
+use Rattle.ipc_model.specs.declared.call.Reply.{Reply}
+use Rattle.ipc_model.specs.State.{State}
+use Rattle.ipc_model.specs.Step.{has_record}
+use Rattle.kernel.specs.Served.{ServedStep}
 use Rattle.kernel.proofs.kernel.Kernel.answer.Goals as goal
 
-for_none : {T P : Type 0} (o : Option T) → P → IfNone o P
-for_none None p = p
-for_none (Some x) p = tt
-
-pub returns-in-None-clause-none : goal.returns-in-None-clause-none
-returns-in-None-clause-none c =
-    let step = c.none_for_allocate.ensures.step in
-    for_none c.none_for_allocate.result (
-      reply.Allocate step.0,
-      step.1,
-      subst (λ a. Step c.args.self.now c.args.space a (reply.Allocate step.0) step.1) (sym c.in-Allocate.is)
-          (subst (λ space. Step c.args.self.now space (call.Allocate c.in-Allocate.right) (reply.Allocate step.0) step.1) (sym (c.refusal_of_allocate.ensures.first_space c.in-None.is)) step.2),
-      refl,
-    )
+pub returns-in-Allocate-clause-none : goal.returns-in-Allocate-clause-none
+returns-in-Allocate-clause-none c =
+    subst (λ (call : Call). IfNone c.answer_to_allocate.result ((reply : Reply) × (new : State) × ServedStep c.args.self.now c.args.space call reply new × (has_record call reply ≡ true)))
+    (sym c.in-Allocate.is) c.answer_to_allocate.ensures.none

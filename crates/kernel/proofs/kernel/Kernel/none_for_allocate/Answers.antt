@@ -1,5 +1,5 @@
 use Rattle.std.proofs.Common.{refl}
-use Rattle.first_model.specs.Step.{allocated}
+use Rattle.ipc_model.specs.Actions.{allocated}
 use Rattle.kernel.proofs.FirstSpace.{added}
 use Rattle.kernel.proofs.kernel.Kernel.none_for_allocate.Goals as goal
 

@@ -1,5 +1,5 @@
 use Rattle.std.proofs.Common.{sym}
-use Rattle.first_model.specs.declared.call.Call.TheVariants as call
+use Rattle.ipc_model.specs.declared.call.Call.TheVariants as call
 use Rattle.kernel.proofs.FirstSpace.{gone_refusal}
 use Rattle.kernel.proofs.kernel.Kernel.refusal_of_allocate.Goals as goal
 

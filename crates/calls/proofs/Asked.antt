@@ -1,0 +1,73 @@
+-- What frames ask for.
+use Rattle.std.proofs.Common.{◌≡◌, ◌≢◌, ℕ, Bool, true, false, ◌==◌, ◌||◌, List, ◌++◌, drop, ◌⊎◌, Option, None, Some, IfSome, Result, Ok, Err, IfOk, bit_and, if◌then◌else◌, sym, ap, subst, ◌∙◌, arith}
+use Rattle.codes.specs.declared.kern_return.KernReturn.TheVariants.{Success, InvalidArgument}
+use Rattle.ipc_model.specs.declared.call.Call.{Call}
+use Rattle.ipc_model.specs.declared.call.Call.TheVariants as call
+use Rattle.ipc_model.specs.Step.{number_of_call}
+use Rattle.ipc_model.specs.TextReading.{number-fits}
+use Rattle.ipc_model.specs.Texts.{call_text, arguments_text, FitsCall}
+use Rattle.words.specs.WordLaws.{same_word}
+use Rattle.words.specs.Words.{word}
+use Rattle.calls.specs.declared.request.CallFault.{CallFault}
+use Rattle.calls.specs.declared.request.CallFault.TheVariants.{NoMemory}
+use Rattle.calls.specs.declared.request.Request.{Request}
+use Rattle.calls.specs.declared.request.Request.TheVariants as request
+use Rattle.calls.specs.Kept.{kept_message}
+use Rattle.calls.specs.Requests.{MachMsg, FitsMachMsg, AsksMachMsg, Asks, FitsRequest, asked, asked_send, asked_receive, message_request, has_option, known_options, send_msg, rcv_msg, rcv_large}
+use Rattle.calls.proofs.Masks.{kept-is_kept}
+
+-- what holds of both holds of the one that is chosen
+chosen : {X : Type 0} (P : X → Type 0) (b : Bool) (x y : X) → P x → P y → P (if b then x else y)
+chosen P true x y first second = first
+chosen P false x y first second = second
+
+-- what holds of each answer to a mach_msg holds of the one that it has
+of_asked : (P : Request → Type 0) (m : MachMsg) → P (request.Message (message_request m)) → P (request.Answered Success) → P (request.Answered InvalidArgument) → P (asked m)
+unfolding asked
+of_asked P m message nothing unknown =
+    let known = chosen P (has_option m.option send_msg || has_option m.option rcv_msg) (request.Message (message_request m)) (request.Answered Success) message nothing in
+    chosen P (bit_and m.option known_options == m.option) _ (request.Answered InvalidArgument) known unknown
+
+never_one : (c : Call) (m : MachMsg) → request.One c ≡ asked m → ⊥
+never_one c m = of_asked (λ r. request.One c ≡ r → ⊥) m (λ e. cc) (λ e. cc) (λ e. cc)
+
+fits_asked : (m : MachMsg) → FitsMachMsg m → FitsRequest (asked m)
+fits_asked m fits =
+    let send : IfSome (asked_send m.option m.message) FitsCall = chosen (λ (o : Option Call). IfSome o FitsCall) (has_option m.option send_msg) (Some (call.Send (kept_message m.message))) None (kept-is_kept m.message fits.message) tt in
+    let receive : IfSome (asked_receive m.option m.limit m.name) FitsCall =
+    chosen (λ (o : Option Call). IfSome o FitsCall) (has_option m.option rcv_msg) (Some (call.Receive m.limit (has_option m.option rcv_large) m.name false)) None (fits.limit, fits.name) tt in
+    of_asked FitsRequest m (send, receive) tt tt
+
+fits_one : (content : List ℕ) (r : Request) → Asks content r → FitsRequest r
+fits_one content (request.One c) asks = asks.1
+fits_one content (request.Message m) asks = let (arguments, text, (msg, fits, spelled, is)) = asks in subst FitsRequest (sym is) (fits_asked msg fits)
+fits_one content (request.Answered code) asks = tt
+
+-- the calls of what a frame asks for are fit to be recorded
+pub asks_fits : (content : List ℕ) (r : Result Request CallFault) → IfOk r (λ q. Asks content q) → IfOk r (λ q. FitsRequest q)
+asks_fits content (Ok q) asks = fits_one content q asks
+asks_fits content (Err e) asks = tt
+
+front_of : (content arguments : List ℕ) (q : Request) → content ≡ word 19 ++ arguments → AsksMachMsg arguments q → Asks content q
+front_of content arguments (request.One c) is (m, fits, spelled, e) = absurd (never_one c m e)
+front_of content arguments (request.Message m) is asks = (arguments, is, asks)
+front_of content arguments (request.Answered code) is asks = (arguments, is, asks)
+
+-- what the arguments of a mach_msg ask for, its frame does
+pub asks_in_front : (content arguments : List ℕ) (r : Result Request CallFault) → content ≡ word 19 ++ arguments → IfOk r (λ q. AsksMachMsg arguments q) → IfOk r (λ q. Asks content q)
+asks_in_front content arguments (Ok q) is asks = front_of content arguments q is asks
+asks_in_front content arguments (Err e) is asks = tt
+
+not_one : (content arguments : List ℕ) (c : Call) → content ≡ word 19 ++ arguments → number_of_call c ≢ 19 → content ≡ call_text c → ⊥
+unfolding call_text
+not_one content arguments c is other text = other (same_word (number_of_call c) 19 (arguments_text c) arguments (number-fits c) (omega arith) (sym text ∙ is))
+
+behind : (arguments others : List ℕ) (q : Request) → word 19 ++ arguments ≡ word 19 ++ others → AsksMachMsg others q → AsksMachMsg arguments q
+behind arguments others q same asks = let e : others ≡ arguments = ap (λ (l : List ℕ). drop 4 l) (sym same) in subst (λ (l : List ℕ). AsksMachMsg l q) e asks
+
+-- and what its frame asks for, they do
+pub asks_behind : (content arguments : List ℕ) (r : Result Request CallFault) → content ≡ word 19 ++ arguments
+    → ((q : Request) → AsksMachMsg arguments q → (r ≡ Ok q) ⊎ (r ≡ Err NoMemory)) → (q : Request) → Asks content q → (r ≡ Ok q) ⊎ (r ≡ Err NoMemory)
+asks_behind content arguments r is only (request.One c) (other, fits, text) = absurd (not_one content arguments c is other text)
+asks_behind content arguments r is only (request.Message m) (others, text, asks) = only (request.Message m) (behind arguments others (request.Message m) (sym is ∙ text) asks)
+asks_behind content arguments r is only (request.Answered code) (others, text, asks) = only (request.Answered code) (behind arguments others (request.Answered code) (sym is ∙ text) asks)

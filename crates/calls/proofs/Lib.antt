@@ -1,0 +1,5 @@
+mod Asked
+mod Lengths
+mod Masks
+mod Messages
+mod Replies

@@ -1,0 +1,44 @@
+-- Sends and receipts as a record has them.
+use Rattle.std.proofs.Common.{◌≡◌, ℕ, ◌+◌, ◌<◌, ◌^◌, Bool, true, false, not, eqb, List, ◌++◌, drop, Option, Some, slice_index, refl, sym, ap, subst, ◌∙◌, arith}
+use Rattle.std.proofs.lemmas.Bool.Decides.{Decides-eqb}
+use Rattle.std.proofs.lemmas.Slice.Eq.{slice_eq-Decides}
+use Rattle.std.specs.Cmp.Lexicographic.{pointwise}
+use Rattle.ipc_model.specs.declared.call.Call.{Call}
+use Rattle.ipc_model.specs.declared.call.Call.TheVariants as call
+use Rattle.ipc_model.specs.Step.{number_of_call}
+use Rattle.ipc_model.specs.Texts.{arguments_text, receive_option, number_of_bool, FitsCall}
+use Rattle.words.specs.WordLaws.{AreBytes}
+use Rattle.words.specs.Words.{word}
+use Rattle.calls.proofs.Masks.{at_drop}
+
+true_of_not : (b : Bool) → not b ≡ false → b ≡ true
+true_of_not true is = refl
+true_of_not false is = absurd cc
+
+false_of_not : (b : Bool) → not b ≡ true → b ≡ true → ⊥
+false_of_not true is same = cc
+false_of_not false is same = cc
+
+-- what the comparison of bytes says
+pub same_bytes : (xs ys : List ℕ) (differ : Bool) → differ ≡ not (pointwise eqb xs ys) → differ ≡ false → xs ≡ ys
+same_bytes xs ys differ is none = (slice_eq-Decides Decides-eqb xs ys (pointwise eqb xs ys) refl).0 (true_of_not (pointwise eqb xs ys) (sym is ∙ none))
+
+pub other_bytes : (xs ys : List ℕ) (differ : Bool) → differ ≡ not (pointwise eqb xs ys) → differ ≡ true → xs ≡ ys → ⊥
+other_bytes xs ys differ is some same = false_of_not (pointwise eqb xs ys) (sym is ∙ some) ((slice_eq-Decides Decides-eqb xs ys (pointwise eqb xs ys) refl).1 same)
+
+-- what stands behind bytes is bytes
+pub bytes_behind : (bytes behind : List ℕ) (n : ℕ) → AreBytes bytes → drop n bytes ≡ behind → AreBytes behind
+bytes_behind bytes behind n are is i =
+    subst (λ (l : List ℕ). slice_index l i < 256) is (subst (λ (k : ℕ). k < 256) (sym (at_drop n bytes i)) (are (n + i)))
+
+-- behind the option of a receipt stands a receipt
+pub only_receipt : (large : Bool) (words : List ℕ) (r : Option Call)
+    → ((limit name : ℕ) (waited : Bool) → limit < 2 ^ 32 → name < 2 ^ 32 → words ≡ word limit ++ (word name ++ word (number_of_bool waited)) → r ≡ Some (call.Receive limit large name waited))
+    → (c : Call) → FitsCall c → number_of_call c ≡ 19 → word (receive_option large) ++ words ≡ arguments_text c → r ≡ Some c
+only_receipt true words r only (call.Send message) fits number is = absurd cc
+only_receipt false words r only (call.Send message) fits number is = absurd cc
+only_receipt true words r only (call.Receive limit true name waited) fits number is = only limit name waited fits.0 fits.1 (ap (λ (l : List ℕ). drop 4 l) is)
+only_receipt true words r only (call.Receive limit false name waited) fits number is = absurd cc
+only_receipt false words r only (call.Receive limit true name waited) fits number is = absurd cc
+only_receipt false words r only (call.Receive limit false name waited) fits number is = only limit name waited fits.0 fits.1 (ap (λ (l : List ℕ). drop 4 l) is)
+only_receipt large words r only c fits number is = absurd (omega (arith, number))

@@ -1,0 +1,98 @@
+-- What a frame asks for.
+use Rattle.std.specs.Prelude.{◌≡◌, ◌≢◌, ℕ, ◌<◌, ◌^◌, Bool, false, not, IsTrue, ◌==◌, ◌||◌, List, ◌++◌, Option, None, Some, IfSome, bit_and, if◌then◌else◌}
+use Rattle.codes.specs.declared.kern_return.KernReturn.TheVariants.{Success, InvalidArgument}
+use Rattle.ipc_model.specs.declared.call.Call.{Call}
+use Rattle.ipc_model.specs.declared.call.Call.TheVariants as call
+use Rattle.ipc_model.specs.Step.{number_of_call}
+use Rattle.ipc_model.specs.Texts.{call_text, FitsCall}
+use Rattle.words.specs.WordLaws.{AreBytes}
+use Rattle.words.specs.Words.{word}
+use Rattle.calls.specs.declared.request.MessageRequest.{MessageRequest}
+use Rattle.calls.specs.declared.request.Request.{Request}
+use Rattle.calls.specs.declared.request.Request.TheVariants as request
+use Rattle.calls.specs.Kept.{kept_message}
+
+-- The options of mach_msg that are known: MACH_SEND_MSG, MACH_RCV_MSG, MACH_SEND_TIMEOUT, MACH_RCV_TIMEOUT and
+-- MACH_RCV_LARGE, each a bit. (Kernel Interfaces, mach_msg.)
+abbrev pub send_msg : ℕ
+send_msg = 0x1
+
+abbrev pub rcv_msg : ℕ
+rcv_msg = 0x2
+
+abbrev pub send_timeout : ℕ
+send_timeout = 0x10
+
+abbrev pub rcv_timeout : ℕ
+rcv_timeout = 0x100
+
+abbrev pub rcv_large : ℕ
+rcv_large = 0x800
+
+abbrev pub known_options : ℕ
+known_options = 0x913
+
+abbrev pub has_option : ℕ → ℕ → Bool
+has_option option bit = not (bit_and option bit == 0)
+
+-- the arguments of mach_msg: four words, and the message behind them
+pub record MachMsg : Type 0 where
+  pub option : ℕ
+  pub limit : ℕ
+  pub name : ℕ
+  pub timeout : ℕ
+  pub message : List ℕ
+
+pub record FitsMachMsg (m : MachMsg) : Type 0 where
+  pub option : m.option < 2 ^ 32
+  pub limit : m.limit < 2 ^ 32
+  pub name : m.name < 2 ^ 32
+  pub timeout : m.timeout < 2 ^ 32
+  pub message : AreBytes m.message
+
+abbrev pub mach_msg_arguments : MachMsg → List ℕ
+mach_msg_arguments m = word m.option ++ (word m.limit ++ (word m.name ++ (word m.timeout ++ m.message)))
+
+-- The send and the receipt that it asks for, in this order, and how long each may wait. The message is what a record
+-- keeps of it.
+abbrev pub asked_send : ℕ → List ℕ → Option Call
+asked_send option message = if has_option option send_msg then Some (call.Send (kept_message message)) else None
+
+abbrev pub asked_receive : ℕ → ℕ → ℕ → Option Call
+asked_receive option limit name = if has_option option rcv_msg then Some (call.Receive limit (has_option option rcv_large) name false) else None
+
+abbrev pub asked_timeout : ℕ → ℕ → ℕ → Option ℕ
+asked_timeout option bit timeout = if has_option option bit then Some timeout else None
+
+abbrev pub message_request : MachMsg → MessageRequest
+message_request m = record {
+  send = asked_send m.option m.message;
+  receive = asked_receive m.option m.limit m.name;
+  send_timeout = asked_timeout m.option send_timeout m.timeout;
+  receive_timeout = asked_timeout m.option rcv_timeout m.timeout;
+}
+
+-- An option with an unknown bit is answered by KERN_INVALID_ARGUMENT, and one that asks for nothing by KERN_SUCCESS.
+unfoldable pub asked : MachMsg → Request
+asked m =
+    if bit_and m.option known_options == m.option then (if has_option m.option send_msg || has_option m.option rcv_msg then request.Message (message_request m) else request.Answered Success)
+    else request.Answered InvalidArgument
+
+-- the arguments of mach_msg ask for this
+abbrev pub AsksMachMsg : List ℕ → Request → Type 0
+AsksMachMsg arguments asks = (m : MachMsg) × FitsMachMsg m × (arguments ≡ mach_msg_arguments m) × (asks ≡ asked m)
+
+-- A frame of this content asks for this.
+abbrev pub Asks : List ℕ → Request → Type 0
+Asks content (request.One c) = (number_of_call c ≢ 19) × FitsCall c × (content ≡ call_text c)
+Asks content asks = (arguments : List ℕ) × (content ≡ word 19 ++ arguments) × AsksMachMsg arguments asks
+
+-- its calls are fit to be recorded
+abbrev pub FitsRequest : Request → Type 0
+FitsRequest (request.One c) = FitsCall c
+FitsRequest (request.Message m) = IfSome m.send FitsCall × IfSome m.receive FitsCall
+FitsRequest (request.Answered code) = Unit {0}
+
+-- the arguments of a mach_msg that sends
+abbrev pub IsSend : List ℕ → Type 0
+IsSend arguments = (m : MachMsg) × (arguments ≡ mach_msg_arguments m) × IsTrue (has_option m.option send_msg)

@@ -1,0 +1,111 @@
+ghost use Rattle.std.specs.Prelude.{◌≡◌, ◌≢◌, ◌<◌, ◌^◌, ◌++◌, Bool, ℕ, List, None, Some, IfOk, IfSome, IfNone};
+ghost use Rattle.ipc_model.specs.declared.call.Call.{Call};
+ghost use Rattle.ipc_model.specs.declared.call.Call.TheVariants as call_variants;
+ghost use Rattle.ipc_model.specs.Step.{number_of_call};
+ghost use Rattle.ipc_model.specs.Texts.{arguments_text, call_text, receive_option, number_of_bool, FitsCall, IsKeptMessage};
+ghost use Rattle.words.specs.Words.{word};
+
+use crate::arguments::read_arguments;
+use crate::kept::keep_message;
+use crate::run::three_words;
+use ipc_model::{Call, Sequence};
+use std::alloc::{AllocError, Global};
+use words::take_word;
+
+/// The number of `mach_msg`.
+pub(crate) const MACH_MSG: u32 = 19;
+
+/// The flag of a number that is 0 or 1.
+fn flag_of(number: u32) -> Option<bool>
+    ensures found { IfSome result (λ flag. number ≡ number_of_bool flag) }
+    ensures none { IfNone result ((number ≢ 0) × (number ≢ 1)) }
+{
+    match number {
+        0 => Some(false),
+        1 => Some(true),
+        _ => None,
+    }
+}
+
+/// A receipt as a record has it, behind its option.
+fn read_receive(large: bool, words: &[u8]) -> Option<Call>
+    ensures found { IfSome result (λ call. (word (receive_option large) ++ words.now ≡ arguments_text call)
+        × (number_of_call call ≡ 19) × FitsCall call) }
+    ensures only { (limit name : ℕ) (waited : Bool) → limit < 2 ^ 32 → name < 2 ^ 32
+        → words.now ≡ word limit ++ (word name ++ word (number_of_bool waited))
+        → result ≡ Some (call_variants.Receive limit large name waited) }
+{
+    let (limit, name, waited) = three_words(words)?;
+    let waited = flag_of(waited)?;
+    Some(Call::Receive {
+        limit,
+        large,
+        name,
+        waited,
+    })
+}
+
+/// What stands behind three numbers that are 0.
+fn behind_zeros(bytes: &[u8]) -> Option<&[u8]>
+    ensures found { IfSome result (λ behind. bytes.now ≡ word 0 ++ (word 0 ++ (word 0 ++ behind.now))) }
+    ensures none { IfNone result ((behind : List ℕ) → bytes.now ≡ word 0 ++ (word 0 ++ (word 0 ++ behind)) → ⊥) }
+{
+    match bytes {
+        [0, 0, 0, 0, 0, 0, 0, 0, 0, 0, 0, 0, behind @ ..] => Some(behind),
+        _ => None,
+    }
+}
+
+/// A send as a record has it, behind its option.
+fn read_send(alloc: Global, words: &[u8]) -> Result<Option<Call>, AllocError>
+    ensures found { IfOk result (λ found. IfSome found (λ call. (word 1 ++ words.now ≡ arguments_text call)
+        × (number_of_call call ≡ 19) × FitsCall call)) }
+    ensures only { (message : List ℕ) → IsKeptMessage message → words.now ≡ word 0 ++ (word 0 ++ (word 0 ++ message))
+        → IfOk result (λ found. found ≡ Some (call_variants.Send message)) }
+{
+    let Some(message) = behind_zeros(words) else {
+        return Ok(None);
+    };
+    let kept = keep_message(alloc, message)?;
+    if kept.as_slice() != message {
+        return Ok(None);
+    }
+    let message = Sequence::new(kept);
+    Ok(Some(Call::Send { message }))
+}
+
+/// The send or the receipt whose arguments in a record these are.
+fn read_message_call(alloc: Global, arguments: &[u8]) -> Result<Option<Call>, AllocError>
+    ensures found { IfOk result (λ found. IfSome found (λ call. (arguments.now ≡ arguments_text call)
+        × (number_of_call call ≡ 19) × FitsCall call)) }
+    ensures only { (call : Call) → FitsCall call → number_of_call call ≡ 19 → arguments.now ≡ arguments_text call
+        → IfOk result (λ found. found ≡ Some call) }
+{
+    let Some((option, words)) = take_word(arguments) else {
+        return Ok(None);
+    };
+    match option {
+        1 => read_send(alloc, words),
+        2 => Ok(read_receive(false, words)),
+        0x802 => Ok(read_receive(true, words)),
+        _ => Ok(None),
+    }
+}
+
+#[tactic(auto, unfolding(ipc_model::specs::Texts::call_text))]
+/// The call whose text these bytes are, if they are that of a call as a record has it. Memory is wanted for the
+/// message of a send alone.
+pub fn read_call(alloc: Global, content: &[u8]) -> Result<Option<Call>, AllocError>
+    ensures found { IfOk result (λ found. IfSome found (λ call. (content.now ≡ call_text call) × FitsCall call)) }
+    ensures only { (call : Call) → FitsCall call → content.now ≡ call_text call
+        → IfOk result (λ found. found ≡ Some call) }
+{
+    let Some((number, arguments)) = take_word(content) else {
+        return Ok(None);
+    };
+    if number == MACH_MSG {
+        read_message_call(alloc, arguments)
+    } else {
+        Ok(read_arguments(number, arguments))
+    }
+}

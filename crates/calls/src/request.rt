@@ -1,0 +1,204 @@
+ghost use Rattle.std.specs.Prelude.{◌≡◌, ◌⊎◌, ◌<◌, ◌^◌, ◌++◌, ◌||◌, ℕ, List, Ok, Err, IsTrue, IfOk, IfSome, IfNone, OnErr, IsErrOf, length};
+ghost use Rattle.words.specs.Words.{word};
+ghost use Rattle.calls.specs.declared.request.Request.{Request};
+ghost use Rattle.calls.specs.Requests as requests;
+
+use crate::arguments::read_arguments;
+use crate::kept::keep_message;
+use crate::read::MACH_MSG;
+use codes::KernReturn;
+use ipc_model::{Call, Sequence};
+use std::alloc::{AllocError, Global};
+use wire::Frame;
+use words::take_word;
+
+/// `MACH_SEND_MSG`.
+const SEND_MSG: u32 = 0x1;
+
+/// `MACH_RCV_MSG`.
+const RCV_MSG: u32 = 0x2;
+
+/// `MACH_SEND_TIMEOUT`.
+const SEND_TIMEOUT: u32 = 0x10;
+
+/// `MACH_RCV_TIMEOUT`.
+const RCV_TIMEOUT: u32 = 0x100;
+
+/// `MACH_RCV_LARGE`.
+const RCV_LARGE: u32 = 0x800;
+
+const KNOWN_OPTIONS: u32 = SEND_MSG | RCV_MSG | SEND_TIMEOUT | RCV_TIMEOUT | RCV_LARGE;
+
+/// What a `mach_msg` asks for: to send, to receive, or first the one and then the other. How long each may wait is
+/// for the session; the machine never waits.
+#[derive(Debug, Drop)]
+pub struct MessageRequest {
+    /// The send, if it asks for one.
+    pub send: Option<Call>,
+    /// The receipt, if it asks for one.
+    pub receive: Option<Call>,
+    /// How long the send may wait, if there is a bound.
+    pub send_timeout: Option<u32>,
+    /// How long the receipt may wait, if there is a bound.
+    pub receive_timeout: Option<u32>,
+}
+
+/// What a frame asks for.
+#[derive(Debug, Drop)]
+pub enum Request {
+    /// A call of any number but that of `mach_msg`.
+    One(Call),
+    /// A `mach_msg` that sends, receives or both.
+    Message(MessageRequest),
+    /// A `mach_msg` that is answered with this code at once, with size 0 and no port's name: `InvalidArgument` where
+    /// an option isn't known, `Success` where it asks for nothing.
+    Answered(KernReturn),
+}
+
+/// Why a frame is no request.
+#[derive(Clone, Copy, Debug, PartialEq, Eq)]
+pub enum CallFault {
+    /// The number is that of no call, or the arguments have another length than the call's.
+    NoCall = 1,
+    /// No memory for the message of a send.
+    NoMemory = 2,
+}
+
+/// Whether one of these bits is among the options.
+fn has_option(option: u32, bit: u32) -> bool
+    ensures { result ≡ requests.has_option option bit }
+{
+    option & bit != 0
+}
+
+/// Whether the options ask for a send or a receipt.
+fn asks_for_some(option: u32) -> bool
+    ensures { result ≡ (requests.has_option option requests.send_msg || requests.has_option option requests.rcv_msg) }
+{
+    has_option(option, SEND_MSG) || has_option(option, RCV_MSG)
+}
+
+/// The send that the options ask for.
+fn asked_send(alloc: Global, option: u32, message: &[u8]) -> Result<Option<Call>, AllocError>
+    ensures asked { IfOk result (λ send. send ≡ requests.asked_send option message.now) }
+    ensures memory { OnErr result (IsTrue (requests.has_option option requests.send_msg)) }
+{
+    if !has_option(option, SEND_MSG) {
+        return Ok(None);
+    }
+    let message = Sequence::new(keep_message(alloc, message)?);
+    Ok(Some(Call::Send { message }))
+}
+
+/// The receipt that the options ask for.
+fn asked_receive(option: u32, limit: u32, name: u32) -> Option<Call>
+    ensures { result ≡ requests.asked_receive option limit name }
+{
+    if !has_option(option, RCV_MSG) {
+        return None;
+    }
+    Some(Call::Receive {
+        limit,
+        large: has_option(option, RCV_LARGE),
+        name,
+        waited: false,
+    })
+}
+
+/// The bound on a wait, if the options have this one.
+fn asked_timeout(option: u32, bit: u32, timeout: u32) -> Option<u32>
+    ensures { result ≡ requests.asked_timeout option bit timeout }
+{
+    if has_option(option, bit) {
+        Some(timeout)
+    } else {
+        None
+    }
+}
+
+#[tactic(auto, unfolding(crate::specs::Requests::asked))]
+/// What these arguments of `mach_msg` ask for.
+fn request_of(
+    alloc: Global,
+    option: u32,
+    limit: u32,
+    name: u32,
+    timeout: u32,
+    message: &[u8],
+) -> Result<Request, AllocError>
+    ensures asked { IfOk result (λ request. request ≡ requests.asked (record {
+      option = option;
+      limit = limit;
+      name = name;
+      timeout = timeout;
+      message = message.now;
+    })) }
+    ensures memory { OnErr result (IsTrue (requests.has_option option requests.send_msg)) }
+{
+    if option & KNOWN_OPTIONS != option {
+        return Ok(Request::Answered(KernReturn::InvalidArgument));
+    }
+    if !asks_for_some(option) {
+        return Ok(Request::Answered(KernReturn::Success));
+    }
+    let send = asked_send(alloc, option, message)?;
+    Ok(Request::Message(MessageRequest {
+        send,
+        receive: asked_receive(option, limit, name),
+        send_timeout: asked_timeout(option, SEND_TIMEOUT, timeout),
+        receive_timeout: asked_timeout(option, RCV_TIMEOUT, timeout),
+    }))
+}
+
+/// The four numbers that stand in front, and the bytes behind them.
+fn take_four(bytes: &[u8]) -> Option<(u32, u32, u32, u32, &[u8])>
+    ensures found { IfSome result (λ r. bytes.now ≡ word r.0 ++ (word r.1 ++ (word r.2 ++ (word r.3 ++ r.4.now)))) }
+    ensures fits { IfSome result (λ r. (r.0 < 2 ^ 32) × (r.1 < 2 ^ 32) × (r.2 < 2 ^ 32) × (r.3 < 2 ^ 32)) }
+    ensures none { IfNone result (length bytes.now < 16) }
+{
+    let (a, rest) = take_word(bytes)?;
+    let (b, rest) = take_word(rest)?;
+    let (c, rest) = take_word(rest)?;
+    let (d, rest) = take_word(rest)?;
+    Some((a, b, c, d, rest))
+}
+
+/// What a `mach_msg` of these arguments asks for.
+fn read_mach_msg(alloc: Global, arguments: &[u8]) -> Result<Request, CallFault>
+    ensures found { IfOk result (λ request. requests.AsksMachMsg arguments.now request) }
+    ensures only { (asks : Request) → requests.AsksMachMsg arguments.now asks
+        → (result ≡ Ok asks) ⊎ (result ≡ Err CallFault.NoMemory) }
+    ensures memory { IsErrOf result CallFault.NoMemory → requests.IsSend arguments.now }
+{
+    let Some((option, limit, name, timeout, message)) = take_four(arguments) else {
+        return Err(CallFault::NoCall);
+    };
+    let Ok(request) = request_of(alloc, option, limit, name, timeout, message) else {
+        return Err(CallFault::NoMemory);
+    };
+    Ok(request)
+}
+
+#[tactic(auto, unfolding(ipc_model::specs::Texts::call_text))]
+/// What a frame asks for. `NoCall`: no call has this number and arguments of this length. `NoMemory`, which comes for a
+/// send alone: no memory for its message.
+pub fn read_request(alloc: Global, frame: &Frame) -> Result<Request, CallFault>
+    ensures found { IfOk result (λ request. requests.Asks frame.now.content request) }
+    ensures only { (asks : Request) → requests.Asks frame.now.content asks
+        → (result ≡ Ok asks) ⊎ (result ≡ Err CallFault.NoMemory) }
+    // The calls are as a record has them: a send's message is what is kept of it.
+    ensures fits { IfOk result (λ request. requests.FitsRequest request) }
+    ensures memory { IsErrOf result CallFault.NoMemory
+        → (arguments : List ℕ) × (frame.now.content ≡ word 19 ++ arguments) × requests.IsSend arguments }
+{
+    let Some((number, arguments)) = take_word(frame.content()) else {
+        return Err(CallFault::NoCall);
+    };
+    if number == MACH_MSG {
+        return read_mach_msg(alloc, arguments);
+    }
+    match read_arguments(number, arguments) {
+        Some(call) => Ok(Request::One(call)),
+        None => Err(CallFault::NoCall),
+    }
+}

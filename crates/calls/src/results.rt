@@ -1,0 +1,198 @@
+ghost use Rattle.std.specs.Prelude.{true, ◌≡◌, ◌≢◌, ◌<◌, ◌^◌, ◌++◌, ◌||◌, ℕ, List, None, Some, IsTrue, IfOk, IfSome, IfNone, length};
+ghost use Rattle.codes.specs.KernReturn.{number_of};
+ghost use Rattle.codes.specs.declared.kern_return.KernReturn.{KernReturn};
+ghost use Rattle.ipc_model.specs.declared.call.Call.{Call};
+ghost use Rattle.ipc_model.specs.declared.call.Reply.{Reply};
+ghost use Rattle.ipc_model.specs.declared.message.RightKind.{RightKind};
+ghost use Rattle.ipc_model.specs.Dispositions.{number_of_kind};
+ghost use Rattle.ipc_model.specs.Step.{number_of_call, has_record, has_destroyed, is_recorded, is_success, succeeded};
+ghost use Rattle.ipc_model.specs.Texts.{reply_text, done_text, number_of_reply, FitsReply};
+ghost use Rattle.words.specs.Words.{word};
+ghost use Rattle.calls.specs.Recorded.{IsRecordedReply};
+
+use crate::read::MACH_MSG;
+use crate::run::{one_word, two_words};
+use crate::spell::call_number;
+use codes::KernReturn;
+use ipc_model::{Call, Reply, RightKind, Sequence};
+use std::alloc::{AllocError, Global};
+use words::take_word;
+
+/// Whether a call of this number may change the state.
+fn may_be_recorded(call: &Call) -> bool
+    ensures { result ≡ is_recorded call.now }
+{
+    match call {
+        Call::Attach { .. }
+        | Call::Names
+        | Call::Type { .. }
+        | Call::GetRefs { .. }
+        | Call::GetReceiveStatus { .. }
+        | Call::GetSetStatus { .. } => false,
+        _ => true,
+    }
+}
+
+/// Whether the call is a receipt that destroys a message that is too large.
+fn destroys(call: &Call) -> bool
+    ensures { result ≡ has_destroyed call.now KernReturn.RcvTooLarge }
+{
+    match call {
+        Call::Receive { large, .. } => !*large,
+        _ => false,
+    }
+}
+
+/// The code of a `mach_msg` that has a record.
+fn recorded_code(call: &Call, number: u32) -> Option<KernReturn>
+    ensures found { IfSome result (λ code. (number_of code ≡ number) × IsTrue (is_success code || has_destroyed call.now code)) }
+    ensures only { (code : KernReturn) → number_of code ≡ number → IsTrue (is_success code || has_destroyed call.now code)
+        → result ≡ Some code }
+{
+    match number {
+        0 => Some(KernReturn::Success),
+        0x1000_4004 if destroys(call) => Some(KernReturn::RcvTooLarge),
+        _ => None,
+    }
+}
+
+/// The kind of right of a number in a reply.
+fn kind_of_number(number: u32) -> Option<RightKind>
+    ensures found { IfSome result (λ kind. number_of_kind kind ≡ number) }
+    ensures only { (kind : RightKind) → number_of_kind kind ≡ number → result ≡ Some kind }
+{
+    match number {
+        16 => Some(RightKind::Receive),
+        17 => Some(RightKind::Send),
+        18 => Some(RightKind::SendOnce),
+        _ => None,
+    }
+}
+
+/// The size, the port's name and the message that stand behind the code of a `mach_msg`.
+fn take_message(results: &[u8]) -> Option<(u32, u32, &[u8])>
+    ensures found { IfSome result (λ r. results.now ≡ word r.0 ++ (word r.1 ++ r.2.now)) }
+    ensures fits { IfSome result (λ r. (r.0 < 2 ^ 32) × (r.1 < 2 ^ 32)) }
+    ensures none { IfNone result (length results.now < 8) }
+{
+    let (size, rest) = take_word(results)?;
+    let (member, message) = take_word(rest)?;
+    Some((size, member, message))
+}
+
+#[tactic(auto, unfolding(ipc_model::specs::Texts::reply_text))]
+/// The reply to a `mach_msg` that has a record, of which this is the code and what stands behind it.
+fn read_message_reply(
+    alloc: Global,
+    call: &Call,
+    code: u32,
+    results: &[u8],
+) -> Result<Option<Reply>, AllocError>
+    requires of_call { number_of_call call.now ≡ 19 }
+    requires recorded { is_recorded call.now ≡ true }
+    ensures found { IfOk result (λ found. IfSome found (λ answer.
+        (word 19 ++ (word code ++ results.now) ≡ reply_text answer) × IsRecordedReply call.now answer)) }
+    ensures only { (answer : Reply) → IsRecordedReply call.now answer → 0 < length results.now
+        → word 19 ++ (word code ++ results.now) ≡ reply_text answer → IfOk result (λ found. found ≡ Some answer) }
+{
+    let Some(code) = recorded_code(call, code) else {
+        return Ok(None);
+    };
+    let Some((size, member, message)) = take_message(results) else {
+        return Ok(None);
+    };
+    let message = Sequence::new(Vec::from_slice(alloc, message)?);
+    Ok(Some(Reply::Message {
+        code,
+        size,
+        member,
+        message,
+    }))
+}
+
+#[tactic(auto, unfolding(ipc_model::specs::Texts::reply_text))]
+/// The reply to a call of this number, of any but `mach_msg`, that was done and has these results.
+fn read_plain_reply(number: u32, results: &[u8]) -> Option<Reply>
+    ensures found { IfSome result (λ answer. (done_text number results.now ≡ reply_text answer) × FitsReply answer
+        × (number_of_reply answer ≡ number) × ((c : Call) → succeeded c answer ≡ true)) }
+    ensures only { (c : Call) (answer : Reply) → IsRecordedReply c answer → number_of_call c ≡ number → number ≢ 19
+        → 0 < length results.now → done_text number results.now ≡ reply_text answer → result ≡ Some answer }
+{
+    match number {
+        5 => {
+            let name = one_word(results)?;
+            Some(Reply::Allocate { name })
+        }
+        16 => {
+            let name = one_word(results)?;
+            Some(Reply::PreviousTarget { name })
+        }
+        18 => {
+            let (name, kind) = two_words(results)?;
+            let kind = kind_of_number(kind)?;
+            Some(Reply::Extracted { name, kind })
+        }
+        20 => {
+            let (space, name) = two_words(results)?;
+            Some(Reply::SpaceCreated { space, name })
+        }
+        _ => None,
+    }
+}
+
+#[tactic(auto, unfolding(ipc_model::specs::Texts::reply_text))]
+/// The reply to a call that has a record, of which this is the code and what stands behind it.
+fn read_results(
+    alloc: Global,
+    call: &Call,
+    code: u32,
+    results: &[u8],
+) -> Result<Option<Reply>, AllocError>
+    requires { is_recorded call.now ≡ true }
+    ensures found { IfOk result (λ found. IfSome found (λ answer.
+        (word (number_of_call call.now) ++ (word code ++ results.now) ≡ reply_text answer) × IsRecordedReply call.now answer)) }
+    ensures only { (answer : Reply) → IsRecordedReply call.now answer
+        → word (number_of_call call.now) ++ (word code ++ results.now) ≡ reply_text answer
+        → IfOk result (λ found. found ≡ Some answer) }
+{
+    let number = call_number(call);
+    if code == 0 {
+        if results.is_empty() {
+            return Ok(Some(Reply::Done { number }));
+        }
+        if number != MACH_MSG {
+            return Ok(read_plain_reply(number, results));
+        }
+    }
+    if number == MACH_MSG {
+        return read_message_reply(alloc, call, code, results);
+    }
+    Ok(None)
+}
+
+/// The reply whose text these bytes are, if they are that of a reply that stands in a record of this call. Memory
+/// is wanted for a received message alone.
+pub fn read_recorded_reply(
+    alloc: Global,
+    call: &Call,
+    content: &[u8],
+) -> Result<Option<Reply>, AllocError>
+    ensures found { IfOk result (λ found. IfSome found (λ answer.
+        (content.now ≡ reply_text answer) × IsRecordedReply call.now answer)) }
+    ensures only { (answer : Reply) → IsRecordedReply call.now answer → content.now ≡ reply_text answer
+        → IfOk result (λ found. found ≡ Some answer) }
+{
+    let Some((number, rest)) = take_word(content) else {
+        return Ok(None);
+    };
+    let Some((code, results)) = take_word(rest) else {
+        return Ok(None);
+    };
+    if number != call_number(call) {
+        return Ok(None);
+    }
+    if !may_be_recorded(call) {
+        return Ok(None);
+    }
+    read_results(alloc, call, code, results)
+}

@@ -1,0 +1,194 @@
+ghost use Rattle.std.specs.Prelude.{◌≡◌, ◌++◌, ◌<◌, ◌^◌, OnOk, length};
+ghost use Rattle.ipc_model.specs.Step.{number_of_call};
+ghost use Rattle.ipc_model.specs.Dispositions.{number_of_kind};
+ghost use Rattle.ipc_model.specs.Texts.{call_text, reply_text, done_text, status_text, receive_option, number_of_bool};
+ghost use Rattle.words.specs.Words.{word};
+ghost use Rattle.calls.specs.Rows.{names_text};
+
+use crate::run::push_words;
+use ipc_model::{Call, NamedType, ReceiveStatus, Reply, RightKind};
+use std::alloc::AllocError;
+
+/// The number of a call in its frame.
+pub(crate) fn call_number(call: &Call) -> u32
+    ensures value { result ≡ number_of_call call.now }
+{
+    match call {
+        Call::Attach { .. } => 0,
+        Call::Names => 1,
+        Call::Type { .. } => 2,
+        Call::Rename { .. } => 3,
+        Call::AllocateName { .. } => 4,
+        Call::Allocate { .. } => 5,
+        Call::Destroy { .. } => 6,
+        Call::Deallocate { .. } => 7,
+        Call::GetRefs { .. } => 8,
+        Call::ModRefs { .. } => 9,
+        Call::SetQlimit { .. } => 10,
+        Call::SetMscount { .. } => 11,
+        Call::SetSeqno { .. } => 12,
+        Call::GetReceiveStatus { .. } => 13,
+        Call::GetSetStatus { .. } => 14,
+        Call::MoveMember { .. } => 15,
+        Call::RequestNotification { .. } => 16,
+        Call::InsertRight { .. } => 17,
+        Call::ExtractRight { .. } => 18,
+        Call::Send { .. } | Call::Receive { .. } => 19,
+        Call::SpaceCreate { .. } => 20,
+        Call::SpaceDestroy => 21,
+    }
+}
+
+#[tactic(auto, unfolding(ipc_model::specs::Texts::call_text))]
+/// Adds the number and the arguments of a call. Where memory is wanted some of them may have been added.
+pub fn push_call(out: &mut Vec<u8>, call: &Call) -> Result<(), AllocError>
+    ensures ok { OnOk result (out.new.items ≡ out.old.items ++ call_text call.now) }
+{
+    match call {
+        Call::Attach { space } => push_words(out, &[0, *space]),
+        Call::Names => push_words(out, &[1]),
+        Call::Type { name } => push_words(out, &[2, *name]),
+        Call::Rename { from, to } => push_words(out, &[3, *from, *to]),
+        Call::AllocateName { right, name } => push_words(out, &[4, *right, *name]),
+        Call::Allocate { right } => push_words(out, &[5, *right]),
+        Call::Destroy { name } => push_words(out, &[6, *name]),
+        Call::Deallocate { name } => push_words(out, &[7, *name]),
+        Call::GetRefs { name, right } => push_words(out, &[8, *name, *right]),
+        Call::ModRefs { name, right, delta } => push_words(out, &[9, *name, *right, *delta]),
+        Call::SetQlimit { name, limit } => push_words(out, &[10, *name, *limit]),
+        Call::SetMscount { name, count } => push_words(out, &[11, *name, *count]),
+        Call::SetSeqno { name, seqno } => push_words(out, &[12, *name, *seqno]),
+        Call::GetReceiveStatus { name } => push_words(out, &[13, *name]),
+        Call::GetSetStatus { name } => push_words(out, &[14, *name]),
+        Call::MoveMember { member, after } => push_words(out, &[15, *member, *after]),
+        Call::RequestNotification {
+            name,
+            variant,
+            sync,
+            notify,
+            disposition,
+        } => { push_words(out, &[16, *name, *variant, *sync, *notify, *disposition]) }
+        Call::InsertRight {
+            name,
+            right_name,
+            disposition,
+        } => { push_words(out, &[17, *name, *right_name, *disposition]) }
+        Call::ExtractRight { name, disposition } => push_words(out, &[18, *name, *disposition]),
+        Call::Send { message } => {
+            push_words(out, &[19, 1, 0, 0, 0])?;
+            out.extend_from_slice(message.as_slice())
+        }
+        Call::Receive {
+            limit,
+            large,
+            name,
+            waited,
+        } => {
+            push_words(
+                out,
+                &[
+                    19,
+                    option_to_receive(*large),
+                    *limit,
+                    *name,
+                    bool_number(*waited),
+                ],
+            )
+        }
+        Call::SpaceCreate { name, disposition } => push_words(out, &[20, *name, *disposition]),
+        Call::SpaceDestroy => push_words(out, &[21]),
+    }
+}
+
+/// `MACH_RCV_MSG`, with `MACH_RCV_LARGE` where a message that is too large stays queued.
+fn option_to_receive(large: bool) -> u32
+    ensures { result ≡ receive_option large }
+{
+    if large { 0x802 } else { 2 }
+}
+
+/// A yes or no in a word.
+pub(crate) fn bool_number(flag: bool) -> u32
+    ensures { result ≡ number_of_bool flag }
+{
+    flag as u32
+}
+
+/// The number of a kind of right in a reply.
+pub(crate) fn kind_number(kind: RightKind) -> u32
+    ensures { result ≡ number_of_kind kind }
+{
+    kind as u32
+}
+
+/// Adds names with their type bits, behind their count.
+fn push_names(out: &mut Vec<u8>, names: &[NamedType]) -> Result<(), AllocError>
+    requires { length names.now < 2 ^ 32 }
+    ensures ok { OnOk result (out.new.items ≡ out.old.items ++ (word (length names.now) ++ names_text names.now)) }
+{
+    push_words(out, &[names.len() as u32])?;
+    for named in names {
+        push_words(out, &[named.name, named.bits])?;
+    }
+    Ok(())
+}
+
+/// Adds the reply of the state of a port.
+fn push_status(out: &mut Vec<u8>, status: &ReceiveStatus) -> Result<(), AllocError>
+    ensures ok { OnOk result (out.new.items ≡ out.old.items ++ done_text 13 (status_text status.now)) }
+{
+    push_words(
+        out,
+        &[
+            13,
+            0,
+            status.set,
+            status.sequence_number,
+            status.make_send_count,
+            status.limit,
+            status.messages,
+            status.send_once_count,
+            bool_number(status.has_senders),
+            bool_number(status.has_port_destroyed_request),
+            bool_number(status.has_no_senders_request),
+        ],
+    )
+}
+
+#[tactic(auto, unfolding(ipc_model::specs::Texts::reply_text))]
+/// Adds the number, the code and the results of a reply. Where memory is wanted some of them may have been
+/// added.
+pub fn push_reply(out: &mut Vec<u8>, reply: &Reply) -> Result<(), AllocError>
+    requires { length (reply_text reply.now) < 2 ^ 32 }
+    ensures ok { OnOk result (out.new.items ≡ out.old.items ++ reply_text reply.now) }
+{
+    match reply {
+        Reply::Refused { number, code } => push_words(out, &[*number, code.number()]),
+        Reply::Done { number } => push_words(out, &[*number, 0]),
+        Reply::Names { names } => {
+            push_words(out, &[1, 0])?;
+            push_names(out, names.as_slice())
+        }
+        Reply::Type { bits } => push_words(out, &[2, 0, *bits]),
+        Reply::Allocate { name } => push_words(out, &[5, 0, *name]),
+        Reply::References { count } => push_words(out, &[8, 0, *count]),
+        Reply::ReceiveStatus { status } => push_status(out, status),
+        Reply::SetStatus { members } => {
+            let members = members.as_slice();
+            push_words(out, &[14, 0, members.len() as u32])?;
+            push_words(out, members)
+        }
+        Reply::PreviousTarget { name } => push_words(out, &[16, 0, *name]),
+        Reply::Extracted { name, kind } => push_words(out, &[18, 0, *name, kind_number(*kind)]),
+        Reply::Message {
+            code,
+            size,
+            member,
+            message,
+        } => {
+            push_words(out, &[19, code.number(), *size, *member])?;
+            out.extend_from_slice(message.as_slice())
+        }
+        Reply::SpaceCreated { space, name } => push_words(out, &[20, 0, *space, *name]),
+    }
+}

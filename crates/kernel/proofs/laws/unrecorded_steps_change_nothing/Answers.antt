@@ -1,0 +1,5 @@
+use Rattle.kernel.specs.ServedLaws.{unrecorded_step}
+use Rattle.kernel.proofs.laws.unrecorded_steps_change_nothing.Goals as goal
+
+pub returns : goal.returns
+returns c = unrecorded_step
