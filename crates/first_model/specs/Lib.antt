@@ -1,9 +1,0 @@
-pub mod BatchLaws
-pub mod RunLaws
-pub mod State
-pub mod StateCode
-pub mod Step
-pub mod StepLaws
-pub mod Store
-pub mod StoreLaws
-pub mod Texts
