@@ -3,7 +3,7 @@ ghost use Rattle.ipc_model.specs.Texts.{reply_text, done_text, status_text};
 ghost use Rattle.words.specs.Words.{word};
 ghost use Rattle.calls.specs.Rows.{names_text};
 
-use crate::spell::{bool_number, kind_number};
+use crate::spell::{kind_number, status_words};
 use codes::MAX_FRAME_CONTENT;
 use ipc_model::{NamedType, ReceiveStatus, Reply};
 use wire::Frame;
@@ -50,22 +50,7 @@ fn start_status(frame: &mut Frame, status: &ReceiveStatus)
     ensures content { frame.new.content ≡ done_text 13 (status_text status.now) }
     ensures room { frame.old.room ≤ frame.new.room }
 {
-    start_reply(
-        frame,
-        13,
-        0,
-        &[
-            status.set,
-            status.sequence_number,
-            status.make_send_count,
-            status.limit,
-            status.messages,
-            status.send_once_count,
-            bool_number(status.has_senders),
-            bool_number(status.has_port_destroyed_request),
-            bool_number(status.has_no_senders_request),
-        ],
-    );
+    start_reply(frame, 13, 0, &status_words(status));
 }
 
 #[tactic(auto, unfolding(ipc_model::specs::Texts::reply_text))]

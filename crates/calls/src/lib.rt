@@ -4,6 +4,7 @@
 mod arguments;
 mod frame;
 mod kept;
+mod options;
 mod read;
 mod request;
 mod results;

@@ -7,6 +7,7 @@ ghost use Rattle.words.specs.Words.{word};
 
 use crate::arguments::read_arguments;
 use crate::kept::keep_message;
+use crate::options::{RCV_LARGE, RCV_MSG, SEND_MSG};
 use crate::run::three_words;
 use ipc_model::{Call, Sequence};
 use std::alloc::{AllocError, Global};
@@ -14,6 +15,9 @@ use words::take_word;
 
 /// The number of `mach_msg`.
 pub(crate) const MACH_MSG: u32 = 19;
+
+/// The option of a receipt whose message stays queued where it is too large.
+const RCV_MSG_LARGE: u32 = RCV_MSG | RCV_LARGE;
 
 /// The flag of a number that is 0 or 1.
 fn flag_of(number: u32) -> Option<bool>
@@ -85,9 +89,9 @@ fn read_message_call(alloc: Global, arguments: &[u8]) -> Result<Option<Call>, Al
         return Ok(None);
     };
     match option {
-        1 => read_send(alloc, words),
-        2 => Ok(read_receive(false, words)),
-        0x802 => Ok(read_receive(true, words)),
+        SEND_MSG => read_send(alloc, words),
+        RCV_MSG => Ok(read_receive(false, words)),
+        RCV_MSG_LARGE => Ok(read_receive(true, words)),
         _ => Ok(None),
     }
 }

@@ -5,29 +5,13 @@ ghost use Rattle.calls.specs.Requests as requests;
 
 use crate::arguments::read_arguments;
 use crate::kept::keep_message;
+use crate::options::{KNOWN_OPTIONS, RCV_LARGE, RCV_MSG, RCV_TIMEOUT, SEND_MSG, SEND_TIMEOUT};
 use crate::read::MACH_MSG;
 use codes::KernReturn;
 use ipc_model::{Call, Sequence};
 use std::alloc::{AllocError, Global};
 use wire::Frame;
 use words::take_word;
-
-/// `MACH_SEND_MSG`.
-const SEND_MSG: u32 = 0x1;
-
-/// `MACH_RCV_MSG`.
-const RCV_MSG: u32 = 0x2;
-
-/// `MACH_SEND_TIMEOUT`.
-const SEND_TIMEOUT: u32 = 0x10;
-
-/// `MACH_RCV_TIMEOUT`.
-const RCV_TIMEOUT: u32 = 0x100;
-
-/// `MACH_RCV_LARGE`.
-const RCV_LARGE: u32 = 0x800;
-
-const KNOWN_OPTIONS: u32 = SEND_MSG | RCV_MSG | SEND_TIMEOUT | RCV_TIMEOUT | RCV_LARGE;
 
 /// What a `mach_msg` asks for: to send, to receive, or first the one and then the other. How long each may wait is
 /// for the session; the machine never waits.

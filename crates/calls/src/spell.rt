@@ -1,10 +1,11 @@
-ghost use Rattle.std.specs.Prelude.{◌≡◌, ◌++◌, ◌<◌, ◌^◌, OnOk, length};
+ghost use Rattle.std.specs.Prelude.{◌≡◌, ◌++◌, ◌<◌, ◌^◌, OnOk, flat_map, length};
 ghost use Rattle.ipc_model.specs.Step.{number_of_call};
 ghost use Rattle.ipc_model.specs.Dispositions.{number_of_kind};
 ghost use Rattle.ipc_model.specs.Texts.{call_text, reply_text, done_text, status_text, receive_option, number_of_bool};
 ghost use Rattle.words.specs.Words.{word};
 ghost use Rattle.calls.specs.Rows.{names_text};
 
+use crate::options::{RCV_LARGE, RCV_MSG, SEND_MSG};
 use crate::run::push_words;
 use ipc_model::{Call, NamedType, ReceiveStatus, Reply, RightKind};
 use std::alloc::AllocError;
@@ -75,7 +76,7 @@ pub fn push_call(out: &mut Vec<u8>, call: &Call) -> Result<(), AllocError>
         } => { push_words(out, &[17, *name, *right_name, *disposition]) }
         Call::ExtractRight { name, disposition } => push_words(out, &[18, *name, *disposition]),
         Call::Send { message } => {
-            push_words(out, &[19, 1, 0, 0, 0])?;
+            push_words(out, &[19, SEND_MSG, 0, 0, 0])?;
             out.extend_from_slice(message.as_slice())
         }
         Call::Receive {
@@ -104,11 +105,11 @@ pub fn push_call(out: &mut Vec<u8>, call: &Call) -> Result<(), AllocError>
 fn option_to_receive(large: bool) -> u32
     ensures { result ≡ receive_option large }
 {
-    if large { 0x802 } else { 2 }
+    if large { RCV_MSG | RCV_LARGE } else { RCV_MSG }
 }
 
 /// A yes or no in a word.
-pub(crate) fn bool_number(flag: bool) -> u32
+fn bool_number(flag: bool) -> u32
     ensures { result ≡ number_of_bool flag }
 {
     flag as u32
@@ -133,26 +134,29 @@ fn push_names(out: &mut Vec<u8>, names: &[NamedType]) -> Result<(), AllocError>
     Ok(())
 }
 
+/// The words of the state of a port in a reply.
+pub(crate) fn status_words(status: &ReceiveStatus) -> [u32; 9]
+    ensures { flat_map word result ≡ status_text status.now }
+{
+    [
+        status.set,
+        status.sequence_number,
+        status.make_send_count,
+        status.limit,
+        status.messages,
+        status.send_once_count,
+        bool_number(status.has_senders),
+        bool_number(status.has_port_destroyed_request),
+        bool_number(status.has_no_senders_request),
+    ]
+}
+
 /// Adds the reply of the state of a port.
 fn push_status(out: &mut Vec<u8>, status: &ReceiveStatus) -> Result<(), AllocError>
     ensures ok { OnOk result (out.new.items ≡ out.old.items ++ done_text 13 (status_text status.now)) }
 {
-    push_words(
-        out,
-        &[
-            13,
-            0,
-            status.set,
-            status.sequence_number,
-            status.make_send_count,
-            status.limit,
-            status.messages,
-            status.send_once_count,
-            bool_number(status.has_senders),
-            bool_number(status.has_port_destroyed_request),
-            bool_number(status.has_no_senders_request),
-        ],
-    )
+    push_words(out, &[13, 0])?;
+    push_words(out, &status_words(status))
 }
 
 #[tactic(auto, unfolding(ipc_model::specs::Texts::reply_text))]
