@@ -1,3 +1,4 @@
+pub mod AsWritten
 pub mod AtRest
 pub mod Fronts
 pub mod Kept
