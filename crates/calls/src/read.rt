@@ -9,12 +9,9 @@ use crate::arguments::read_arguments;
 use crate::kept::keep_message;
 use crate::options::{RCV_LARGE, RCV_MSG, SEND_MSG};
 use crate::run::three_words;
-use ipc_model::{Call, Sequence};
+use ipc_model::{Call, MACH_MSG, Sequence};
 use std::alloc::{AllocError, Global};
 use words::take_word;
-
-/// The number of `mach_msg`.
-pub(crate) const MACH_MSG: u32 = 19;
 
 /// The option of a receipt whose message stays queued where it is too large.
 const RCV_MSG_LARGE: u32 = RCV_MSG | RCV_LARGE;

@@ -10,28 +10,11 @@ ghost use Rattle.ipc_model.specs.Texts.{reply_text, done_text, number_of_reply, 
 ghost use Rattle.words.specs.Words.{word};
 ghost use Rattle.calls.specs.Recorded.{IsRecordedReply};
 
-use crate::read::MACH_MSG;
 use crate::run::{one_word, two_words};
-use crate::spell::call_number;
 use codes::KernReturn;
-use ipc_model::{Call, Reply, RightKind, Sequence};
+use ipc_model::{Call, MACH_MSG, Reply, RightKind, Sequence};
 use std::alloc::{AllocError, Global};
 use words::take_word;
-
-/// Whether a call of this number may change the state.
-fn may_be_recorded(call: &Call) -> bool
-    ensures { result ≡ is_recorded call.now }
-{
-    match call {
-        Call::Attach { .. }
-        | Call::Names
-        | Call::Type { .. }
-        | Call::GetRefs { .. }
-        | Call::GetReceiveStatus { .. }
-        | Call::GetSetStatus { .. } => false,
-        _ => true,
-    }
-}
 
 /// Whether the call is a receipt that destroys a message that is too large.
 fn destroys(call: &Call) -> bool
@@ -155,7 +138,7 @@ fn read_results(
         → word (number_of_call call.now) ++ (word code ++ results.now) ≡ reply_text answer
         → IfOk result (λ found. found ≡ Some answer) }
 {
-    let number = call_number(call);
+    let number = call.number();
     if code == 0 {
         if results.is_empty() {
             return Ok(Some(Reply::Done { number }));
@@ -188,10 +171,10 @@ pub fn read_recorded_reply(
     let Some((code, results)) = take_word(rest) else {
         return Ok(None);
     };
-    if number != call_number(call) {
+    if number != call.number() {
         return Ok(None);
     }
-    if !may_be_recorded(call) {
+    if !call.is_recorded() {
         return Ok(None);
     }
     read_results(alloc, call, code, results)

@@ -1,5 +1,4 @@
 ghost use Rattle.std.specs.Prelude.{◌≡◌, ◌++◌, ◌<◌, ◌^◌, OnOk, flat_map, length};
-ghost use Rattle.ipc_model.specs.Step.{number_of_call};
 ghost use Rattle.ipc_model.specs.Dispositions.{number_of_kind};
 ghost use Rattle.ipc_model.specs.Texts.{call_text, reply_text, done_text, status_text, receive_option, number_of_bool};
 ghost use Rattle.words.specs.Words.{word};
@@ -9,36 +8,6 @@ use crate::options::{RCV_LARGE, RCV_MSG, SEND_MSG};
 use crate::run::push_words;
 use ipc_model::{Call, NamedType, ReceiveStatus, Reply, RightKind};
 use std::alloc::AllocError;
-
-/// The number of a call in its frame.
-pub(crate) fn call_number(call: &Call) -> u32
-    ensures value { result ≡ number_of_call call.now }
-{
-    match call {
-        Call::Attach { .. } => 0,
-        Call::Names => 1,
-        Call::Type { .. } => 2,
-        Call::Rename { .. } => 3,
-        Call::AllocateName { .. } => 4,
-        Call::Allocate { .. } => 5,
-        Call::Destroy { .. } => 6,
-        Call::Deallocate { .. } => 7,
-        Call::GetRefs { .. } => 8,
-        Call::ModRefs { .. } => 9,
-        Call::SetQlimit { .. } => 10,
-        Call::SetMscount { .. } => 11,
-        Call::SetSeqno { .. } => 12,
-        Call::GetReceiveStatus { .. } => 13,
-        Call::GetSetStatus { .. } => 14,
-        Call::MoveMember { .. } => 15,
-        Call::RequestNotification { .. } => 16,
-        Call::InsertRight { .. } => 17,
-        Call::ExtractRight { .. } => 18,
-        Call::Send { .. } | Call::Receive { .. } => 19,
-        Call::SpaceCreate { .. } => 20,
-        Call::SpaceDestroy => 21,
-    }
-}
 
 #[tactic(auto, unfolding(ipc_model::specs::Texts::call_text))]
 /// Adds the number and the arguments of a call. Where memory is wanted some of them may have been added.

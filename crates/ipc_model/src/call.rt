@@ -163,7 +163,8 @@ impl Call {
         self.is_recorded() && (self.succeeded(reply) || self.destroyed_message(reply))
     }
 
-    fn is_recorded(&self) -> bool
+    /// Whether a call of this number can have a record.
+    pub fn is_recorded(&self) -> bool
         ensures { result ≡ is_recorded self.now }
     {
         match self {

@@ -1,10 +1,12 @@
 //! Opening a store: what its slots stand for, and the repair of their ends.
 #![tactic(auto)]
 
+mod laws;
 mod making;
 mod opening;
 mod reading;
 #[cfg(test)]
 mod tests;
 
+pub use laws::stands_as_written;
 pub use opening::{Opened, open};

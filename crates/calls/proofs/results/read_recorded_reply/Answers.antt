@@ -12,7 +12,7 @@ returns-in_default-take_word-clause-only c = λ answer of_record is.
     let long = long_reply answer in
     absurd (omega (arith, long, ap length is, ap length c.in-Some.ensures.found, c.in_default-take_word.ensures.none))
 
-pub returns-then-number-call_number-clause-only : goal.returns-then-number-call_number-clause-only
-returns-then-number-call_number-clause-only c = λ answer of_record is.
+pub returns-then-number-clause-only : goal.returns-then-number-clause-only
+returns-then-number-clause-only c = λ answer of_record is.
     let same = number_in_front c.args.call.now answer c.in-Some.number c.in-Some.rest.now c.in-Some.ensures.fits of_record.of_one_call (sym c.in-Some.ensures.found ∙ is) in
-    absurd (c.if-number-call_number.true (same ∙ sym c.call_number.ensures.value))
+    absurd (c.if-number.true (same ∙ sym c.number.ensures))
