@@ -1,11 +1,9 @@
 -- The state that a store stands for here is the one that the written machine recovers from its slots.
-use Rattle.std.specs.Prelude.{◌≡◌, ◌⊎◌, ℕ, zero, suc, ◌+◌, ◌%◌, ◌<◌, ◌≤◌, ◌==◌, List, [], ◌∷◌, ◌++◌, length, take, drop, if◌then◌else◌, refl}
+use Rattle.std.specs.Prelude.{◌≡◌, ℕ, zero, suc, ◌<◌, ◌≤◌, ◌==◌, List, [], ◌∷◌, ◌++◌, length, drop, if◌then◌else◌, refl}
 use Rattle.std.proofs.Common.{sym, ◌∙◌, ap, subst, inl, inr, arith, length-append}
 use Rattle.std.proofs.lemmas.List.{append-nil}
 use Rattle.disk.specs.Slots.{Slots}
 use Rattle.ipc_model.specs.declared.record.Record.{Record}
-use Rattle.ipc_model.specs.BatchLaws.{length-batch}
-use Rattle.ipc_model.specs.Images.{image_text}
 use Rattle.ipc_model.specs.OpeningLaws.{opening_is_lawful, none_in_empty}
 use Rattle.ipc_model.specs.declared.port.PortState.{PortState}
 use Rattle.ipc_model.specs.Recovery as written
@@ -13,10 +11,10 @@ use Rattle.ipc_model.specs.RecoveryLaws.{one_epoch}
 use Rattle.ipc_model.specs.RowsTexts.{opening-image}
 use Rattle.ipc_model.specs.State.{State, opening_state}
 use Rattle.ipc_model.specs.Step.{Run}
-use Rattle.ipc_model.specs.Store.{SpellsBatches, SpellsSegment, AreRecords, NoneEmpty, IsClosed, all_records, batches_text, open_gate, segment_header, image_content}
+use Rattle.ipc_model.specs.Store.{SpellsBatches, SpellsSegment, AreRecords, NoneEmpty, IsClosed, all_records, batches_text, open_gate, image_content}
 use Rattle.kernel.specs.Served.{ServedRun}
 use Rattle.kernel.specs.ServedLaws.{recorded_step}
-use Rattle.recover.specs.Recovered.{Recovers, IsStored, IsNew, Follows, HoldsOpeningImage, IsOpen, opening_text}
+use Rattle.recover.specs.Recovered.{Recovers, IsStored, IsNew, HoldsOpeningImage, IsOpen, opening_text}
 use Rattle.words.specs.Words.{long_word}
 
 -- the slots by their numbers
@@ -109,8 +107,8 @@ new_written slots state count no_image no_segment new = record {
         unused = λ (number epoch : ℕ) (small : _). each_number (λ n. written.IsOpen written.segment_header_length ((slots_of slots).segment n) → written.IsOfEpoch n epoch ((slots_of slots).segment n)
             → (epoch ≡ 0) × IsClosed (drop written.segment_header_length ((slots_of slots).segment n)))
             (λ (is_open : _) (is : _).
-                let spelled = new.segment is_open in
-                (only_0 0 epoch slots.segment0 (segment_of_0 slots.segment0 [] spelled) is, subst IsClosed (sym (ap (λ (l : List ℕ). drop 16 l) spelled.text)) (closed_behind spelled.content spelled.size spelled.spelled)))
+            let spelled = new.segment is_open in
+            (only_0 0 epoch slots.segment0 (segment_of_0 slots.segment0 [] spelled) is, subst IsClosed (sym (ap (λ (l : List ℕ). drop 16 l) spelled.text)) (closed_behind spelled.content spelled.size spelled.spelled)))
             (λ (is_open : _) (_ : _). absurd (no_segment is_open)) number small;
       },
       refl,
