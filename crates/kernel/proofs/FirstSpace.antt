@@ -8,6 +8,7 @@ use Rattle.std.specs.declared.cmp.Ordering.{Ordering}
 use Rattle.std.specs.declared.cmp.Ordering.TheVariants.{Less, Equal, Greater}
 use Rattle.std.specs.FinMap.{FinMap, get, insert, remove, empty, len, get-insert, get-remove, get-empty, same_map, nat_cmp-IsAntisymmetric}
 use Rattle.codes.specs.declared.limits.TheConstants.{MAX_NAMES, MAX_PORTS}
+use Rattle.codes.specs.declared.right.Right.TheVariants as kind
 use Rattle.codes.specs.declared.kern_return.KernReturn.{KernReturn}
 use Rattle.codes.specs.declared.kern_return.KernReturn.TheVariants.{NoSpace, ResourceShortage, InvalidArgument, InvalidName, InvalidTask, InvalidValue}
 use Rattle.ipc_model.specs.declared.call.Call.{Call}
@@ -15,13 +16,15 @@ use Rattle.ipc_model.specs.declared.call.Call.TheVariants as call
 use Rattle.ipc_model.specs.declared.call.Reply.{Reply}
 use Rattle.ipc_model.specs.declared.call.Reply.TheVariants as reply
 use Rattle.ipc_model.specs.declared.entry.Entry.{Entry}
+use Rattle.ipc_model.specs.declared.entry.Entry.TheVariants.{Port, Set, Dead}
 use Rattle.ipc_model.specs.declared.port.PortState.{PortState}
 use Rattle.ipc_model.specs.Effects.{Effect}
 use Rattle.ipc_model.specs.Actions.{ActsOn, Done, allocated, allocated_entry}
-use Rattle.ipc_model.specs.PortCalls.{tests_of, is_allocatable}
+use Rattle.ipc_model.specs.PortCalls.{tests_of, is_allocatable, is_right}
 use Rattle.ipc_model.specs.State.{Names, State, IsUnused, type_of, is_null_or_dead, new_port, ports_are_used_up}
 use Rattle.ipc_model.specs.Step.{Step, number_of_call}
 use Rattle.ipc_model.specs.Tests.{first_failing}
+use Rattle.port_space.specs.References.{AreFewReferences}
 use Rattle.kernel.specs.Served.{is_served, refusal, refusal_in, unserved_code, type_reply}
 use Rattle.kernel.specs.ServedLaws.{ActsAlone, acts_alone, acted_alone}
 
@@ -304,3 +307,11 @@ module _ (names : Names) (ports : FinMap nat_cmp PortState) (next : ℕ) (now : 
       where
         same : (n : ℕ) → n ≡ 1 → eqb n 1 ≡ true
         same n e = subst (λ k. eqb k 1 ≡ true) (sym e) refl
+
+-- a new name has few references
+pub few_allocated : (serial right : ℕ) → AreFewReferences (allocated_entry serial right)
+few_allocated serial right =
+    elim (is_right right kind.Receive) as (λ (b : Bool). AreFewReferences (cond b (Port (record { port = serial; receive = true; send = 0; dead_name_target = None })) (cond (is_right right kind.PortSet) Set (Dead 1)))) [
+      | true ↦ omega arith
+      | false ↦ elim (is_right right kind.PortSet) as (λ (b : Bool). AreFewReferences (cond b Set (Dead 1))) [ true ↦ tt | false ↦ omega arith ]
+    ]

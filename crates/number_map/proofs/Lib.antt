@@ -1,1 +1,3 @@
+mod Lent
+mod PutAll
 mod Viewed

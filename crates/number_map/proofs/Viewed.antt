@@ -1,9 +1,9 @@
 -- The entries of a std map seen as a finite map.
-use Rattle.std.proofs.Common.{◌≡◌, ℕ, false, cond, List, [], ◌∷◌, length, None, Some, is_some, refl, sym, ◌∙◌, ap, arith}
+use Rattle.std.proofs.Common.{◌≡◌, ℕ, false, cond, List, [], ◌∷◌, length, Option, None, Some, is_some, map, T, subst, refl, sym, ◌∙◌, ap, arith}
 use Rattle.std.specs.Cmp.{nat_cmp_total, eq_by_cmp_equiv}
 use Rattle.std.specs.Ordering.{nat_cmp}
 use Rattle.std.specs.declared.cmp.Ordering.TheVariants.{Less}
-use Rattle.std.specs.FinMap.{find, from_entries, get, insert, remove, len, get-from_entries, get-insert, get-remove, len-empty, len-insert, same_map, nat_cmp-IsAntisymmetric}
+use Rattle.std.specs.FinMap.{FinMap, find, put, empty, entries, entries-insert, entries_sorted, entries-from_sorted, from_sorted, is_sorted, same_entries_map, from_entries, get, insert, remove, len, get-from_entries, get-insert, get-remove, len-empty, len-entries, len-insert, same_map, nat_cmp-IsAntisymmetric}
 use Rattle.std.specs.BTreeMap.{is_at}
 use Rattle.std.specs.Map.{lookup, keys_of}
 use Rattle.std.specs.List.{AllByRecursion}
@@ -15,11 +15,22 @@ module _ {X : Type 0} where
   find_lookup [] q = refl
   find_lookup (e ∷ es) q = ap (cond (is_at (nat_cmp q) e.0) (Some e.1)) (find_lookup es q)
 
+  of_length_0 : (es : List (ℕ × X)) → length es ≡ 0 → es ≡ []
+  of_length_0 [] e = refl
+  of_length_0 (x ∷ es) e = absurd (omega arith)
+
+  no_entries : entries (empty {X = X} {R = nat_cmp}) ≡ []
+  no_entries = of_length_0 _ (sym (len-entries empty) ∙ len-empty nat_cmp X)
+
   pub get_viewed : (es : List (ℕ × X)) (q : ℕ) → get (from_entries {R = nat_cmp} es) q ≡ lookup (is_at (nat_cmp q)) es
   get_viewed es q = get-from_entries nat_cmp_total es q ∙ find_lookup es q
 
+  -- what is found among the entries is what the map has
+  pub got : (es : List (ℕ × X)) (k : ℕ) (m : FinMap {K = ℕ} nat_cmp X) (found : Option X) → found ≡ lookup (is_at (nat_cmp k)) es → from_entries {R = nat_cmp} es ≡ m → found ≡ get m k
+  got es k m found is view = is ∙ sym (get_viewed es k) ∙ ap (λ n. get n k) view
+
   -- a key below all others isn't among them
-  absent_below : (k : ℕ) (es : List (ℕ × X)) → AllByRecursion (λ y. nat_cmp k y ≡ Less) (keys_of es) → lookup (is_at (nat_cmp k)) es ≡ None
+  pub absent_below : (k : ℕ) (es : List (ℕ × X)) → AllByRecursion (λ y. nat_cmp k y ≡ Less) (keys_of es) → lookup (is_at (nat_cmp k)) es ≡ None
   absent_below k [] below = refl
   absent_below k (e ∷ es) below = rw below.0 (absent_below k es below.1)
 
@@ -29,6 +40,21 @@ module _ {X : Type 0} where
       let absent : is_some (get (from_entries {R = nat_cmp} es) e.0) ≡ false = ap is_some (get_viewed es e.0 ∙ absent_below e.0 es (sorted_head nat_cmp e.0 (keys_of es) sorted)) in
       let rest : len (from_entries {R = nat_cmp} es) ≡ length es = len_viewed es (sorted_tail nat_cmp e.0 (keys_of es) sorted) in
       len-insert nat_cmp_total (from_entries es) e.0 e.1 ∙ rw absent (omega (arith, rest))
+
+  put_below : (k : ℕ) (v : X) (es : List (ℕ × X)) → AllByRecursion (λ y. nat_cmp k y ≡ Less) (keys_of es) → put nat_cmp k v es ≡ (k, v) ∷ es
+  put_below k v [] below = refl
+  put_below k v (e ∷ es) below = rw below.0 refl
+
+  pub entries_viewed : (es : List (ℕ × X)) → IsStrictlySortedBy nat_cmp (keys_of es) → entries (from_entries {R = nat_cmp} es) ≡ es
+  entries_viewed [] sorted = no_entries
+  entries_viewed (e ∷ es) sorted =
+      entries-insert nat_cmp_total (from_entries es) e.0 e.1
+      ∙ ap (put nat_cmp e.0 e.1) (entries_viewed es (sorted_tail nat_cmp e.0 (keys_of es) sorted))
+      ∙ put_below e.0 e.1 es (sorted_head nat_cmp e.0 (keys_of es) sorted)
+
+  -- the entries of a std map, rising by key, are those of the map that it is seen as
+  pub same_rest : (es rest : List (ℕ × X)) (m : FinMap {K = ℕ} nat_cmp X) → from_entries {R = nat_cmp} es ≡ m → IsStrictlySortedBy nat_cmp (keys_of es) → rest ≡ es → rest ≡ entries m
+  same_rest es rest m view sorted is = is ∙ sym (entries_viewed es sorted) ∙ ap (λ n. entries n) view
 
   -- entries that differ at one key make maps that differ there
   pub inserted : (es fs : List (ℕ × X)) (k : ℕ) (v : X) → ((q : ℕ) → lookup (is_at (nat_cmp q)) fs ≡ cond (is_at (nat_cmp k) q) (Some v) (lookup (is_at (nat_cmp q)) es)) → from_entries {R = nat_cmp} fs ≡ insert (from_entries es) k v
@@ -40,3 +66,11 @@ module _ {X : Type 0} where
   removed es fs k is = same_map nat_cmp_total nat_cmp-IsAntisymmetric _ _ (λ q.
       get_viewed fs q ∙ is q ∙ ap (λ b. cond b None (lookup (is_at (nat_cmp q)) es)) ((eq_by_cmp_equiv nat_cmp_total).symm k q)
       ∙ sym (get-remove nat_cmp_total (from_entries es) k q ∙ ap (cond (is_at (nat_cmp q) k) None) (get_viewed es q)))
+
+  -- entries whose values are changed make the map with its values changed
+  pub changed : (es fs : List (ℕ × X)) (change : X → X) → IsStrictlySortedBy nat_cmp (keys_of es) → IsStrictlySortedBy nat_cmp (keys_of fs) → fs ≡ map (λ e. (e.0, change e.1)) es → from_entries {R = nat_cmp} fs ≡ from_sorted (map (λ e. (e.0, change e.1)) (entries (from_entries {R = nat_cmp} es)))
+  changed es fs change sorted sorted_changed is =
+      let these : entries (from_entries {R = nat_cmp} fs) ≡ map (λ e. (e.0, change e.1)) es = entries_viewed fs sorted_changed ∙ is in
+      let rising : T (is_sorted nat_cmp (map (λ e. (e.0, change e.1)) es)) = subst (λ l. T (is_sorted nat_cmp l)) these (entries_sorted (from_entries {R = nat_cmp} fs)) in
+      let those : entries (from_sorted {R = nat_cmp} (map (λ e. (e.0, change e.1)) es)) ≡ map (λ e. (e.0, change e.1)) es = entries-from_sorted nat_cmp _ rising in
+      same_entries_map _ _ (these ∙ sym those) ∙ ap (λ (l : List (ℕ × X)). from_sorted {R = nat_cmp} (map (λ e. (e.0, change e.1)) l)) (sym (entries_viewed es sorted))

@@ -1,17 +1,40 @@
 //! A map from numbers to values, which contracts see as a finite map.
 #![tactic(auto)]
 
-ghost use Rattle.std.specs.Prelude.{◌≡◌, ◌==◌, IfOk, OnOk, OnErr, is_some, None, option_copied};
+ghost use Rattle.std.specs.Prelude.{◌≡◌, ◌==◌, IfOk, OnOk, OnErr, is_some, None, option_copied, ℕ, map as list_map};
 ghost use Rattle.std.specs.Ordering.{nat_cmp};
 ghost use Rattle.std.specs.FinMap as map;
+ghost use Rattle.std.specs.Map.Iter.{ShowsInOrder, ShowsValuesInOrder, deref_pair};
+ghost use Rattle.std.specs.Borrow.{LendsIf, sem};
+ghost use Rattle.std.specs.Option.{option_copied_mut};
+ghost use Rattle.number_map.specs.contracts.NumberMap.{the_row};
 
 use std::alloc::{AllocError, Global};
 use std::collections::BTreeMap;
+use std::collections::btree_map::Iter;
 use std::marker::Model;
+
+/// A way to copy values.
+pub trait Copier<V> {
+    /// A copy of a value.
+    fn copy(&self, value: &V) -> Result<V, AllocError>
+        ensures { IfOk result (λ copy. copy ≡ value.now) };
+}
+
+/// A change of a value.
+pub trait Change<V> {
+    /// The value after the change.
+    ghost changed: { Self → V → V };
+
+    /// Changes a value in place.
+    fn change(&self, value: &mut V)
+        ensures { value.new ≡ Self.changed self.now value.old };
+}
 
 /// A map from numbers to values.
 #[derive(Drop)]
 pub struct NumberMap<V> {
+    alloc: Global,
     entries: BTreeMap<u64, V>,
 }
 
@@ -33,6 +56,7 @@ impl<V> NumberMap<V> {
         ensures { result ≡ map.empty }
     {
         NumberMap {
+            alloc,
             entries: BTreeMap::new(alloc),
         }
     }
@@ -64,6 +88,24 @@ impl<V> NumberMap<V> {
     {
         self.entries.get(&key)
     }
+
+    /// The value of a key, to be changed in place. What is left there is the key's value afterwards.
+    pub fn get_mut(&mut self, key: u64) -> Option<&mut V>
+        ensures* writes_back { sem 𝓛 (LendsIf (the_row V.row) V.row self.entry result (map.insert self.old key) self.old) }
+        ensures value { option_copied_mut result ≡ map.get self.old key }
+    {
+        self.entries.get_mut(&key)
+    }
+
+    /// The entries, rising by key.
+    #[tactic(auto, using(crate::proofs::Viewed::same_rest))]
+    pub fn iter(&self) -> Iter<'_, u64, V>
+        ensures rest { result ≡ map.entries self.now }
+        ensures runs { ShowsInOrder (deref_pair {K = ℕ} {X = V}) }
+        ensures values_run { ShowsValuesInOrder (deref_pair {K = ℕ} {X = V}) }
+    {
+        self.entries.iter()
+    }
 }
 
 impl<V: Drop> NumberMap<V> {
@@ -84,6 +126,27 @@ impl<V: Drop> NumberMap<V> {
         ensures removed { self.new ≡ map.remove self.old key }
     {
         self.entries.remove(&key)
+    }
+
+    /// A copy of the map.
+    pub fn copy<C: Copier<V>>(&self, copier: &C) -> Result<NumberMap<V>, AllocError>
+        ensures { IfOk result (λ copy. copy ≡ self.now) }
+    {
+        let mut copy = NumberMap::new(self.alloc);
+        for (key, value) in &self.entries {
+            copy.insert(*key, copier.copy(value)?)?;
+        }
+        Ok(copy)
+    }
+
+    /// Changes each value in place.
+    pub fn change_all<C: Change<V>>(&mut self, change: &C)
+        ensures { self.new ≡ map.from_sorted (list_map (λ e. (e.0, C.changed change.now e.1)) (map.entries self.old)) }
+    {
+        self.entries.retain(|_, value| {
+            change.change(value);
+            true
+        });
     }
 }
 

@@ -1,1 +1,3 @@
+mod Bounds
 mod Crowded
+mod Walks

@@ -1,0 +1,2 @@
+pub mod Deaths
+pub mod References

@@ -1,11 +1,19 @@
-ghost use Rattle.std.specs.Prelude.{◌≡◌, ℕ, ◌+◌, ◌≤◌, ◌<◌, ◌↔◌, ◌==◌, nat_le, IfOk, OnOk, OnErr, IsSome, IsTrue, is_some, None};
+ghost use Rattle.std.specs.Prelude.{◌≡◌, ℕ, ◌+◌, ◌≤◌, ◌<◌, ◌↔◌, ◌==◌, nat_le, IfOk, OnOk, OnErr, IsSome, IfSome, IsTrue, ◌-◌, ◌^◌, ◌&&◌, min, count_by, is_some, None};
 ghost use Rattle.std.specs.FinMap as map;
-ghost use Rattle.ipc_model.specs.State.{IsUnused};
+ghost use Rattle.std.specs.List.{AllByRecursion};
+ghost use Rattle.std.specs.Map.Iter.{ShowsInOrder, ShowsValuesInOrder, deref_pair};
+ghost use Rattle.ipc_model.specs.Effects.{entry_after_death, map_values};
+ghost use Rattle.ipc_model.specs.Placed.{rights_of_space, same_kind};
+ghost use Rattle.ipc_model.specs.State.{IsUnused, is_number, name_of_port, port_held};
+ghost use Rattle.port_space.specs.References.{AreFewReferences};
 
+use crate::count::rights_of_entry;
+use crate::death::Death;
 use codes::{FIRST_NAME, MACH_PORT_DEAD, MACH_PORT_NULL, MAX_NAMES};
-use ipc_model::Entry;
-use number_map::NumberMap;
+use ipc_model::{Entry, RightKind};
+use number_map::{Copier, NumberMap};
 use std::alloc::{AllocError, Global};
+use std::collections::btree_map::Iter;
 use std::marker::Model;
 
 /// A port name space (`ipc_space`): at most `MAX_NAMES` names, each with what it stands for. Contracts see it
@@ -16,13 +24,12 @@ pub struct PortSpace {
 }
 
 impl Model for PortSpace {
-    ghost use Rattle.std.specs.Prelude.{◌≤◌};
     ghost use Rattle.std.specs.Ordering.{nat_cmp};
     ghost use Rattle.std.specs.FinMap as map;
     ghost use Rattle.std.specs.Coded.{coded_ℕ};
-    ghost use Rattle.codes.specs.declared.limits.TheConstants.{MAX_NAMES};
     ghost use Rattle.ipc_model.specs.declared.entry.Entry.{Entry};
     ghost use Rattle.ipc_model.specs.contracts.entry.Entry as entry;
+    ghost use Rattle.port_space.specs.References.{AreBounded};
 
     ghost Value = { map.FinMap nat_cmp Entry };
 
@@ -30,7 +37,17 @@ impl Model for PortSpace {
 
     ghost view = { λ s. s.names };
 
-    ghost invariant = { λ s. map.len s.names ≤ MAX_NAMES };
+    ghost invariant = { λ s. AreBounded s.names };
+}
+
+/// Copies what names stand for.
+#[derive(Drop)]
+struct EntryCopier;
+
+impl Copier<Entry> for EntryCopier {
+    fn copy(&self, entry: &Entry) -> Result<Entry, AllocError> {
+        Ok(*entry)
+    }
 }
 
 impl PortSpace {
@@ -73,7 +90,8 @@ impl PortSpace {
 
     /// What a name stands for, if it is in use.
     pub fn get(&self, name: u32) -> Option<Entry>
-        ensures { result ≡ map.get self.now name }
+        ensures value { result ≡ map.get self.now name }
+        ensures few { IfSome result AreFewReferences }
     {
         self.names.get(u64::from(name)).copied()
     }
@@ -81,7 +99,8 @@ impl PortSpace {
     /// Has a name stand for this, and gives what it stood for before. Only a name that wasn't in use may lack
     /// memory, and then nothing changed.
     pub fn insert(&mut self, name: u32, entry: Entry) -> Result<Option<Entry>, AllocError>
-        requires { map.get self.old name ≡ None → map.len self.old < MAX_NAMES }
+        requires room { map.get self.old name ≡ None → map.len self.old < MAX_NAMES }
+        requires few { AreFewReferences entry }
         ensures before { IfOk result (λ before. before ≡ map.get self.old name) }
         ensures ok { OnOk result (self.new ≡ map.insert self.old name entry) }
         ensures err { OnErr result (self.new ≡ self.old) }
@@ -96,6 +115,57 @@ impl PortSpace {
         ensures removed { self.new ≡ map.remove self.old name }
     {
         self.names.remove(u64::from(name))
+    }
+
+    /// The names with what they stand for, rising by name.
+    pub fn iter(&self) -> Iter<'_, u64, Entry>
+        ensures rest { result ≡ map.entries self.now }
+        ensures runs { ShowsInOrder (deref_pair {K = ℕ} {X = Entry}) }
+        ensures values_run { ShowsValuesInOrder (deref_pair {K = ℕ} {X = Entry}) }
+        ensures small { AllByRecursion (λ e. e.0 < 2 ^ 32) (map.entries self.now) }
+    {
+        self.names.iter()
+    }
+
+    /// A copy of the space.
+    pub fn copy(&self) -> Result<PortSpace, AllocError>
+        ensures { IfOk result (λ copy. copy ≡ self.now) }
+    {
+        let names = self.names.copy(&EntryCopier)?;
+        Ok(PortSpace { names })
+    }
+
+    /// Names of a port that has died become dead names, each with a reference more for its dead-name request,
+    /// and requests that were to tell the port go.
+    pub fn forget_port(&mut self, serial: u64)
+        ensures { self.new ≡ map_values (entry_after_death serial) self.old }
+    {
+        self.names.change_all(&Death { serial });
+    }
+
+    /// How many rights of a kind to a port stand under the names, targets of dead-name requests among them. It is
+    /// at most `u32::MAX`.
+    pub fn rights_to(&self, kind: RightKind, serial: u64) -> u32
+        ensures { (space : ℕ) → result
+            ≡ min (2 ^ 32 - 1) (count_by (λ r. same_kind r.kind kind && r.port == serial) (rights_of_space space self.now)) }
+    {
+        let mut count = 0u32;
+        for (_, entry) in self.names.iter() {
+            count = count.saturating_add(rights_of_entry(entry, kind, serial));
+        }
+        count
+    }
+
+    /// The name under which the space holds a send or receive right of a port, the least if there were several.
+    pub fn name_of_port(&self, serial: u64) -> Option<u32>
+        ensures { result ≡ name_of_port self.now serial }
+    {
+        for (name, entry) in self.names.iter() {
+            if holds_port(entry, serial) {
+                return Some(*name as u32);
+            }
+        }
+        None
     }
 
     /// Whether a name may be handed out: it is neither `MACH_PORT_NULL` nor `MACH_PORT_DEAD`, and not in use.
@@ -119,5 +189,15 @@ impl PortSpace {
             }
         }
         unreachable!()
+    }
+}
+
+/// Whether a send or receive right of the port stands under a name.
+fn holds_port(entry: &Entry, serial: u64) -> bool
+    ensures { result ≡ is_number (port_held entry.now) serial }
+{
+    match entry {
+        Entry::Port(rights) => rights.port == serial,
+        _ => false,
     }
 }

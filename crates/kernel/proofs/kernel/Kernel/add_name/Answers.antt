@@ -1,11 +1,15 @@
-use Rattle.std.proofs.Common.{◌≡◌, sym, ◌∙◌, ap, arith, ◌+◌}
+use Rattle.std.proofs.Common.{◌≡◌, subst, sym, ◌∙◌, ap, arith, ◌+◌}
 use Rattle.std.specs.FinMap as map
 use Rattle.ipc_model.specs.Actions.{allocated_entry}
-use Rattle.kernel.proofs.FirstSpace.{seen, names_now, has_room, added, serial_left, with_name, with_port, remove-insert, still_unused}
+use Rattle.port_space.specs.References.{AreFewReferences}
+use Rattle.kernel.proofs.FirstSpace.{few_allocated, seen, names_now, has_room, added, serial_left, with_name, with_port, remove-insert, still_unused}
 use Rattle.kernel.proofs.kernel.Kernel.add_name.Goals as goal
 
-pub insert-requires : goal.insert-requires
-insert-requires c = λ none. has_room c.self.inside.names c.self.inside.ports c.self.inside.next c.args.self.now c.self.view_is c.args.right c.requires.allowed
+pub insert-requires-clause-few : goal.insert-requires-clause-few
+insert-requires-clause-few c = subst AreFewReferences (sym c.allocated_entry-entry.ensures) (few_allocated c.self.inside.next c.args.right)
+
+pub insert-requires-clause-room : goal.insert-requires-clause-room
+insert-requires-clause-room c = λ none. has_room c.self.inside.names c.self.inside.ports c.self.inside.next c.args.self.now c.self.view_is c.args.right c.requires.allowed
 
 pub returns-then-right-number-clause-ok : goal.returns-then-right-number-clause-ok
 returns-then-right-number-clause-ok c =
@@ -16,8 +20,11 @@ returns-then-right-number-clause-ok c =
     (ap (λ n. seen n c.self.inside.ports c.self.inside.next) (is ∙ ap (λ e. map.insert names c.args.name e) c.allocated_entry-entry.ensures)
     ∙ with_name names c.self.inside.ports c.self.inside.next c.args.self.now c.self.view_is c.args.right c.args.name (λ e. c.if-right-number.true (e ∙ sym c.number.ensures)))
 
-pub insert-requires-3 : goal.insert-requires-3
-insert-requires-3 c = λ none. has_room c.self.inside.names c.self.inside.ports c.self.inside.next c.args.self.now c.self.view_is c.args.right c.requires.allowed
+pub insert-requires-3-clause-few : goal.insert-requires-3-clause-few
+insert-requires-3-clause-few c = subst AreFewReferences (sym c.allocated_entry-entry.ensures) (few_allocated c.self.inside.next c.args.right)
+
+pub insert-requires-3-clause-room : goal.insert-requires-3-clause-room
+insert-requires-3-clause-room c = λ none. has_room c.self.inside.names c.self.inside.ports c.self.inside.next c.args.self.now c.self.view_is c.args.right c.requires.allowed
 
 pub invariant_of-self-in-Err : goal.invariant_of-self-in-Err
 invariant_of-self-in-Err c = λ serial later.

@@ -12,8 +12,8 @@ returns-then-is_null_or_dead c =
 
 pub returns-in-Some : goal.returns-in-Some
 returns-in-Some c =
-    found c.self.inside.names c.self.inside.ports c.self.inside.next c.args.self.now c.self.view_is c.args.space c.args.name c.in-Some.entry c.type_of.result c.if-space-ne-FIRST_SPACE.false (sym c.is_null_or_dead.ensures ∙ c.if-is_null_or_dead.false) (sym c.get.ensures ∙ c.in-Some.is) c.type_of.ensures
+    found c.self.inside.names c.self.inside.ports c.self.inside.next c.args.self.now c.self.view_is c.args.space c.args.name c.in-Some.entry c.type_of.result c.if-space-ne-FIRST_SPACE.false (sym c.is_null_or_dead.ensures ∙ c.if-is_null_or_dead.false) (sym c.get.ensures.value ∙ c.in-Some.is) c.type_of.ensures
 
 pub returns-in-None : goal.returns-in-None
 returns-in-None c =
-    missing c.self.inside.names c.self.inside.ports c.self.inside.next c.args.self.now c.self.view_is c.args.space c.args.name c.if-space-ne-FIRST_SPACE.false (sym c.get.ensures ∙ c.in-None.is)
+    missing c.self.inside.names c.self.inside.ports c.self.inside.next c.args.self.now c.self.view_is c.args.space c.args.name c.if-space-ne-FIRST_SPACE.false (sym c.get.ensures.value ∙ c.in-None.is)

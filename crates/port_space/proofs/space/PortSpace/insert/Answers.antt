@@ -1,7 +1,8 @@
-use Rattle.std.proofs.Common.{◌≡◌, ◌≤◌, ◌<◌, None, Result, Ok, Err, OnOk, OnErr, subst, sym}
+use Rattle.std.proofs.Common.{◌≡◌, ◌<◌, ◌^◌, arith, None, Result, Ok, Err, OnOk, OnErr, subst, sym}
 use Rattle.std.specs.FinMap.{get, insert, len}
 use Rattle.codes.specs.declared.limits.TheConstants.{MAX_NAMES}
-use Rattle.port_space.proofs.Crowded.{within_after_insert}
+use Rattle.port_space.specs.References.{AreBounded}
+use Rattle.port_space.proofs.Bounds.{bounded_insert}
 use Rattle.port_space.proofs.space.PortSpace.insert.Goals as goal
 
 -- whatever the answer is, the names are the old ones or those with one more
@@ -13,6 +14,7 @@ pub invariant_of-self : goal.invariant_of-self
 invariant_of-self c =
     let names = c.self.inside.names in
     let room : get names c.from.result ≡ None → len names < MAX_NAMES = λ none.
-    subst (λ m. len m < MAX_NAMES) (sym c.self.view_is) (c.requires (subst (λ m. get m c.args.name ≡ None) c.self.view_is (subst (λ n. get names n ≡ None) c.from.ensures none))) in
-    let within = within_after_insert names c.from.result c.args.entry MAX_NAMES c.self.invariant room in
-    either (λ m. len m ≤ MAX_NAMES) c.insert.result names (insert names c.from.result c.args.entry) c.insert.new.self c.insert.ensures.ok c.insert.ensures.err c.self.invariant within
+    subst (λ m. len m < MAX_NAMES) (sym c.self.view_is) (c.requires.room (subst (λ m. get m c.args.name ≡ None) c.self.view_is (subst (λ n. get names n ≡ None) c.from.ensures none))) in
+    let small : c.from.result < 2 ^ 32 = omega arith in
+    let within = bounded_insert names c.from.result c.args.entry c.self.invariant room small c.requires.few in
+    either AreBounded c.insert.result names (insert names c.from.result c.args.entry) c.insert.new.self c.insert.ensures.ok c.insert.ensures.err c.self.invariant within
