@@ -1,0 +1,11 @@
+//! The live ports.
+#![tactic(auto)]
+
+mod port;
+mod ports;
+
+pub use port::{Port, PortNumbers};
+pub use ports::Ports;
+
+#[cfg(test)]
+mod tests;

@@ -1,0 +1,240 @@
+ghost use Rattle.std.specs.Prelude.{◌≡◌, ◌<◌, ◌≤◌, ◌↔◌, ◌∷◌, ◌++◌, ◌==◌, [], length, drop, IsSomeAnd, nat_le, flat_map, find, None, IfOk, OnOk, OnErr, IsErrOf, MatchOption, is_some, option_map, option_copied};
+ghost use Rattle.std.specs.FinMap as map;
+ghost use Rattle.ipc_model.specs.Circular.{carries};
+ghost use Rattle.ipc_model.specs.Effects.{map_values, port_after_death};
+ghost use Rattle.ipc_model.specs.Placed.{rights_of_port};
+ghost use Rattle.ipc_model.specs.State.{new_port};
+ghost use Rattle.queue.specs.Counts.{capped_count};
+ghost use Rattle.ports.specs.Changed.{changed, messages_at, numbers_of, with_numbers};
+
+use crate::port::{Port, PortNumbers};
+use codes::MAX_PORTS;
+use ipc_model::{Message, RightKind};
+use number_map::{Change, Copier, NumberMap};
+use queue::{PushFault, Queue};
+use std::alloc::{AllocError, Global};
+use std::marker::Model;
+
+/// The live ports by their serials, at most `MAX_PORTS`. Contracts see them as the finite map from serials to
+/// ports.
+#[derive(Drop)]
+pub struct Ports {
+    alloc: Global,
+    ports: NumberMap<Port>,
+}
+
+impl Model for Ports {
+    ghost use Rattle.std.specs.Prelude.{◌≤◌};
+    ghost use Rattle.std.specs.Ordering.{nat_cmp};
+    ghost use Rattle.std.specs.FinMap as map;
+    ghost use Rattle.std.specs.Coded.{coded_ℕ};
+    ghost use Rattle.codes.specs.declared.limits.TheConstants.{MAX_PORTS};
+    ghost use Rattle.ipc_model.specs.declared.port.PortState.{PortState};
+    ghost use Rattle.ipc_model.specs.contracts.port.PortState as state;
+
+    ghost Value = { map.FinMap nat_cmp PortState };
+
+    ghost coded = { map.code coded_ℕ state.the_row.coded };
+
+    ghost view = { λ p. p.ports };
+
+    ghost invariant = { λ p. map.len p.ports ≤ MAX_PORTS };
+}
+
+/// The death of the port of a serial, as the other ports see it.
+#[derive(Drop)]
+struct Death {
+    serial: u64,
+}
+
+impl Change<Port> for Death {
+    ghost use Rattle.std.specs.Prelude.{◌≡◌};
+    ghost use Rattle.ipc_model.specs.Effects.{port_after_death};
+
+    ghost changed = { λ death port. port_after_death death.serial port };
+
+    fn change(&self, port: &mut Port)
+        ensures { port.new ≡ port_after_death self.now.serial port.old }
+    {
+        port.forget_port(self.serial);
+    }
+}
+
+/// Copies ports one by one.
+#[derive(Drop)]
+struct PortCopier;
+
+impl Copier<Port> for PortCopier {
+    fn copy(&self, port: &Port) -> Result<Port, AllocError> {
+        port.copy()
+    }
+}
+
+impl Ports {
+    /// No ports. It takes no memory.
+    pub fn new(alloc: Global) -> Self
+        ensures { result ≡ map.empty }
+    {
+        Ports {
+            alloc,
+            ports: NumberMap::new(alloc),
+        }
+    }
+
+    /// How many ports live.
+    pub fn len(&self) -> usize
+        ensures { result ≡ map.len self.now }
+    {
+        self.ports.len()
+    }
+
+    /// Whether no port lives.
+    pub fn is_empty(&self) -> bool
+        ensures { result ≡ (map.len self.now == 0) }
+    {
+        self.ports.is_empty()
+    }
+
+    /// Whether as many ports live as may.
+    pub fn is_full(&self) -> bool
+        ensures { result ≡ nat_le MAX_PORTS (map.len self.now) }
+    {
+        MAX_PORTS <= self.ports.len()
+    }
+
+    /// Whether a port lives.
+    pub fn contains(&self, serial: u64) -> bool
+        ensures { result ≡ is_some (map.get self.now serial) }
+    {
+        self.ports.contains_key(serial)
+    }
+
+    /// What a port keeps beside its queue, if it lives.
+    pub fn numbers(&self, serial: u64) -> Option<PortNumbers>
+        ensures { result ≡ option_map numbers_of (map.get self.now serial) }
+    {
+        match self.ports.get(serial) {
+            Some(port) => Some(port.numbers()),
+            None => None,
+        }
+    }
+
+    /// Replaces what a port keeps beside its queue. It does nothing where the port is dead.
+    pub fn set_numbers(&mut self, serial: u64, numbers: PortNumbers)
+        ensures { self.new ≡ changed self.old serial (with_numbers numbers) }
+    {
+        if let Some(port) = self.ports.get_mut(serial) {
+            port.set_numbers(numbers);
+        }
+    }
+
+    /// The messages of a port, if it lives.
+    pub fn queue(&self, serial: u64) -> Option<&Queue>
+        ensures { option_copied result ≡ option_map (λ port. port.messages) (map.get self.now serial) }
+    {
+        match self.ports.get(serial) {
+            Some(port) => Some(port.queue()),
+            None => None,
+        }
+    }
+
+    /// Adds a new port. Without memory nothing changed.
+    pub fn add(&mut self, serial: u64) -> Result<(), AllocError>
+        requires absent { map.get self.old serial ≡ None }
+        requires room { map.len self.old < MAX_PORTS }
+        ensures ok { OnOk result (self.new ≡ map.insert self.old serial new_port) }
+        ensures err { OnErr result (self.new ≡ self.old) }
+    {
+        self.ports.insert(serial, Port::new(self.alloc))?;
+        Ok(())
+    }
+
+    /// Takes a port out, if it lives.
+    pub fn remove(&mut self, serial: u64) -> Option<Port>
+        ensures before { result ≡ map.get self.old serial }
+        ensures removed { self.new ≡ map.remove self.old serial }
+    {
+        self.ports.remove(serial)
+    }
+
+    /// Puts a message at the end of a port's queue, unless that holds as many as its limit allows. Where the port
+    /// is dead the message is dropped. With a fault nothing changed.
+    pub fn push(&mut self, serial: u64, message: Message) -> Result<(), PushFault>
+        ensures ok { OnOk result (self.new ≡ changed self.old serial
+            (λ port. record port { messages = port.messages ++ message ∷ [] })) }
+        ensures err { OnErr result (self.new ≡ self.old) }
+        ensures full { IsErrOf result PushFault.Full ↔ IsSomeAnd (map.get self.old serial)
+            (λ port. port.limit ≤ length port.messages) }
+    {
+        match self.ports.get_mut(serial) {
+            Some(port) => port.push(message),
+            None => Ok(()),
+        }
+    }
+
+    /// Puts a message at the end of a port's queue, whatever the limit. Where the port is dead the message is
+    /// dropped. Without memory nothing changed.
+    pub fn push_forced(&mut self, serial: u64, message: Message) -> Result<(), AllocError>
+        ensures ok { OnOk result (self.new ≡ changed self.old serial
+            (λ port. record port { messages = port.messages ++ message ∷ [] })) }
+        ensures err { OnErr result (self.new ≡ self.old) }
+    {
+        match self.ports.get_mut(serial) {
+            Some(port) => port.push_forced(message),
+            None => Ok(()),
+        }
+    }
+
+    /// Takes the oldest message of a port out, if the port lives and has one.
+    pub fn take(&mut self, serial: u64) -> Option<Message>
+        ensures { MatchOption result ((messages_at self.old serial ≡ []) × (self.new ≡ self.old))
+            (λ message. (messages_at self.old serial ≡ message ∷ drop 1 (messages_at self.old serial))
+            × (self.new ≡ changed self.old serial (λ port. record port { messages = drop 1 port.messages }))) }
+    {
+        match self.ports.get_mut(serial) {
+            Some(port) => port.take(),
+            None => None,
+        }
+    }
+
+    /// The same ports again.
+    pub fn copy(&self) -> Result<Ports, AllocError>
+        ensures { IfOk result (λ copy. copy ≡ self.now) }
+    {
+        Ok(Ports {
+            alloc: self.alloc,
+            ports: self.ports.copy(&PortCopier)?,
+        })
+    }
+
+    /// A port that has died is forgotten by all others: carried rights to it become `MACH_PORT_DEAD`, and requests
+    /// that were to tell it go.
+    pub fn forget_port(&mut self, serial: u64)
+        ensures { self.new ≡ map_values (port_after_death serial) self.old }
+    {
+        self.ports.change_all(&Death { serial });
+    }
+
+    /// How many rights of a kind to the port `serial` the live ports keep, at most `u32::MAX`.
+    pub fn rights_to(&self, kind: RightKind, serial: u64) -> u32
+        ensures { result ≡ capped_count kind serial (flat_map (λ e. rights_of_port e.0 e.1) (map.entries self.now)) }
+    {
+        let mut count: u32 = 0;
+        for (owner, port) in self.ports.iter() {
+            count = count.saturating_add(port.rights_to(*owner, kind, serial));
+        }
+        count
+    }
+
+    /// The port in whose queue the receive right of a port travels, if it does: the least serial.
+    pub fn carrier(&self, serial: u64) -> Option<u64>
+        ensures { result ≡ option_map (λ e. e.0) (find (λ e. carries serial e.1) (map.entries self.now)) }
+    {
+        for (owner, port) in self.ports.iter() {
+            if port.carries(serial) {
+                return Some(*owner);
+            }
+        }
+        None
+    }
+}
