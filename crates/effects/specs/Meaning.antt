@@ -1,0 +1,18 @@
+-- The notices and effects of the program as those of the written machine.
+use Rattle.effects.specs.declared.effect.Effect.{Effect}
+use Rattle.effects.specs.declared.effect.Effect.TheVariants as this
+use Rattle.effects.specs.declared.notice.Notice.{Notice}
+use Rattle.effects.specs.declared.notice.Notice.TheVariants as told
+use Rattle.ipc_model.specs.Effects as machine
+use Rattle.ipc_model.specs.Notices as notice
+
+abbrev pub notice_meant : Notice → notice.Notice
+notice_meant (told.PortDeleted name) = notice.PortDeleted name
+notice_meant (told.PortDestroyed serial) = notice.PortDestroyed serial
+notice_meant (told.NoSenders count) = notice.NoSenders count
+notice_meant told.SendOnce = notice.SendOnce
+notice_meant (told.DeadName name) = notice.DeadName name
+
+abbrev pub effect_meant : Effect → machine.Effect
+effect_meant (this.Release kind port) = machine.release kind port
+effect_meant (this.Notify target what) = machine.notify target (notice_meant what)

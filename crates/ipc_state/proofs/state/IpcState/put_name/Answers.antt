@@ -1,0 +1,17 @@
+use Rattle.std.proofs.Common.{◌≡◌, Result, Ok, Err, OnErr, sym, ◌∙◌, ap}
+use Rattle.std.specs.Ordering.{nat_cmp}
+use Rattle.std.specs.FinMap.{FinMap, insert}
+use Rattle.ipc_model.specs.MapSums.{insert-same}
+use Rattle.ipc_model.specs.State.{Names}
+use Rattle.ipc_state.proofs.state.IpcState.put_name.Goals as goal
+
+on_err : {T E P : Type 0} (r : Result T E) → P → OnErr r P
+on_err (Ok x) p = tt
+on_err (Err e) p = p
+
+pub returns-in_err-insert-clause-err : goal.returns-in_err-insert-clause-err
+returns-in_err-insert-clause-err c =
+    let spaces = c.self.inside.spaces in
+    let same : insert spaces c.from.result c.insert.new.self ≡ spaces =
+    ap (insert spaces c.from.result) c.in_err-insert.ensures.err ∙ insert-same spaces c.from.result c.in-Some.names.now (sym c.in-Some.ensures.value) in
+    on_err c.from_residual.result (ap (λ (s : FinMap nat_cmp Names). record { spaces = s; ports = c.self.inside.ports; next = c.self.inside.next }) same ∙ c.self.view_is)

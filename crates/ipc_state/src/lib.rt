@@ -1,0 +1,12 @@
+//! The state as it runs: the spaces with their names, the live ports, and the serial that the next port gets.
+#![tactic(auto)]
+
+mod dead_names;
+mod names;
+mod ports;
+mod state;
+
+pub use state::IpcState;
+
+#[cfg(test)]
+mod tests;
