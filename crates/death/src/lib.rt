@@ -1,0 +1,12 @@
+//! What rights that go set off: notices, and the death of ports. The effects of a call are worked off here.
+#![tactic(auto)]
+
+mod notices;
+mod receive;
+mod release;
+mod settling;
+
+pub use settling::settle;
+
+#[cfg(test)]
+mod tests;

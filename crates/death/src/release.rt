@@ -1,0 +1,39 @@
+ghost use Rattle.std.specs.Prelude.{◌≡◌, OnOk};
+ghost use Rattle.std.specs.FinMap as map;
+ghost use Rattle.ipc_model.specs.Effects.{released_if_live};
+
+use crate::notices::notify;
+use effects::Notice;
+use ipc_model::RightKind;
+use ipc_state::IpcState;
+use ports::PortNumbers;
+use std::alloc::{AllocError, Global};
+
+/// A send right was released: where none is left, a no-senders request is taken, and its notice goes out.
+pub fn release_send(alloc: Global, state: &mut IpcState, serial: u64) -> Result<(), AllocError>
+    ensures { OnOk result (state.new ≡ (released_if_live state.old serial RightKind.Send (map.get state.old.ports serial)).0) }
+{
+    let Some(numbers) = state.numbers(serial) else {
+        return Ok(());
+    };
+    let Some(target) = numbers.no_senders_target else {
+        return Ok(());
+    };
+    if state.has_senders(serial) {
+        return Ok(());
+    }
+    let told = PortNumbers {
+        no_senders_target: None,
+        ..numbers
+    };
+    state.set_numbers(serial, told);
+    let count = numbers.make_send_count;
+    notify(alloc, state, target, Notice::NoSenders { count })
+}
+
+/// A send-once right was released: a send-once notice comes by it.
+pub fn release_send_once(alloc: Global, state: &mut IpcState, serial: u64) -> Result<(), AllocError>
+    ensures { OnOk result (state.new ≡ (released_if_live state.old serial RightKind.SendOnce (map.get state.old.ports serial)).0) }
+{
+    notify(alloc, state, serial, Notice::SendOnce)
+}

@@ -1,0 +1,11 @@
+//! Requests for notifications, and notices as messages (Kernel Interfaces, "Notifications").
+#![tactic(auto)]
+
+mod requests;
+mod text;
+
+pub use requests::{replace_no_senders, replace_port_destroyed, with_request};
+pub use text::message;
+
+#[cfg(test)]
+mod tests;

@@ -1,0 +1,60 @@
+ghost use Rattle.std.specs.Prelude.{◌≡◌, option_and_then};
+ghost use Rattle.std.specs.FinMap as map;
+ghost use Rattle.ipc_model.specs.State.{with_port};
+ghost use Rattle.port_space.specs.References.{AreFewReferences};
+ghost use Rattle.notify.specs.Requests.{with_request};
+
+use ipc_model::{Entry, PortRights};
+use ipc_state::IpcState;
+use ports::PortNumbers;
+
+/// The target of a port's no-senders request becomes this one, or the request is taken or cancelled where it is
+/// none. It gives the former target.
+pub fn replace_no_senders(state: &mut IpcState, port: u64, target: Option<u64>) -> Option<u64>
+    ensures former { result ≡ option_and_then (λ port. port.no_senders_target) (map.get state.old.ports port) }
+    ensures kept { state.new ≡ with_port state.old port (λ port. record port { no_senders_target = target }) }
+{
+    let numbers = state.numbers(port)?;
+    let former = numbers.no_senders_target;
+    let asked = PortNumbers {
+        no_senders_target: target,
+        ..numbers
+    };
+    state.set_numbers(port, asked);
+    former
+}
+
+/// The target of a port's port-destroyed request becomes this one, or the request is taken or cancelled where it
+/// is none. It gives the former target.
+pub fn replace_port_destroyed(state: &mut IpcState, port: u64, target: Option<u64>) -> Option<u64>
+    ensures former { result ≡ option_and_then (λ port. port.port_destroyed_target) (map.get state.old.ports port) }
+    ensures kept { state.new ≡ with_port state.old port (λ port. record port { port_destroyed_target = target }) }
+{
+    let numbers = state.numbers(port)?;
+    let former = numbers.port_destroyed_target;
+    let asked = PortNumbers {
+        port_destroyed_target: target,
+        ..numbers
+    };
+    state.set_numbers(port, asked);
+    former
+}
+
+/// What a name stands for, with this dead-name request in place of its own. A set has none, and to a dead name
+/// the answer comes at once.
+pub fn with_request(entry: Entry, target: Option<u64>) -> Entry
+    ensures entry { result ≡ with_request target entry }
+    ensures few { AreFewReferences entry → AreFewReferences result }
+{
+    match entry {
+        Entry::Port(rights) => Entry::Port(PortRights {
+            dead_name_target: target,
+            ..rights
+        }),
+        Entry::SendOnce { port, .. } => Entry::SendOnce {
+            port,
+            dead_name_target: target,
+        },
+        Entry::Set | Entry::Dead { .. } => entry,
+    }
+}

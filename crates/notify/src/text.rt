@@ -1,0 +1,91 @@
+ghost use Rattle.std.specs.Prelude.{◌≡◌, ◌∷◌, [], ◌++◌, IfOk, None, false};
+ghost use Rattle.words.specs.Words.{word};
+ghost use Rattle.ipc_model.specs.Notices.{notice_message, notice_body};
+ghost use Rattle.effects.specs.Meaning.{notice_meant};
+
+use effects::Notice;
+use ipc_model::{CarriedRight, Message, PortInMessage, RightKind, Sequence};
+use std::alloc::{AllocError, Global};
+use words::push_word;
+
+/// `MACH_NOTIFY_PORT_DELETED`: a name with a dead-name request ceased to be.
+const PORT_DELETED: u32 = 65;
+/// `MACH_NOTIFY_PORT_DESTROYED`: a receive right would have been destroyed, and comes along.
+const PORT_DESTROYED: u32 = 69;
+/// `MACH_NOTIFY_NO_SENDERS`: no send right is left.
+const NO_SENDERS: u32 = 70;
+/// `MACH_NOTIFY_SEND_ONCE`: a send-once right was destroyed and not used.
+const SEND_ONCE: u32 = 71;
+/// `MACH_NOTIFY_DEAD_NAME`: a name has become a dead name.
+const DEAD_NAME: u32 = 72;
+
+/// The descriptor of one inline port name (type 15).
+const ONE_NAME: u32 = 0x1001_200f;
+/// The descriptor of one inline receive right (type 16).
+const ONE_RECEIVE_RIGHT: u32 = 0x1001_2010;
+/// The descriptor of one inline 32-bit integer (type 2).
+const ONE_INTEGER: u32 = 0x1001_2002;
+
+/// A notice as a message, which is sent by a send-once right and names no reply.
+pub fn message(alloc: Global, notice: Notice) -> Result<Message, AllocError>
+    ensures { IfOk result (λ message. message ≡ notice_message (notice_meant notice)) }
+{
+    match notice {
+        Notice::PortDeleted { name } => plain(alloc, PORT_DELETED, ONE_NAME, name),
+        Notice::PortDestroyed { serial } => port_destroyed(alloc, serial),
+        Notice::NoSenders { count } => plain(alloc, NO_SENDERS, ONE_INTEGER, count),
+        Notice::SendOnce => Ok(without_rights(SEND_ONCE, alloc, Vec::new(alloc))),
+        Notice::DeadName { name } => plain(alloc, DEAD_NAME, ONE_NAME, name),
+    }
+}
+
+/// A notice that tells of one word.
+fn plain(alloc: Global, id: u32, descriptor: u32, told: u32) -> Result<Message, AllocError>
+    ensures { IfOk result (λ message. message ≡ record { destination = RightKind.SendOnce; reply = None; id = id; complex = false; rights = []; body = word descriptor ++ word told }) }
+{
+    let body = one_item(alloc, descriptor, told)?;
+    Ok(without_rights(id, alloc, body))
+}
+
+fn without_rights(id: u32, alloc: Global, body: Vec<u8>) -> Message
+    ensures { result ≡ record { destination = RightKind.SendOnce; reply = None; id = id; complex = false; rights = []; body = body.items } }
+{
+    Message {
+        destination: RightKind::SendOnce,
+        reply: None,
+        id,
+        complex: false,
+        rights: Sequence::new(Vec::new(alloc)),
+        body: Sequence::new(body),
+    }
+}
+
+/// The notice that carries the receive right.
+fn port_destroyed(alloc: Global, serial: u64) -> Result<Message, AllocError>
+    ensures { IfOk result (λ message. message ≡ notice_message (notice_meant (Notice.PortDestroyed serial))) }
+{
+    let body = one_item(alloc, ONE_RECEIVE_RIGHT, 0)?;
+    let mut rights = Vec::new(alloc);
+    rights.push(CarriedRight {
+        kind: RightKind::Receive,
+        port: PortInMessage::Live(serial),
+    })?;
+    Ok(Message {
+        destination: RightKind::SendOnce,
+        reply: None,
+        id: PORT_DESTROYED,
+        complex: true,
+        rights: Sequence::new(rights),
+        body: Sequence::new(body),
+    })
+}
+
+/// A body of one item of one word.
+fn one_item(alloc: Global, descriptor: u32, told: u32) -> Result<Vec<u8>, AllocError>
+    ensures { IfOk result (λ body. body.items ≡ word descriptor ++ word told) }
+{
+    let mut body = Vec::new(alloc);
+    push_word(&mut body, descriptor)?;
+    push_word(&mut body, told)?;
+    Ok(body)
+}
