@@ -1,0 +1,6 @@
+use Rattle.std.proofs.Common.{◌≡◌, drop}
+use Rattle.ipc_model.specs.Actions.{with_ports}
+use Rattle.port_set.proofs.moves.move_ports.Given as goal
+
+abbrev pub invariant-loop-port : goal.invariant-loop-port
+invariant-loop-port l = with_ports l.state (drop l.port-index l.ports) (λ port. record port { set = l.set }) ≡ with_ports l.initial.state l.ports (λ port. record port { set = l.set })

@@ -1,0 +1,2 @@
+mod Arriving
+mod Naming

@@ -1,0 +1,12 @@
+-- What copy in does to a state and to the effects that wait.
+use Rattle.std.specs.Prelude.{◌≡◌, List, ◌++◌, Option, None, Some}
+use Rattle.ipc_model.specs.declared.message.CarriedRight.{CarriedRight}
+use Rattle.ipc_model.specs.CopyIn.{Taken}
+use Rattle.ipc_model.specs.Effects.{Effect}
+use Rattle.ipc_model.specs.State.{State}
+
+-- What was to be taken was taken: the right comes out, and notices wait at the end of the list. Where nothing
+-- was to be taken all is as before.
+abbrev pub Takes : Option Taken → State → List Effect → Option CarriedRight → State → List Effect → Type 0
+Takes None old waiting right new after = (right ≡ None) × (new ≡ old) × (after ≡ waiting)
+Takes (Some taken) old waiting right new after = (right ≡ Some taken.right) × (new ≡ taken.state) × (after ≡ waiting ++ taken.notices)

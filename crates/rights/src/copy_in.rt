@@ -1,0 +1,242 @@
+ghost use Rattle.std.specs.Prelude.{◌≡◌, true, false, IfOk, OnErr, IfSome, IfNone, IsSome};
+ghost use Rattle.ipc_model.specs.CopyIn.{copy_in, taken_of_port, taken_of_send_once, taken_of_dead, taken_leaving, moved_port};
+ghost use Rattle.ipc_model.specs.State.{entry_at, with_port, next_count};
+ghost use Rattle.ipc_model.specs.declared.port.PortState.{PortState};
+ghost use Rattle.port_space.specs.References.{AreFewReferences};
+ghost use Rattle.rights.specs.Meaning.{disposition_meant};
+ghost use Rattle.rights.specs.Taking.{Takes};
+
+use crate::Disposition;
+use crate::left::{announce_left, set_left};
+use effects::Effects;
+use ipc_model::{CarriedRight, Entry, PortInMessage, PortRights, RightKind};
+use ipc_state::IpcState;
+use ports::PortNumbers;
+use std::alloc::AllocError;
+
+/// Copy in: takes a right from a name of a space by a disposition, or nothing where that is refused, and then
+/// all is as before. The port-deleted notice of a name that ceases to be goes to the end of the effects. Where memory is
+/// wanted nothing changed.
+#[tactic(auto, unfolding(ipc_model::specs::CopyIn::copy_in))]
+pub fn take_right(
+    state: &mut IpcState,
+    space: u32,
+    name: u32,
+    disposition: Disposition,
+    effects: &mut Effects,
+) -> Result<Option<CarriedRight>, AllocError>
+    ensures taken { IfOk result (λ right. Takes (copy_in state.old space name (disposition_meant disposition)) state.old effects.old right state.new effects.new) }
+    ensures err { OnErr result ((state.new ≡ state.old) × (effects.new ≡ effects.old)) }
+{
+    let Some(entry) = state.entry(space, name) else {
+        return Ok(None);
+    };
+    match entry {
+        Entry::Port(rights) => take_from_port(state, space, name, disposition, rights, effects),
+        Entry::SendOnce {
+            port,
+            dead_name_target,
+        } => take_send_once(
+            state,
+            space,
+            name,
+            disposition,
+            port,
+            dead_name_target,
+            effects,
+        ),
+        Entry::Set => Ok(None),
+        Entry::Dead { references } => take_dead(
+            state,
+            space,
+            name,
+            disposition,
+            references,
+            effects,
+        ),
+    }
+}
+
+fn right_to(kind: RightKind, port: u64) -> CarriedRight
+    ensures { result ≡ record { kind = kind; port = PortInMessage.Live port } }
+{
+    CarriedRight {
+        kind,
+        port: PortInMessage::Live(port),
+    }
+}
+
+fn take_from_port(
+    state: &mut IpcState,
+    space: u32,
+    name: u32,
+    disposition: Disposition,
+    rights: PortRights,
+    effects: &mut Effects,
+) -> Result<Option<CarriedRight>, AllocError>
+    requires named { IsSome (entry_at state.old space name) }
+    requires few { AreFewReferences (Entry.Port rights) }
+    ensures taken { IfOk result (λ right. Takes (taken_of_port state.old space name (disposition_meant disposition) rights) state.old effects.old right state.new effects.new) }
+    ensures err { OnErr result ((state.new ≡ state.old) × (effects.new ≡ effects.old)) }
+{
+    match disposition {
+        Disposition::MoveReceive => move_receive(state, space, name, rights, effects),
+        Disposition::MoveSend => move_send(state, space, name, rights, effects),
+        Disposition::MoveSendOnce => Ok(None),
+        Disposition::CopySend => Ok(
+            (rights.send != 0).then_some(right_to(RightKind::Send, rights.port)),
+        ),
+        Disposition::MakeSend => Ok(make_send(state, rights)),
+        Disposition::MakeSendOnce => Ok(
+            rights
+                .receive
+                .then_some(right_to(RightKind::SendOnce, rights.port)),
+        ),
+    }
+}
+
+fn move_receive(
+    state: &mut IpcState,
+    space: u32,
+    name: u32,
+    rights: PortRights,
+    effects: &mut Effects,
+) -> Result<Option<CarriedRight>, AllocError>
+    requires named { IsSome (entry_at state.old space name) }
+    requires few { AreFewReferences (Entry.Port rights) }
+    ensures taken { IfOk result (λ right. Takes (taken_of_port state.old space name (disposition_meant Disposition.MoveReceive) rights) state.old effects.old right state.new effects.new) }
+    ensures err { OnErr result ((state.new ≡ state.old) × (effects.new ≡ effects.old)) }
+{
+    if !rights.receive {
+        return Ok(None);
+    }
+    let left = Entry::Port(PortRights {
+        receive: false,
+        ..rights
+    });
+    announce_left(effects, name, left)?;
+    reset_port(state, rights.port);
+    set_left(state, space, name, left);
+    Ok(Some(right_to(RightKind::Receive, rights.port)))
+}
+
+/// A moved receive right leaves its set, and loses its sequence number and make-send count.
+fn reset_port(state: &mut IpcState, serial: u64)
+    ensures moved { state.new ≡ moved_port state.old serial }
+    ensures spaces { state.new.spaces ≡ state.old.spaces }
+{
+    let Some(numbers) = state.numbers(serial) else {
+        return;
+    };
+    let moved = PortNumbers {
+        set: None,
+        sequence_number: 0,
+        make_send_count: 0,
+        ..numbers
+    };
+    state.set_numbers(serial, moved);
+}
+
+fn move_send(
+    state: &mut IpcState,
+    space: u32,
+    name: u32,
+    rights: PortRights,
+    effects: &mut Effects,
+) -> Result<Option<CarriedRight>, AllocError>
+    requires named { IsSome (entry_at state.old space name) }
+    requires few { AreFewReferences (Entry.Port rights) }
+    ensures taken { IfOk result (λ right. Takes (taken_of_port state.old space name (disposition_meant Disposition.MoveSend) rights) state.old effects.old right state.new effects.new) }
+    ensures err { OnErr result ((state.new ≡ state.old) × (effects.new ≡ effects.old)) }
+{
+    if rights.send == 0 {
+        return Ok(None);
+    }
+    let left = Entry::Port(PortRights {
+        send: rights.send - 1,
+        ..rights
+    });
+    announce_left(effects, name, left)?;
+    set_left(state, space, name, left);
+    Ok(Some(right_to(RightKind::Send, rights.port)))
+}
+
+/// A send right is made from the receive right, and counted.
+fn make_send(state: &mut IpcState, rights: PortRights) -> Option<CarriedRight>
+    ensures none { IfNone result ((rights.receive ≡ false) × (state.new ≡ state.old)) }
+    ensures made { IfSome result (λ right. (rights.receive ≡ true) × (right ≡ record { kind = RightKind.Send; port = PortInMessage.Live rights.port })
+        × (state.new ≡ with_port state.old rights.port (λ port. record port { make_send_count = next_count port.make_send_count }))) }
+{
+    if !rights.receive {
+        return None;
+    }
+    if let Some(numbers) = state.numbers(rights.port) {
+        let make_send_count = numbers.make_send_count.wrapping_add(1);
+        state.set_numbers(
+            rights.port,
+            PortNumbers {
+                make_send_count,
+                ..numbers
+            },
+        );
+    }
+    Some(right_to(RightKind::Send, rights.port))
+}
+
+/// A send-once right is moved, and its name ceases to be.
+fn take_send_once(
+    state: &mut IpcState,
+    space: u32,
+    name: u32,
+    disposition: Disposition,
+    port: u64,
+    request: Option<u64>,
+    effects: &mut Effects,
+) -> Result<Option<CarriedRight>, AllocError>
+    ensures taken { IfOk result (λ right. Takes (taken_of_send_once state.old space name (disposition_meant disposition) port request) state.old effects.old right state.new effects.new) }
+    ensures err { OnErr result ((state.new ≡ state.old) × (effects.new ≡ effects.old)) }
+{
+    if disposition != Disposition::MoveSendOnce {
+        return Ok(None);
+    }
+    effects.port_deleted(name, request)?;
+    state.remove_name(space, name);
+    Ok(Some(right_to(RightKind::SendOnce, port)))
+}
+
+/// A dead name arrives as `MACH_PORT_DEAD`; a move takes one reference.
+fn take_dead(
+    state: &mut IpcState,
+    space: u32,
+    name: u32,
+    disposition: Disposition,
+    references: u32,
+    effects: &mut Effects,
+) -> Result<Option<CarriedRight>, AllocError>
+    requires named { IsSome (entry_at state.old space name) }
+    requires few { AreFewReferences (Entry.Dead references) }
+    ensures taken { IfOk result (λ right. Takes (taken_of_dead state.old space name (disposition_meant disposition) references) state.old effects.old right state.new effects.new) }
+    ensures err { OnErr result ((state.new ≡ state.old) × (effects.new ≡ effects.old)) }
+{
+    let kind = match disposition {
+        Disposition::CopySend => return Ok(Some(dead_right(RightKind::Send))),
+        Disposition::MoveSend => RightKind::Send,
+        Disposition::MoveSendOnce => RightKind::SendOnce,
+        _ => return Ok(None),
+    };
+    let left = Entry::Dead {
+        references: references.saturating_sub(1),
+    };
+    announce_left(effects, name, left)?;
+    set_left(state, space, name, left);
+    Ok(Some(dead_right(kind)))
+}
+
+fn dead_right(kind: RightKind) -> CarriedRight
+    ensures { result ≡ record { kind = kind; port = PortInMessage.Dead } }
+{
+    CarriedRight {
+        kind,
+        port: PortInMessage::Dead,
+    }
+}

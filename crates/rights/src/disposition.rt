@@ -1,0 +1,37 @@
+ghost use Rattle.std.specs.Prelude.{◌≡◌, option_map};
+ghost use Rattle.ipc_model.specs.Dispositions.{disposition_of};
+ghost use Rattle.rights.specs.Meaning.{disposition_meant};
+
+/// How a task hands a right over (`mach_msg_type_name_t`).
+#[derive(Clone, Copy, Debug, PartialEq, Eq)]
+pub enum Disposition {
+    /// `MACH_MSG_TYPE_MOVE_RECEIVE`.
+    MoveReceive = 16,
+    /// `MACH_MSG_TYPE_MOVE_SEND`.
+    MoveSend = 17,
+    /// `MACH_MSG_TYPE_MOVE_SEND_ONCE`.
+    MoveSendOnce = 18,
+    /// `MACH_MSG_TYPE_COPY_SEND`.
+    CopySend = 19,
+    /// `MACH_MSG_TYPE_MAKE_SEND`.
+    MakeSend = 20,
+    /// `MACH_MSG_TYPE_MAKE_SEND_ONCE`.
+    MakeSendOnce = 21,
+}
+
+impl Disposition {
+    /// The disposition of a number, if it is one.
+    pub fn of_number(number: u32) -> Option<Disposition>
+        ensures { option_map disposition_meant result ≡ disposition_of number }
+    {
+        match number {
+            16 => Some(Disposition::MoveReceive),
+            17 => Some(Disposition::MoveSend),
+            18 => Some(Disposition::MoveSendOnce),
+            19 => Some(Disposition::CopySend),
+            20 => Some(Disposition::MakeSend),
+            21 => Some(Disposition::MakeSendOnce),
+            _ => None,
+        }
+    }
+}

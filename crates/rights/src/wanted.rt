@@ -1,0 +1,54 @@
+ghost use Rattle.std.specs.Prelude.{◌≡◌, ◌≤◌, ◌==◌, [], length};
+ghost use Rattle.std.specs.List.{list_any};
+ghost use Rattle.ipc_model.specs.CopyOut.{names_wanted, wants_name};
+ghost use Rattle.ipc_model.specs.PortCalls.{names_in};
+ghost use Rattle.rights.specs.Wanting.{named_after, names_port};
+
+use ipc_model::{CarriedRight, PortInMessage, RightKind};
+use ipc_state::IpcState;
+
+/// How many new names rights want that arrive in a space one after another: each send-once right to a port wants
+/// one, and each port one that has no name there. It takes no memory.
+pub fn names_wanted(state: &IpcState, space: u32, rights: &[CarriedRight]) -> usize
+    ensures wanted { result ≡ names_wanted (names_in state.now space) [] rights.now }
+    ensures few { result ≤ length rights.now }
+{
+    let mut wanted = 0;
+    for index in 0..rights.len() {
+        if wants_name(state, space, &rights[..index], rights[index]) {
+            wanted += 1;
+        }
+    }
+    wanted
+}
+
+/// Whether a right wants a new name that arrives after others.
+fn wants_name(state: &IpcState, space: u32, before: &[CarriedRight], right: CarriedRight) -> bool
+    ensures { result ≡ wants_name (names_in state.now space) (named_after [] before.now) right.kind right.port }
+{
+    let PortInMessage::Live(port) = right.port else {
+        return false;
+    };
+    if right.kind == RightKind::SendOnce {
+        return true;
+    }
+    state.name_of_port(space, port).is_none() && !gets_name(before, port)
+}
+
+/// Whether rights bring a port a name.
+fn gets_name(rights: &[CarriedRight], port: u64) -> bool
+    ensures { result ≡ list_any (λ named. named == port) (named_after [] rights.now) }
+{
+    for right in rights {
+        if is_named_by(*right, port) {
+            return true;
+        }
+    }
+    false
+}
+
+fn is_named_by(right: CarriedRight, port: u64) -> bool
+    ensures { result ≡ names_port port right.kind right.port }
+{
+    right.kind != RightKind::SendOnce && right.port == PortInMessage::Live(port)
+}
