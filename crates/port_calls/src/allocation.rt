@@ -1,0 +1,117 @@
+ghost use Rattle.std.specs.Prelude.{◌≡◌, ◌&&◌, ◌∷◌, [], None, IfOk, OnOk, OnErr, IsSome};
+ghost use Rattle.std.specs.FinMap as map;
+ghost use Rattle.ipc_model.specs.Actions.{allocated};
+ghost use Rattle.ipc_model.specs.declared.call.Call.TheVariants as call;
+ghost use Rattle.ipc_model.specs.PortCalls.{is_full, is_right, names_in, tests_of};
+ghost use Rattle.ipc_model.specs.State.{ports_are_used_up};
+ghost use Rattle.ipc_model.specs.Step.{ActsIn};
+ghost use Rattle.ipc_model.specs.Tests.{first_failing};
+
+use crate::ask::is_null_or_dead;
+use crate::entry::{allocated_entry, is_allocatable};
+use codes::{KernReturn, MAX_NAMES, Right};
+use ipc_model::Reply;
+use ipc_state::IpcState;
+use std::alloc::AllocError;
+
+/// `mach_port_allocate`: a new name with a new right, the least unused one from `FIRST_NAME` on. Where memory is
+/// wanted nothing changed.
+#[tactic(auto, unfolding(ipc_model::specs::PortCalls::tests_of, ipc_model::specs::Actions::Done))]
+pub fn allocate(state: &mut IpcState, space: u32, right: u32) -> Result<Reply, AllocError>
+    requires there { IsSome (map.get state.old.spaces space) }
+    requires fresh { map.get state.old.ports state.old.next ≡ None }
+    ensures acts { IfOk result (λ reply. ActsIn state.old space (names_in state.old space) (call.Allocate right) reply state.new []) }
+    ensures err { OnErr result (state.new ≡ state.old) }
+{
+    if let Some(code) = refusal_of_allocate(state, space, right) {
+        return Ok(Reply::Refused { number: 5, code });
+    }
+    let name = state.free_name(space);
+    add_right(state, space, right, name)?;
+    Ok(Reply::Allocate { name })
+}
+
+/// The code that an allocation is refused with, if it is refused.
+#[tactic(auto, unfolding(ipc_model::specs::PortCalls::tests_of))]
+pub fn refusal_of_allocate(state: &IpcState, space: u32, right: u32) -> Option<KernReturn>
+    ensures { result ≡ first_failing (tests_of state.now space (names_in state.now space) (call.Allocate right)) }
+{
+    if !is_allocatable(right) {
+        return Some(KernReturn::InvalidValue);
+    }
+    refusal_for_want(state, space, right)
+}
+
+/// The code that a right is refused with for which there is no room: the space uses all names that it may, or no
+/// further port can be made.
+fn refusal_for_want(state: &IpcState, space: u32, right: u32) -> Option<KernReturn>
+    ensures { result ≡ first_failing ((is_full (names_in state.now space), KernReturn.NoSpace) ∷ (is_right right Right.Receive && ports_are_used_up state.now, KernReturn.ResourceShortage) ∷ []) }
+{
+    if state.names(space) >= MAX_NAMES {
+        return Some(KernReturn::NoSpace);
+    }
+    if right == Right::Receive.number() && state.is_out_of_ports() {
+        return Some(KernReturn::ResourceShortage);
+    }
+    None
+}
+
+/// `mach_port_allocate_name`: a new right under a name that the task chooses. Where memory is wanted nothing
+/// changed.
+#[tactic(auto, unfolding(ipc_model::specs::PortCalls::tests_of, ipc_model::specs::Actions::Done))]
+pub fn allocate_name(
+    state: &mut IpcState,
+    space: u32,
+    right: u32,
+    name: u32,
+) -> Result<Reply, AllocError>
+    requires there { IsSome (map.get state.old.spaces space) }
+    requires fresh { map.get state.old.ports state.old.next ≡ None }
+    ensures acts { IfOk result (λ reply. ActsIn state.old space (names_in state.old space) (call.AllocateName right name) reply state.new []) }
+    ensures err { OnErr result (state.new ≡ state.old) }
+{
+    let number = 4;
+    if let Some(code) = refusal_of_name(state, space, right, name) {
+        return Ok(Reply::Refused { number, code });
+    }
+    add_right(state, space, right, name)?;
+    Ok(Reply::Done { number })
+}
+
+/// The code that an allocation under a chosen name is refused with, if it is refused.
+#[tactic(auto, unfolding(ipc_model::specs::PortCalls::tests_of))]
+fn refusal_of_name(state: &IpcState, space: u32, right: u32, name: u32) -> Option<KernReturn>
+    ensures { result ≡ first_failing (tests_of state.now space (names_in state.now space) (call.AllocateName right name)) }
+{
+    if is_null_or_dead(name) {
+        return Some(KernReturn::InvalidValue);
+    }
+    if !is_allocatable(right) {
+        return Some(KernReturn::InvalidValue);
+    }
+    if state.entry(space, name).is_some() {
+        return Some(KernReturn::NameExists);
+    }
+    refusal_for_want(state, space, right)
+}
+
+/// Has an unused name stand for a new right. Where memory is wanted nothing changed.
+pub fn add_right(state: &mut IpcState, space: u32, right: u32, name: u32) -> Result<(), AllocError>
+    requires there { IsSome (map.get state.old.spaces space) }
+    requires fresh { map.get state.old.ports state.old.next ≡ None }
+    requires room { first_failing ((is_full (names_in state.old space), KernReturn.NoSpace) ∷ (is_right right Right.Receive && ports_are_used_up state.old, KernReturn.ResourceShortage) ∷ []) ≡ None }
+    requires unused { map.get (names_in state.old space) name ≡ None }
+    ensures ok { OnOk result (state.new ≡ allocated state.old space (names_in state.old space) right name) }
+    ensures err { OnErr result (state.new ≡ state.old) }
+{
+    let entry = allocated_entry(state.next_serial(), right);
+    if right != Right::Receive.number() {
+        return state.put_name(space, name, entry);
+    }
+    state.put_name(space, name, entry)?;
+    if let Err(full) = state.add_port() {
+        state.remove_name(space, name);
+        return Err(full);
+    }
+    Ok(())
+}

@@ -1,0 +1,66 @@
+ghost use Rattle.std.specs.Prelude.{◌≡◌, []};
+ghost use Rattle.ipc_model.specs.declared.call.Call.TheVariants as call;
+ghost use Rattle.ipc_model.specs.PortCalls.{names_in, is_in_some_set};
+ghost use Rattle.ipc_model.specs.Step.{ActsIn};
+
+use crate::ask::named;
+use codes::{KernReturn, MACH_PORT_NULL};
+use ipc_model::{Entry, Reply};
+use ipc_state::IpcState;
+use port_set::received_port;
+
+/// `mach_port_move_member`: a port becomes a member of the set `after`, or of none where that is
+/// `MACH_PORT_NULL`.
+#[tactic(auto, unfolding(ipc_model::specs::PortCalls::tests_of, ipc_model::specs::Actions::Done))]
+pub fn move_member(state: &mut IpcState, space: u32, member: u32, after: u32) -> Reply
+    ensures { ActsIn state.old space (names_in state.old space) (call.MoveMember member after) result state.new [] }
+{
+    let number = 15;
+    let Some(entry) = named(state, space, member) else {
+        return Reply::Refused {
+            number,
+            code: KernReturn::InvalidName,
+        };
+    };
+    if received_port(entry).is_none() {
+        return Reply::Refused {
+            number,
+            code: KernReturn::InvalidRight,
+        };
+    }
+    if after == MACH_PORT_NULL {
+        if !is_in_some_set(state, entry) {
+            return Reply::Refused {
+                number,
+                code: KernReturn::NotInSet,
+            };
+        }
+    } else {
+        match named(state, space, after) {
+            None => return Reply::Refused {
+                number,
+                code: KernReturn::InvalidName,
+            },
+            Some(Entry::Set) => {}
+            Some(_) => return Reply::Refused {
+                number,
+                code: KernReturn::InvalidRight,
+            },
+        }
+    }
+    port_set::move_member(state, entry, after);
+    Reply::Done { number }
+}
+
+/// Whether the port whose receive right a name holds is a member of a set.
+fn is_in_some_set(state: &IpcState, entry: Entry) -> bool
+    ensures { result ≡ is_in_some_set state.now entry }
+{
+    let Some(port) = received_port(entry) else {
+        return false;
+    };
+    match state.numbers(port) {
+        Some(numbers) => numbers.set.is_some(),
+        None => false,
+    }
+}

@@ -1,0 +1,103 @@
+ghost use Rattle.std.specs.Prelude.{◌≡◌, []};
+ghost use Rattle.ipc_model.specs.declared.call.Call.TheVariants as call;
+ghost use Rattle.ipc_model.specs.PortCalls.{names_in};
+ghost use Rattle.ipc_model.specs.Step.{ActsIn};
+
+use crate::ask::named;
+use codes::{KernReturn, MAX_QUEUE_LIMIT};
+use ipc_model::Reply;
+use ipc_state::IpcState;
+use port_set::received_port;
+use ports::PortNumbers;
+
+/// `mach_port_set_qlimit`: how many messages the queue of a port holds at most.
+#[tactic(auto, unfolding(ipc_model::specs::PortCalls::tests_of, ipc_model::specs::Actions::Done))]
+pub fn set_qlimit(state: &mut IpcState, space: u32, name: u32, limit: u32) -> Reply
+    ensures { ActsIn state.old space (names_in state.old space) (call.SetQlimit name limit) result state.new [] }
+{
+    let number = 10;
+    if limit > MAX_QUEUE_LIMIT {
+        return Reply::Refused {
+            number,
+            code: KernReturn::InvalidValue,
+        };
+    }
+    let Some(entry) = named(state, space, name) else {
+        return Reply::Refused {
+            number,
+            code: KernReturn::InvalidName,
+        };
+    };
+    let Some(port) = received_port(entry) else {
+        return Reply::Refused {
+            number,
+            code: KernReturn::InvalidRight,
+        };
+    };
+    if let Some(numbers) = state.numbers(port) {
+        state.set_numbers(port, PortNumbers { limit, ..numbers });
+    }
+    Reply::Done { number }
+}
+
+/// `mach_port_set_mscount`: the make-send count of a port.
+#[tactic(auto, unfolding(ipc_model::specs::PortCalls::tests_of, ipc_model::specs::Actions::Done))]
+pub fn set_mscount(state: &mut IpcState, space: u32, name: u32, count: u32) -> Reply
+    ensures { ActsIn state.old space (names_in state.old space) (call.SetMscount name count) result state.new [] }
+{
+    let number = 11;
+    let Some(entry) = named(state, space, name) else {
+        return Reply::Refused {
+            number,
+            code: KernReturn::InvalidName,
+        };
+    };
+    let Some(port) = received_port(entry) else {
+        return Reply::Refused {
+            number,
+            code: KernReturn::InvalidRight,
+        };
+    };
+    if let Some(numbers) = state.numbers(port) {
+        let make_send_count = count;
+        state.set_numbers(
+            port,
+            PortNumbers {
+                make_send_count,
+                ..numbers
+            },
+        );
+    }
+    Reply::Done { number }
+}
+
+/// `mach_port_set_seqno`: the sequence number of the next message from a port.
+#[tactic(auto, unfolding(ipc_model::specs::PortCalls::tests_of, ipc_model::specs::Actions::Done))]
+pub fn set_seqno(state: &mut IpcState, space: u32, name: u32, seqno: u32) -> Reply
+    ensures { ActsIn state.old space (names_in state.old space) (call.SetSeqno name seqno) result state.new [] }
+{
+    let number = 12;
+    let Some(entry) = named(state, space, name) else {
+        return Reply::Refused {
+            number,
+            code: KernReturn::InvalidName,
+        };
+    };
+    let Some(port) = received_port(entry) else {
+        return Reply::Refused {
+            number,
+            code: KernReturn::InvalidRight,
+        };
+    };
+    if let Some(numbers) = state.numbers(port) {
+        let sequence_number = seqno;
+        state.set_numbers(
+            port,
+            PortNumbers {
+                sequence_number,
+                ..numbers
+            },
+        );
+    }
+    Reply::Done { number }
+}

@@ -1,0 +1,157 @@
+ghost use Rattle.std.specs.Prelude.{◌≡◌, ◌++◌, ◌∷◌, ◌==◌, ◌≤◌, ◌||◌, ◌&&◌, [], IfOk, OnOk, IsSome};
+ghost use Rattle.codes.specs.declared.limits.TheConstants.{MAX_SEND_REFERENCES, MAX_DEAD_REFERENCES};
+ghost use Rattle.ipc_model.specs.Actions.{release_if, effects_of_name};
+ghost use Rattle.ipc_model.specs.CopyIn.{with_left, notices_of_left};
+ghost use Rattle.ipc_model.specs.declared.call.Call.TheVariants as call;
+ghost use Rattle.ipc_model.specs.Effects.{release, port_deleted};
+ghost use Rattle.ipc_model.specs.PortCalls.{names_in, is_set, has_receive, send_references};
+ghost use Rattle.ipc_model.specs.State.{entry_at, without_name};
+ghost use Rattle.ipc_model.specs.Step.{ActsIn};
+
+use crate::ask::named;
+use codes::KernReturn;
+use effects::{Effect, Effects};
+use ipc_model::{Entry, PortRights, Reply, RightKind};
+use ipc_state::IpcState;
+use rights::{announce_left, set_left};
+use std::alloc::AllocError;
+
+/// `mach_port_deallocate`: one reference less of a send right, a send-once right or a dead name.
+#[tactic(auto, unfolding(ipc_model::specs::PortCalls::tests_of, ipc_model::specs::Actions::Done))]
+pub fn deallocate(
+    state: &mut IpcState,
+    space: u32,
+    name: u32,
+    effects: &mut Effects,
+) -> Result<Reply, AllocError>
+    requires none { effects.old ≡ [] }
+    ensures { IfOk result (λ reply. ActsIn state.old space (names_in state.old space) (call.Deallocate name) reply state.new effects.new) }
+{
+    let number = 7;
+    let Some(entry) = named(state, space, name) else {
+        return Ok(Reply::Refused {
+            number,
+            code: KernReturn::InvalidName,
+        });
+    };
+    if has_no_references(entry) {
+        return Ok(Reply::Refused {
+            number,
+            code: KernReturn::InvalidRight,
+        });
+    }
+    match entry {
+        Entry::Port(rights) => send_left(
+            state,
+            space,
+            name,
+            rights,
+            rights.send.saturating_sub(1),
+            effects,
+        )?,
+        Entry::SendOnce {
+            port,
+            dead_name_target,
+        } => send_once_gone(state, space, name, port, dead_name_target, effects)?,
+        Entry::Set => {}
+        Entry::Dead { references } => set_left(
+            state,
+            space,
+            name,
+            Entry::Dead {
+                references: references.saturating_sub(1),
+            },
+        ),
+    }
+    Ok(Reply::Done { number })
+}
+
+/// Whether a name is a set, or holds a receive right alone.
+fn has_no_references(entry: Entry) -> bool
+    ensures { result ≡ (is_set entry || (has_receive entry && send_references entry == 0)) }
+{
+    match entry {
+        Entry::Port(rights) => rights.receive && rights.send == 0,
+        Entry::Set => true,
+        Entry::SendOnce { .. } | Entry::Dead { .. } => false,
+    }
+}
+
+/// So many references of a send right are left under a name; where none are left the right is released.
+pub fn send_left(
+    state: &mut IpcState,
+    space: u32,
+    name: u32,
+    rights: PortRights,
+    left: u32,
+    effects: &mut Effects,
+) -> Result<(), AllocError>
+    requires named { IsSome (entry_at state.old space name) }
+    requires few { left ≤ MAX_SEND_REFERENCES }
+    ensures state { OnOk result (state.new ≡ with_left state.old space name (Entry.Port (record rights { send = left }))) }
+    ensures effects { OnOk result (effects.new ≡ effects.old ++ (release_if (left == 0) (release RightKind.Send rights.port) ++ notices_of_left name (Entry.Port (record rights { send = left })))) }
+{
+    let entry = Entry::Port(PortRights {
+        send: left,
+        ..rights
+    });
+    if left == 0 {
+        release(effects, RightKind::Send, rights.port)?;
+    }
+    announce_left(effects, name, entry)?;
+    set_left(state, space, name, entry);
+    Ok(())
+}
+
+fn release(effects: &mut Effects, kind: RightKind, port: u64) -> Result<(), AllocError>
+    ensures { OnOk result (effects.new ≡ effects.old ++ release kind port ∷ []) }
+{
+    effects.push(Effect::Release { kind, port })
+}
+
+/// The one reference of a send-once right goes, and its name with it.
+pub fn send_once_gone(
+    state: &mut IpcState,
+    space: u32,
+    name: u32,
+    port: u64,
+    request: Option<u64>,
+    effects: &mut Effects,
+) -> Result<(), AllocError>
+    ensures state { OnOk result (state.new ≡ without_name state.old space name) }
+    ensures effects { OnOk result (effects.new ≡ effects.old ++ (release RightKind.SendOnce port ∷ port_deleted name request)) }
+{
+    release(effects, RightKind::SendOnce, port)?;
+    effects.port_deleted(name, request)?;
+    state.remove_name(space, name);
+    Ok(())
+}
+
+/// Adds the releases of all that a name stands for, and its port-deleted notice.
+pub fn release_name(effects: &mut Effects, name: u32, entry: Entry) -> Result<(), AllocError>
+    ensures { OnOk result (effects.new ≡ effects.old ++ effects_of_name name entry) }
+{
+    match entry {
+        Entry::Port(rights) => release_rights(effects, name, rights),
+        Entry::SendOnce {
+            port,
+            dead_name_target,
+        } => {
+            release(effects, RightKind::SendOnce, port)?;
+            effects.port_deleted(name, dead_name_target)
+        }
+        Entry::Set | Entry::Dead { .. } => Ok(()),
+    }
+}
+
+fn release_rights(effects: &mut Effects, name: u32, rights: PortRights) -> Result<(), AllocError>
+    ensures { OnOk result (effects.new ≡ effects.old ++ effects_of_name name (Entry.Port rights)) }
+{
+    if rights.send != 0 {
+        release(effects, RightKind::Send, rights.port)?;
+    }
+    if rights.receive {
+        release(effects, RightKind::Receive, rights.port)?;
+    }
+    effects.port_deleted(name, rights.dead_name_target)
+}

@@ -1,0 +1,59 @@
+ghost use Rattle.std.specs.Prelude.{◌≡◌, [], IfOk, OnOk};
+ghost use Rattle.ipc_model.specs.Actions.{members_moved};
+ghost use Rattle.ipc_model.specs.declared.call.Call.TheVariants as call;
+ghost use Rattle.ipc_model.specs.PortCalls.{names_in};
+ghost use Rattle.ipc_model.specs.Step.{ActsIn};
+
+use crate::ask::named;
+use crate::references::release_name;
+use codes::KernReturn;
+use effects::Effects;
+use ipc_model::{Entry, Reply};
+use ipc_state::IpcState;
+use port_set::{member_ports, move_ports};
+use std::alloc::{AllocError, Global};
+
+/// `mach_port_destroy`: a name goes with all that it stands for.
+#[tactic(auto, unfolding(ipc_model::specs::PortCalls::tests_of, ipc_model::specs::Actions::Done))]
+pub fn destroy(
+    alloc: Global,
+    state: &mut IpcState,
+    space: u32,
+    name: u32,
+    effects: &mut Effects,
+) -> Result<Reply, AllocError>
+    requires none { effects.old ≡ [] }
+    ensures { IfOk result (λ reply. ActsIn state.old space (names_in state.old space) (call.Destroy name) reply state.new effects.new) }
+{
+    let number = 6;
+    let Some(entry) = named(state, space, name) else {
+        return Ok(Reply::Refused {
+            number,
+            code: KernReturn::InvalidName,
+        });
+    };
+    release_name(effects, name, entry)?;
+    move_members(alloc, state, space, name, None, entry)?;
+    state.remove_name(space, name);
+    Ok(Reply::Done { number })
+}
+
+/// A set that goes, or gets another name, takes its members out, or along.
+fn move_members(
+    alloc: Global,
+    state: &mut IpcState,
+    space: u32,
+    name: u32,
+    other: Option<u32>,
+    entry: Entry,
+) -> Result<(), AllocError>
+    ensures moved { OnOk result (state.new ≡ members_moved state.old (names_in state.old space) name other entry) }
+    ensures spaces { OnOk result (state.new.spaces ≡ state.old.spaces) }
+{
+    let Entry::Set = entry else {
+        return Ok(());
+    };
+    let ports = member_ports(alloc, state, space, name)?;
+    move_ports(state, ports.as_slice(), other);
+    Ok(())
+}
