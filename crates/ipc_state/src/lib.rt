@@ -2,8 +2,8 @@
 #![tactic(auto)]
 
 mod dead_names;
+mod live_ports;
 mod names;
-mod ports;
 mod state;
 
 pub use state::IpcState;
