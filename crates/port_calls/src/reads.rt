@@ -1,13 +1,17 @@
-ghost use Rattle.std.specs.Prelude.{◌≡◌, [], IfOk};
+ghost use Rattle.std.specs.Prelude.{◌≡◌, [], IfOk, map, option_map};
+ghost use Rattle.std.specs.FinMap as finmap;
+ghost use Rattle.ipc_model.specs.Actions.{status_of};
+ghost use Rattle.ipc_model.specs.State.{type_of};
 ghost use Rattle.ipc_model.specs.declared.call.Call.TheVariants as call;
 ghost use Rattle.ipc_model.specs.PortCalls.{names_in, references_of};
 ghost use Rattle.ipc_model.specs.Step.{ActsIn};
 
 use crate::ask::named;
 use crate::entry::type_of;
-use codes::KernReturn;
-use ipc_model::{Entry, Reply, Sequence};
+use codes::{KernReturn, MACH_PORT_NULL};
+use ipc_model::{Entry, NamedType, ReceiveStatus, Reply, RightKind, Sequence};
 use ipc_state::IpcState;
+use port_set::received_port;
 use std::alloc::{AllocError, Global};
 
 /// `mach_port_type`: the type bits of a name.
@@ -47,6 +51,76 @@ pub fn get_refs(state: &IpcState, space: u32, name: u32, right: u32) -> Reply
             code: KernReturn::InvalidName,
         },
     }
+}
+
+/// `mach_port_names`: the names in use, rising, with their type bits.
+#[tactic(auto, unfolding(ipc_model::specs::PortCalls::tests_of, ipc_model::specs::Actions::Done))]
+pub fn names(alloc: Global, state: &IpcState, space: u32) -> Result<Reply, AllocError>
+    ensures { IfOk result (λ reply. ActsIn state.now space (names_in state.now space) call.Names reply state.now []) }
+{
+    let names = named_types(alloc, state, space)?;
+    Ok(Reply::Names {
+        names: Sequence::new(names),
+    })
+}
+
+fn named_types(alloc: Global, state: &IpcState, space: u32) -> Result<Vec<NamedType>, AllocError>
+    ensures { IfOk result (λ names. names.items ≡ map (λ e. record { name = e.0; bits = type_of e.1 }) (finmap.entries (names_in state.now space))) }
+{
+    let mut types = Vec::new(alloc);
+    let Some(names) = state.space(space) else {
+        return Ok(types);
+    };
+    for (name, entry) in names.iter() {
+        types.push(NamedType {
+            name: *name as u32,
+            bits: type_of(entry),
+        })?;
+    }
+    Ok(types)
+}
+
+/// `mach_port_get_receive_status`: what a port keeps, and whether there are rights and requests.
+#[tactic(auto, unfolding(ipc_model::specs::PortCalls::tests_of, ipc_model::specs::Actions::Done))]
+pub fn receive_status(state: &IpcState, space: u32, name: u32) -> Reply
+    ensures { ActsIn state.now space (names_in state.now space) (call.GetReceiveStatus name) result state.now [] }
+{
+    let number = 13;
+    let Some(entry) = named(state, space, name) else {
+        return Reply::Refused {
+            number,
+            code: KernReturn::InvalidName,
+        };
+    };
+    let Some(port) = received_port(entry) else {
+        return Reply::Refused {
+            number,
+            code: KernReturn::InvalidRight,
+        };
+    };
+    match status_of(state, port) {
+        Some(status) => Reply::ReceiveStatus { status },
+        None => Reply::Done { number },
+    }
+}
+
+/// What a live port keeps, and which rights and requests there are.
+fn status_of(state: &IpcState, port: u64) -> Option<ReceiveStatus>
+    ensures { result ≡ option_map (status_of state.now port) (finmap.get state.now.ports port) }
+{
+    let numbers = state.numbers(port)?;
+    let queue = state.ports().queue(port)?;
+    Some(ReceiveStatus {
+        set: numbers.set.unwrap_or(MACH_PORT_NULL),
+        sequence_number: numbers.sequence_number,
+        make_send_count: numbers.make_send_count,
+        limit: numbers.limit,
+        messages: queue.len(),
+        send_once_count: state.rights_to(RightKind::SendOnce, port),
+        has_senders: state.has_senders(port),
+        has_port_destroyed_request: numbers.port_destroyed_target.is_some(),
+        has_no_senders_request: numbers.no_senders_target.is_some(),
+    })
 }
 
 /// `mach_port_get_set_status`: the names of a set's members, rising.

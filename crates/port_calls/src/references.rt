@@ -103,7 +103,8 @@ pub fn send_left(
     Ok(())
 }
 
-fn release(effects: &mut Effects, kind: RightKind, port: u64) -> Result<(), AllocError>
+/// Adds the release of a right to the effects.
+pub fn release(effects: &mut Effects, kind: RightKind, port: u64) -> Result<(), AllocError>
     ensures { OnOk result (effects.new ≡ effects.old ++ release kind port ∷ []) }
 {
     effects.push(Effect::Release { kind, port })

@@ -39,7 +39,7 @@ pub fn destroy(
 }
 
 /// A set that goes, or gets another name, takes its members out, or along.
-fn move_members(
+pub fn move_members(
     alloc: Global,
     state: &mut IpcState,
     space: u32,

@@ -115,3 +115,82 @@ fn releases_what_goes(rt: HostRuntime) -> Result<(), Fail> {
     assert_eq!(rt; state.names(1), 0);
     Ok(())
 }
+
+#[test]
+fn tells_of_names_and_ports(rt: HostRuntime) -> Result<(), Fail> {
+    let mut state = IpcState::opening(rt.alloc())?;
+    assert!(rt; state.has_space(1));
+    assert!(rt; !state.ports().contains(state.next_serial()));
+    allocate(&mut state, 1, 1)?;
+    assert!(rt; state.has_space(1));
+    assert!(rt; !state.ports().contains(state.next_serial()));
+    allocate(&mut state, 1, 3)?;
+    assert_eq!(rt; code(&move_member(&mut state, 1, 0x100, 0x101)), 0);
+    let Reply::Names { names } = names(rt.alloc(), &state, 1)? else {
+        return Err("a space has names".into());
+    };
+    let [port, set] = names.as_slice() else {
+        return Err("two names are in use".into());
+    };
+    assert_eq!(rt; (port.name, port.bits), (0x100, 0x20000));
+    assert_eq!(rt; (set.name, set.bits), (0x101, 0x80000));
+    let Reply::ReceiveStatus { status } = receive_status(&state, 1, 0x100) else {
+        return Err("the port lives".into());
+    };
+    assert_eq!(rt; (status.set, status.limit, status.messages), (0x101, 5, 0));
+    assert_eq!(rt; (status.send_once_count, status.has_senders), (0, false));
+    assert_eq!(rt; code(&receive_status(&state, 1, 0x101)), 17);
+    Ok(())
+}
+
+#[test]
+fn changes_references(rt: HostRuntime) -> Result<(), Fail> {
+    let mut state = IpcState::opening(rt.alloc())?;
+    let rights = PortRights {
+        port: 4,
+        receive: true,
+        send: 3,
+        dead_name_target: None,
+    };
+    assert!(rt; state.names(1) < codes::MAX_NAMES);
+    state.put_name(1, 0x100, Entry::Port(rights))?;
+    let minus = u32::MAX;
+    let mut effects = Effects::new(rt.alloc());
+    assert_eq!(rt;
+        code(&mod_refs(rt.alloc(), &mut state, 1, 0x100, 0, minus - 3, &mut effects)?),
+        18
+    );
+    let mut effects = Effects::new(rt.alloc());
+    assert_eq!(rt;
+        code(&mod_refs(rt.alloc(), &mut state, 1, 0x100, 0, 65_532, &mut effects)?),
+        19
+    );
+    let mut effects = Effects::new(rt.alloc());
+    assert_eq!(rt;
+        code(&mod_refs(rt.alloc(), &mut state, 1, 0x100, 4, 1, &mut effects)?),
+        17
+    );
+    let mut effects = Effects::new(rt.alloc());
+    assert_eq!(rt;
+        code(&mod_refs(rt.alloc(), &mut state, 1, 0x100, 0, 65_531, &mut effects)?),
+        0
+    );
+    let many = PortRights {
+        send: 65_534,
+        ..rights
+    };
+    assert_eq!(rt; state.entry(1, 0x100), Some(Entry::Port(many)));
+    let mut effects = Effects::new(rt.alloc());
+    assert_eq!(rt;
+        code(&mod_refs(rt.alloc(), &mut state, 1, 0x100, 1, minus, &mut effects)?),
+        0
+    );
+    let kind = RightKind::Receive;
+    assert_eq!(rt; effects.take(), Some(Effect::Release { kind, port: 4 }));
+    let left = PortRights {
+        receive: false,
+        ..many
+    };
+    assert_eq!(rt; state.entry(1, 0x100), Some(Entry::Port(left)));
+    Ok(())
+}

@@ -1,0 +1,262 @@
+ghost use Rattle.std.specs.Prelude.{◌≡◌, ◌++◌, ◌∷◌, [], Some, false, IfOk, OnOk};
+ghost use Rattle.std.specs.FinMap as map;
+ghost use Rattle.ipc_model.specs.declared.call.Call.TheVariants as call;
+ghost use Rattle.ipc_model.specs.CopyIn.{with_left, notices_of_left};
+ghost use Rattle.ipc_model.specs.Effects.{release};
+ghost use Rattle.ipc_model.specs.PortCalls.{names_in, is_no_name, sum_is_negative, sum_of, falls_by};
+ghost use Rattle.ipc_model.specs.State.{entry_at};
+ghost use Rattle.ipc_model.specs.Step.{ActsIn};
+ghost use Rattle.port_space.specs.References.{AreFewReferences};
+
+use crate::ask::named;
+use crate::references::{release, send_left, send_once_gone};
+use crate::removal::move_members;
+use codes::{KernReturn, MAX_DEAD_REFERENCES, MAX_SEND_REFERENCES};
+use effects::Effects;
+use ipc_model::{Entry, PortRights, Reply, RightKind};
+use ipc_state::IpcState;
+use rights::{announce_left, set_left};
+use std::alloc::{AllocError, Global};
+
+/// The number of the call.
+const NUMBER: u32 = 9;
+
+/// Minus one, as a delta in two's complement.
+const MINUS_ONE: u32 = u32::MAX;
+
+fn refused(code: KernReturn) -> Reply
+    ensures { result ≡ Reply.Refused 9 code }
+{
+    Reply::Refused {
+        number: NUMBER,
+        code,
+    }
+}
+
+/// `mach_port_mod_refs`: so many references of a right more or less, in two's complement. Where memory is wanted
+/// the state has to be given up.
+#[tactic(auto, unfolding(ipc_model::specs::PortCalls::tests_of, ipc_model::specs::Actions::Done))]
+pub fn mod_refs(
+    alloc: Global,
+    state: &mut IpcState,
+    space: u32,
+    name: u32,
+    right: u32,
+    delta: u32,
+    effects: &mut Effects,
+) -> Result<Reply, AllocError>
+    requires none { effects.old ≡ [] }
+    ensures { IfOk result (λ reply. ActsIn state.old space (names_in state.old space) (call.ModRefs name right delta) reply state.new effects.new) }
+{
+    if right > 4 {
+        return Ok(refused(KernReturn::InvalidValue));
+    }
+    let Some(entry) = named(state, space, name) else {
+        return Ok(refused(KernReturn::InvalidName));
+    };
+    match (right, entry) {
+        (0, Entry::Port(rights)) => mod_send(state, space, name, rights, delta, effects),
+        (1, Entry::Port(rights)) => mod_receive(state, space, name, rights, delta, effects),
+        (
+            2,
+            Entry::SendOnce {
+                port,
+                dead_name_target,
+            },
+        ) => mod_send_once(state, space, name, port, dead_name_target, delta, effects),
+        (3, Entry::Set) => mod_set(alloc, state, space, name, delta, effects),
+        (4, Entry::Dead { references }) => mod_dead(state, space, name, references, delta, effects),
+        _ => Ok(refused(KernReturn::InvalidRight)),
+    }
+}
+
+#[tactic(auto, unfolding(ipc_model::specs::PortCalls::tests_of, ipc_model::specs::Actions::Done))]
+fn mod_send(
+    state: &mut IpcState,
+    space: u32,
+    name: u32,
+    rights: PortRights,
+    delta: u32,
+    effects: &mut Effects,
+) -> Result<Reply, AllocError>
+    requires none { effects.old ≡ [] }
+    requires a_name { is_no_name (names_in state.old space) name ≡ false }
+    requires found { map.get (names_in state.old space) name ≡ Some (Entry.Port rights) }
+    requires at { entry_at state.old space name ≡ Some (Entry.Port rights) }
+    ensures { IfOk result (λ reply. ActsIn state.old space (names_in state.old space) (call.ModRefs name 0 delta) reply state.new effects.new) }
+{
+    if rights.send == 0 {
+        return Ok(refused(KernReturn::InvalidRight));
+    }
+    if sum_is_negative(rights.send, delta) {
+        return Ok(refused(KernReturn::InvalidValue));
+    }
+    let left = sum_of(rights.send, delta);
+    if left > u64::from(MAX_SEND_REFERENCES) {
+        return Ok(refused(KernReturn::UrefsOverflow));
+    }
+    send_left(state, space, name, rights, left as u32, effects)?;
+    Ok(Reply::Done { number: NUMBER })
+}
+
+#[tactic(auto, unfolding(ipc_model::specs::PortCalls::tests_of, ipc_model::specs::Actions::Done))]
+fn mod_receive(
+    state: &mut IpcState,
+    space: u32,
+    name: u32,
+    rights: PortRights,
+    delta: u32,
+    effects: &mut Effects,
+) -> Result<Reply, AllocError>
+    requires none { effects.old ≡ [] }
+    requires a_name { is_no_name (names_in state.old space) name ≡ false }
+    requires found { map.get (names_in state.old space) name ≡ Some (Entry.Port rights) }
+    requires at { entry_at state.old space name ≡ Some (Entry.Port rights) }
+    requires few { AreFewReferences (Entry.Port rights) }
+    ensures { IfOk result (λ reply. ActsIn state.old space (names_in state.old space) (call.ModRefs name 1 delta) reply state.new effects.new) }
+{
+    if !rights.receive {
+        return Ok(refused(KernReturn::InvalidRight));
+    }
+    if delta == MINUS_ONE {
+        receive_gone(state, space, name, rights, effects)?;
+    } else if delta != 0 {
+        return Ok(refused(KernReturn::InvalidValue));
+    }
+    Ok(Reply::Done { number: NUMBER })
+}
+
+/// A receive right goes; send references stay with the name.
+fn receive_gone(
+    state: &mut IpcState,
+    space: u32,
+    name: u32,
+    rights: PortRights,
+    effects: &mut Effects,
+) -> Result<(), AllocError>
+    requires at { entry_at state.old space name ≡ Some (Entry.Port rights) }
+    requires few { AreFewReferences (Entry.Port rights) }
+    ensures state { OnOk result (state.new ≡ with_left state.old space name (Entry.Port (record rights { receive = false }))) }
+    ensures effects { OnOk result (effects.new ≡ effects.old ++ (release RightKind.Receive rights.port ∷ notices_of_left name (Entry.Port (record rights { receive = false })))) }
+{
+    let left = Entry::Port(PortRights {
+        receive: false,
+        ..rights
+    });
+    release(effects, RightKind::Receive, rights.port)?;
+    announce_left(effects, name, left)?;
+    set_left(state, space, name, left);
+    Ok(())
+}
+
+#[tactic(auto, unfolding(ipc_model::specs::PortCalls::tests_of, ipc_model::specs::Actions::Done))]
+fn mod_send_once(
+    state: &mut IpcState,
+    space: u32,
+    name: u32,
+    port: u64,
+    request: Option<u64>,
+    delta: u32,
+    effects: &mut Effects,
+) -> Result<Reply, AllocError>
+    requires none { effects.old ≡ [] }
+    requires a_name { is_no_name (names_in state.old space) name ≡ false }
+    requires found { map.get (names_in state.old space) name ≡ Some (Entry.SendOnce port request) }
+    ensures { IfOk result (λ reply. ActsIn state.old space (names_in state.old space) (call.ModRefs name 2 delta) reply state.new effects.new) }
+{
+    if delta == MINUS_ONE {
+        send_once_gone(state, space, name, port, request, effects)?;
+    } else if delta != 0 {
+        return Ok(refused(KernReturn::InvalidValue));
+    }
+    Ok(Reply::Done { number: NUMBER })
+}
+
+#[tactic(auto, unfolding(ipc_model::specs::PortCalls::tests_of, ipc_model::specs::Actions::Done))]
+fn mod_dead(
+    state: &mut IpcState,
+    space: u32,
+    name: u32,
+    references: u32,
+    delta: u32,
+    effects: &mut Effects,
+) -> Result<Reply, AllocError>
+    requires none { effects.old ≡ [] }
+    requires a_name { is_no_name (names_in state.old space) name ≡ false }
+    requires found { map.get (names_in state.old space) name ≡ Some (Entry.Dead references) }
+    requires at { entry_at state.old space name ≡ Some (Entry.Dead references) }
+    ensures { IfOk result (λ reply. ActsIn state.old space (names_in state.old space) (call.ModRefs name 4 delta) reply state.new effects.new) }
+{
+    if references == 0 {
+        return Ok(refused(KernReturn::InvalidRight));
+    }
+    if sum_is_negative(references, delta) {
+        return Ok(refused(KernReturn::InvalidValue));
+    }
+    let left = sum_of(references, delta);
+    if left > u64::from(MAX_DEAD_REFERENCES) {
+        return Ok(refused(KernReturn::UrefsOverflow));
+    }
+    let _none = &effects;
+    set_left(
+        state,
+        space,
+        name,
+        Entry::Dead {
+            references: left as u32,
+        },
+    );
+    Ok(Reply::Done { number: NUMBER })
+}
+
+#[tactic(auto, unfolding(ipc_model::specs::PortCalls::tests_of, ipc_model::specs::Actions::Done))]
+fn mod_set(
+    alloc: Global,
+    state: &mut IpcState,
+    space: u32,
+    name: u32,
+    delta: u32,
+    effects: &mut Effects,
+) -> Result<Reply, AllocError>
+    requires none { effects.old ≡ [] }
+    requires a_name { is_no_name (names_in state.old space) name ≡ false }
+    requires found { map.get (names_in state.old space) name ≡ Some Entry.Set }
+    requires at { entry_at state.old space name ≡ Some Entry.Set }
+    ensures { IfOk result (λ reply. ActsIn state.old space (names_in state.old space) (call.ModRefs name 3 delta) reply state.new effects.new) }
+{
+    let _none = &effects;
+    if delta == 0 {
+        return Ok(Reply::Done { number: NUMBER });
+    }
+    if delta != MINUS_ONE {
+        return Ok(refused(KernReturn::InvalidValue));
+    }
+    move_members(alloc, state, space, name, None, Entry::Set)?;
+    state.remove_name(space, name);
+    Ok(Reply::Done { number: NUMBER })
+}
+
+/// Whether references with a negative delta would fall below 0.
+fn sum_is_negative(references: u32, delta: u32) -> bool
+    ensures { result ≡ sum_is_negative references delta }
+{
+    delta >= 1 << 31 && u64::from(references) < falls_by(delta)
+}
+
+/// References with a delta, 0 where they would fall below.
+fn sum_of(references: u32, delta: u32) -> u64
+    ensures { result ≡ sum_of references delta }
+{
+    if delta >= 1 << 31 {
+        u64::from(references).saturating_sub(falls_by(delta))
+    } else {
+        u64::from(references) + u64::from(delta)
+    }
+}
+
+/// How far a negative delta is below 0.
+fn falls_by(delta: u32) -> u64
+    ensures { result ≡ falls_by delta }
+{
+    (1 << 32) - u64::from(delta)
+}
