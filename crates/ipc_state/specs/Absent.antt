@@ -1,12 +1,13 @@
 -- A space that isn't there has no names.
 use Rattle.std.proofs.Common.{◌≡◌, ℕ, ◌<◌, Option, None, Some, ap, ◌∙◌}
-use Rattle.std.specs.Prelude.{List, [], find, option_map}
+use Rattle.std.specs.Prelude.{false, ◌==◌, ◌&&◌, not, List, [], find, option_map}
+use Rattle.std.specs.List.{list_any}
 use Rattle.std.specs.Ordering.{nat_cmp}
 use Rattle.std.specs.FinMap as finmap
 use Rattle.std.specs.FinMap.{get-empty, len-empty}
 use Rattle.codes.specs.declared.name.TheConstants.{MACH_PORT_DEAD}
 use Rattle.ipc_model.specs.declared.entry.Entry.{Entry}
-use Rattle.ipc_model.specs.PortCalls.{names_in}
+use Rattle.ipc_model.specs.PortCalls.{names_in, stands_elsewhere}
 use Rattle.ipc_model.specs.RowRules.{entries_none}
 use Rattle.ipc_model.specs.State.{State, Names, name_of_port, is_number, port_held, IsUnused}
 
@@ -26,6 +27,10 @@ module _ (state : State) (space : ℕ) (gone : finmap.get state.spaces space ≡
 
   pub no_port : (serial : ℕ) → name_of_port (names_in state space) serial ≡ None
   no_port serial = ap (λ (names : Names). name_of_port names serial) no_names ∙ ap (λ (es : List (ℕ × Entry)). option_map (λ e. e.0) (find (λ e. is_number (port_held e.1) serial) es)) entries_none
+
+  pub stands_nowhere : (name serial : ℕ) → stands_elsewhere (names_in state space) name serial ≡ false
+  stands_nowhere name serial =
+      ap (λ (names : Names). stands_elsewhere names name serial) no_names ∙ ap (λ (es : List (ℕ × Entry)). list_any (λ e. is_number (port_held e.1) serial && not (e.0 == name)) es) entries_none
 
   pub unused : (name : ℕ) → 0 < name → name < MACH_PORT_DEAD → IsUnused (names_in state space) name
   unused name least below = record { least = least; below_dead = below; free = no_name name }

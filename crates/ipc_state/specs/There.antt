@@ -10,7 +10,7 @@ use Rattle.ipc_model.specs.MapSums.{insert-insert, insert-same, key_is, same_key
 use Rattle.ipc_model.specs.PortCalls.{names_in}
 use Rattle.ipc_model.specs.State.{State, Names, with_names, with_changed, with_entry, without_name}
 
-abbrev or_empty : Option Names → Names
+abbrev pub or_empty : Option Names → Names
 or_empty None = finmap.empty
 or_empty (Some names) = names
 

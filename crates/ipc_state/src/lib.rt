@@ -4,6 +4,7 @@
 mod dead_names;
 mod live_ports;
 mod names;
+mod spaces;
 mod state;
 
 pub use state::IpcState;

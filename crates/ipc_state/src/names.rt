@@ -1,8 +1,9 @@
 ghost use Rattle.std.specs.Prelude.{◌≡◌, ℕ, ◌<◌, ◌≤◌, ◌↔◌, None, OnOk, OnErr, IsSome, IfSome, IsTrue, is_some, option_copied};
 ghost use Rattle.std.specs.FinMap as map;
-ghost use Rattle.ipc_model.specs.PortCalls.{names_in};
-ghost use Rattle.ipc_model.specs.State.{IsUnused, entry_at, with_entry, without_name, name_of_port};
+ghost use Rattle.ipc_model.specs.PortCalls.{names_in, stands_elsewhere};
+ghost use Rattle.ipc_model.specs.State.{IsUnused, entry_at, with_changed, with_entry, without_name, name_of_port};
 ghost use Rattle.port_space.specs.References.{AreFewReferences};
+ghost use Rattle.port_space.specs.Renaming.{under_other_name};
 
 use crate::IpcState;
 use codes::{FIRST_NAME, MACH_PORT_DEAD, MACH_PORT_NULL, MAX_NAMES};
@@ -58,6 +59,16 @@ impl IpcState {
         }
     }
 
+    /// Whether a space holds a send or receive right of a port under a name other than this one.
+    pub fn stands_elsewhere(&self, space: u32, name: u32, serial: u64) -> bool
+        ensures { result ≡ stands_elsewhere (names_in self.now space) name serial }
+    {
+        match self.space(space) {
+            Some(names) => names.stands_elsewhere(name, serial),
+            None => false,
+        }
+    }
+
     /// Whether a name may be handed out in a space: it is neither `MACH_PORT_NULL` nor `MACH_PORT_DEAD`, and not
     /// in use.
     pub fn is_unused(&self, space: u32, name: u32) -> bool
@@ -106,6 +117,20 @@ impl IpcState {
         let Ok(()) = self.put_name(space, name, entry) else {
             unreachable!()
         };
+    }
+
+    /// Has what stands under one name of a space, if anything does, stand under another. Where memory is wanted
+    /// nothing changed.
+    pub fn rename(&mut self, space: u32, from: u32, to: u32) -> Result<(), AllocError>
+        requires unused { entry_at self.old space to ≡ None }
+        ensures ok { OnOk result (self.new ≡ with_changed self.old space (λ names. under_other_name names from to)) }
+        ensures err { OnErr result (self.new ≡ self.old) }
+    {
+        let Some(names) = self.spaces.get_mut(u64::from(space)) else {
+            return Ok(());
+        };
+        names.rename(from, to)?;
+        Ok(())
     }
 
     /// Takes a name of a space out of use.

@@ -1,2 +1,8 @@
+pub mod Choosing
+pub mod PortCallLaws
 pub mod Served
 pub mod ServedLaws
+pub mod Trials
+pub mod Stepping
+pub mod Fitting
+pub mod Keeping

@@ -1,23 +1,21 @@
 -- The steps that are served today. A call that isn't served yet is refused, and changes nothing.
-use Rattle.std.specs.Prelude.{◌≡◌, ℕ, Bool, true, false, List, [], ◌∷◌, Option, None, Some, Result, Ok, Err, is_some, MatchBool, if◌then◌else◌}
+use Rattle.std.specs.Prelude.{◌≡◌, ℕ, Bool, true, false, ◌||◌, List, [], ◌∷◌, is_some, MatchBool, if◌then◌else◌}
 use Rattle.std.specs.FinMap as finmap
 use Rattle.codes.specs.declared.kern_return.KernReturn.{KernReturn}
 use Rattle.codes.specs.declared.kern_return.KernReturn.TheVariants.{InvalidArgument, InvalidTask}
 use Rattle.ipc_model.specs.declared.call.Call.{Call}
 use Rattle.ipc_model.specs.declared.call.Call.TheVariants as call
 use Rattle.ipc_model.specs.declared.call.Reply.{Reply}
-use Rattle.ipc_model.specs.declared.call.Reply.TheVariants as reply
 use Rattle.ipc_model.specs.declared.record.Record.{Record}
-use Rattle.ipc_model.specs.PortCalls.{tests_of}
-use Rattle.ipc_model.specs.State.{State, Names}
+use Rattle.ipc_model.specs.State.{State}
 use Rattle.ipc_model.specs.Step.{Step, refused}
-use Rattle.ipc_model.specs.Tests.{first_failing}
 
--- mach_port_type and mach_port_allocate are served
+-- every call is served but sends, receipts and number 0, which attaches a task to another space
 abbrev pub is_served : Call → Bool
-is_served (call.Type name) = true
-is_served (call.Allocate kind) = true
-is_served c = false
+is_served (call.Attach space) = false
+is_served (call.Send message) = false
+is_served (call.Receive limit large name waited) = false
+is_served c = true
 
 -- The code of a call that isn't served. A caller whose space is gone is refused before all else.
 abbrev pub unserved_code : State → ℕ → KernReturn
@@ -32,16 +30,3 @@ ServedStep old space c answer new =
 abbrev pub ServedRun : State → List Record → State → Type 0
 ServedRun old [] new = new ≡ old
 ServedRun old (first ∷ records) new = (mid : State) × ServedStep old first.space first.call first.reply mid × ServedRun mid records new
-
--- The code that a call on names is refused with, if it is refused.
-abbrev pub refusal_in : State → ℕ → Option Names → Call → Option KernReturn
-refusal_in state space None c = Some InvalidTask
-refusal_in state space (Some names) c = first_failing (tests_of state space names c)
-
-abbrev pub refusal : State → ℕ → Call → Option KernReturn
-refusal state space c = refusal_in state space (finmap.get state.spaces space) c
-
--- what mach_port_type answers: type bits, or the code that it is refused with
-abbrev pub type_reply : Result ℕ KernReturn → Reply
-type_reply (Ok bits) = reply.Type bits
-type_reply (Err code) = reply.Refused 2 code

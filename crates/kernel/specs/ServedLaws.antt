@@ -1,5 +1,5 @@
 -- A served step has one new state, and so has a run of them; what is refused or not served changes nothing.
-use Rattle.std.specs.Prelude.{◌≡◌, ℕ, Bool, true, false, cond, List, [], ◌∷◌, ◌++◌, Option, None, Some, is_some, MatchOption, MatchBool}
+use Rattle.std.specs.Prelude.{◌≡◌, ℕ, Bool, true, false, cond, List, [], ◌∷◌, ◌++◌, Option, None, Some, is_some, MatchBool}
 use Rattle.std.proofs.Common.{refl, sym, ap, subst, ◌∙◌}
 use Rattle.std.specs.FinMap as finmap
 use Rattle.codes.specs.declared.kern_return.KernReturn.{KernReturn}
@@ -7,83 +7,34 @@ use Rattle.codes.specs.declared.kern_return.KernReturn.TheVariants.{InvalidArgum
 use Rattle.ipc_model.specs.declared.call.Call.{Call}
 use Rattle.ipc_model.specs.declared.call.Call.TheVariants as call
 use Rattle.ipc_model.specs.declared.call.Reply.{Reply}
-use Rattle.ipc_model.specs.declared.call.Reply.TheVariants as reply
-use Rattle.ipc_model.specs.declared.entry.Entry.{Entry}
 use Rattle.ipc_model.specs.declared.record.Record.{Record}
-use Rattle.ipc_model.specs.Actions.{ActsOn, Done}
 use Rattle.ipc_model.specs.Effects.{Effect, Settles, settled}
 use Rattle.ipc_model.specs.PortCalls.{tests_of}
-use Rattle.ipc_model.specs.State.{State, Names, type_of}
-use Rattle.ipc_model.specs.Step.{Step, ActsFrom, refused, number_of_call, has_record}
-use Rattle.ipc_model.specs.StepLaws.{one_end, same_done}
+use Rattle.ipc_model.specs.State.{State, Names}
+use Rattle.ipc_model.specs.Step.{Step, ActsFrom, refused, has_record}
+use Rattle.ipc_model.specs.StepLaws.{Called, SameOutcome, one_end, same_done}
 use Rattle.ipc_model.specs.Tests.{first_failing}
-use Rattle.kernel.specs.Served.{is_served, unserved_code, refusal, ServedStep, ServedRun}
-
--- Steps without effects.
-
--- what a call's own action does that sets off no effects
-abbrev pub ActsAlone : State → ℕ → Option Names → Call → Reply → State → Type 0
-ActsAlone old space names c answer new = ActsFrom old space names c answer new []
-
--- such an action is a step
-pub acts_alone : (old : State) (space : ℕ) (c : Call) (answer : Reply) (new : State) → ActsAlone old space (finmap.get old.spaces space) c answer new → Step old space c answer new
-unfolding Step
-acts_alone old space c answer new acts = (new, [], acts, settled)
-
--- a call on names, refused or done
-abbrev Called : Option KernReturn → State → ℕ → Names → Call → Reply → State → List Effect → Type 0
-Called refusal old space names c answer new effects =
-    MatchOption refusal (Done old space names c answer new effects) (λ code. (answer ≡ reply.Refused (number_of_call c) code) × (new ≡ old) × (effects ≡ []))
-
-type_alone : (tested : Option KernReturn) (old : State) (space : ℕ) (names : Names) (name : ℕ) (answer : Reply) (new : State) (effects : List Effect)
-    → Called tested old space names (call.Type name) answer new effects → effects ≡ []
-unfolding Done
-type_alone (Some code) old space names name answer new effects acts = acts.2
-type_alone None old space names name answer new effects acts = there (finmap.get names name) acts
-  where
-    there : (o : Option Entry) → ActsOn o (λ entry. record { answer = reply.Type (type_of entry); state = old; effects = [] }) answer new effects → effects ≡ []
-    there None acts = absurd acts
-    there (Some entry) acts = acts.2
-
-allocate_alone : (tested : Option KernReturn) (old : State) (space : ℕ) (names : Names) (kind : ℕ) (answer : Reply) (new : State) (effects : List Effect)
-    → Called tested old space names (call.Allocate kind) answer new effects → effects ≡ []
-unfolding Done
-allocate_alone (Some code) old space names kind answer new effects acts = acts.2
-allocate_alone None old space names kind answer new effects acts = acts.4
-
-no_effects : (old : State) (space : ℕ) (names : Option Names) (c : Call) (answer : Reply) (new : State) (effects : List Effect) → is_served c ≡ true → ActsFrom old space names c answer new effects → effects ≡ []
-no_effects old space None c answer new effects served acts = acts.2
-no_effects old space (Some names) (call.Type name) answer new effects served acts = type_alone (first_failing (tests_of old space names (call.Type name))) old space names name answer new effects acts
-no_effects old space (Some names) (call.Allocate kind) answer new effects served acts = allocate_alone (first_failing (tests_of old space names (call.Allocate kind))) old space names kind answer new effects acts
-no_effects old space (Some names) c answer new effects served acts = absurd (cc served)
-
--- and a step of a served call is such an action
-pub acted_alone : (old : State) (space : ℕ) (c : Call) (answer : Reply) (new : State) → is_served c ≡ true → Step old space c answer new → ActsAlone old space (finmap.get old.spaces space) c answer new
-unfolding Step
-acted_alone old space c answer new served step =
-    let names = finmap.get old.spaces space in
-    let none : step.1 ≡ [] = no_effects old space names c answer step.0 step.1 served step.2 in
-    let ends : Settles step.0 [] new = subst (λ (effects : List Effect). Settles step.0 effects new) none step.3 in
-    let same : step.0 ≡ new = one_end step.0 [] step.0 new settled ends in
-    subst (λ (state : State). ActsAlone old space names c answer state) same (subst (λ (effects : List Effect). ActsFrom old space names c answer step.0 effects) none step.2)
+use Rattle.kernel.specs.PortCallLaws.{as_called, unrecorded_act}
+use Rattle.kernel.specs.Served.{is_served, unserved_code, ServedStep, ServedRun}
 
 -- One new state.
 
-called_one : (tested : Option KernReturn) (old : State) (space : ℕ) (names : Names) (c : Call) (answer : Reply) (one two : State)
-    → Called tested old space names c answer one [] → Called tested old space names c answer two [] → one ≡ two
-called_one (Some code) old space names c answer one two a b = a.1 ∙ sym b.1
-called_one None old space names c answer one two a b = (same_done old space names c answer one two [] [] a b).state
+called_one : (refusal : Option KernReturn) (old : State) (space : ℕ) (names : Names) (c : Call) (answer : Reply) (one two : State) (effects others : List Effect)
+    → Called refusal old space names c answer one effects → Called refusal old space names c answer two others → SameOutcome one two effects others
+called_one (Some code) old space names c answer one two effects others a b = record { state = a.1 ∙ sym b.1; effects_are = a.2 ∙ sym b.2 }
+called_one None old space names c answer one two effects others a b = same_done old space names c answer one two effects others a b
 
-alone_one : (names : Option Names) (old : State) (space : ℕ) (c : Call) (answer : Reply) (one two : State) → is_served c ≡ true
-    → ActsAlone old space names c answer one → ActsAlone old space names c answer two → one ≡ two
-alone_one None old space c answer one two served a b = a.1 ∙ sym b.1
-alone_one (Some names) old space (call.Type name) answer one two served a b = called_one (first_failing (tests_of old space names (call.Type name))) old space names (call.Type name) answer one two a b
-alone_one (Some names) old space (call.Allocate kind) answer one two served a b = called_one (first_failing (tests_of old space names (call.Allocate kind))) old space names (call.Allocate kind) answer one two a b
-alone_one (Some names) old space c answer one two served a b = absurd (cc served)
+from_one : (names : Option Names) (old : State) (space : ℕ) (c : Call) (answer : Reply) (one two : State) (effects others : List Effect) → is_served c ≡ true
+    → ActsFrom old space names c answer one effects → ActsFrom old space names c answer two others → SameOutcome one two effects others
+from_one None old space c answer one two effects others served a b = record { state = a.1 ∙ sym b.1; effects_are = a.2 ∙ sym b.2 }
+from_one (Some names) old space c answer one two effects others served a b =
+    called_one (first_failing (tests_of old space names c)) old space names c answer one two effects others (as_called c old space names answer one effects served a) (as_called c old space names answer two others served b)
 
 step_one : (old : State) (space : ℕ) (c : Call) (answer : Reply) (one two : State) → is_served c ≡ true → Step old space c answer one → Step old space c answer two → one ≡ two
+unfolding Step
 step_one old space c answer one two served a b =
-    alone_one (finmap.get old.spaces space) old space c answer one two served (acted_alone old space c answer one served a) (acted_alone old space c answer two served b)
+    let same = from_one (finmap.get old.spaces space) old space c answer a.0 b.0 a.1 b.1 served a.2 b.2 in
+    one_end a.0 a.1 one two a.3 (subst (λ (s : State). Settles s a.1 two) (sym same.state) (subst (λ (l : List Effect). Settles b.0 l two) (sym same.effects_are) b.3))
 
 -- a served step by whether its call is served
 abbrev ServedAs : Bool → State → ℕ → Call → Reply → State → Type 0
@@ -126,30 +77,19 @@ recorded_step old space c answer new step recorded = by_case (is_served c) refl 
     by_case true is step = (is, step)
     by_case false is step = absurd (cc (recorded, ap (has_record c) step.0 ∙ unserved_no_record old space c))
 
-called_unchanged : (tested : Option KernReturn) (old : State) (space : ℕ) (names : Names) (kind : ℕ) (answer : Reply) (new : State) → has_record (call.Allocate kind) answer ≡ false
-    → Called tested old space names (call.Allocate kind) answer new [] → new ≡ old
-unfolding Done
-called_unchanged (Some code) old space names kind answer new unrecorded acts = acts.1
-called_unchanged None old space names kind answer new unrecorded acts = absurd (cc (unrecorded, ap (has_record (call.Allocate kind)) acts.2))
+from_unrecorded : (names : Option Names) (old : State) (space : ℕ) (c : Call) (answer : Reply) (new : State) (effects : List Effect) → is_served c ≡ true → has_record c answer ≡ false
+    → ActsFrom old space names c answer new effects → (new ≡ old) × (effects ≡ [])
+from_unrecorded None old space c answer new effects served none acts = (acts.1, acts.2)
+from_unrecorded (Some names) old space c answer new effects served none acts = unrecorded_act old space names c answer new effects served none acts
 
-type_unchanged : (tested : Option KernReturn) (old : State) (space : ℕ) (names : Names) (name : ℕ) (answer : Reply) (new : State)
-    → Called tested old space names (call.Type name) answer new [] → new ≡ old
-unfolding Done
-type_unchanged (Some code) old space names name answer new acts = acts.1
-type_unchanged None old space names name answer new acts = there (finmap.get names name) acts
-  where
-    there : (o : Option Entry) → ActsOn o (λ entry. record { answer = reply.Type (type_of entry); state = old; effects = [] }) answer new [] → new ≡ old
-    there None acts = absurd acts
-    there (Some entry) acts = acts.1
+step_unrecorded : (old : State) (space : ℕ) (c : Call) (answer : Reply) (new : State) → is_served c ≡ true → has_record c answer ≡ false → Step old space c answer new → new ≡ old
+unfolding Step
+step_unrecorded old space c answer new served none step =
+    let same = from_unrecorded (finmap.get old.spaces space) old space c answer step.0 step.1 served none step.2 in
+    let ends : Settles step.0 [] new = subst (λ (effects : List Effect). Settles step.0 effects new) same.1 step.3 in
+    one_end step.0 [] new step.0 ends settled ∙ same.0
 
-alone_unchanged : (names : Option Names) (old : State) (space : ℕ) (c : Call) (answer : Reply) (new : State) → is_served c ≡ true → has_record c answer ≡ false
-    → ActsAlone old space names c answer new → new ≡ old
-alone_unchanged None old space c answer new served unrecorded acts = acts.1
-alone_unchanged (Some names) old space (call.Type name) answer new served unrecorded acts = type_unchanged (first_failing (tests_of old space names (call.Type name))) old space names name answer new acts
-alone_unchanged (Some names) old space (call.Allocate kind) answer new served unrecorded acts = called_unchanged (first_failing (tests_of old space names (call.Allocate kind))) old space names kind answer new unrecorded acts
-alone_unchanged (Some names) old space c answer new served unrecorded acts = absurd (cc served)
-
--- A served step without a record changes nothing: its call was refused, or isn't served, or asks for a type.
+-- A served step without a record changes nothing: its call was refused, or isn't served, or only reads.
 abbrev pub UnrecordedStepsChangeNothing : Type 0
 UnrecordedStepsChangeNothing = (old : State) (space : ℕ) (c : Call) (answer : Reply) (new : State) → ServedStep old space c answer new → has_record c answer ≡ false → new ≡ old
 
@@ -157,7 +97,7 @@ pub unrecorded_step : UnrecordedStepsChangeNothing
 unrecorded_step old space c answer new step unrecorded = by_case (is_served c) refl step
   where
     by_case : (served : Bool) → is_served c ≡ served → ServedAs served old space c answer new → new ≡ old
-    by_case true is step = alone_unchanged (finmap.get old.spaces space) old space c answer new is unrecorded (acted_alone old space c answer new is step)
+    by_case true is step = step_unrecorded old space c answer new is unrecorded step
     by_case false is step = step.1
 
 -- Runs.

@@ -1,21 +1,51 @@
 use super::*;
+use crate::reply::is_same_reply;
 use codes::KernReturn;
-use ipc_model::{Call, Record, Reply, Sequence};
+use ipc_model::{Call, Record, Reply, RightKind, Sequence};
+use std::alloc::Global;
+use std::process::Abort;
 use std::test::Fail;
 
-/// The words of a reply's frame, as far as it has three: the call's number, the code, and the result.
-fn words_of(reply: &Reply) -> [u32; 3] {
+/// The first words of a reply's frame: the call's number, the code, and two results. Of lists these are the length and
+/// the first name, of a port's status the messages and the make-send count.
+fn words_of(reply: &Reply) -> [u32; 4] {
     match reply {
-        Reply::Refused { number, code } => [*number, code.number(), 0],
-        Reply::Type { bits } => [2, 0, *bits],
-        Reply::Allocate { name } => [5, 0, *name],
-        Reply::Message { code, size, .. } => [19, code.number(), *size],
-        _ => [0, 0, 0],
+        Reply::Refused { number, code } => [*number, code.number(), 0, 0],
+        Reply::Done { number } => [*number, 0, 0, 0],
+        Reply::Names { names } => {
+            let first = names.as_slice().first().map_or(0, |named| named.name);
+            [1, 0, count(names.as_slice().len()), first]
+        }
+        Reply::Type { bits } => [2, 0, *bits, 0],
+        Reply::Allocate { name } => [5, 0, *name, 0],
+        Reply::References { count } => [8, 0, *count, 0],
+        Reply::ReceiveStatus { status } => [13, 0, status.messages, status.make_send_count],
+        Reply::SetStatus { members } => {
+            let first = members.as_slice().first().copied().unwrap_or(0);
+            [14, 0, count(members.as_slice().len()), first]
+        }
+        Reply::PreviousTarget { name } => [16, 0, *name, 0],
+        Reply::Extracted { name, kind } => [18, 0, *name, kind_number(*kind)],
+        Reply::Message {
+            code,
+            size,
+            member,
+            ..
+        } => [19, code.number(), *size, *member],
+        Reply::SpaceCreated { space, name } => [20, 0, *space, *name],
     }
 }
 
-fn type_of(name: u32) -> Call {
-    Call::Type { name }
+fn count(length: usize) -> u32 {
+    u32::try_from(length).unwrap_or(u32::MAX)
+}
+
+fn kind_number(kind: RightKind) -> u32 {
+    match kind {
+        RightKind::Receive => 16,
+        RightKind::Send => 17,
+        RightKind::SendOnce => 18,
+    }
 }
 
 fn allocate(right: u32) -> Call {
@@ -30,75 +60,194 @@ fn allocated(right: u32, name: u32) -> Record {
     }
 }
 
-#[test]
-fn answers_calls(rt: HostRuntime) -> Result<(), Fail> {
-    let mut kernel = Kernel::opening(rt.alloc());
-    let steps = [
-        (1, allocate(1), [5, 0, 0x100]),
-        (1, allocate(1), [5, 0, 0x101]),
-        (1, allocate(3), [5, 0, 0x102]),
-        (1, allocate(4), [5, 0, 0x103]),
-        (1, type_of(0x101), [2, 0, 0x2_0000]),
-        (1, type_of(0x102), [2, 0, 0x8_0000]),
-        (1, type_of(0x103), [2, 0, 0x10_0000]),
-        (1, allocate(2), [5, 18, 0]),
-        (1, type_of(0x1ff), [2, 15, 0]),
-        (1, type_of(0), [2, 15, 0]),
-        (1, type_of(0xffff_ffff), [2, 15, 0]),
-        (2, type_of(0x100), [2, 16, 0]),
-        (2, allocate(2), [5, 16, 0]),
-    ];
-    for (space, call, words) in steps {
-        let reply = kernel.apply(space, &call)?;
-        assert_eq!(rt; words_of(&reply), words, "{call:?} from {space}");
+/// A call of this number, from 1 to 21, with as many of the arguments as it has.
+fn call_of(number: u32, arguments: [u32; 5]) -> Call {
+    let [name, second, third, notify, disposition] = arguments;
+    match number {
+        1 => Call::Names,
+        2 => Call::Type { name },
+        3 => Call::Rename {
+            from: name,
+            to: second,
+        },
+        4 => Call::AllocateName {
+            right: name,
+            name: second,
+        },
+        5 => Call::Allocate { right: name },
+        6 => Call::Destroy { name },
+        7 => Call::Deallocate { name },
+        8 => Call::GetRefs {
+            name,
+            right: second,
+        },
+        9 => Call::ModRefs {
+            name,
+            right: second,
+            delta: third,
+        },
+        10 => Call::SetQlimit {
+            name,
+            limit: second,
+        },
+        11 => Call::SetMscount {
+            name,
+            count: second,
+        },
+        12 => Call::SetSeqno {
+            name,
+            seqno: second,
+        },
+        13 => Call::GetReceiveStatus { name },
+        14 => Call::GetSetStatus { name },
+        15 => Call::MoveMember {
+            member: name,
+            after: second,
+        },
+        16 => Call::RequestNotification {
+            name,
+            variant: second,
+            sync: third,
+            notify,
+            disposition,
+        },
+        17 => Call::InsertRight {
+            name,
+            right_name: second,
+            disposition: third,
+        },
+        18 => Call::ExtractRight {
+            name,
+            disposition: second,
+        },
+        20 => Call::SpaceCreate {
+            name,
+            disposition: second,
+        },
+        21 => Call::SpaceDestroy,
+        _ => Call::Attach { space: name },
     }
+}
+
+/// The caller's space, the number and the arguments of a call, and its reply's words.
+type Row = (u32, u32, [u32; 5], [u32; 4]);
+
+const ALLOCATING: [Row; 27] = [
+    (1, 5, [1, 0, 0, 0, 0], [5, 0, 0x100, 0]),
+    (1, 5, [1, 0, 0, 0, 0], [5, 0, 0x101, 0]),
+    (1, 5, [3, 0, 0, 0, 0], [5, 0, 0x102, 0]),
+    (1, 5, [4, 0, 0, 0, 0], [5, 0, 0x103, 0]),
+    (1, 4, [3, 0x300, 0, 0, 0], [4, 0, 0, 0]),
+    (1, 1, [0, 0, 0, 0, 0], [1, 0, 5, 0x100]),
+    (1, 2, [0x101, 0, 0, 0, 0], [2, 0, 0x2_0000, 0]),
+    (1, 2, [0x102, 0, 0, 0, 0], [2, 0, 0x8_0000, 0]),
+    (1, 2, [0x103, 0, 0, 0, 0], [2, 0, 0x10_0000, 0]),
+    (1, 15, [0x101, 0x300, 0, 0, 0], [15, 0, 0, 0]),
+    (1, 14, [0x300, 0, 0, 0, 0], [14, 0, 1, 0x101]),
+    (1, 3, [0x300, 0x301, 0, 0, 0], [3, 0, 0, 0]),
+    (1, 14, [0x301, 0, 0, 0, 0], [14, 0, 1, 0x101]),
+    (1, 3, [0x101, 0x200, 0, 0, 0], [3, 0, 0, 0]),
+    (1, 14, [0x301, 0, 0, 0, 0], [14, 0, 1, 0x200]),
+    (1, 10, [0x200, 16, 0, 0, 0], [10, 0, 0, 0]),
+    (1, 11, [0x200, 7, 0, 0, 0], [11, 0, 0, 0]),
+    (1, 12, [0x200, 8, 0, 0, 0], [12, 0, 0, 0]),
+    (1, 13, [0x200, 0, 0, 0, 0], [13, 0, 0, 7]),
+    (1, 6, [0x301, 0, 0, 0, 0], [6, 0, 0, 0]),
+    (1, 15, [0x200, 0, 0, 0, 0], [15, 12, 0, 0]),
+    (1, 9, [0x103, 4, 65_534, 0, 0], [9, 0, 0, 0]),
+    (1, 9, [0x103, 4, 1, 0, 0], [9, 19, 0, 0]),
+    (1, 8, [0x103, 4, 0, 0, 0], [8, 0, 65_535, 0]),
+    (1, 0, [1, 0, 0, 0, 0], [0, 4, 0, 0]),
+    (2, 0, [1, 0, 0, 0, 0], [0, 16, 0, 0]),
+    (2, 1, [0, 0, 0, 0, 0], [1, 16, 0, 0]),
+];
+
+const HANDING_OVER: [Row; 22] = [
+    (1, 5, [1, 0, 0, 0, 0], [5, 0, 0x100, 0]),
+    (1, 17, [0x100, 0x100, 20, 0, 0], [17, 0, 0, 0]),
+    (1, 2, [0x100, 0, 0, 0, 0], [2, 0, 0x3_0000, 0]),
+    (1, 7, [0x100, 0, 0, 0, 0], [7, 0, 0, 0]),
+    (1, 2, [0x100, 0, 0, 0, 0], [2, 0, 0x2_0000, 0]),
+    (1, 18, [0x100, 20, 0, 0, 0], [18, 0, 0x100, 17]),
+    (1, 18, [0x100, 21, 0, 0, 0], [18, 0, 0x101, 18]),
+    (1, 17, [0x100, 0x100, 21, 0, 0], [17, 13, 0, 0]),
+    (1, 16, [0x100, 70, 1, 0x101, 18], [16, 0, 0, 0]),
+    (1, 2, [0x101, 0, 0, 0, 0], [2, 15, 0, 0]),
+    (1, 13, [0x100, 0, 0, 0, 0], [13, 0, 0, 2]),
+    // The last send right goes, and the port tells itself.
+    (1, 7, [0x100, 0, 0, 0, 0], [7, 0, 0, 0]),
+    (1, 13, [0x100, 0, 0, 0, 0], [13, 0, 1, 2]),
+    (1, 20, [0x100, 21, 0, 0, 0], [20, 0, 2, 0x100]),
+    (2, 1, [0, 0, 0, 0, 0], [1, 0, 1, 0x100]),
+    (2, 2, [0x100, 0, 0, 0, 0], [2, 0, 0x4_0000, 0]),
+    // The space goes with a send-once right, which tells of that.
+    (2, 21, [0, 0, 0, 0, 0], [21, 0, 0, 0]),
+    (2, 1, [0, 0, 0, 0, 0], [1, 16, 0, 0]),
+    (1, 13, [0x100, 0, 0, 0, 0], [13, 0, 2, 2]),
+    (1, 21, [0, 0, 0, 0, 0], [21, 5, 0, 0]),
+    (1, 6, [0x100, 0, 0, 0, 0], [6, 0, 0, 0]),
+    (1, 1, [0, 0, 0, 0, 0], [1, 0, 0, 0]),
+];
+
+/// Makes a call on one kernel, replays what it answered on another, and compares the reply's words.
+fn make(rt: &impl Abort, kernel: &mut Kernel, other: Kernel, row: &Row) -> Result<Kernel, Fail> {
+    let (space, number, arguments, words) = *row;
+    let call = call_of(number, arguments);
+    let answer = kernel.answer(space, &call)?;
+    let reply = kernel.apply(space, &call)?;
+    assert_eq!(rt;
+        words_of(&reply),
+        words,
+        "{number} {arguments:?} from {space}"
+    );
+    assert_eq!(rt; answer.is_none(), call.has_record(&reply));
+    let replayed = other.replay(&Record { space, call, reply })?;
+    Ok(replayed)
+}
+
+/// Makes calls, one after another.
+fn run(rt: &impl Abort, alloc: Global, rows: &[Row]) -> Result<(), Fail> {
+    let mut kernel = Kernel::opening(alloc)?;
+    let mut other = Kernel::opening(alloc)?;
+    for row in rows {
+        other = make(rt, &mut kernel, other, row)?;
+    }
+    let names = kernel.apply(1, &Call::Names)?;
+    let others = other.apply(1, &Call::Names)?;
+    assert!(rt; is_same_reply(&names, &others));
     Ok(())
 }
 
 #[test]
-fn refuses_what_is_not_served(rt: HostRuntime) -> Result<(), Fail> {
-    let mut kernel = Kernel::opening(rt.alloc());
+fn allocates_and_tells(rt: HostRuntime) -> Result<(), Fail> {
+    run(&rt, rt.alloc(), &ALLOCATING)
+}
+
+#[test]
+fn hands_rights_over(rt: HostRuntime) -> Result<(), Fail> {
+    run(&rt, rt.alloc(), &HANDING_OVER)
+}
+
+#[test]
+fn refuses_sends(rt: HostRuntime) -> Result<(), Fail> {
+    let mut kernel = Kernel::opening(rt.alloc())?;
     let message = Sequence::new(vec![in rt.alloc(); 0_u8, 0]?);
-    let steps = [
-        (1, Call::Names, [1, 4, 0]),
-        (1, Call::Destroy { name: 0x100 }, [6, 4, 0]),
-        (2, Call::SpaceDestroy, [21, 16, 0]),
-        (1, Call::Send { message }, [19, 4, 0]),
-    ];
-    for (space, call, words) in steps {
-        let reply = kernel.apply(space, &call)?;
-        assert_eq!(rt; words_of(&reply), words, "{call:?} from {space}");
-        let answer = kernel.answer(space, &call)?;
-        assert_eq!(rt;
-            answer.as_ref().map(words_of),
-            Some(words),
-            "{call:?} from {space}"
-        );
-        let record = Record { space, call, reply };
-        kernel = kernel.replay(&record)?;
+    let send = Call::Send { message };
+    for (space, words) in [(1, [19, 4, 0, 0]), (2, [19, 16, 0, 0])] {
+        let reply = kernel.apply(space, &send)?;
+        assert_eq!(rt; words_of(&reply), words, "from {space}");
     }
-    Ok(())
-}
-
-#[test]
-fn answers_only_what_has_no_record(rt: HostRuntime) -> Result<(), Fail> {
-    let kernel = Kernel::opening(rt.alloc());
-    let missing = kernel.answer(1, &type_of(0x100))?;
-    assert_eq!(rt; missing.as_ref().map(words_of), Some([2, 15, 0]));
-    let wrong = kernel.answer(1, &allocate(2))?;
-    assert_eq!(rt; wrong.as_ref().map(words_of), Some([5, 18, 0]));
-    assert!(rt; kernel.answer(1, &allocate(1))?.is_none());
     Ok(())
 }
 
 // All names but the first are replayed, since each `apply` looks for its name from the first on.
 #[test]
 fn a_space_holds_4096_names(rt: HostRuntime) -> Result<(), Fail> {
-    let mut kernel = Kernel::opening(rt.alloc());
+    let mut kernel = Kernel::opening(rt.alloc())?;
     for name in 0x101..0x1100 {
         kernel = kernel.replay(&allocated(1, name))?;
     }
-    for (right, words) in [(1, [5, 0, 0x100]), (1, [5, 3, 0]), (2, [5, 18, 0])] {
+    for (right, words) in [(1, [5, 0, 0x100, 0]), (1, [5, 3, 0, 0]), (2, [5, 18, 0, 0])] {
         let reply = kernel.apply(1, &allocate(right))?;
         assert_eq!(rt; words_of(&reply), words, "allocate {right}");
     }
@@ -108,11 +257,10 @@ fn a_space_holds_4096_names(rt: HostRuntime) -> Result<(), Fail> {
 #[test]
 fn replays_a_record_once(rt: HostRuntime) -> Result<(), Fail> {
     let record = allocated(1, 0x100);
-    let kernel = Kernel::opening(rt.alloc()).replay(&record)?;
-    assert_eq!(rt; words_of(&kernel.port_type(1, 0x100)), [2, 0, 0x2_0000]);
+    let kernel = Kernel::opening(rt.alloc())?.replay(&record)?;
     assert_eq!(rt; kernel.replay(&record).err(), Some(ReplayFault::Mismatch));
     for (right, name) in [(2, 0x100), (1, 0)] {
-        let kernel = Kernel::opening(rt.alloc());
+        let kernel = Kernel::opening(rt.alloc())?;
         assert_eq!(rt;
             kernel.replay(&allocated(right, name)).err(),
             Some(ReplayFault::Mismatch),
@@ -123,8 +271,86 @@ fn replays_a_record_once(rt: HostRuntime) -> Result<(), Fail> {
 }
 
 #[test]
-fn replays_a_name_that_is_not_the_least(rt: HostRuntime) -> Result<(), Fail> {
-    let kernel = Kernel::opening(rt.alloc()).replay(&allocated(4, 0x1ff))?;
-    assert_eq!(rt; words_of(&kernel.port_type(1, 0x1ff)), [2, 0, 0x10_0000]);
+fn reads_without_memory(rt: HostRuntime) -> Result<(), Fail> {
+    let kernel = Kernel::opening(rt.alloc())?.replay(&allocated(1, 0x100))?;
+    let rows = [
+        (kernel.port_type(1, 0x100), [2, 0, 0x2_0000, 0]),
+        (kernel.port_type(2, 0x100), [2, 16, 0, 0]),
+        (kernel.get_refs(1, 0x100, 1), [8, 0, 1, 0]),
+        (kernel.receive_status(1, 0x100), [13, 0, 0, 0]),
+    ];
+    for (reply, words) in rows {
+        assert_eq!(rt; words_of(&reply), words);
+    }
+    Ok(())
+}
+
+/// The fault where a record follows the allocation of a port under 0x1ff.
+fn fault_after_a_port(
+    alloc: Global,
+    call: Call,
+    reply: Reply,
+) -> Result<Option<ReplayFault>, Fail> {
+    let kernel = Kernel::opening(alloc)?.replay(&allocated(1, 0x1ff))?;
+    let record = Record {
+        space: 1,
+        call,
+        reply,
+    };
+    let replayed = kernel.replay(&record);
+    Ok(replayed.err())
+}
+
+fn extract() -> Call {
+    Call::ExtractRight {
+        name: 0x1ff,
+        disposition: 21,
+    }
+}
+
+#[test]
+fn replays_the_name_of_an_extracted_right(rt: HostRuntime) -> Result<(), Fail> {
+    for (name, fault) in [
+        (0x555, None),
+        (0x1ff, Some(ReplayFault::Mismatch)),
+        (0, Some(ReplayFault::Mismatch)),
+    ] {
+        let reply = Reply::Extracted {
+            name,
+            kind: RightKind::SendOnce,
+        };
+        let found = fault_after_a_port(rt.alloc(), extract(), reply)?;
+        assert_eq!(rt; found, fault, "extracted as {name}");
+    }
+    Ok(())
+}
+
+#[test]
+fn replays_the_number_of_a_new_space(rt: HostRuntime) -> Result<(), Fail> {
+    for (space, name, fault) in [
+        (256, 0x999, None),
+        (1, 0x100, Some(ReplayFault::Mismatch)),
+        (257, 0x100, Some(ReplayFault::Mismatch)),
+        (2, 0, Some(ReplayFault::Mismatch)),
+    ] {
+        let create = Call::SpaceCreate {
+            name: 0x1ff,
+            disposition: 20,
+        };
+        let reply = Reply::SpaceCreated { space, name };
+        let found = fault_after_a_port(rt.alloc(), create, reply)?;
+        assert_eq!(rt; found, fault, "space {space} with {name}");
+    }
+    Ok(())
+}
+
+#[test]
+fn replays_no_invented_refusal(rt: HostRuntime) -> Result<(), Fail> {
+    let refused = Reply::Refused {
+        number: 18,
+        code: KernReturn::InvalidRight,
+    };
+    let found = fault_after_a_port(rt.alloc(), extract(), refused)?;
+    assert_eq!(rt; found, Some(ReplayFault::Mismatch));
     Ok(())
 }

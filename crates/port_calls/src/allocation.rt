@@ -1,9 +1,10 @@
-ghost use Rattle.std.specs.Prelude.{◌≡◌, ◌&&◌, ◌∷◌, [], None, IfOk, OnOk, OnErr, IsSome};
+ghost use Rattle.std.specs.Prelude.{◌≡◌, ◌&&◌, ◌∷◌, ℕ, List, [], None, Some, IfOk, OnOk, OnErr, IsSome};
 ghost use Rattle.std.specs.FinMap as map;
 ghost use Rattle.ipc_model.specs.Actions.{allocated};
 ghost use Rattle.ipc_model.specs.declared.call.Call.TheVariants as call;
+ghost use Rattle.ipc_model.specs.Effects.{Effect};
 ghost use Rattle.ipc_model.specs.PortCalls.{is_full, is_right, names_in, tests_of};
-ghost use Rattle.ipc_model.specs.State.{ports_are_used_up};
+ghost use Rattle.ipc_model.specs.State.{State, IsUnused, ports_are_used_up};
 ghost use Rattle.ipc_model.specs.Step.{ActsIn};
 ghost use Rattle.ipc_model.specs.Tests.{first_failing};
 
@@ -14,21 +15,42 @@ use ipc_model::Reply;
 use ipc_state::IpcState;
 use std::alloc::AllocError;
 
-/// `mach_port_allocate`: a new name with a new right, the least unused one from `FIRST_NAME` on. Where memory is
-/// wanted nothing changed.
+/// `mach_port_allocate`: a new name with a new right: the wanted name where it is unused, else the least unused one
+/// from `FIRST_NAME` on. Where memory is wanted nothing changed.
 #[tactic(auto, unfolding(ipc_model::specs::PortCalls::tests_of, ipc_model::specs::Actions::Done))]
-pub fn allocate(state: &mut IpcState, space: u32, right: u32) -> Result<Reply, AllocError>
+pub fn allocate(
+    state: &mut IpcState,
+    space: u32,
+    right: u32,
+    wanted: Option<u32>,
+) -> Result<Reply, AllocError>
     requires there { IsSome (map.get state.old.spaces space) }
     requires fresh { map.get state.old.ports state.old.next ≡ None }
     ensures acts { IfOk result (λ reply. ActsIn state.old space (names_in state.old space) (call.Allocate right) reply state.new []) }
+    // Where the call may be answered with the wanted name, it is.
+    ensures wanted { IfOk result (λ reply. (shown : ℕ) → wanted ≡ Some shown → (new : State) → (effects : List Effect) → ActsIn state.old space (names_in state.old space) (call.Allocate right) (Reply.Allocate shown) new effects → reply ≡ Reply.Allocate shown) }
     ensures err { OnErr result (state.new ≡ state.old) }
 {
     if let Some(code) = refusal_of_allocate(state, space, right) {
         return Ok(Reply::Refused { number: 5, code });
     }
-    let name = state.free_name(space);
+    let name = chosen_name(state, space, wanted);
     add_right(state, space, right, name)?;
     Ok(Reply::Allocate { name })
+}
+
+/// The name that a new right gets: the wanted one where it is unused, else the least unused one.
+pub fn chosen_name(state: &IpcState, space: u32, wanted: Option<u32>) -> u32
+    ensures unused { IsUnused (names_in state.now space) result }
+    ensures wanted { (shown : ℕ) → wanted ≡ Some shown → IsUnused (names_in state.now space) shown → result ≡ shown }
+{
+    let Some(name) = wanted else {
+        return state.free_name(space);
+    };
+    if state.is_unused(space, name) {
+        return name;
+    }
+    state.free_name(space)
 }
 
 /// The code that an allocation is refused with, if it is refused.

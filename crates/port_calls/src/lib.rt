@@ -4,20 +4,28 @@
 mod allocation;
 mod ask;
 mod entry;
+mod handing;
 mod modifying;
 mod moves;
 mod numbers;
 mod reads;
 mod references;
 mod removal;
+mod renaming;
+mod requests;
+mod spaces;
 
 pub use allocation::{allocate, allocate_name};
+pub use handing::{extract_right, insert_right};
 pub use modifying::mod_refs;
 pub use moves::move_member;
 pub use numbers::{set_mscount, set_qlimit, set_seqno};
 pub use reads::{get_refs, get_set_status, names, port_type, receive_status};
 pub use references::deallocate;
 pub use removal::destroy;
+pub use renaming::rename;
+pub use requests::request_notification;
+pub use spaces::{attach, space_create, space_destroy};
 
 #[cfg(test)]
 mod tests;

@@ -4,7 +4,7 @@
 mod member;
 mod moves;
 
-pub use member::{member_ports, members, received_port};
+pub use member::{member_ports, members, received_port, received_ports};
 pub use moves::{move_member, move_ports};
 
 #[cfg(test)]

@@ -1,5 +1,5 @@
 ghost use Rattle.std.specs.Prelude.{◌≡◌, IfOk, None, if◌then◌else◌};
-ghost use Rattle.ipc_model.specs.Actions.{serials_of_members};
+ghost use Rattle.ipc_model.specs.Actions.{received_serials, serials_of_members};
 ghost use Rattle.ipc_model.specs.PortCalls.{names_in};
 ghost use Rattle.ipc_model.specs.State.{is_member, members_of, received_port};
 
@@ -43,6 +43,22 @@ pub fn member_ports(
     };
     for (_, entry) in names.iter() {
         if let Some(port) = member_port(state, set, *entry) {
+            ports.push(port)?;
+        }
+    }
+    Ok(ports)
+}
+
+/// The ports whose receive rights the names of a space hold, in the order of their names.
+pub fn received_ports(alloc: Global, state: &IpcState, space: u32) -> Result<Vec<u64>, AllocError>
+    ensures { IfOk result (λ ports. ports.items ≡ received_serials (names_in state.now space)) }
+{
+    let mut ports = Vec::new(alloc);
+    let Some(names) = state.space(space) else {
+        return Ok(ports);
+    };
+    for (_, entry) in names.iter() {
+        if let Some(port) = received_port(*entry) {
             ports.push(port)?;
         }
     }

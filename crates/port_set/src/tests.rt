@@ -29,6 +29,8 @@ fn moves_a_port_into_a_set_and_out(rt: HostRuntime) -> Result<(), Fail> {
     assert_eq!(rt; members(rt.alloc(), &state, 1, 0x102)?.len(), 0);
     let ports = member_ports(rt.alloc(), &state, 1, 0x101)?;
     assert_eq!(rt; ports.as_slice(), [port].as_slice());
+    let received = received_ports(rt.alloc(), &state, 1)?;
+    assert_eq!(rt; received.as_slice(), [port].as_slice());
     move_ports(&mut state, ports.as_slice(), Some(0x102));
     assert_eq!(rt; members(rt.alloc(), &state, 1, 0x101)?.len(), 0);
     move_member(&mut state, member, 0);

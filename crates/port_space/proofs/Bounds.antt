@@ -12,7 +12,7 @@ use Rattle.ipc_model.specs.MapLaws.{get-map_values, len-map_values}
 use Rattle.ipc_model.specs.MapSums.{key_is}
 use Rattle.port_space.specs.Deaths.{entry_without}
 use Rattle.port_space.specs.References.{AreBounded, AreFewReferences}
-use Rattle.port_space.proofs.Crowded.{within_after_insert, within_after_remove}
+use Rattle.port_space.specs.Crowded.{within_after_insert, within_after_remove}
 
 abbrev Names : Type 0
 Names = FinMap {K = ℕ} nat_cmp Entry

@@ -1,3 +1,3 @@
 mod Bounds
-mod Crowded
+mod Renamed
 mod Walks

@@ -1,2 +1,4 @@
+pub mod Crowded
 pub mod Deaths
 pub mod References
+pub mod Renaming

@@ -1,11 +1,13 @@
-ghost use Rattle.std.specs.Prelude.{◌≡◌, ℕ, ◌+◌, ◌≤◌, ◌<◌, ◌↔◌, ◌==◌, nat_le, IfOk, OnOk, OnErr, IsSome, IfSome, IsTrue, ◌-◌, ◌^◌, ◌&&◌, min, count_by, is_some, None};
+ghost use Rattle.std.specs.Prelude.{◌≡◌, ℕ, ◌+◌, ◌≤◌, ◌<◌, ◌↔◌, ◌==◌, not, nat_le, IfOk, OnOk, OnErr, IsSome, IfSome, IsTrue, ◌-◌, ◌^◌, ◌&&◌, min, count_by, is_some, None};
 ghost use Rattle.std.specs.FinMap as map;
 ghost use Rattle.std.specs.List.{AllByRecursion};
 ghost use Rattle.std.specs.Map.Iter.{ShowsInOrder, ShowsValuesInOrder, deref_pair};
 ghost use Rattle.ipc_model.specs.Effects.{entry_after_death, map_values};
 ghost use Rattle.ipc_model.specs.Placed.{rights_of_space, same_kind};
 ghost use Rattle.ipc_model.specs.State.{IsUnused, is_number, name_of_port, port_held};
+ghost use Rattle.ipc_model.specs.PortCalls.{stands_elsewhere};
 ghost use Rattle.port_space.specs.References.{AreFewReferences};
+ghost use Rattle.port_space.specs.Renaming.{under_other_name};
 
 use crate::count::rights_of_entry;
 use crate::death::Death;
@@ -117,6 +119,22 @@ impl PortSpace {
         self.names.remove(u64::from(name))
     }
 
+    /// Has what stands under one name, if anything does, stand under another. Where memory is wanted nothing
+    /// changed.
+    pub fn rename(&mut self, from: u32, to: u32) -> Result<(), AllocError>
+        requires unused { map.get self.old to ≡ None }
+        ensures ok { OnOk result (self.new ≡ under_other_name self.old from to) }
+        ensures err { OnErr result (self.new ≡ self.old) }
+    {
+        let Some(entry) = self.get(from) else {
+            return Ok(());
+        };
+        // The new name comes first, so that nothing has changed where memory is wanted.
+        self.names.insert(u64::from(to), entry)?;
+        self.names.remove(u64::from(from));
+        Ok(())
+    }
+
     /// The names with what they stand for, rising by name.
     pub fn iter(&self) -> Iter<'_, u64, Entry>
         ensures rest { result ≡ map.entries self.now }
@@ -168,6 +186,18 @@ impl PortSpace {
         None
     }
 
+    /// Whether a send or receive right of a port stands under a name other than this one.
+    pub fn stands_elsewhere(&self, name: u32, serial: u64) -> bool
+        ensures { result ≡ stands_elsewhere self.now name serial }
+    {
+        for (other, entry) in self.names.iter() {
+            if holds_elsewhere(*other, entry, name, serial) {
+                return true;
+            }
+        }
+        false
+    }
+
     /// Whether a name may be handed out: it is neither `MACH_PORT_NULL` nor `MACH_PORT_DEAD`, and not in use.
     pub fn is_unused(&self, name: u32) -> bool
         ensures { IsTrue result ↔ IsUnused self.now name }
@@ -200,4 +230,11 @@ fn holds_port(entry: &Entry, serial: u64) -> bool
         Entry::Port(rights) => rights.port == serial,
         _ => false,
     }
+}
+
+/// Whether a send or receive right of the port stands under this name, which isn't the given one.
+fn holds_elsewhere(other: u64, entry: &Entry, name: u32, serial: u64) -> bool
+    ensures { result ≡ (is_number (port_held entry.now) serial && not (other == name)) }
+{
+    holds_port(entry, serial) && other != u64::from(name)
 }

@@ -71,6 +71,8 @@ fn counts_the_rights_to_a_port(rt: HostRuntime) -> Result<(), Fail> {
     assert_eq!(rt; space.rights_to(RightKind::Send, 7), 1);
     assert_eq!(rt; space.name_of_port(7), Some(0x102));
     assert_eq!(rt; space.name_of_port(8), None);
+    assert!(rt; !space.stands_elsewhere(0x102, 7));
+    assert!(rt; space.stands_elsewhere(0x101, 7));
     let mut names = space.iter();
     assert_eq!(rt; names.next(), Some((&0x100, &received)));
     assert_eq!(rt; names.next(), Some((&0x102, &HELD)));

@@ -113,7 +113,8 @@ fn replay_batches(alloc: Global, batches: &[u8]) -> Result<(Kernel, u64, usize),
     ensures faults { OnErr result ((result ≡ Err StoreFault.Damaged) ⊎ (result ≡ Err StoreFault.NoMemory)) }
 {
     let (records, size) = read_batches(alloc, batches)?;
-    let kernel = replay_all(Kernel::opening(alloc), &records)?;
+    let opening = Kernel::opening(alloc)?;
+    let kernel = replay_all(opening, &records)?;
     Ok((kernel, records.len() as u64, size))
 }
 
@@ -165,8 +166,9 @@ fn load<D: Disk>(alloc: Global, disk: &mut D) -> Result<(Kernel, u64), StoreFaul
     )? {
         Some(batches) => load_stored(alloc, disk, batches),
         None => {
+            let kernel = Kernel::opening(alloc)?;
             make_store(disk)?;
-            Ok((Kernel::opening(alloc), 0))
+            Ok((kernel, 0))
         }
     }
 }

@@ -1,3 +1,5 @@
+pub mod Keeping
 pub mod Meaning
+pub mod Room
 pub mod Taking
 pub mod Wanting

@@ -139,6 +139,7 @@ fn call_with_room<D: Disk>(
     requires room { journal.old.records < MAX_RECORDS }
     requires fits { FitsCall call }
     ensures answers { IfOk result (λ reply. StepOrShortage kernel.old 1 call reply kernel.new) }
+    ensures frame { IfOk result (λ reply. length (reply_text reply) ≤ MAX_FRAME_CONTENT) }
     ensures passes { D.honest → IsKept (D.view journal.old.disk) kernel.old journal.old.records
         → Passes (D.view journal.old.disk) (D.view journal.new.disk) (IsBeforeOrAfter kernel.old journal.old.records call kernel.new) }
     ensures kept { D.honest → IsKept (D.view journal.old.disk) kernel.old journal.old.records
@@ -164,6 +165,7 @@ fn call_with_room<D: Disk>(
 /// The answer to a call while the segment has no room for a record: one that would have a record is refused.
 fn call_without_room(alloc: Global, kernel: &Kernel, call: &Call) -> Reply
     ensures answers { StepOrShortage kernel.now 1 call.now result kernel.now }
+    ensures frame { length (reply_text result) ≤ MAX_FRAME_CONTENT }
     ensures unrecorded { has_record call.now result ≡ false }
 {
     match kernel.answer(FIRST_SPACE, call) {

@@ -3,10 +3,11 @@ use disk::{Disk, MemDisk, Slot, Torn};
 use ipc_model::Reply;
 use journal::StoreFault;
 use recover::open;
-use std::alloc::Global;
+use std::alloc::{AllocError, Global};
 use std::test::Fail;
 use std::{env, fs};
 use wire::WireFault;
+use words::push_word;
 
 const ALLOCATE: [u8; 12] = [8, 0, 0, 0, 5, 0, 0, 0, 1, 0, 0, 0];
 
@@ -94,33 +95,226 @@ fn frames_that_are_no_calls_are_answered(rt: HostRuntime) -> Result<(), Fail> {
     Ok(())
 }
 
-// A call of each number from 0 to 21 but 2 and 5, which are served.
+/// How many arguments a call of each number has, and the length of its frame.
+const ARGUMENTS: [(usize, u32); 22] = [
+    (1, 8),
+    (0, 4),
+    (1, 8),
+    (2, 12),
+    (2, 12),
+    (1, 8),
+    (1, 8),
+    (1, 8),
+    (2, 12),
+    (3, 16),
+    (2, 12),
+    (2, 12),
+    (2, 12),
+    (1, 8),
+    (1, 8),
+    (2, 12),
+    (5, 24),
+    (3, 16),
+    (2, 12),
+    (4, 20),
+    (2, 12),
+    (0, 4),
+];
+
+/// The frame of a call, of as many arguments as it has.
+fn push_call(input: &mut Vec<u8>, number: u32, arguments: [u32; 5]) -> Result<(), AllocError> {
+    let (count, length) = ARGUMENTS.get(number as usize).copied().unwrap_or((0, 4));
+    push_word(input, length)?;
+    push_word(input, number)?;
+    for argument in arguments.iter().take(count) {
+        push_word(input, *argument)?;
+    }
+    Ok(())
+}
+
+/// Calls, one after another.
+fn calls(alloc: Global, rows: &[(u32, [u32; 5])]) -> Result<Vec<u8>, AllocError> {
+    let mut input = Vec::new(alloc);
+    for (number, arguments) in rows {
+        push_call(&mut input, *number, *arguments)?;
+    }
+    Ok(input)
+}
+
+// Names of the rows below: 0x100 is a receive right, 0x101 one with 65,534 send references, 0x102 a set, 0x103 a dead
+// name, 0x104 a send-once right.
+const PREPARED: [(u32, [u32; 5]); 7] = [
+    (5, [1, 0, 0, 0, 0]),
+    (5, [1, 0, 0, 0, 0]),
+    (5, [3, 0, 0, 0, 0]),
+    (5, [4, 0, 0, 0, 0]),
+    (17, [0x101, 0x101, 20, 0, 0]),
+    (9, [0x101, 0, 65_533, 0, 0]),
+    (18, [0x101, 21, 0, 0, 0]),
+];
+
+/// Minus two, as a delta in two's complement.
+const MINUS_TWO: u32 = 0xffff_fffe;
+
+/// The number and the arguments of a call, and the code that it is refused with.
+type Refused = (u32, [u32; 5], u32);
+
+// Each test of each call, and calls that fail two of them: the first answers.
+const REFUSED: [Refused; 77] = [
+    (0, [2, 0, 0, 0, 0], 4),
+    (2, [0, 0, 0, 0, 0], 15),
+    (2, [0xffff_ffff, 0, 0, 0, 0], 15),
+    (2, [0x1ff, 0, 0, 0, 0], 15),
+    (3, [0x1ff, 0, 0, 0, 0], 15),
+    (3, [0x100, 0, 0, 0, 0], 18),
+    (3, [0x100, 0xffff_ffff, 0, 0, 0], 18),
+    (3, [0x100, 0x101, 0, 0, 0], 13),
+    (4, [2, 0, 0, 0, 0], 18),
+    (4, [2, 0x100, 0, 0, 0], 18),
+    (4, [1, 0x100, 0, 0, 0], 13),
+    (5, [0, 0, 0, 0, 0], 18),
+    (5, [2, 0, 0, 0, 0], 18),
+    (6, [0x1ff, 0, 0, 0, 0], 15),
+    (7, [0x1ff, 0, 0, 0, 0], 15),
+    (7, [0x100, 0, 0, 0, 0], 17),
+    (7, [0x102, 0, 0, 0, 0], 17),
+    (8, [0x1ff, 5, 0, 0, 0], 18),
+    (8, [0x1ff, 0, 0, 0, 0], 15),
+    (9, [0x1ff, 5, 1, 0, 0], 18),
+    (9, [0x1ff, 0, 1, 0, 0], 15),
+    (9, [0x100, 0, 70_000, 0, 0], 17),
+    (9, [0x103, 1, 1, 0, 0], 17),
+    (9, [0x100, 1, 1, 0, 0], 18),
+    (9, [0x100, 1, MINUS_TWO, 0, 0], 18),
+    (9, [0x102, 3, 1, 0, 0], 18),
+    (9, [0x104, 2, 1, 0, 0], 18),
+    (9, [0x104, 2, MINUS_TWO, 0, 0], 18),
+    (9, [0x101, 0, 1, 0, 0], 19),
+    (9, [0x103, 4, MINUS_TWO, 0, 0], 18),
+    (9, [0x103, 4, 65_535, 0, 0], 19),
+    (10, [0x1ff, 17, 0, 0, 0], 18),
+    (10, [0x1ff, 16, 0, 0, 0], 15),
+    (10, [0x103, 16, 0, 0, 0], 17),
+    (11, [0x1ff, 1, 0, 0, 0], 15),
+    (11, [0x104, 1, 0, 0, 0], 17),
+    (12, [0x1ff, 1, 0, 0, 0], 15),
+    (12, [0x102, 1, 0, 0, 0], 17),
+    (13, [0x1ff, 0, 0, 0, 0], 15),
+    (13, [0x103, 0, 0, 0, 0], 17),
+    (14, [0x1ff, 0, 0, 0, 0], 15),
+    (14, [0x100, 0, 0, 0, 0], 17),
+    (15, [0x1ff, 0x1ff, 0, 0, 0], 15),
+    (15, [0x103, 0x1ff, 0, 0, 0], 17),
+    (15, [0x100, 0, 0, 0, 0], 12),
+    (15, [0x100, 0x1ff, 0, 0, 0], 15),
+    (15, [0x100, 0x101, 0, 0, 0], 17),
+    (16, [0x1ff, 71, 1, 0x100, 17], 18),
+    (16, [0x1ff, 69, 1, 0x100, 17], 18),
+    (16, [0x1ff, 69, 1, 0x100, 18], 20),
+    (16, [0x1ff, 69, 1, 0xffff_ffff, 18], 20),
+    (16, [0x1ff, 69, 1, 0x103, 18], 20),
+    (16, [0x1ff, 69, 1, 0, 0], 15),
+    (16, [0x103, 69, 1, 0, 0], 18),
+    (16, [0x103, 69, 0, 0, 0], 17),
+    (16, [0x103, 70, 0, 0, 0], 17),
+    (16, [0x102, 72, 0, 0, 0], 17),
+    (16, [0x103, 72, 0, 0, 0], 4),
+    (16, [0x103, 72, 1, 0, 0], 4),
+    (16, [0x103, 72, 0, 0x101, 21], 4),
+    (17, [0, 0x1ff, 22, 0, 0], 18),
+    (17, [0x200, 0x1ff, 22, 0, 0], 18),
+    (17, [0x200, 0x1ff, 20, 0, 0], 20),
+    (17, [0x200, 0x103, 17, 0, 0], 20),
+    (17, [0x100, 0x101, 20, 0, 0], 21),
+    (17, [0x200, 0x100, 20, 0, 0], 21),
+    (17, [0x100, 0x101, 21, 0, 0], 13),
+    (17, [0x101, 0x101, 20, 0, 0], 19),
+    (18, [0x1ff, 22, 0, 0, 0], 18),
+    (18, [0x1ff, 20, 0, 0, 0], 15),
+    (18, [0x100, 17, 0, 0, 0], 17),
+    (18, [0x103, 17, 0, 0, 0], 17),
+    (20, [0x1ff, 22, 0, 0, 0], 18),
+    (20, [0x1ff, 20, 0, 0, 0], 15),
+    (20, [0x100, 17, 0, 0, 0], 17),
+    (20, [0x103, 17, 0, 0, 0], 17),
+    (21, [0, 0, 0, 0, 0], 5),
+];
+
+/// Calls and their refusals.
+fn push_refused(
+    input: &mut Vec<u8>,
+    replies: &mut Vec<u8>,
+    rows: &[Refused],
+) -> Result<(), AllocError> {
+    for (number, arguments, code) in rows {
+        push_call(input, *number, *arguments)?;
+        push_word(replies, 8)?;
+        push_word(replies, *number)?;
+        push_word(replies, *code)?;
+    }
+    Ok(())
+}
+
 #[test]
-fn other_calls_are_refused(rt: HostRuntime) -> Result<(), Fail> {
+fn refusals_come_in_order_and_change_nothing(rt: HostRuntime) -> Result<(), Fail> {
     let alloc = rt.alloc();
-    let words: [u8; 22] = [
-        1, 0, 1, 2, 2, 1, 1, 1, 2, 3, 2, 2, 2, 1, 1, 2, 5, 3, 2, 4, 2, 0,
+    let prepared = calls(alloc, &PREPARED)?;
+    let names = calls(alloc, &[(1, [0; 5])])?;
+    let (_, _, disk) = served(alloc, MemDisk::new(alloc), &prepared)?;
+    let stored = disk.length(Slot::Segment0);
+    let (before, _, disk) = served(alloc, disk, &names)?;
+    assert_eq!(rt; before.len(), 4 + 4 + 4 + 4 + 5 * 8);
+    let mut input = Vec::new(alloc);
+    let mut replies = Vec::new(alloc);
+    push_refused(&mut input, &mut replies, &REFUSED)?;
+    input.extend_from_slice(&names)?;
+    replies.extend_from_slice(&before)?;
+    let (output, end, disk) = served(alloc, disk, &input)?;
+    assert_eq!(rt; end, Ok(()));
+    assert_eq!(rt; output.as_slice(), replies.as_slice());
+    assert_eq!(rt; disk.length(Slot::Segment0), stored);
+    Ok(())
+}
+
+#[test]
+fn what_rights_set_off_outlives_the_server(rt: HostRuntime) -> Result<(), Fail> {
+    let alloc = rt.alloc();
+    // A space that holds a send-once right goes, and the port is told of it.
+    let rows = [
+        (5, [1, 0, 0, 0, 0]),
+        (17, [0x100, 0x100, 20, 0, 0]),
+        (20, [0x100, 21, 0, 0, 0]),
+        (16, [0x100, 70, 1, 0x100, 21]),
+        (7, [0x100, 0, 0, 0, 0]),
     ];
-    for number in 0..22u8 {
-        if number == 2 || number == 5 {
-            continue;
-        }
-        let count = words[number as usize];
-        let mut input = Vec::new(alloc);
-        input.extend_from_slice(&[4 + 4 * count, 0, 0, 0, number, 0, 0, 0])?;
-        for _ in 0..count {
-            // As an option of mach_msg, 1 asks for a send.
-            input.extend_from_slice(&[1, 0, 0, 0])?;
-        }
+    let made = calls(alloc, &rows)?;
+    let (_, end, disk) = served(alloc, MemDisk::new(alloc), &made)?;
+    assert_eq!(rt; end, Ok(()));
+    let status = calls(alloc, &[(13, [0x100, 0, 0, 0, 0])])?;
+    let (output, _, _) = served(alloc, disk, &status)?;
+    let mut replies = Vec::new(alloc);
+    // A message, a make-send count of 1, two send-once rights (of the other space, and
+    // the message's), no sender and no request.
+    for word in [44, 13, 0, 0, 0, 1, 5, 1, 2, 0, 0, 0] {
+        push_word(&mut replies, word)?;
+    }
+    assert_eq!(rt; output.as_slice(), replies.as_slice());
+    Ok(())
+}
+
+// What isn't served yet.
+#[test]
+fn sends_and_receipts_are_refused(rt: HostRuntime) -> Result<(), Fail> {
+    let alloc = rt.alloc();
+    for option in [1, 2] {
+        let input = calls(alloc, &[(19, [option, 0, 0, 0, 0])])?;
         let (output, end, disk) = served(alloc, MemDisk::new(alloc), &input)?;
         assert_eq!(rt; end, Ok(()));
         let mut reply = Vec::new(alloc);
-        let results = if number == 19 { 8 } else { 0 };
-        reply.extend_from_slice(&[8 + results, 0, 0, 0, number, 0, 0, 0, 4, 0, 0, 0])?;
-        if number == 19 {
-            reply.extend_from_slice(&[0; 8])?;
+        for word in [16, 19, 4, 0, 0] {
+            push_word(&mut reply, word)?;
         }
-        assert_eq!(rt; output.as_slice(), reply.as_slice(), "{number}");
+        assert_eq!(rt; output.as_slice(), reply.as_slice(), "{option}");
         assert_eq!(rt; disk.length(Slot::Segment0), 17);
     }
     Ok(())

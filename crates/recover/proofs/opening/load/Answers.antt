@@ -66,21 +66,21 @@ returns-clause-state g c = λ honest.
     let first = (g.D.Disk.view c.args.disk.now).seen in
     let same : four_slots c.deref.result.now c.deref-2.result.now c.deref-3.result.now c.deref-4.result.now ≡ fronts_of first =
     (λ i. four_slots (c.deref.ensures.value i) (c.deref-2.ensures.value i) (c.deref-3.ensures.value i) (c.deref-4.ensures.value i)) ∙ c.in_ok-fronts.ensures.fronts honest in
-    new_by_fronts first _ c.opening.result same c.in_ok-batches.ensures.second (none_of c.in_ok-batches.field-0 c.in-None.is c.in_ok-batches.ensures.new) c.opening.ensures
+    new_by_fronts first _ c.in_ok-kernel-in-None.kernel same c.in_ok-batches.ensures.second (none_of c.in_ok-batches.field-0 c.in-None.is c.in_ok-batches.ensures.new) c.in_ok-kernel-in-None.ensures
 
 pub returns-clause-after : goal.returns-clause-after
 returns-clause-after g c = λ honest.
     let first = (g.D.Disk.view c.args.disk.now).seen in
     let same : four_slots c.deref.result.now c.deref-2.result.now c.deref-3.result.now c.deref-4.result.now ≡ fronts_of first =
     (λ i. four_slots (c.deref.ensures.value i) (c.deref-2.ensures.value i) (c.deref-3.ensures.value i) (c.deref-4.ensures.value i)) ∙ c.in_ok-fronts.ensures.fronts honest in
-    let recovers = new_by_fronts first _ c.opening.result same c.in_ok-batches.ensures.second (none_of c.in_ok-batches.field-0 c.in-None.is c.in_ok-batches.ensures.new) c.opening.ensures in
-    made_stands first (g.D.Disk.view c.make_store.new.disk).seen c.opening.result recovers
-    (c.in_ok-make_store-in-None.ensures.made honest ∙ ap made (c.in_ok-fronts.ensures.seen honest)) c.opening.ensures
+    let recovers = new_by_fronts first _ c.in_ok-kernel-in-None.kernel same c.in_ok-batches.ensures.second (none_of c.in_ok-batches.field-0 c.in-None.is c.in_ok-batches.ensures.new) c.in_ok-kernel-in-None.ensures in
+    made_stands first (g.D.Disk.view c.make_store.new.disk).seen c.in_ok-kernel-in-None.kernel recovers
+    (c.in_ok-make_store-in-None.ensures.made honest ∙ ap made (c.in_ok-fronts.ensures.seen honest)) c.in_ok-kernel-in-None.ensures
 
 pub returns-clause-ready : goal.returns-clause-ready
 returns-clause-ready g c = λ honest.
-    made_ready (g.D.Disk.view c.args.disk.now).seen (g.D.Disk.view c.make_store.new.disk).seen c.opening.result
-    (c.in_ok-make_store-in-None.ensures.made honest ∙ ap made (c.in_ok-fronts.ensures.seen honest)) c.opening.ensures
+    made_ready (g.D.Disk.view c.args.disk.now).seen (g.D.Disk.view c.make_store.new.disk).seen c.in_ok-kernel-in-None.kernel
+    (c.in_ok-make_store-in-None.ensures.made honest ∙ ap made (c.in_ok-fronts.ensures.seen honest)) c.in_ok-kernel-in-None.ensures
 
 pub returns-in-Some-clause-image : goal.returns-in-Some-clause-image
 returns-in-Some-clause-image g c = λ honest.

@@ -4,17 +4,17 @@ use Rattle.ipc_model.specs.State.{State}
 use Rattle.ipc_model.specs.Step.{has_record}
 use Rattle.recover.specs.Kept.{IsKept}
 use Rattle.kernel.specs.ServedLaws.{unrecorded_step}
-use Rattle.server.proofs.Answered.{fit_to_be_kept}
+use Rattle.server.proofs.Answered.{frames_fit, kept_call, shortage_fits}
 use Rattle.server.proofs.Keeping.{mid_append_stands, appended_kept, passes_so}
 use Rattle.server.proofs.alone.call_with_room.Goals as goal
 
 pub append-requires-clause-call : goal.append-requires-clause-call
 append-requires-clause-call g c =
-    (fit_to_be_kept c.args.kernel.now 1 c.args.call c.in-Ok.reply c.apply.new.self (omega arith) c.requires.fits (sym c.has_record.ensures ∙ c.if-not-has_record.false) c.in-Ok.ensures.step).frames.0
+    (frames_fit c.args.kernel.now 1 c.args.call c.in-Ok.reply c.apply.new.self (sym c.has_record.ensures ∙ c.if-not-has_record.false) c.in-Ok.ensures.step c.in-Ok.ensures.fits).0
 
 pub append-requires-clause-reply : goal.append-requires-clause-reply
 append-requires-clause-reply g c =
-    (fit_to_be_kept c.args.kernel.now 1 c.args.call c.in-Ok.reply c.apply.new.self (omega arith) c.requires.fits (sym c.has_record.ensures ∙ c.if-not-has_record.false) c.in-Ok.ensures.step).frames.1
+    (frames_fit c.args.kernel.now 1 c.args.call c.in-Ok.reply c.apply.new.self (sym c.has_record.ensures ∙ c.if-not-has_record.false) c.in-Ok.ensures.step c.in-Ok.ensures.fits).1
 
 pub returns-then-not-has_record-clause-kept : goal.returns-then-not-has_record-clause-kept
 returns-then-not-has_record-clause-kept g c = λ honest kept.
@@ -31,7 +31,7 @@ pub returns-in_err-append-clause-passes : goal.returns-in_err-append-clause-pass
 returns-in_err-append-clause-passes g c = λ honest kept.
     let old = g.D.Disk.view c.args.journal.now.disk in
     let recorded : has_record c.args.call c.in-Ok.reply ≡ true = sym c.has_record.ensures ∙ c.if-not-has_record.false in
-    let fits = fit_to_be_kept c.args.kernel.now 1 c.args.call c.in-Ok.reply c.apply.new.self (omega arith) c.requires.fits recorded c.in-Ok.ensures.step in
+    let fits = c.append.ensures.fits (kept_call c.args.call c.requires.fits) c.in-Ok.ensures.number recorded in
     passes_so old (g.D.Disk.view c.append.new.self.disk) _ _ (c.append.ensures.any_moment honest (λ left may. ap (λ (s : Slots). s.segment0) (kept.at_rest left may)))
     (mid_append_stands old c.args.kernel.now c.apply.new.self c.args.journal.now.records c.args.call c.in-Ok.reply kept c.in-Ok.ensures.step fits recorded c.requires.room)
 
@@ -39,7 +39,7 @@ pub returns-clause-passes : goal.returns-clause-passes
 returns-clause-passes g c = λ honest kept.
     let old = g.D.Disk.view c.args.journal.now.disk in
     let recorded : has_record c.args.call c.in-Ok.reply ≡ true = sym c.has_record.ensures ∙ c.if-not-has_record.false in
-    let fits = fit_to_be_kept c.args.kernel.now 1 c.args.call c.in-Ok.reply c.apply.new.self (omega arith) c.requires.fits recorded c.in-Ok.ensures.step in
+    let fits = c.append.ensures.fits (kept_call c.args.call c.requires.fits) c.in-Ok.ensures.number recorded in
     passes_so old (g.D.Disk.view c.append.new.self.disk) _ _ (c.append.ensures.any_moment honest (λ left may. ap (λ (s : Slots). s.segment0) (kept.at_rest left may)))
     (mid_append_stands old c.args.kernel.now c.apply.new.self c.args.journal.now.records c.args.call c.in-Ok.reply kept c.in-Ok.ensures.step fits recorded c.requires.room)
 
@@ -48,7 +48,10 @@ returns-clause-kept g c = λ honest kept.
     let old = g.D.Disk.view c.args.journal.now.disk in
     let new = g.D.Disk.view c.append.new.self.disk in
     let recorded : has_record c.args.call c.in-Ok.reply ≡ true = sym c.has_record.ensures ∙ c.if-not-has_record.false in
-    let fits = fit_to_be_kept c.args.kernel.now 1 c.args.call c.in-Ok.reply c.apply.new.self (omega arith) c.requires.fits recorded c.in-Ok.ensures.step in
+    let fits = c.append.ensures.fits (kept_call c.args.call c.requires.fits) c.in-Ok.ensures.number recorded in
     subst (λ (n : ℕ). IsKept new c.apply.new.self n) (sym c.in_ok-append.ensures.counted.0)
     (appended_kept old new c.args.kernel.now c.apply.new.self c.args.journal.now.records c.args.call c.in-Ok.reply kept c.in-Ok.ensures.step fits c.requires.room
     (c.in_ok-append.ensures.stored honest) (c.in_ok-append.ensures.synced honest) (c.append.ensures.any_moment honest (λ left may. ap (λ (s : Slots). s.segment0) (kept.at_rest left may))))
+
+pub returns-in_default-clause-frame : goal.returns-in_default-clause-frame
+returns-in_default-clause-frame g c = shortage_fits c.args.call c.shortage.result c.shortage.ensures.answer

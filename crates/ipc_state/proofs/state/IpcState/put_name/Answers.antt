@@ -1,13 +1,10 @@
-use Rattle.std.proofs.Common.{◌≡◌, Result, Ok, Err, OnErr, sym, ◌∙◌, ap}
+use Rattle.std.proofs.Common.{◌≡◌, sym, ◌∙◌, ap}
 use Rattle.std.specs.Ordering.{nat_cmp}
 use Rattle.std.specs.FinMap.{FinMap, insert}
 use Rattle.ipc_model.specs.MapSums.{insert-same}
 use Rattle.ipc_model.specs.State.{Names}
+use Rattle.ipc_state.proofs.Failing.{on_err}
 use Rattle.ipc_state.proofs.state.IpcState.put_name.Goals as goal
-
-on_err : {T E P : Type 0} (r : Result T E) → P → OnErr r P
-on_err (Ok x) p = tt
-on_err (Err e) p = p
 
 pub returns-in_err-insert-clause-err : goal.returns-in_err-insert-clause-err
 returns-in_err-insert-clause-err c =

@@ -1,12 +1,28 @@
-use Rattle.std.proofs.Common.{◌≡◌, true, IfNone, sym, subst}
-use Rattle.ipc_model.specs.declared.call.Call.{Call}
-use Rattle.ipc_model.specs.declared.call.Reply.{Reply}
+use Rattle.std.specs.Prelude.{◌≡◌}
+use Rattle.std.proofs.Common.{sym, subst, ◌∙◌, arith}
 use Rattle.ipc_model.specs.State.{State}
-use Rattle.ipc_model.specs.Step.{has_record}
+use Rattle.kernel.specs.Fitting.{step_within}
 use Rattle.kernel.specs.Served.{ServedStep}
+use Rattle.kernel.specs.ServedLaws.{unrecorded_step}
 use Rattle.kernel.proofs.kernel.Kernel.answer.Goals as goal
 
-pub returns-in-Allocate-clause-none : goal.returns-in-Allocate-clause-none
-returns-in-Allocate-clause-none c =
-    subst (λ (call : Call). IfNone c.answer_to_allocate.result ((reply : Reply) × (new : State) × ServedStep c.args.self.now c.args.space call reply new × (has_record call reply ≡ true)))
-    (sym c.in-Allocate.is) c.answer_to_allocate.ensures.none
+pub returns-then-has_record-clause-none : goal.returns-then-has_record-clause-none
+returns-then-has_record-clause-none c = (
+  c.in_ok-reply.reply,
+  c.step.new.state,
+  subst (λ (s : State). ServedStep s c.args.space c.args.call.now c.in_ok-reply.reply c.step.new.state) (c.in_ok-state.ensures ∙ c.self.view_is) c.in_ok-reply.ensures.step,
+  sym c.has_record.ensures ∙ c.if-has_record.true,
+)
+
+pub returns-clause-answered : goal.returns-clause-answered
+returns-clause-answered c =
+    let step = c.in_ok-reply.ensures.step in
+    let none = sym c.has_record.ensures ∙ c.if-has_record.false in
+    let same = unrecorded_step c.in_ok-state.state c.args.space c.args.call.now c.in_ok-reply.reply c.step.new.state step none in
+    let stays = subst (λ (s : State). ServedStep c.in_ok-state.state c.args.space c.args.call.now c.in_ok-reply.reply s) same step in
+    (subst (λ (s : State). ServedStep s c.args.space c.args.call.now c.in_ok-reply.reply s) (c.in_ok-state.ensures ∙ c.self.view_is) stays, none)
+
+pub returns-clause-fits : goal.returns-clause-fits
+returns-clause-fits c =
+    let step = subst (λ (s : State). ServedStep s c.args.space c.args.call.now c.in_ok-reply.reply c.step.new.state) c.in_ok-state.ensures c.in_ok-reply.ensures.step in
+    omega (arith, (step_within c.self.inside.state c.args.space c.args.call.now c.in_ok-reply.reply c.step.new.state c.self.invariant.0 step).bytes)

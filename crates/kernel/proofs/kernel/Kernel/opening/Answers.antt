@@ -1,7 +1,9 @@
-use Rattle.std.proofs.Common.{◌∙◌, ap}
-use Rattle.std.specs.Ordering.{nat_cmp}
-use Rattle.std.specs.FinMap.{get, get-empty}
+use Rattle.std.proofs.Common.{sym, subst}
+use Rattle.ipc_model.specs.Circular.{Grounded}
+use Rattle.ipc_model.specs.Lawful.{Lawful}
+use Rattle.ipc_model.specs.OpeningLaws.{opening_is_lawful}
+use Rattle.ipc_model.specs.State.{State}
 use Rattle.kernel.proofs.kernel.Kernel.opening.Goals as goal
 
 pub invariant_of-result : goal.invariant_of-result
-invariant_of-result c = λ serial later. ap (λ m. get m serial) c.new-2.ensures ∙ get-empty nat_cmp serial
+invariant_of-result c = subst (λ (s : State). Lawful s × Grounded s) (sym c.in_ok-state.ensures) opening_is_lawful

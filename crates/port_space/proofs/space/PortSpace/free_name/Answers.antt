@@ -1,6 +1,6 @@
 use Rattle.std.proofs.Common.{◌≤◌, subst, arith}
 use Rattle.std.specs.FinMap.{len}
-use Rattle.port_space.proofs.Crowded.{crowded}
+use Rattle.port_space.specs.Crowded.{crowded}
 use Rattle.port_space.proofs.space.PortSpace.free_name.Goals as goal
 
 pub unreachable-requires : goal.unreachable-requires

@@ -4,7 +4,7 @@ use Rattle.ipc_model.specs.State.{State}
 use Rattle.ipc_model.specs.Step.{has_record}
 use Rattle.journal.specs.Journal.{JournalValue}
 use Rattle.server.specs.Keeping.{AloneValue}
-use Rattle.server.proofs.Answered.{answer_fits, if_ok}
+use Rattle.server.proofs.Answered.{if_ok}
 use Rattle.server.proofs.Keeping.{kept_recovers, since_kept, no_time}
 use Rattle.server.proofs.alone.AloneCaller.call.Goals as goal
 
@@ -46,14 +46,6 @@ returns-clause-any_moment g c = λ honest _.
     let made = c.call_with_room-made in
     let kept = c.self.invariant c.if-self.false honest in
     rw (← c.self.view_is) (since_kept old (g.D.Disk.view made.new.journal.disk) c.self.inside.kernel made.new.kernel c.self.inside.journal.records c.args.call kept (made.ensures.passes honest kept))
-
-pub returns-clause-fits : goal.returns-clause-fits
-returns-clause-fits g c =
-    let made = c.call_with_room-made in
-    if_ok made.result (λ answer step. answer_fits c.self.inside.kernel 1 c.args.call answer made.new.kernel step) made.ensures.answers
-
-pub returns-then-records-ge-MAX_RECORDS-clause-fits : goal.returns-then-records-ge-MAX_RECORDS-clause-fits
-returns-then-records-ge-MAX_RECORDS-clause-fits g c = answer_fits c.self.inside.kernel 1 c.args.call c.call_without_room.result c.self.inside.kernel c.call_without_room.ensures.answers
 
 pub returns-clause-answers : goal.returns-clause-answers
 returns-clause-answers g c =

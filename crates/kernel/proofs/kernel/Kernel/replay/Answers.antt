@@ -1,0 +1,6 @@
+use Rattle.kernel.specs.Keeping.{served_keeps}
+use Rattle.kernel.proofs.kernel.Kernel.replay.Goals as goal
+
+pub invariant_of-result : goal.invariant_of-result
+invariant_of-result c =
+    served_keeps c.self.inside.state c.args.record.now.space c.args.record.now.call c.in_ok-reply.reply c.step.new.state c.arguments_in_range.ensures c.self.invariant c.in_ok-reply.ensures.step

@@ -1,0 +1,241 @@
+-- What a call leaves open, and how its reply shows what was chosen.
+use Rattle.std.specs.Prelude.{◌≡◌, ℕ, Bool, true, false, List, Option, None, Some}
+use Rattle.std.proofs.Common.{refl, sym, ap, subst, ◌∙◌}
+use Rattle.std.specs.FinMap as finmap
+use Rattle.codes.specs.declared.kern_return.KernReturn.{KernReturn}
+use Rattle.ipc_model.specs.declared.call.Call.{Call}
+use Rattle.ipc_model.specs.declared.call.Call.TheVariants as call
+use Rattle.ipc_model.specs.declared.call.Reply.{Reply}
+use Rattle.ipc_model.specs.declared.call.Reply.TheVariants as reply
+use Rattle.ipc_model.specs.declared.entry.Entry.{Entry}
+use Rattle.ipc_model.specs.declared.message.RightKind.{RightKind}
+use Rattle.ipc_model.specs.Actions as actions
+use Rattle.ipc_model.specs.Actions.{Action, ActsOn, Done}
+use Rattle.ipc_model.specs.CopyIn.{Taken}
+use Rattle.ipc_model.specs.Effects.{Effect}
+use Rattle.ipc_model.specs.PortCalls.{names_in, tests_of}
+use Rattle.ipc_model.specs.State.{State, Names}
+use Rattle.ipc_model.specs.Step.{ActsIn}
+use Rattle.ipc_model.specs.StepLaws.{Called}
+use Rattle.ipc_model.specs.Tests.{first_failing}
+use Rattle.kernel.specs.declared.shown.Shown.{Shown}
+use Rattle.kernel.specs.PortCallLaws.{as_called}
+use Rattle.kernel.specs.Served.{is_served}
+
+-- what a reply shows
+abbrev pub shown_by : Reply → Shown
+shown_by (reply.Allocate name) = record { name = Some name; space = None }
+shown_by (reply.PreviousTarget name) = record { name = Some name; space = None }
+shown_by (reply.Extracted name kind) = record { name = Some name; space = None }
+shown_by (reply.SpaceCreated space name) = record { name = None; space = Some (space, name) }
+shown_by _ = record { name = None; space = None }
+
+-- Where the call may be answered by a reply that shows this, it is.
+pub record Prefers (old : State) (space : ℕ) (c : Call) (shown : Shown) (answer : Reply) : Type 0 where
+  pub takes : (other : Reply) (new : State) (effects : List Effect) → shown ≡ shown_by other → ActsIn old space (names_in old space) c other new effects → answer ≡ other
+
+-- Calls that leave something open.
+abbrev pub is_open : Call → Bool
+is_open (call.Allocate kind) = true
+is_open (call.RequestNotification name variant sync notify_name disposition) = true
+is_open (call.ExtractRight name disposition) = true
+is_open (call.SpaceCreate name disposition) = true
+is_open c = false
+
+-- Of other calls the state tells the reply.
+
+on_entry : (entry : Option Entry) (action : Entry → Action) (one other : Reply) (new last : State) (effects others : List Effect) → ActsOn entry action one new effects → ActsOn entry action other last others → one ≡ other
+on_entry None action one other new last effects others a b = absurd a
+on_entry (Some entry) action one other new last effects others a b = a.0 ∙ sym b.0
+
+done_alike : (old : State) (space : ℕ) (names : Names) (c : Call) (one other : Reply) (new last : State) (effects others : List Effect) → is_open c ≡ false
+    → Done old space names c one new effects → Done old space names c other last others → one ≡ other
+unfolding Done
+done_alike old space names (call.Attach s) one other new last effects others closed a b = a.0 ∙ sym b.0
+done_alike old space names call.Names one other new last effects others closed a b = a.0 ∙ sym b.0
+done_alike old space names (call.Type name) one other new last effects others closed a b = on_entry _ _ one other new last effects others a b
+done_alike old space names (call.Rename from to) one other new last effects others closed a b = on_entry _ _ one other new last effects others a b
+done_alike old space names (call.AllocateName kind name) one other new last effects others closed a b = a.0 ∙ sym b.0
+done_alike old space names (call.Allocate kind) one other new last effects others closed a b = absurd (cc closed)
+done_alike old space names (call.Destroy name) one other new last effects others closed a b = on_entry _ _ one other new last effects others a b
+done_alike old space names (call.Deallocate name) one other new last effects others closed a b = on_entry _ _ one other new last effects others a b
+done_alike old space names (call.GetRefs name kind) one other new last effects others closed a b = on_entry _ _ one other new last effects others a b
+done_alike old space names (call.ModRefs name kind delta) one other new last effects others closed a b = on_entry _ _ one other new last effects others a b
+done_alike old space names (call.SetQlimit name limit) one other new last effects others closed a b = on_entry _ _ one other new last effects others a b
+done_alike old space names (call.SetMscount name count) one other new last effects others closed a b = on_entry _ _ one other new last effects others a b
+done_alike old space names (call.SetSeqno name seqno) one other new last effects others closed a b = on_entry _ _ one other new last effects others a b
+done_alike old space names (call.GetReceiveStatus name) one other new last effects others closed a b = on_entry _ _ one other new last effects others a b
+done_alike old space names (call.GetSetStatus name) one other new last effects others closed a b = a.0 ∙ sym b.0
+done_alike old space names (call.MoveMember member after) one other new last effects others closed a b = on_entry _ _ one other new last effects others a b
+done_alike old space names (call.RequestNotification name variant sync notify_name disposition) one other new last effects others closed a b = absurd (cc closed)
+done_alike old space names (call.InsertRight name right_name disposition) one other new last effects others closed a b = a.0 ∙ sym b.0
+done_alike old space names (call.ExtractRight name disposition) one other new last effects others closed a b = absurd (cc closed)
+done_alike old space names (call.Send message) one other new last effects others closed a b = absurd a
+done_alike old space names (call.Receive limit large name waited) one other new last effects others closed a b = absurd a
+done_alike old space names (call.SpaceCreate name disposition) one other new last effects others closed a b = absurd (cc closed)
+done_alike old space names call.SpaceDestroy one other new last effects others closed a b = a.0 ∙ sym b.0
+
+called_alike : (refusal : Option KernReturn) (old : State) (space : ℕ) (names : Names) (c : Call) (one other : Reply) (new last : State) (effects others : List Effect) → is_open c ≡ false
+    → Called refusal old space names c one new effects → Called refusal old space names c other last others → one ≡ other
+called_alike (Some code) old space names c one other new last effects others closed a b = a.0 ∙ sym b.0
+called_alike None old space names c one other new last effects others closed a b = done_alike old space names c one other new last effects others closed a b
+
+pub prefers_told : (old : State) (space : ℕ) (c : Call) (shown : Shown) (answer : Reply) (new : State) (effects : List Effect) → is_served c ≡ true → is_open c ≡ false
+    → ActsIn old space (names_in old space) c answer new effects → Prefers old space c shown answer
+prefers_told old space c shown answer new effects served closed acts = record {
+  takes = λ other last others _ may. called_alike (first_failing (tests_of old space (names_in old space) c)) old space (names_in old space) c answer other new last effects others closed
+      (as_called c old space (names_in old space) answer new effects served acts) (as_called c old space (names_in old space) other last others served may);
+}
+
+-- Open calls.
+
+name_of : Shown → Option ℕ
+name_of shown = shown.name
+
+abbrev PrefersDone : Option KernReturn → State → ℕ → Names → Call → Shown → Reply → Type 0
+PrefersDone refusal old space names c shown answer =
+    (other : Reply) (new : State) (effects : List Effect) → shown ≡ shown_by other → Called refusal old space names c other new effects → answer ≡ other
+
+-- a new right
+pub prefers_allocate : (old : State) (space kind : ℕ) (shown : Shown) (answer : Reply) (new : State) (effects : List Effect) → ActsIn old space (names_in old space) (call.Allocate kind) answer new effects
+    → ((name : ℕ) → shown.name ≡ Some name → (last : State) → (others : List Effect) → ActsIn old space (names_in old space) (call.Allocate kind) (reply.Allocate name) last others → answer ≡ reply.Allocate name)
+    → Prefers old space (call.Allocate kind) shown answer
+unfolding Done name_of
+prefers_allocate old space kind shown answer new effects acts wanted = record {
+  takes = λ other last others is may. by_case (first_failing (tests_of old space (names_in old space) (call.Allocate kind))) other last others is acts may wanted;
+}
+  where
+    by_case : (refusal : Option KernReturn) (other : Reply) (last : State) (others : List Effect) → shown ≡ shown_by other
+        → Called refusal old space (names_in old space) (call.Allocate kind) answer new effects → Called refusal old space (names_in old space) (call.Allocate kind) other last others
+        → ((name : ℕ) → shown.name ≡ Some name → (last : State) → (others : List Effect) → Called refusal old space (names_in old space) (call.Allocate kind) (reply.Allocate name) last others → answer ≡ reply.Allocate name)
+        → answer ≡ other
+    by_case (Some code) other last others is a b wanted = a.0 ∙ sym b.0
+    by_case None other last others is a b wanted =
+        let named : shown.name ≡ Some b.0 = ap name_of is ∙ ap (λ (r : Reply). name_of (shown_by r)) b.2 in
+        wanted b.0 named last others (subst (λ (r : Reply). Done old space (names_in old space) (call.Allocate kind) r last others) b.2 b) ∙ sym b.2
+
+-- a former target that comes back
+pub prefers_request : (old : State) (space name variant sync notify_name disposition : ℕ) (shown : Shown) (answer : Reply) (new : State) (effects : List Effect)
+    → ActsIn old space (names_in old space) (call.RequestNotification name variant sync notify_name disposition) answer new effects
+    → ((given : ℕ) → shown.name ≡ Some given → (last : State) → (others : List Effect)
+    → ActsIn old space (names_in old space) (call.RequestNotification name variant sync notify_name disposition) (reply.PreviousTarget given) last others → answer ≡ reply.PreviousTarget given)
+    → Prefers old space (call.RequestNotification name variant sync notify_name disposition) shown answer
+unfolding Done name_of
+prefers_request old space name variant sync notify_name disposition shown answer new effects acts wanted = record {
+  takes = λ other last others is may. by_case (first_failing (tests_of old space (names_in old space) (call.RequestNotification name variant sync notify_name disposition))) other last others is acts may wanted;
+}
+  where
+    by_case : (refusal : Option KernReturn) (other : Reply) (last : State) (others : List Effect) → shown ≡ shown_by other
+        → Called refusal old space (names_in old space) (call.RequestNotification name variant sync notify_name disposition) answer new effects
+        → Called refusal old space (names_in old space) (call.RequestNotification name variant sync notify_name disposition) other last others
+        → ((given : ℕ) → shown.name ≡ Some given → (last : State) → (others : List Effect)
+        → Called refusal old space (names_in old space) (call.RequestNotification name variant sync notify_name disposition) (reply.PreviousTarget given) last others → answer ≡ reply.PreviousTarget given)
+        → answer ≡ other
+    by_case (Some code) other last others is a b wanted = a.0 ∙ sym b.0
+    by_case None other last others is a b wanted =
+        let named : shown.name ≡ Some b.0 = ap name_of is ∙ ap (λ (r : Reply). name_of (shown_by r)) b.1 in
+        wanted b.0 named last others (subst (λ (r : Reply). Done old space (names_in old space) (call.RequestNotification name variant sync notify_name disposition) r last others) b.1 b) ∙ sym b.1
+
+-- a right that comes out under a name
+shown_extracted : (taken : Option Taken) (space : ℕ) (other : Reply) (last : State) (others : List Effect) → actions.Extracted taken space other last others → (name : ℕ) × (kind : RightKind) × (other ≡ reply.Extracted name kind)
+shown_extracted None space other last others acts = absurd acts
+shown_extracted (Some taken) space other last others acts = (acts.0, taken.right.kind, acts.1)
+
+pub prefers_extract : (old : State) (space name disposition : ℕ) (shown : Shown) (answer : Reply) (new : State) (effects : List Effect) → ActsIn old space (names_in old space) (call.ExtractRight name disposition) answer new effects
+    → ((given : ℕ) → shown.name ≡ Some given → (kind : RightKind) → (last : State) → (others : List Effect) → ActsIn old space (names_in old space) (call.ExtractRight name disposition) (reply.Extracted given kind) last others
+    → answer ≡ reply.Extracted given kind)
+    → Prefers old space (call.ExtractRight name disposition) shown answer
+unfolding Done name_of
+prefers_extract old space name disposition shown answer new effects acts wanted = record {
+  takes = λ other last others is may. by_case (first_failing (tests_of old space (names_in old space) (call.ExtractRight name disposition))) other last others is acts may wanted;
+}
+  where
+    by_case : (refusal : Option KernReturn) (other : Reply) (last : State) (others : List Effect) → shown ≡ shown_by other
+        → Called refusal old space (names_in old space) (call.ExtractRight name disposition) answer new effects
+        → Called refusal old space (names_in old space) (call.ExtractRight name disposition) other last others
+        → ((given : ℕ) → shown.name ≡ Some given → (kind : RightKind) → (last : State) → (others : List Effect)
+        → Called refusal old space (names_in old space) (call.ExtractRight name disposition) (reply.Extracted given kind) last others → answer ≡ reply.Extracted given kind)
+        → answer ≡ other
+    by_case (Some code) other last others is a b wanted = a.0 ∙ sym b.0
+    by_case None other last others is a b wanted =
+        let told = shown_extracted (actions.taken_by old space name disposition) space other last others b in
+        let named : shown.name ≡ Some told.0 = ap name_of is ∙ ap (λ (r : Reply). name_of (shown_by r)) told.2 in
+        wanted told.0 named told.1 last others (subst (λ (r : Reply). Done old space (names_in old space) (call.ExtractRight name disposition) r last others) told.2 b) ∙ sym told.2
+
+-- a new space
+space_of : Shown → Option (ℕ × ℕ)
+space_of shown = shown.space
+
+shown_created : (taken : Option Taken) (other : Reply) (last : State) (others : List Effect) → actions.Created taken other last others → (number : ℕ) × (name : ℕ) × (other ≡ reply.SpaceCreated number name)
+shown_created None other last others acts = absurd acts
+shown_created (Some taken) other last others acts = (acts.0, acts.1, acts.3)
+
+pub prefers_create : (old : State) (space name disposition : ℕ) (shown : Shown) (answer : Reply) (new : State) (effects : List Effect) → ActsIn old space (names_in old space) (call.SpaceCreate name disposition) answer new effects
+    → ((number : ℕ) → (child : ℕ) → shown.space ≡ Some (number, child) → (last : State) → (others : List Effect) → ActsIn old space (names_in old space) (call.SpaceCreate name disposition) (reply.SpaceCreated number child) last others
+    → answer ≡ reply.SpaceCreated number child)
+    → Prefers old space (call.SpaceCreate name disposition) shown answer
+unfolding Done space_of
+prefers_create old space name disposition shown answer new effects acts wanted = record {
+  takes = λ other last others is may. by_case (first_failing (tests_of old space (names_in old space) (call.SpaceCreate name disposition))) other last others is acts may wanted;
+}
+  where
+    by_case : (refusal : Option KernReturn) (other : Reply) (last : State) (others : List Effect) → shown ≡ shown_by other
+        → Called refusal old space (names_in old space) (call.SpaceCreate name disposition) answer new effects
+        → Called refusal old space (names_in old space) (call.SpaceCreate name disposition) other last others
+        → ((number : ℕ) → (child : ℕ) → shown.space ≡ Some (number, child) → (last : State) → (others : List Effect)
+        → Called refusal old space (names_in old space) (call.SpaceCreate name disposition) (reply.SpaceCreated number child) last others → answer ≡ reply.SpaceCreated number child)
+        → answer ≡ other
+    by_case (Some code) other last others is a b wanted = a.0 ∙ sym b.0
+    by_case None other last others is a b wanted =
+        let told = shown_created (actions.taken_by old space name disposition) other last others b in
+        let numbered : shown.space ≡ Some (told.0, told.1) = ap space_of is ∙ ap (λ (r : Reply). space_of (shown_by r)) told.2 in
+        wanted told.0 told.1 numbered last others (subst (λ (r : Reply). Done old space (names_in old space) (call.SpaceCreate name disposition) r last others) told.2 b) ∙ sym told.2
+
+-- Which calls only read, which change the state and set nothing off, which give rights up, and which copy one in.
+abbrev pub only_reads : Call → Bool
+only_reads call.Names = true
+only_reads (call.Type name) = true
+only_reads (call.GetRefs name kind) = true
+only_reads (call.GetReceiveStatus name) = true
+only_reads (call.GetSetStatus name) = true
+only_reads c = false
+
+abbrev pub sets_nothing_off : Call → Bool
+sets_nothing_off (call.Rename from to) = true
+sets_nothing_off (call.AllocateName kind name) = true
+sets_nothing_off (call.Allocate kind) = true
+sets_nothing_off (call.SetQlimit name limit) = true
+sets_nothing_off (call.SetMscount name count) = true
+sets_nothing_off (call.SetSeqno name seqno) = true
+sets_nothing_off (call.MoveMember member after) = true
+sets_nothing_off c = false
+
+abbrev pub gives_up : Call → Bool
+gives_up (call.Destroy name) = true
+gives_up (call.Deallocate name) = true
+gives_up (call.ModRefs name kind delta) = true
+gives_up call.SpaceDestroy = true
+gives_up c = false
+
+abbrev pub hands_over : Call → Bool
+hands_over (call.RequestNotification name variant sync notify_name disposition) = true
+hands_over (call.InsertRight name right_name disposition) = true
+hands_over (call.ExtractRight name disposition) = true
+hands_over (call.SpaceCreate name disposition) = true
+hands_over c = false
+
+-- what gives rights up leaves nothing open
+pub giving_told : (c : Call) → gives_up c ≡ true → is_open c ≡ false
+giving_told (call.Allocate kind) is = absurd (cc is)
+giving_told (call.RequestNotification name variant sync notify_name disposition) is = absurd (cc is)
+giving_told (call.ExtractRight name disposition) is = absurd (cc is)
+giving_told (call.SpaceCreate name disposition) is = absurd (cc is)
+giving_told c is = refl
+
+-- nor does what only reads
+pub reading_told : (c : Call) → only_reads c ≡ true → is_open c ≡ false
+reading_told (call.Allocate kind) is = absurd (cc is)
+reading_told (call.RequestNotification name variant sync notify_name disposition) is = absurd (cc is)
+reading_told (call.ExtractRight name disposition) is = absurd (cc is)
+reading_told (call.SpaceCreate name disposition) is = absurd (cc is)
+reading_told c is = refl

@@ -1,0 +1,55 @@
+-- Calls that are tried on a copy of the state: what was refused, and what was done.
+use Rattle.std.specs.Prelude.{◌≡◌, ℕ, Bool, true, false, List, [], Option, None, Some, MatchBool}
+use Rattle.std.proofs.Common.{refl, sym, ap, subst, ◌∙◌}
+use Rattle.codes.specs.declared.kern_return.KernReturn.{KernReturn}
+use Rattle.ipc_model.specs.declared.call.Call.{Call}
+use Rattle.ipc_model.specs.declared.call.Call.TheVariants as call
+use Rattle.ipc_model.specs.declared.call.Reply.{Reply}
+use Rattle.ipc_model.specs.declared.call.Reply.TheVariants as reply
+use Rattle.ipc_model.specs.Effects.{Effect}
+use Rattle.ipc_model.specs.PortCalls.{names_in, tests_of}
+use Rattle.ipc_model.specs.State.{State, Names}
+use Rattle.ipc_model.specs.Step.{ActsIn, succeeded, number_of_call}
+use Rattle.ipc_model.specs.StepLaws.{Called}
+use Rattle.ipc_model.specs.Tests.{first_failing}
+use Rattle.kernel.specs.PortCallLaws.{as_called, answers_done}
+use Rattle.kernel.specs.Served.{is_served}
+use Rattle.port_calls.specs.Trying.{Tries, is_refusal}
+
+abbrev Tried : Bool → State → ℕ → Call → Reply → State → List Effect → Type 0
+Tried refused old space c answer new effects = MatchBool refused (ActsIn old space (names_in old space) c answer old []) (ActsIn old space (names_in old space) c answer new effects)
+
+-- what was tried acted, on the state from before or on the copy
+pub acted : (old : State) (space : ℕ) (c : Call) (answer : Reply) (new : State) (effects : List Effect) → Tries old space c answer new effects
+    → (last : State) × (others : List Effect) × ActsIn old space (names_in old space) c answer last others
+acted old space c answer new effects tries = by_case (is_refusal answer) tries
+  where
+    by_case : (refused : Bool) → Tried refused old space c answer new effects → (last : State) × (others : List Effect) × ActsIn old space (names_in old space) c answer last others
+    by_case true tried = (old, [], tried)
+    by_case false tried = (new, effects, tried)
+
+not_refused : (answer : Reply) → ((c : Call) → succeeded c answer ≡ true) → is_refusal answer ≡ false
+not_refused (reply.Refused number code) success = absurd (cc (success call.Names))
+not_refused answer success = refl
+
+-- A call that acts so changes nothing where it is refused.
+pub tries_acting : (old : State) (space : ℕ) (c : Call) (answer : Reply) (new : State) (effects : List Effect) → is_served c ≡ true → ActsIn old space (names_in old space) c answer new effects → Tries old space c answer new effects
+tries_acting old space c answer new effects served acts =
+    by_refusal (first_failing (tests_of old space (names_in old space) c)) (as_called c old space (names_in old space) answer new effects served acts)
+  where
+    both : (refused : Bool) → ActsIn old space (names_in old space) c answer old [] → ActsIn old space (names_in old space) c answer new effects → Tried refused old space c answer new effects
+    both true was is = was
+    both false was is = is
+
+    by_refusal : (refusal : Option KernReturn) → Called refusal old space (names_in old space) c answer new effects → Tries old space c answer new effects
+    by_refusal None called =
+        subst (λ (refused : Bool). Tried refused old space c answer new effects) (sym (not_refused answer (answers_done old space (names_in old space) c answer new effects called).success)) acts
+    by_refusal (Some code) called =
+        both (is_refusal answer) (subst (λ (s : State). ActsIn old space (names_in old space) c answer s []) called.1 (subst (λ (l : List Effect). ActsIn old space (names_in old space) c answer new l) called.2 acts)) acts
+
+-- what was refused left the state as it was
+pub refused_acting : (old : State) (space : ℕ) (c : Call) (answer : Reply) (new : State) (effects : List Effect) → is_refusal answer ≡ true → Tries old space c answer new effects → ActsIn old space (names_in old space) c answer old []
+refused_acting old space c answer new effects is tries = subst (λ (refused : Bool). Tried refused old space c answer new effects) is tries
+
+pub done_acting : (old : State) (space : ℕ) (c : Call) (answer : Reply) (new : State) (effects : List Effect) → is_refusal answer ≡ false → Tries old space c answer new effects → ActsIn old space (names_in old space) c answer new effects
+done_acting old space c answer new effects is tries = subst (λ (refused : Bool). Tried refused old space c answer new effects) is tries

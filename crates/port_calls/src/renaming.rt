@@ -1,0 +1,79 @@
+ghost use Rattle.std.specs.Prelude.{◌≡◌, [], Some, None, IfOk, OnOk, OnErr, IsSome};
+ghost use Rattle.std.specs.FinMap as map;
+ghost use Rattle.ipc_model.specs.Actions.{renamed};
+ghost use Rattle.ipc_model.specs.declared.call.Call.TheVariants as call;
+ghost use Rattle.ipc_model.specs.PortCalls.{names_in};
+ghost use Rattle.ipc_model.specs.State.{entry_at};
+ghost use Rattle.ipc_model.specs.Step.{ActsIn};
+
+use crate::ask::{is_null_or_dead, named};
+use codes::KernReturn;
+use ipc_model::{Entry, Reply};
+use ipc_state::IpcState;
+use port_set::{member_ports, move_ports};
+use std::alloc::{AllocError, Global};
+
+/// `mach_port_rename`: what a name stands for comes to stand under another one. The space is there. Where memory is
+/// wanted nothing changed.
+#[tactic(auto, unfolding(ipc_model::specs::PortCalls::tests_of, ipc_model::specs::Actions::Done))]
+pub fn rename(
+    alloc: Global,
+    state: &mut IpcState,
+    space: u32,
+    from: u32,
+    to: u32,
+) -> Result<Reply, AllocError>
+    requires there { IsSome (map.get state.old.spaces space) }
+    ensures acts { IfOk result (λ reply. ActsIn state.old space (names_in state.old space) (call.Rename from to) reply state.new []) }
+    ensures err { OnErr result (state.new ≡ state.old) }
+{
+    let number = 3;
+    let Some(entry) = named(state, space, from) else {
+        return Ok(Reply::Refused {
+            number,
+            code: KernReturn::InvalidName,
+        });
+    };
+    if is_null_or_dead(to) {
+        return Ok(Reply::Refused {
+            number,
+            code: KernReturn::InvalidValue,
+        });
+    }
+    if state.entry(space, to).is_some() {
+        return Ok(Reply::Refused {
+            number,
+            code: KernReturn::NameExists,
+        });
+    }
+    move_entry(alloc, state, space, from, to, entry)?;
+    Ok(Reply::Done { number })
+}
+
+/// Has what stands under one name stand under another; a set takes its members along. Where memory is wanted
+/// nothing changed.
+#[tactic(auto, using(crate::proofs::Moved::names_renamed, crate::proofs::Moved::set_renamed))]
+fn move_entry(
+    alloc: Global,
+    state: &mut IpcState,
+    space: u32,
+    from: u32,
+    to: u32,
+    entry: Entry,
+) -> Result<(), AllocError>
+    requires there { IsSome (map.get state.old.spaces space) }
+    requires named { map.get (names_in state.old space) from ≡ Some entry }
+    requires unused { entry_at state.old space to ≡ None }
+    ensures ok { OnOk result (state.new ≡ renamed state.old space (names_in state.old space) from to entry) }
+    ensures err { OnErr result (state.new ≡ state.old) }
+{
+    let Entry::Set = entry else {
+        state.rename(space, from, to)?;
+        return Ok(());
+    };
+    // The members are listed first, so that nothing has changed where memory is wanted.
+    let members = member_ports(alloc, state, space, from)?;
+    state.rename(space, from, to)?;
+    move_ports(state, members.as_slice(), Some(to));
+    Ok(())
+}

@@ -1,0 +1,393 @@
+ghost use Rattle.std.specs.Prelude.{◌≡◌, ◌<◌, ◌++◌, ℕ, List, [], Some, None, IfOk, IfErr, OnOk, IsSome, is_none, option_map};
+ghost use Rattle.std.specs.FinMap as map;
+ghost use Rattle.ipc_model.specs.Actions.{GivesBack, dead_name_request_set, lacks_senders, make_send_count_of, port_request_set, request_set_under, target_for};
+ghost use Rattle.ipc_model.specs.declared.call.Call.TheVariants as call;
+ghost use Rattle.ipc_model.specs.Effects as machine;
+ghost use Rattle.ipc_model.specs.PortCalls.{dead_references, is_variant, names_in, notify_disposition, target_under, tests_of, tests_of_request, tests_of_variant};
+ghost use Rattle.ipc_model.specs.State.{State, entry_at};
+ghost use Rattle.ipc_model.specs.Step.{ActsIn};
+ghost use Rattle.ipc_model.specs.Tests.{first_failing};
+ghost use Rattle.port_calls.specs.Trying.{Tries};
+ghost use Rattle.port_space.specs.References.{AreFewReferences};
+ghost use Rattle.rights.specs.Meaning.{disposition_meant};
+
+use crate::allocation::chosen_name;
+use crate::ask::named;
+use codes::{KernReturn, MACH_PORT_NULL, MAX_DEAD_REFERENCES, MAX_NAMES};
+use effects::{Effect, Effects, Notice};
+use ipc_model::{Entry, PortInMessage, Reply};
+use ipc_state::IpcState;
+use notify::{replace_no_senders, replace_port_destroyed, with_request};
+use port_set::received_port;
+use rights::{Disposition, request_of, take_right};
+use std::alloc::AllocError;
+
+/// `MACH_NOTIFY_PORT_DESTROYED`.
+const PORT_DESTROYED: u32 = 69;
+/// `MACH_NOTIFY_NO_SENDERS`.
+const NO_SENDERS: u32 = 70;
+/// `MACH_NOTIFY_DEAD_NAME`.
+const DEAD_NAME: u32 = 72;
+
+/// `mach_port_request_notification`: a request for a notice to a port is made, or cancelled where the notice's name is
+/// `MACH_PORT_NULL`. The former target comes back as a send-once right, under the wanted name where that is unused, and
+/// else under the least unused one. The call is tried on a copy of the state, which is to be given up where it is
+/// refused, and on Err.
+#[tactic(auto, unfolding(ipc_model::specs::Actions::Done))]
+pub fn request_notification(
+    state: &mut IpcState,
+    space: u32,
+    name: u32,
+    variant: u32,
+    sync: u32,
+    notify_name: u32,
+    disposition: u32,
+    wanted: Option<u32>,
+    effects: &mut Effects,
+) -> Result<Reply, AllocError>
+    requires none { effects.old ≡ [] }
+    ensures tries { IfOk result (λ reply. Tries state.old space (call.RequestNotification name variant sync notify_name disposition) reply state.new effects.new) }
+    ensures wanted { IfOk result (λ reply. (shown : ℕ) → wanted ≡ Some shown → (new : State) → (effects : List machine.Effect)
+        → ActsIn state.old space (names_in state.old space) (call.RequestNotification name variant sync notify_name disposition) (Reply.PreviousTarget shown) new effects → reply ≡ Reply.PreviousTarget shown) }
+{
+    match take_target(
+        state,
+        space,
+        name,
+        variant,
+        sync,
+        notify_name,
+        disposition,
+        effects,
+    )? {
+        Err(code) => Ok(Reply::Refused { number: 16, code }),
+        Ok(target) => {
+            let name = replace_target(state, space, name, variant, sync, target, wanted, effects)?;
+            Ok(Reply::PreviousTarget { name })
+        }
+    }
+}
+
+/// The target of a request, copied in, none where the request is to be cancelled; or the code that the call is refused
+/// with.
+#[tactic(auto, unfolding(ipc_model::specs::PortCalls::tests_of))]
+fn take_target(
+    state: &mut IpcState,
+    space: u32,
+    name: u32,
+    variant: u32,
+    sync: u32,
+    notify_name: u32,
+    disposition: u32,
+    effects: &mut Effects,
+) -> Result<Result<Option<u64>, KernReturn>, AllocError>
+    requires none { effects.old ≡ [] }
+    ensures refused { IfOk result (λ outcome. IfErr outcome (λ code. first_failing (tests_of state.old space (names_in state.old space) (call.RequestNotification name variant sync notify_name disposition)) ≡ Some code)) }
+    ensures passed { IfOk result (λ outcome. IfOk outcome (λ target. first_failing (tests_of state.old space (names_in state.old space) (call.RequestNotification name variant sync notify_name disposition)) ≡ None)) }
+    ensures taken { IfOk result (λ outcome. IfOk outcome (λ target. target_for state.old space notify_name disposition ≡ record { target = target; state = state.new; notices = effects.new })) }
+    ensures allowed { IfOk result (λ outcome. IfOk outcome (λ target. first_failing (tests_of_request state.new space name variant sync (is_none target)) ≡ None)) }
+{
+    if !is_variant(variant) {
+        return Ok(Err(KernReturn::InvalidValue));
+    }
+    if notify_name == MACH_PORT_NULL {
+        if let Some(code) = refusal_of_request(state, space, name, variant, sync, true) {
+            return Ok(Err(code));
+        }
+        return Ok(Ok(None));
+    }
+    let Some(disposition) = notify_disposition(disposition) else {
+        return Ok(Err(KernReturn::InvalidValue));
+    };
+    let Some(right) = take_right(state, space, notify_name, disposition, effects)? else {
+        return Ok(Err(KernReturn::InvalidCapability));
+    };
+    let PortInMessage::Live(port) = right.port else {
+        return Ok(Err(KernReturn::InvalidCapability));
+    };
+    if let Some(code) = refusal_of_request(state, space, name, variant, sync, false) {
+        return Ok(Err(code));
+    }
+    Ok(Ok(Some(port)))
+}
+
+/// Whether a notice of this number can be asked for.
+fn is_variant(variant: u32) -> bool
+    ensures { result ≡ is_variant variant }
+{
+    variant == PORT_DESTROYED || variant == NO_SENDERS || variant == DEAD_NAME
+}
+
+/// The disposition of a notice's right: a send-once right is moved or made.
+fn notify_disposition(disposition: u32) -> Option<Disposition>
+    ensures { option_map disposition_meant result ≡ notify_disposition disposition }
+{
+    match disposition {
+        18 => Some(Disposition::MoveSendOnce),
+        21 => Some(Disposition::MakeSendOnce),
+        _ => None,
+    }
+}
+
+/// The code that a request under a name is refused with, if it is refused.
+fn refusal_of_request(
+    state: &IpcState,
+    space: u32,
+    name: u32,
+    variant: u32,
+    sync: u32,
+    cancels: bool,
+) -> Option<KernReturn>
+    ensures { result ≡ first_failing (tests_of_request state.now space name variant sync cancels) }
+{
+    let Some(entry) = named(state, space, name) else {
+        return Some(KernReturn::InvalidName);
+    };
+    if let Some(code) = refusal_of_variant(state, space, name, entry, variant, sync, cancels) {
+        return Some(code);
+    }
+    if target_under(state, space, name, variant).is_none() {
+        return None;
+    }
+    if state.names(space) >= MAX_NAMES {
+        return Some(KernReturn::NoSpace);
+    }
+    None
+}
+
+/// The code that a request for this notice is refused with by what the name stands for, if it is refused.
+fn refusal_of_variant(
+    state: &IpcState,
+    space: u32,
+    name: u32,
+    entry: Entry,
+    variant: u32,
+    sync: u32,
+    cancels: bool,
+) -> Option<KernReturn>
+    requires named { map.get (names_in state.now space) name ≡ Some entry }
+    ensures { result ≡ first_failing (tests_of_variant (names_in state.now space) name variant sync cancels) }
+{
+    if variant == PORT_DESTROYED {
+        if sync != 0 {
+            return Some(KernReturn::InvalidValue);
+        }
+        if received_port(entry).is_none() {
+            return Some(KernReturn::InvalidRight);
+        }
+        return None;
+    }
+    if variant == NO_SENDERS {
+        if received_port(entry).is_none() {
+            return Some(KernReturn::InvalidRight);
+        }
+        return None;
+    }
+    match entry {
+        Entry::Port(_) | Entry::SendOnce { .. } => None,
+        Entry::Set => Some(KernReturn::InvalidRight),
+        Entry::Dead { references } => {
+            if sync == 0 || cancels {
+                return Some(KernReturn::InvalidArgument);
+            }
+            if references >= MAX_DEAD_REFERENCES {
+                return Some(KernReturn::UrefsOverflow);
+            }
+            None
+        }
+    }
+}
+
+/// The target of the request for this notice that stands under a name.
+fn target_under(state: &IpcState, space: u32, name: u32, variant: u32) -> Option<u64>
+    ensures { result ≡ target_under state.now (names_in state.now space) variant name }
+{
+    let Some(entry) = state.entry(space, name) else {
+        return None;
+    };
+    if variant == DEAD_NAME {
+        return request_of(entry);
+    }
+    let Some(port) = received_port(entry) else {
+        return None;
+    };
+    let Some(numbers) = state.numbers(port) else {
+        return None;
+    };
+    if variant == PORT_DESTROYED {
+        return numbers.port_destroyed_target;
+    }
+    numbers.no_senders_target
+}
+
+/// The request under a name gets this target, and the former one comes back; it gives the name of the former one.
+fn replace_target(
+    state: &mut IpcState,
+    space: u32,
+    name: u32,
+    variant: u32,
+    sync: u32,
+    target: Option<u64>,
+    wanted: Option<u32>,
+    effects: &mut Effects,
+) -> Result<u32, AllocError>
+    requires allowed { first_failing (tests_of_request state.old space name variant sync (is_none target)) ≡ None }
+    ensures given { IfOk result (λ given. GivesBack (request_set_under state.old space name variant sync target).0 space (target_under state.old (names_in state.old space) variant name) given state.new) }
+    ensures effects { OnOk result (effects.new ≡ effects.old ++ (request_set_under state.old space name variant sync target).1) }
+    ensures wanted { IfOk result (λ given. (shown : ℕ) → wanted ≡ Some shown → (new : State)
+        → GivesBack (request_set_under state.old space name variant sync target).0 space (target_under state.old (names_in state.old space) variant name) shown new → given ≡ shown) }
+{
+    let former = target_under(state, space, name, variant);
+    set_request(state, space, name, variant, sync, target, effects)?;
+    let given = give_back(state, space, former, wanted)?;
+    Ok(given)
+}
+
+/// The request under a name gets this target, or is answered at once and not kept.
+fn set_request(
+    state: &mut IpcState,
+    space: u32,
+    name: u32,
+    variant: u32,
+    sync: u32,
+    target: Option<u64>,
+    effects: &mut Effects,
+) -> Result<(), AllocError>
+    requires allowed { first_failing (tests_of_request state.old space name variant sync (is_none target)) ≡ None }
+    ensures state { OnOk result (state.new ≡ (request_set_under state.old space name variant sync target).0) }
+    ensures effects { OnOk result (effects.new ≡ effects.old ++ (request_set_under state.old space name variant sync target).1) }
+{
+    let Some(entry) = state.entry(space, name) else {
+        return Ok(());
+    };
+    if variant == DEAD_NAME {
+        set_dead_name_request(state, space, name, target, entry, effects)?;
+        return Ok(());
+    }
+    let Some(port) = received_port(entry) else {
+        return Ok(());
+    };
+    set_port_request(state, variant, sync, port, target, effects)?;
+    Ok(())
+}
+
+/// A dead-name request is kept with the name; of a dead name the notice goes out at once, and the name has a reference
+/// more.
+fn set_dead_name_request(
+    state: &mut IpcState,
+    space: u32,
+    name: u32,
+    target: Option<u64>,
+    entry: Entry,
+    effects: &mut Effects,
+) -> Result<(), AllocError>
+    requires named { entry_at state.old space name ≡ Some entry }
+    requires few { AreFewReferences entry }
+    requires one_more { dead_references entry < MAX_DEAD_REFERENCES }
+    ensures state { OnOk result (state.new ≡ (dead_name_request_set state.old space name target entry).0) }
+    ensures effects { OnOk result (effects.new ≡ effects.old ++ (dead_name_request_set state.old space name target entry).1) }
+{
+    match entry {
+        Entry::Port(_) | Entry::SendOnce { .. } => {
+            state.set_entry(space, name, with_request(entry, target));
+            Ok(())
+        }
+        Entry::Set => Ok(()),
+        Entry::Dead { references } => {
+            if target.is_none() {
+                return Ok(());
+            }
+            effects.dead_name(name, target)?;
+            state.set_entry(
+                space,
+                name,
+                Entry::Dead {
+                    references: references + 1,
+                },
+            );
+            Ok(())
+        }
+    }
+}
+
+/// A request on a port is kept; where its notice is due it goes out at once, and the request isn't kept.
+fn set_port_request(
+    state: &mut IpcState,
+    variant: u32,
+    sync: u32,
+    port: u64,
+    target: Option<u64>,
+    effects: &mut Effects,
+) -> Result<(), AllocError>
+    ensures state { OnOk result (state.new ≡ (port_request_set state.old variant sync port target).0) }
+    ensures effects { OnOk result (effects.new ≡ effects.old ++ (port_request_set state.old variant sync port target).1) }
+{
+    if variant == PORT_DESTROYED {
+        replace_port_destroyed(state, port, target);
+        return Ok(());
+    }
+    let Some(asked) = target else {
+        replace_no_senders(state, port, None);
+        return Ok(());
+    };
+    if !lacks_senders(state, sync, port) {
+        replace_no_senders(state, port, target);
+        return Ok(());
+    }
+    let count = make_send_count(state, port);
+    effects.push(Effect::Notify {
+        target: asked,
+        notice: Notice::NoSenders { count },
+    })?;
+    replace_no_senders(state, port, None);
+    Ok(())
+}
+
+/// Whether a port has no send right, and as many were made as the task knows of, or more.
+fn lacks_senders(state: &IpcState, sync: u32, port: u64) -> bool
+    ensures { result ≡ lacks_senders state.now sync port }
+{
+    let Some(numbers) = state.numbers(port) else {
+        return false;
+    };
+    if state.has_senders(port) {
+        return false;
+    }
+    sync <= numbers.make_send_count
+}
+
+fn make_send_count(state: &IpcState, port: u64) -> u32
+    ensures { result ≡ make_send_count_of state.now port }
+{
+    match state.numbers(port) {
+        Some(numbers) => numbers.make_send_count,
+        None => 0,
+    }
+}
+
+/// The former target of a request comes back as a send-once right: under the wanted name where that is unused, and else
+/// under the least unused one. It gives the name, `MACH_PORT_NULL` where there was no target.
+fn give_back(
+    state: &mut IpcState,
+    space: u32,
+    former: Option<u64>,
+    wanted: Option<u32>,
+) -> Result<u32, AllocError>
+    requires room { IsSome former → map.len (names_in state.old space) < MAX_NAMES }
+    ensures given { IfOk result (λ given. GivesBack state.old space former given state.new) }
+    ensures wanted { IfOk result (λ given. (shown : ℕ) → wanted ≡ Some shown → (new : State) → GivesBack state.old space former shown new → given ≡ shown) }
+{
+    let Some(port) = former else {
+        return Ok(MACH_PORT_NULL);
+    };
+    let name = chosen_name(state, space, wanted);
+    state.put_name(
+        space,
+        name,
+        Entry::SendOnce {
+            port,
+            dead_name_target: None,
+        },
+    )?;
+    Ok(name)
+}

@@ -1,0 +1,207 @@
+ghost use Rattle.std.specs.Prelude.{◌≡◌, ◌<◌, ℕ, ◌++◌, List, [], flat_map, Some, None, IfOk, IfErr, OnOk, OnErr};
+ghost use Rattle.std.specs.FinMap as map;
+ghost use Rattle.ipc_model.specs.Actions.{IsUnusedSpace, effects_of_name, received_serials, taken_by, with_ports};
+ghost use Rattle.ipc_model.specs.CopyOut.{MayArrive, names_after};
+ghost use Rattle.ipc_model.specs.declared.call.Call.TheVariants as call;
+ghost use Rattle.ipc_model.specs.Effects.{Effect};
+ghost use Rattle.ipc_model.specs.PortCalls.{names_in, tests_of};
+ghost use Rattle.ipc_model.specs.State.{State, with_names};
+ghost use Rattle.ipc_model.specs.Step.{ActsIn};
+ghost use Rattle.ipc_model.specs.Tests.{first_failing};
+ghost use Rattle.port_calls.specs.Trying.{Tries};
+ghost use Rattle.rights.specs.Taking.{Takes};
+
+use crate::ask::named;
+use crate::references::release_name;
+use codes::{KernReturn, MAX_SPACES};
+use effects::Effects;
+use ipc_model::{CarriedRight, PortInMessage, Reply};
+use ipc_state::IpcState;
+use port_set::{move_ports, received_ports};
+use port_space::PortSpace;
+use rights::{Disposition, arrival_name, may_arrive, put_right, take_right};
+use std::alloc::{AllocError, Global};
+
+/// The number of the space that is always there.
+const FIRST_SPACE: u32 = 1;
+
+/// Attaches a task to another space, which has to be there.
+#[tactic(auto, unfolding(ipc_model::specs::PortCalls::tests_of, ipc_model::specs::Actions::Done))]
+pub fn attach(state: &IpcState, space: u32, other: u32) -> Reply
+    ensures { ActsIn state.now space (names_in state.now space) (call.Attach other) result state.now [] }
+{
+    let number = 0;
+    if !state.has_space(other) {
+        return Reply::Refused {
+            number,
+            code: KernReturn::InvalidTask,
+        };
+    }
+    Reply::Done { number }
+}
+
+/// Makes a space whose one name holds a right that is copied in from a name of the caller's. Its number and its name
+/// are the wanted ones, each where it may be used, and else the least that are unused. The call is tried on a copy of
+/// the state, which is to be given up where the call is refused, and on Err.
+#[tactic(auto, unfolding(ipc_model::specs::Actions::Done))]
+pub fn space_create(
+    alloc: Global,
+    state: &mut IpcState,
+    space: u32,
+    name: u32,
+    disposition: u32,
+    wanted: Option<(u32, u32)>,
+    effects: &mut Effects,
+) -> Result<Reply, AllocError>
+    requires none { effects.old ≡ [] }
+    ensures tries { IfOk result (λ reply. Tries state.old space (call.SpaceCreate name disposition) reply state.new effects.new) }
+    ensures wanted { IfOk result (λ reply. (number : ℕ) → (child : ℕ) → wanted ≡ Some (number, child) → (new : State) → (effects : List Effect)
+        → ActsIn state.old space (names_in state.old space) (call.SpaceCreate name disposition) (Reply.SpaceCreated number child) new effects → reply ≡ Reply.SpaceCreated number child) }
+{
+    match take_for_space(state, space, name, disposition, effects)? {
+        Err(code) => Ok(Reply::Refused { number: 20, code }),
+        Ok(right) => {
+            let (space, name) = add_child(alloc, state, right, wanted)?;
+            Ok(Reply::SpaceCreated { space, name })
+        }
+    }
+}
+
+/// The caller's space goes, with all its names and its sets; space 1 doesn't. Where memory is wanted the state is as
+/// before, and the effects are to be given up.
+#[tactic(auto, unfolding(ipc_model::specs::PortCalls::tests_of, ipc_model::specs::Actions::Done))]
+pub fn space_destroy(
+    alloc: Global,
+    state: &mut IpcState,
+    space: u32,
+    effects: &mut Effects,
+) -> Result<Reply, AllocError>
+    requires none { effects.old ≡ [] }
+    ensures acts { IfOk result (λ reply. ActsIn state.old space (names_in state.old space) call.SpaceDestroy reply state.new effects.new) }
+    ensures err { OnErr result (state.new ≡ state.old) }
+{
+    let number = 21;
+    if space == FIRST_SPACE {
+        return Ok(Reply::Refused {
+            number,
+            code: KernReturn::Failure,
+        });
+    }
+    release_names(state, space, effects)?;
+    leave_sets(alloc, state, space)?;
+    state.remove_space(space);
+    Ok(Reply::Done { number })
+}
+
+/// The ports whose receive rights the names of a space hold leave their sets. Where memory is wanted nothing changed.
+fn leave_sets(alloc: Global, state: &mut IpcState, space: u32) -> Result<(), AllocError>
+    ensures left { OnOk result (state.new ≡ with_ports state.old (received_serials (names_in state.old space)) (λ port. record port { set = None })) }
+    ensures spaces { OnOk result (state.new.spaces ≡ state.old.spaces) }
+    ensures err { OnErr result (state.new ≡ state.old) }
+{
+    let ports = received_ports(alloc, state, space)?;
+    move_ports(state, ports.as_slice(), None);
+    Ok(())
+}
+
+/// Adds the releases of all that the names of a space stand for, and their port-deleted notices, rising by name.
+fn release_names(state: &IpcState, space: u32, effects: &mut Effects) -> Result<(), AllocError>
+    ensures { OnOk result (effects.new ≡ effects.old ++ flat_map (λ e. effects_of_name e.0 e.1) (map.entries (names_in state.now space))) }
+{
+    match state.space(space) {
+        Some(names) => release_each(names, effects),
+        None => Ok(()),
+    }
+}
+
+fn release_each(names: &PortSpace, effects: &mut Effects) -> Result<(), AllocError>
+    ensures { OnOk result (effects.new ≡ effects.old ++ flat_map (λ e. effects_of_name e.0 e.1) (map.entries names.now)) }
+{
+    for (name, entry) in names.iter() {
+        release_name(effects, *name as u32, *entry)?;
+    }
+    Ok(())
+}
+
+/// The right that the one name of a new space is to hold, copied in, or the code that the call is refused with.
+#[tactic(auto, unfolding(ipc_model::specs::PortCalls::tests_of))]
+fn take_for_space(
+    state: &mut IpcState,
+    space: u32,
+    name: u32,
+    disposition: u32,
+    effects: &mut Effects,
+) -> Result<Result<CarriedRight, KernReturn>, AllocError>
+    requires none { effects.old ≡ [] }
+    ensures refused { IfOk result (λ outcome. IfErr outcome (λ code. first_failing (tests_of state.old space (names_in state.old space) (call.SpaceCreate name disposition)) ≡ Some code)) }
+    ensures passed { IfOk result (λ outcome. IfOk outcome (λ right. first_failing (tests_of state.old space (names_in state.old space) (call.SpaceCreate name disposition)) ≡ None)) }
+    ensures taken { IfOk result (λ outcome. IfOk outcome (λ right. Takes (taken_by state.old space name disposition) state.old [] (Some right) state.new effects.new)) }
+    ensures room { IfOk result (λ outcome. IfOk outcome (λ right. map.len state.new.spaces < MAX_SPACES)) }
+{
+    let Some(disposition) = Disposition::of_number(disposition) else {
+        return Ok(Err(KernReturn::InvalidValue));
+    };
+    if named(state, space, name).is_none() {
+        return Ok(Err(KernReturn::InvalidName));
+    }
+    let is_full = state.space_count() >= MAX_SPACES;
+    let Some(right) = take_right(state, space, name, disposition, effects)? else {
+        return Ok(Err(KernReturn::InvalidRight));
+    };
+    let PortInMessage::Live(_) = right.port else {
+        return Ok(Err(KernReturn::InvalidRight));
+    };
+    if is_full {
+        return Ok(Err(KernReturn::ResourceShortage));
+    }
+    Ok(Ok(right))
+}
+
+/// Makes a space whose one name holds a right, and gives its number and the name: the wanted ones where they may be
+/// used, and else the least that are unused.
+fn add_child(
+    alloc: Global,
+    state: &mut IpcState,
+    right: CarriedRight,
+    wanted: Option<(u32, u32)>,
+) -> Result<(u32, u32), AllocError>
+    requires room { map.len state.old.spaces < MAX_SPACES }
+    ensures number { IfOk result (λ child. IsUnusedSpace state.old child.0) }
+    ensures name { IfOk result (λ child. MayArrive map.empty right.kind right.port child.1) }
+    ensures state { IfOk result (λ child. state.new ≡ with_names state.old child.0 (names_after map.empty right.kind right.port child.1)) }
+    ensures wanted { IfOk result (λ child. (number : ℕ) → (name : ℕ) → wanted ≡ Some (number, name) → IsUnusedSpace state.old number → MayArrive map.empty right.kind right.port name → child ≡ (number, name)) }
+{
+    let (wanted_number, wanted_name) = wanted.unzip();
+    let number = space_number(state, wanted_number);
+    state.add_space(number, PortSpace::new(alloc))?;
+    let name = child_name(state, number, right, wanted_name);
+    put_right(state, number, right, name)?;
+    Ok((number, name))
+}
+
+/// The wanted number of a new space where no space has it, and else the least that none has.
+fn space_number(state: &IpcState, wanted: Option<u32>) -> u32
+    requires room { map.len state.now.spaces < MAX_SPACES }
+    ensures unused { IsUnusedSpace state.now result }
+    ensures wanted { (number : ℕ) → wanted ≡ Some number → IsUnusedSpace state.now number → result ≡ number }
+{
+    if let Some(number) = wanted {
+        if state.is_unused_space(number) {
+            return number;
+        }
+    }
+    state.free_space()
+}
+
+/// The wanted name of a right where it may arrive under it, and else the one that it gets by itself.
+fn child_name(state: &IpcState, space: u32, right: CarriedRight, wanted: Option<u32>) -> u32
+    ensures arrives { MayArrive (names_in state.now space) right.kind right.port result }
+    ensures wanted { (name : ℕ) → wanted ≡ Some name → MayArrive (names_in state.now space) right.kind right.port name → result ≡ name }
+{
+    if let Some(name) = wanted {
+        if may_arrive(state, space, right, name) {
+            return name;
+        }
+    }
+    arrival_name(state, space, right)
+}
