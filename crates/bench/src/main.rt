@@ -1,9 +1,11 @@
 //! `bench FOLDER` measures acknowledged calls on a new store in the folder FOLDER/store, which has to be there and
-//! empty, beside pairs of syncs of a file in FOLDER, which is what a stored call costs at least.
+//! empty, beside pairs of syncs of a file in FOLDER, which is what a stored call costs at least. It also measures calls
+//! of a kernel alone, in memory.
 #![tactic(auto)]
 
 use disk::FileDisk;
 use ipc_model::{Call, Reply};
+use kernel::Kernel;
 use recover::open;
 use server::{Alone, Caller};
 use std::fs::File;
@@ -12,8 +14,27 @@ use std::process::ExitCode;
 use std::time::{Duration, Instant};
 use std::{env, fmt};
 
-/// How many calls are made, and how many pairs of syncs.
+/// How many calls are stored, and how many pairs of syncs are made.
 const ROUNDS: u64 = 500;
+
+/// How often a pair of calls is made in memory.
+const PAIRS: u64 = 20_000;
+
+/// How many names a space has whose names are asked for, and how often they are.
+const NAMES: u64 = 1_000;
+
+/// A new receive right, and its end.
+const ALLOCATE_DESTROY: [Call; 2] = [Call::Allocate { right: 1 }, Call::Destroy { name: 0x100 }];
+
+/// A send right made from a receive right, and given up.
+const INSERT_DEALLOCATE: [Call; 2] = [
+    Call::InsertRight {
+        name: 0x100,
+        right_name: 0x100,
+        disposition: 20,
+    },
+    Call::Deallocate { name: 0x100 },
+];
 
 /// What went wrong.
 #[derive(Clone, Copy, Debug, PartialEq, Eq)]
@@ -82,19 +103,86 @@ fn time_syncs(rt: &HostRuntime, folder: &str) -> Result<Duration, Fault> {
     Ok(start.elapsed(rt)?)
 }
 
+/// Makes calls of a task of space 1 so often, one after another, each of which has to be done.
+fn make(kernel: &mut Kernel, calls: &[Call], rounds: u64) -> Result<(), Fault> {
+    for _ in 0..rounds {
+        for call in calls {
+            match kernel.apply(1, call) {
+                Ok(reply) if reply.is_success() => {}
+                _ => return Err(Fault::Call),
+            }
+        }
+    }
+    Ok(())
+}
+
+/// How long so many rounds of calls take in memory, after others were made so often.
+fn time_rounds(
+    rt: &HostRuntime,
+    first: &[Call],
+    before: u64,
+    calls: &[Call],
+    rounds: u64,
+) -> Result<Duration, Fault> {
+    let Ok(mut kernel) = Kernel::opening(rt.alloc()) else {
+        return Err(Fault::Call);
+    };
+    make(&mut kernel, first, before)?;
+    let start = Instant::now(rt)?;
+    make(&mut kernel, calls, rounds)?;
+    Ok(start.elapsed(rt)?)
+}
+
 /// So many in a second.
-fn per_second(duration: Duration) -> u64 {
+fn per_second(count: u64, duration: Duration) -> u64 {
     let micros = duration.as_micros();
     if micros == 0 {
         return 0;
     }
-    u64::try_from(u128::from(ROUNDS) * 1_000_000 / micros).unwrap_or(u64::MAX)
+    u64::try_from(u128::from(count) * 1_000_000 / micros).unwrap_or(u64::MAX)
 }
 
-fn measure(rt: &HostRuntime, folder: &str) -> Result<(u64, u64), Fault> {
-    let calls = time_calls(rt, folder)?;
+/// What is printed: how many calls a second are stored, how many pairs of syncs are made, and how many calls are made
+/// in memory.
+#[derive(Drop)]
+struct Figures {
+    stored: u64,
+    syncs: u64,
+    allocations: u64,
+    insertions: u64,
+    listings: u64,
+}
+
+fn measure(rt: &HostRuntime, folder: &str) -> Result<Figures, Fault> {
+    let stored = time_calls(rt, folder)?;
     let syncs = time_syncs(rt, folder)?;
-    Ok((per_second(calls), per_second(syncs)))
+    let allocations = time_rounds(rt, &[], 0, &ALLOCATE_DESTROY, PAIRS)?;
+    let a_port = [Call::Allocate { right: 1 }];
+    let insertions = time_rounds(rt, &a_port, 1, &INSERT_DEALLOCATE, PAIRS)?;
+    let a_dead_name = [Call::Allocate { right: 4 }];
+    let listings = time_rounds(rt, &a_dead_name, NAMES, &[Call::Names], NAMES)?;
+    Ok(Figures {
+        stored: per_second(ROUNDS, stored),
+        syncs: per_second(ROUNDS, syncs),
+        allocations: per_second(PAIRS * 2, allocations),
+        insertions: per_second(PAIRS * 2, insertions),
+        listings: per_second(NAMES, listings),
+    })
+}
+
+fn print(rt: &HostRuntime, figures: &Figures) {
+    let ratio = if figures.syncs == 0 {
+        0
+    } else {
+        figures.stored.saturating_mul(100) / figures.syncs
+    };
+    let _ = println!(rt; "acknowledged calls a second: {}", figures.stored);
+    let _ = println!(rt; "pairs of syncs a second:     {}", figures.syncs);
+    let _ = println!(rt; "calls for 100 pairs:         {ratio}");
+    let _ = println!(rt; "calls a second in memory, without a store:");
+    let _ = println!(rt; "allocate and destroy:        {}", figures.allocations);
+    let _ = println!(rt; "insert_right and deallocate: {}", figures.insertions);
+    let _ = println!(rt; "names of 1,000 names:        {}", figures.listings);
 }
 
 fn main(rt: HostRuntime) -> ExitCode {
@@ -104,15 +192,8 @@ fn main(rt: HostRuntime) -> ExitCode {
         return ExitCode::from(2);
     };
     match measure(&rt, folder.as_str()) {
-        Ok((calls, syncs)) => {
-            let ratio = if syncs == 0 {
-                0
-            } else {
-                calls.saturating_mul(100) / syncs
-            };
-            let _ = println!(rt; "acknowledged calls a second: {calls}");
-            let _ = println!(rt; "pairs of syncs a second:     {syncs}");
-            let _ = println!(rt; "calls for 100 pairs:         {ratio}");
+        Ok(figures) => {
+            print(&rt, &figures);
             ExitCode::SUCCESS
         }
         Err(fault) => {

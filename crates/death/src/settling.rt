@@ -1,4 +1,4 @@
-ghost use Rattle.std.specs.Prelude.{◌≡◌, ◌++◌, OnOk};
+ghost use Rattle.std.specs.Prelude.{◌≡◌, ◌++◌, IfOk, OnOk};
 ghost use Rattle.std.specs.FinMap as map;
 ghost use Rattle.ipc_model.specs.Effects.{Settles, effect, released_if_live};
 ghost use Rattle.effects.specs.Meaning.{effect_meant};
@@ -11,16 +11,17 @@ use ipc_model::RightKind;
 use ipc_state::IpcState;
 use std::alloc::{AllocError, Global};
 
-/// Works the effects of a call off, each in its turn, until none is left; deaths add to them. Where memory is
-/// wanted the state is somewhere on the way, and has to be given up.
-pub fn settle(alloc: Global, state: &mut IpcState, effects: Effects) -> Result<(), AllocError>
-    ensures { OnOk result (Settles state.old effects state.new) }
+/// The state once the effects of a call are worked off, each in its turn, until none is left; deaths add to them. Where
+/// memory is wanted the state is given up.
+pub fn settle(alloc: Global, state: IpcState, effects: Effects) -> Result<IpcState, AllocError>
+    ensures { IfOk result (λ settled. Settles state effects settled) }
 {
+    let mut state = state;
     let mut effects = effects;
     while let Some(first) = effects.take() {
-        run(alloc, state, first, &mut effects)?;
+        run(alloc, &mut state, first, &mut effects)?;
     }
-    Ok(())
+    Ok(state)
 }
 
 /// One effect; what it sets off goes to the end of the list.

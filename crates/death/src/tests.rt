@@ -42,11 +42,11 @@ fn add_port(state: &mut IpcState) -> Result<bool, AllocError> {
 
 #[test]
 fn a_port_dies_with_its_names(rt: HostRuntime) -> Result<(), Fail> {
-    let (mut state, first, second) = two_ports(rt.alloc())?.ok_or("there is room")?;
+    let (state, first, second) = two_ports(rt.alloc())?.ok_or("there is room")?;
     let mut effects = Effects::new(rt.alloc());
     let kind = RightKind::Receive;
     effects.push(Effect::Release { kind, port: first })?;
-    settle(rt.alloc(), &mut state, effects)?;
+    let state = settle(rt.alloc(), state, effects)?;
     assert!(rt; !state.ports().contains(first));
     assert_eq!(rt; state.entry(1, 0x100), Some(Entry::Dead { references: 2 }));
     let queued = state.ports().queue(second).ok_or("the second port lives")?;
@@ -67,7 +67,7 @@ fn a_request_takes_the_receive_right_along(rt: HostRuntime) -> Result<(), Fail> 
     let kind = RightKind::Receive;
     effects.push(Effect::Release { kind, port: first })?;
     effects.push(Effect::Release { kind, port: second })?;
-    settle(rt.alloc(), &mut state, effects)?;
+    let state = settle(rt.alloc(), state, effects)?;
     assert!(rt; !state.ports().contains(first));
     assert!(rt; !state.ports().contains(second));
     assert_eq!(rt; state.entry(1, 0x100), Some(Entry::Dead { references: 1 }));
@@ -86,12 +86,12 @@ fn the_last_sender_is_told_of(rt: HostRuntime) -> Result<(), Fail> {
     let kind = RightKind::Send;
     let mut effects = Effects::new(rt.alloc());
     effects.push(Effect::Release { kind, port: first })?;
-    settle(rt.alloc(), &mut state, effects)?;
+    let mut state = settle(rt.alloc(), state, effects)?;
     assert_eq!(rt; state.numbers(first), Some(asked));
     state.remove_name(1, 0x100);
     let mut effects = Effects::new(rt.alloc());
     effects.push(Effect::Release { kind, port: first })?;
-    settle(rt.alloc(), &mut state, effects)?;
+    let state = settle(rt.alloc(), state, effects)?;
     assert_eq!(rt; state.numbers(first), Some(numbers));
     let queued = state.ports().queue(second).ok_or("the second port lives")?;
     assert_eq!(rt; queued.len(), 1);

@@ -1,7 +1,6 @@
 -- What a call leaves open, and how its reply shows what was chosen.
 use Rattle.std.specs.Prelude.{◌≡◌, ℕ, Bool, true, false, List, Option, None, Some}
 use Rattle.std.proofs.Common.{refl, sym, ap, subst, ◌∙◌}
-use Rattle.std.specs.FinMap as finmap
 use Rattle.codes.specs.declared.kern_return.KernReturn.{KernReturn}
 use Rattle.ipc_model.specs.declared.call.Call.{Call}
 use Rattle.ipc_model.specs.declared.call.Call.TheVariants as call
@@ -193,6 +192,7 @@ prefers_create old space name disposition shown answer new effects acts wanted =
 
 -- Which calls only read, which change the state and set nothing off, which give rights up, and which copy one in.
 abbrev pub only_reads : Call → Bool
+only_reads (call.Attach space) = true
 only_reads call.Names = true
 only_reads (call.Type name) = true
 only_reads (call.GetRefs name kind) = true

@@ -1,5 +1,5 @@
 -- The steps that are served today. A call that isn't served yet is refused, and changes nothing.
-use Rattle.std.specs.Prelude.{◌≡◌, ℕ, Bool, true, false, ◌||◌, List, [], ◌∷◌, is_some, MatchBool, if◌then◌else◌}
+use Rattle.std.specs.Prelude.{◌≡◌, ℕ, Bool, true, false, List, [], ◌∷◌, is_some, MatchBool, if◌then◌else◌}
 use Rattle.std.specs.FinMap as finmap
 use Rattle.codes.specs.declared.kern_return.KernReturn.{KernReturn}
 use Rattle.codes.specs.declared.kern_return.KernReturn.TheVariants.{InvalidArgument, InvalidTask}
@@ -10,9 +10,8 @@ use Rattle.ipc_model.specs.declared.record.Record.{Record}
 use Rattle.ipc_model.specs.State.{State}
 use Rattle.ipc_model.specs.Step.{Step, refused}
 
--- every call is served but sends, receipts and number 0, which attaches a task to another space
+-- every call is served but sends and receipts
 abbrev pub is_served : Call → Bool
-is_served (call.Attach space) = false
 is_served (call.Send message) = false
 is_served (call.Receive limit large name waited) = false
 is_served c = true

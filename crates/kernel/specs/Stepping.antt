@@ -1,5 +1,5 @@
 -- Steps that are served, by the call's own action and what it sets off.
-use Rattle.std.specs.Prelude.{◌≡◌, ◌≢◌, ℕ, Bool, true, false, List, [], Option, None, Some, IsSome, IfSome, is_some, MatchBool, if◌then◌else◌}
+use Rattle.std.specs.Prelude.{◌≡◌, ℕ, Bool, true, false, List, [], Option, None, Some, IsSome, IfSome, is_some, MatchBool, if◌then◌else◌}
 use Rattle.std.proofs.Common.{refl, sym, ap, subst, ◌∙◌}
 use Rattle.std.specs.FinMap as finmap
 use Rattle.codes.specs.declared.kern_return.KernReturn.{KernReturn}
@@ -25,31 +25,26 @@ pub record PrefersStep (old : State) (space : ℕ) (c : Call) (shown : Shown) (a
 -- Which calls are served.
 
 pub served_read : (c : Call) → only_reads c ≡ true → is_served c ≡ true
-served_read (call.Attach space) is = absurd (cc is)
 served_read (call.Send message) is = absurd (cc is)
 served_read (call.Receive limit large name waited) is = absurd (cc is)
 served_read c is = refl
 
 pub served_change : (c : Call) → sets_nothing_off c ≡ true → is_served c ≡ true
-served_change (call.Attach space) is = absurd (cc is)
 served_change (call.Send message) is = absurd (cc is)
 served_change (call.Receive limit large name waited) is = absurd (cc is)
 served_change c is = refl
 
 pub served_giving : (c : Call) → gives_up c ≡ true → is_served c ≡ true
-served_giving (call.Attach space) is = absurd (cc is)
 served_giving (call.Send message) is = absurd (cc is)
 served_giving (call.Receive limit large name waited) is = absurd (cc is)
 served_giving c is = refl
 
 pub served_handing : (c : Call) → hands_over c ≡ true → is_served c ≡ true
-served_handing (call.Attach space) is = absurd (cc is)
 served_handing (call.Send message) is = absurd (cc is)
 served_handing (call.Receive limit large name waited) is = absurd (cc is)
 served_handing c is = refl
 
 pub none_served : (c : Call) → only_reads c ≡ false → sets_nothing_off c ≡ false → gives_up c ≡ false → hands_over c ≡ false → is_served c ≡ false
-none_served (call.Attach space) a b d e = refl
 none_served (call.Send message) a b d e = refl
 none_served (call.Receive limit large name waited) a b d e = refl
 none_served c a b d e = absurd (cc (a, b, d, e))

@@ -1,6 +1,6 @@
 -- Calls that are tried on a copy of the state: what was refused, and what was done.
 use Rattle.std.specs.Prelude.{◌≡◌, ℕ, Bool, true, false, List, [], Option, None, Some, MatchBool}
-use Rattle.std.proofs.Common.{refl, sym, ap, subst, ◌∙◌}
+use Rattle.std.proofs.Common.{refl, sym, subst}
 use Rattle.codes.specs.declared.kern_return.KernReturn.{KernReturn}
 use Rattle.ipc_model.specs.declared.call.Call.{Call}
 use Rattle.ipc_model.specs.declared.call.Call.TheVariants as call
@@ -8,8 +8,8 @@ use Rattle.ipc_model.specs.declared.call.Reply.{Reply}
 use Rattle.ipc_model.specs.declared.call.Reply.TheVariants as reply
 use Rattle.ipc_model.specs.Effects.{Effect}
 use Rattle.ipc_model.specs.PortCalls.{names_in, tests_of}
-use Rattle.ipc_model.specs.State.{State, Names}
-use Rattle.ipc_model.specs.Step.{ActsIn, succeeded, number_of_call}
+use Rattle.ipc_model.specs.State.{State}
+use Rattle.ipc_model.specs.Step.{ActsIn, succeeded}
 use Rattle.ipc_model.specs.StepLaws.{Called}
 use Rattle.ipc_model.specs.Tests.{first_failing}
 use Rattle.kernel.specs.PortCallLaws.{as_called, answers_done}

@@ -23,6 +23,7 @@ pub fn read(
     ensures none { IfOk result (λ done. IfNone done (only_reads call.now ≡ false)) }
 {
     match call {
+        Call::Attach { space: other } => Ok(Some(port_calls::attach(state, space, *other))),
         Call::Names => {
             let reply = port_calls::names(alloc, state, space)?;
             Ok(Some(reply))

@@ -66,8 +66,7 @@ fn step_on_copy(
     if is_refusal(&reply) {
         return Ok(reply);
     }
-    settle(alloc, &mut copy, effects)?;
-    *state = copy;
+    *state = settle(alloc, copy, effects)?;
     Ok(reply)
 }
 

@@ -132,7 +132,7 @@ fn call_of(number: u32, arguments: [u32; 5]) -> Call {
 /// The caller's space, the number and the arguments of a call, and its reply's words.
 type Row = (u32, u32, [u32; 5], [u32; 4]);
 
-const ALLOCATING: [Row; 27] = [
+const ALLOCATING: [Row; 30] = [
     (1, 5, [1, 0, 0, 0, 0], [5, 0, 0x100, 0]),
     (1, 5, [1, 0, 0, 0, 0], [5, 0, 0x101, 0]),
     (1, 5, [3, 0, 0, 0, 0], [5, 0, 0x102, 0]),
@@ -157,7 +157,10 @@ const ALLOCATING: [Row; 27] = [
     (1, 9, [0x103, 4, 65_534, 0, 0], [9, 0, 0, 0]),
     (1, 9, [0x103, 4, 1, 0, 0], [9, 19, 0, 0]),
     (1, 8, [0x103, 4, 0, 0, 0], [8, 0, 65_535, 0]),
-    (1, 0, [1, 0, 0, 0, 0], [0, 4, 0, 0]),
+    (1, 16, [0x103, 72, 0, 0x200, 21], [16, 4, 0, 0]),
+    (1, 16, [0x103, 72, 1, 0x200, 21], [16, 19, 0, 0]),
+    (1, 0, [1, 0, 0, 0, 0], [0, 0, 0, 0]),
+    (1, 0, [2, 0, 0, 0, 0], [0, 16, 0, 0]),
     (2, 0, [1, 0, 0, 0, 0], [0, 16, 0, 0]),
     (2, 1, [0, 0, 0, 0, 0], [1, 16, 0, 0]),
 ];
@@ -240,18 +243,106 @@ fn refuses_sends(rt: HostRuntime) -> Result<(), Fail> {
     Ok(())
 }
 
-// All names but the first are replayed, since each `apply` looks for its name from the first on.
-#[test]
-fn a_space_holds_4096_names(rt: HostRuntime) -> Result<(), Fail> {
-    let mut kernel = Kernel::opening(rt.alloc())?;
-    for name in 0x101..0x1100 {
-        kernel = kernel.replay(&allocated(1, name))?;
-    }
-    for (right, words) in [(1, [5, 0, 0x100, 0]), (1, [5, 3, 0, 0]), (2, [5, 18, 0, 0])] {
-        let reply = kernel.apply(1, &allocate(right))?;
-        assert_eq!(rt; words_of(&reply), words, "allocate {right}");
+/// Makes calls, one after another.
+fn make_all(rt: &impl Abort, kernel: &mut Kernel, rows: &[Row]) -> Result<(), Fail> {
+    for (space, number, arguments, words) in rows {
+        let reply = kernel.apply(*space, &call_of(*number, *arguments))?;
+        assert_eq!(rt;
+            words_of(&reply),
+            *words,
+            "{number} {arguments:?} from {space}"
+        );
     }
     Ok(())
+}
+
+/// The kernel after ports were allocated under the names from 0x101 to 0x10ff. They are replayed, since each `apply`
+/// looks for its name from the first on.
+fn nearly_full(mut kernel: Kernel, space: u32) -> Result<Kernel, ReplayFault> {
+    for name in 0x101..0x1100 {
+        kernel = kernel.replay(&Record {
+            space,
+            call: allocate(1),
+            reply: Reply::Allocate { name },
+        })?;
+    }
+    Ok(kernel)
+}
+
+const FULL_OF_NAMES: [Row; 18] = [
+    // A target that would come back, and a dead name.
+    (1, 16, [0x101, 70, 1, 0x101, 21], [16, 0, 0, 0]),
+    (1, 5, [4, 0, 0, 0, 0], [5, 0, 0x100, 0]),
+    (1, 5, [1, 0, 0, 0, 0], [5, 3, 0, 0]),
+    (1, 5, [2, 0, 0, 0, 0], [5, 18, 0, 0]),
+    (1, 4, [4, 0x2000, 0, 0, 0], [4, 3, 0, 0]),
+    (1, 4, [4, 0x101, 0, 0, 0], [4, 13, 0, 0]),
+    (1, 3, [0x100, 0x2000, 0, 0, 0], [3, 0, 0, 0]),
+    (1, 17, [0x2000, 0x102, 21, 0, 0], [17, 13, 0, 0]),
+    (1, 17, [0x3000, 0x102, 21, 0, 0], [17, 3, 0, 0]),
+    (1, 17, [0x102, 0x102, 20, 0, 0], [17, 0, 0, 0]),
+    (1, 18, [0x2000, 17, 0, 0, 0], [18, 17, 0, 0]),
+    (1, 18, [0x102, 21, 0, 0, 0], [18, 3, 0, 0]),
+    (1, 18, [0x102, 19, 0, 0, 0], [18, 0, 0x102, 17]),
+    (1, 16, [0x101, 70, 1, 0x101, 21], [16, 3, 0, 0]),
+    (1, 16, [0x102, 70, 1, 0x102, 21], [16, 0, 0, 0]),
+    (1, 7, [0x2000, 0, 0, 0, 0], [7, 0, 0, 0]),
+    (1, 16, [0x101, 70, 1, 0x101, 21], [16, 0, 0x100, 0]),
+    (1, 5, [4, 0, 0, 0, 0], [5, 3, 0, 0]),
+];
+
+#[test]
+fn a_space_holds_4096_names(rt: HostRuntime) -> Result<(), Fail> {
+    let mut kernel = nearly_full(Kernel::opening(rt.alloc())?, 1)?;
+    make_all(&rt, &mut kernel, &FULL_OF_NAMES)
+}
+
+const FULL_OF_PORTS: [Row; 10] = [
+    (5, 5, [1, 0, 0, 0, 0], [5, 0, 0x101, 0]),
+    (5, 5, [1, 0, 0, 0, 0], [5, 0, 0x102, 0]),
+    (5, 5, [1, 0, 0, 0, 0], [5, 0, 0x103, 0]),
+    (5, 5, [1, 0, 0, 0, 0], [5, 6, 0, 0]),
+    (5, 4, [1, 0x200, 0, 0, 0], [4, 6, 0, 0]),
+    (5, 5, [3, 0, 0, 0, 0], [5, 0, 0x104, 0]),
+    (1, 5, [1, 0, 0, 0, 0], [5, 3, 0, 0]),
+    (1, 4, [1, 0x2000, 0, 0, 0], [4, 3, 0, 0]),
+    (5, 6, [0x103, 0, 0, 0, 0], [6, 0, 0, 0]),
+    (5, 4, [1, 0x200, 0, 0, 0], [4, 0, 0, 0]),
+];
+
+// Four spaces hold 16,381 ports.
+#[test]
+fn there_are_16384_ports(rt: HostRuntime) -> Result<(), Fail> {
+    let mut kernel = Kernel::opening(rt.alloc())?;
+    kernel.apply(1, &allocate(1))?;
+    for space in [2, 3, 4, 5] {
+        let created = kernel.apply(1, &call_of(20, [0x100, 20, 0, 0, 0]))?;
+        assert_eq!(rt; words_of(&created), [20, 0, space, 0x100]);
+    }
+    for space in 1..5 {
+        kernel = nearly_full(kernel, space)?;
+    }
+    make_all(&rt, &mut kernel, &FULL_OF_PORTS)
+}
+
+const FULL_OF_SPACES: [Row; 4] = [
+    (1, 20, [0x100, 20, 0, 0, 0], [20, 6, 0, 0]),
+    // A send right that isn't there.
+    (1, 20, [0x100, 17, 0, 0, 0], [20, 17, 0, 0]),
+    (7, 21, [0; 5], [21, 0, 0, 0]),
+    (1, 20, [0x100, 20, 0, 0, 0], [20, 0, 7, 0x100]),
+];
+
+#[test]
+fn there_are_256_spaces(rt: HostRuntime) -> Result<(), Fail> {
+    let mut kernel = Kernel::opening(rt.alloc())?;
+    kernel.apply(1, &allocate(1))?;
+    let create = call_of(20, [0x100, 20, 0, 0, 0]);
+    for space in 2..257 {
+        let created = kernel.apply(1, &create)?;
+        assert_eq!(rt; words_of(&created), [20, 0, space, 0x100]);
+    }
+    make_all(&rt, &mut kernel, &FULL_OF_SPACES)
 }
 
 #[test]

@@ -1,7 +1,6 @@
 -- What is answered fits in a frame, and what has a record is fit to be kept.
-use Rattle.std.specs.Prelude.{◌≡◌, ℕ, ◌^◌, ◌<◌, ◌≤◌, Bool, true, false, cond, ◌==◌, List, [], ◌++◌, length, Option, None, Some, MatchOption, MatchBool, Result, Ok, Err, IfOk}
-use Rattle.std.proofs.Common.{inl, inr, refl, sym, ap, subst, arith, length-append}
-use Rattle.std.specs.FinMap as finmap
+use Rattle.std.specs.Prelude.{◌≡◌, ℕ, ◌^◌, ◌<◌, ◌≤◌, Bool, true, false, cond, ◌==◌, List, [], ◌++◌, length, MatchBool, Result, Ok, Err, IfOk}
+use Rattle.std.proofs.Common.{sym, subst, arith, length-append}
 use Rattle.codes.specs.KernReturn.{number_of}
 use Rattle.codes.specs.declared.kern_return.KernReturn.{KernReturn}
 use Rattle.codes.specs.declared.limits.TheConstants.{MAX_FRAME_CONTENT}
@@ -9,16 +8,11 @@ use Rattle.ipc_model.specs.declared.call.Call.{Call}
 use Rattle.ipc_model.specs.declared.call.Call.TheVariants as call
 use Rattle.ipc_model.specs.declared.call.Reply.{Reply}
 use Rattle.ipc_model.specs.declared.call.Reply.TheVariants as reply
-use Rattle.ipc_model.specs.declared.entry.Entry.{Entry}
-use Rattle.ipc_model.specs.Actions.{ActsOn, Done}
-use Rattle.ipc_model.specs.Effects.{Effect}
-use Rattle.ipc_model.specs.PortCalls.{tests_of}
 use Rattle.ipc_model.specs.Receiving.{without_message}
 use Rattle.ipc_model.specs.Refusals.{refused_of}
-use Rattle.ipc_model.specs.State.{State, Names, type_of, IsUnused}
-use Rattle.ipc_model.specs.Step.{Step, refused, number_of_call, has_record}
-use Rattle.ipc_model.specs.Tests.{first_failing}
-use Rattle.ipc_model.specs.Texts.{call_text, reply_text, FitsCall, IsRecord}
+use Rattle.ipc_model.specs.State.{State}
+use Rattle.ipc_model.specs.Step.{number_of_call, has_record}
+use Rattle.ipc_model.specs.Texts.{call_text, reply_text, FitsCall}
 use Rattle.kernel.specs.Served.{is_served, ServedStep}
 use Rattle.kernel.specs.ServedLaws.{recorded_step}
 use Rattle.record.specs.Ranges.{IsKeptCall}

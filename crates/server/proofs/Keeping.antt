@@ -19,9 +19,9 @@ use Rattle.recover.specs.Kept.{IsKept}
 use Rattle.recover.specs.Recovered.{IsOpen, HoldsOpeningImage, Recovers}
 use Rattle.server.specs.Keeping.{IsBeforeOrAfter}
 
--- the record of a call of the lone task
-abbrev pub entry_of : Call → Reply → Record
-entry_of c answer = record { space = 1; call = c; reply = answer }
+-- the record of a call of a task of this space
+abbrev pub entry_of : ℕ → Call → Reply → Record
+entry_of space c answer = record { space = space; call = c; reply = answer }
 
 -- slots as those of a kept store but for segment 0, which spells other records
 recovers_from : (disk : View) (before state : State) (count number : ℕ) → IsKept disk before count → (c : Slots) (bytes : List ℕ) → c ≡ with_slot disk.seen Segment0 bytes → (records : List Record) → SpellsSegment 0 bytes records → ServedRun opening_state records state
@@ -44,12 +44,12 @@ counted_more : (records : List Record) (next : Record) (count : ℕ) → count �
 counted_more records next count is = omega (arith, is, length-append records (next ∷ []))
 
 -- A stop at a moment of an append.
-pub mid_append_stands : (old : View) (before after : State) (count : ℕ) (c : Call) (answer : Reply) → IsKept old before count → ServedStep before 1 c answer after → IsRecord (entry_of c answer) → has_record c answer ≡ true → count < MAX_RECORDS → (left : Slots)
-    → Follows old Segment0 (λ was is. IsMidAppend was (batch_text count (entry_of c answer ∷ [])) is) left → IsBeforeOrAfter before count c after left
-mid_append_stands old before after count c answer kept step fits recorded room left mid =
+pub mid_append_stands : (old : View) (before after : State) (count space : ℕ) (c : Call) (answer : Reply) → IsKept old before count → ServedStep before space c answer after → IsRecord (entry_of space c answer) → has_record c answer ≡ true → count < MAX_RECORDS → (left : Slots)
+    → Follows old Segment0 (λ was is. IsMidAppend was (batch_text count (entry_of space c answer ∷ [])) is) left → IsBeforeOrAfter before count space c after left
+mid_append_stands old before after count space c answer kept step fits recorded room left mid =
     let ready = kept.ready in
     let records = ready.0 in
-    let next = entry_of c answer in
+    let next = entry_of space c answer in
     let first : mid.0 ≡ old.seen = kept.at_rest mid.0 mid.1 in
     let is : left ≡ with_slot old.seen Segment0 left.segment0 = mid.3 ∙ ap (λ (s : Slots). with_slot s Segment0 left.segment0) first in
     let appended : IsMidAppend old.seen.segment0 (batch_text (length records) (next ∷ [])) left.segment0 =
@@ -84,13 +84,13 @@ others_rest old new before count step kept time c left = elim (left_now old new 
 ]
 
 -- After an append the store is kept, with one record more.
-pub appended_kept : (old new : View) (before after : State) (count : ℕ) (c : Call) (answer : Reply) → IsKept old before count → ServedStep before 1 c answer after → IsRecord (entry_of c answer) → count < MAX_RECORDS
-    → new.seen ≡ with_slot old.seen Segment0 (with_batch old.seen.segment0 (batch_text count (entry_of c answer ∷ []))) → IsSynced new Segment0
-    → Passes old new (Follows old Segment0 (λ was is. IsMidAppend was (batch_text count (entry_of c answer ∷ [])) is)) → IsKept new after (count + 1)
-appended_kept old new before after count c answer kept made fits room stored synced time =
+pub appended_kept : (old new : View) (before after : State) (count space : ℕ) (c : Call) (answer : Reply) → IsKept old before count → ServedStep before space c answer after → IsRecord (entry_of space c answer) → count < MAX_RECORDS
+    → new.seen ≡ with_slot old.seen Segment0 (with_batch old.seen.segment0 (batch_text count (entry_of space c answer ∷ []))) → IsSynced new Segment0
+    → Passes old new (Follows old Segment0 (λ was is. IsMidAppend was (batch_text count (entry_of space c answer ∷ [])) is)) → IsKept new after (count + 1)
+appended_kept old new before after count space c answer kept made fits room stored synced time =
     let ready = kept.ready in
     let records = ready.0 in
-    let next = entry_of c answer in
+    let next = entry_of space c answer in
     let segment = with_batch old.seen.segment0 (batch_text count (next ∷ [])) in
     let in_use : IsInUse 0 segment (records ++ next ∷ []) =
     subst (λ (n : ℕ). IsInUse 0 (with_batch old.seen.segment0 (batch_text n (next ∷ []))) (records ++ next ∷ [])) (sym ready.3)
@@ -115,8 +115,8 @@ pub passes_so : (old new : View) (P Q : Slots → Type 0) → Passes old new P �
 passes_so old new P Q time f = record { later = time.later; past = time.past; since = λ k c later until left. f c (time.since k c later until left) }
 
 -- What a stop may leave at a moment from the beginning of a call of a kept store.
-pub since_kept : (old new : View) (before after : State) (count : ℕ) (call : Call) → IsKept old before count → Passes old new (IsBeforeOrAfter before count call after) → (c : Slots) → LeftSince new old.moment c → IsBeforeOrAfter before count call after c
-since_kept old new before after count call kept time c left = elim (later_or_now old.moment left.0 left.1) [
+pub since_kept : (old new : View) (before after : State) (count space : ℕ) (call : Call) → IsKept old before count → Passes old new (IsBeforeOrAfter before count space call after) → (c : Slots) → LeftSince new old.moment c → IsBeforeOrAfter before count space call after c
+since_kept old new before after count space call kept time c left = elim (later_or_now old.moment left.0 left.1) [
   | inl later ↦ time.since left.0 c later left.2 left.3
   | inr now ↦ inl (kept_recovers old before count kept c (subst (λ k. old.left_at k c) now ((time.past left.0 c (omega (arith, now))).0 left.3)))
 ]

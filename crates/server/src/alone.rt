@@ -1,11 +1,11 @@
-ghost use Rattle.std.specs.Prelude.{◌≡◌, ◌+◌, ◌<◌, ◌≤◌, true, false, length, IfOk, OnOk, OnErr, IsErrOf};
+ghost use Rattle.std.specs.Prelude.{◌≡◌, ◌+◌, ◌<◌, ◌≤◌, true, false, if◌then◌else◌, length, IfOk, OnOk, OnErr, IsErrOf};
 ghost use Rattle.disk.specs.Moments.{LeftSince, MayLeave, Passes};
 ghost use Rattle.disk.specs.Slots.{Slots};
 ghost use Rattle.recover.specs.Kept.{IsKept};
 ghost use Rattle.recover.specs.Recovered.{Recovers};
-ghost use Rattle.server.specs.Keeping.{AnswersStored, IsBeforeOrAfter, records_of};
+ghost use Rattle.server.specs.Keeping.{AnswersStored, IsBeforeOrAfter, IsMoved, attached_by, records_of};
 ghost use Rattle.server.specs.Serving.{StepOrShortage, shortage_of};
-ghost use Rattle.ipc_model.specs.Step.{has_record};
+ghost use Rattle.ipc_model.specs.Step.{has_record, succeeded};
 ghost use Rattle.ipc_model.specs.Texts.{reply_text, FitsCall};
 ghost use Rattle.ipc_model.specs.declared.call.Call.{Call};
 ghost use Rattle.ipc_model.specs.declared.call.Reply.{Reply};
@@ -41,6 +41,7 @@ pub struct Alone<D: Disk> {
     alloc: Global,
     kernel: Kernel,
     journal: Journal<D>,
+    space: u32,
     failed: bool,
 }
 
@@ -53,18 +54,19 @@ impl<D: Disk> Model for Alone<D> {
 
     ghost coded = { alone_code D.code };
 
-    ghost view = { λ a. record { kernel = a.kernel; disk = a.journal.disk; records = a.journal.records; failed = a.failed } };
+    ghost view = { λ a. record { kernel = a.kernel; disk = a.journal.disk; records = a.journal.records; space = a.space; failed = a.failed } };
 
     // Until a call fails, the store holds what the kernel holds.
     ghost invariant = { λ a. a.failed ≡ false → D.honest → IsKept (D.view a.journal.disk) a.kernel a.journal.records };
 }
 
 impl<D: Disk> Alone<D> {
-    /// A caller that goes on from an opened store.
+    /// A caller that goes on from an opened store. It is attached to space 1.
     pub fn new(alloc: Global, opened: Opened<D>) -> Self
         ensures kernel { result.kernel ≡ opened.kernel }
         ensures disk { result.disk ≡ opened.journal.disk }
         ensures records { result.records ≡ opened.journal.records }
+        ensures space { result.space ≡ 1 }
         ensures failed { result.failed ≡ false }
     {
         let Opened { kernel, journal } = opened;
@@ -72,6 +74,7 @@ impl<D: Disk> Alone<D> {
             alloc,
             kernel,
             journal,
+            space: FIRST_SPACE,
             failed: false,
         }
     }
@@ -86,6 +89,7 @@ impl<D: Disk> Alone<D> {
             alloc: _,
             kernel: _,
             journal,
+            space: _,
             failed: _,
         } = self;
         journal.into_disk()
@@ -107,26 +111,80 @@ impl<D: Disk> Caller for Alone<D> {
         // A stop at any moment from the beginning of the call to its end leaves the state before it or the state after
         // it, also where the call fails.
         ensures any_moment { D.honest → self.old.failed ≡ false → (c : Slots) → LeftSince (D.view self.new.disk) (D.view self.old.disk).moment c
-            → IsBeforeOrAfter self.old.kernel self.old.records call self.new.kernel c }
+            → IsBeforeOrAfter self.old.kernel self.old.records self.old.space call self.new.kernel c }
         ensures passes { D.honest → Passes (D.view self.old.disk) (D.view self.new.disk)
-            (IsBeforeOrAfter self.old.kernel self.old.records call self.new.kernel) }
+            (IsBeforeOrAfter self.old.kernel self.old.records self.old.space call self.new.kernel) }
         // A stop after the reply leaves the state after the call, so nothing that was answered is lost.
         ensures stored { D.honest → OnOk result ((c : Slots) → MayLeave (D.view self.new.disk) c → Recovers c self.new.kernel self.new.records) }
-        // A call that is refused or only reads changes neither the state nor the disk.
-        ensures unrecorded { IfOk result (λ reply. has_record call reply ≡ false → self.new ≡ self.old) }
+        // A call that is refused or only reads changes neither the state nor the disk, and what attaches to no other
+        // space changes nothing at all.
+        ensures unrecorded { IfOk result (λ reply. has_record call reply ≡ false → IsMoved self.old self.new) }
         ensures err { OnErr result (self.new.failed ≡ true) }
         ensures failed { self.old.failed ≡ true → (IsErrOf result StoreFault.Failed) × (self.new ≡ self.old) }
     {
         if self.failed {
             return Err(StoreFault::Failed);
         }
-        if self.journal.records() >= MAX_RECORDS {
-            return Ok(call_without_room(self.alloc, &self.kernel, &call));
+        let attached = attached_by(self.space, &call);
+        match make_call(
+            self.alloc,
+            &mut self.kernel,
+            &mut self.journal,
+            self.space,
+            call,
+        ) {
+            Ok(reply) => {
+                self.space = space_after(self.space, attached, &reply);
+                Ok(reply)
+            }
+            Err(fault) => {
+                self.failed = true;
+                Err(fault)
+            }
         }
-        let made = call_with_room(self.alloc, &mut self.kernel, &mut self.journal, call);
-        self.failed = made.is_err();
-        made
     }
+}
+
+/// The space that a call attaches its caller to where it is done.
+fn attached_by(space: u32, call: &Call) -> u32
+    ensures { result ≡ attached_by space call.now }
+{
+    match call {
+        Call::Attach { space: other } => *other,
+        _ => space,
+    }
+}
+
+/// The space that a caller is attached to after a call that was answered so.
+fn space_after(space: u32, attached: u32, reply: &Reply) -> u32
+    ensures { (call : Call) → result ≡ (if succeeded call reply.now then attached else space) }
+{
+    if reply.is_success() { attached } else { space }
+}
+
+/// Makes a call, and stores its record before it is answered.
+fn make_call<D: Disk>(
+    alloc: Global,
+    kernel: &mut Kernel,
+    journal: &mut Journal<D>,
+    space: u32,
+    call: Call,
+) -> Result<Reply, StoreFault>
+    requires fits { FitsCall call }
+    ensures answers { IfOk result (λ reply. StepOrShortage kernel.old space call reply kernel.new) }
+    ensures frame { IfOk result (λ reply. length (reply_text reply) ≤ MAX_FRAME_CONTENT) }
+    ensures passes { D.honest → IsKept (D.view journal.old.disk) kernel.old journal.old.records
+        → Passes (D.view journal.old.disk) (D.view journal.new.disk) (IsBeforeOrAfter kernel.old journal.old.records space call kernel.new) }
+    ensures kept { D.honest → IsKept (D.view journal.old.disk) kernel.old journal.old.records
+        → OnOk result (IsKept (D.view journal.new.disk) kernel.new journal.new.records) }
+    ensures counted { IfOk result (λ reply. journal.new.records ≡ journal.old.records + records_of call reply) }
+    ensures unrecorded { IfOk result (λ reply. has_record call reply ≡ false → (kernel.new ≡ kernel.old) × (journal.new ≡ journal.old)) }
+{
+    if journal.records() >= MAX_RECORDS {
+        return Ok(call_without_room(alloc, kernel, space, &call));
+    }
+    let reply = call_with_room(alloc, kernel, journal, space, call)?;
+    Ok(reply)
 }
 
 /// Makes a call while the segment has room for its record.
@@ -134,41 +192,38 @@ fn call_with_room<D: Disk>(
     alloc: Global,
     kernel: &mut Kernel,
     journal: &mut Journal<D>,
+    space: u32,
     call: Call,
 ) -> Result<Reply, StoreFault>
     requires room { journal.old.records < MAX_RECORDS }
     requires fits { FitsCall call }
-    ensures answers { IfOk result (λ reply. StepOrShortage kernel.old 1 call reply kernel.new) }
+    ensures answers { IfOk result (λ reply. StepOrShortage kernel.old space call reply kernel.new) }
     ensures frame { IfOk result (λ reply. length (reply_text reply) ≤ MAX_FRAME_CONTENT) }
     ensures passes { D.honest → IsKept (D.view journal.old.disk) kernel.old journal.old.records
-        → Passes (D.view journal.old.disk) (D.view journal.new.disk) (IsBeforeOrAfter kernel.old journal.old.records call kernel.new) }
+        → Passes (D.view journal.old.disk) (D.view journal.new.disk) (IsBeforeOrAfter kernel.old journal.old.records space call kernel.new) }
     ensures kept { D.honest → IsKept (D.view journal.old.disk) kernel.old journal.old.records
         → OnOk result (IsKept (D.view journal.new.disk) kernel.new journal.new.records) }
     ensures counted { IfOk result (λ reply. journal.new.records ≡ journal.old.records + records_of call reply) }
     ensures unrecorded { IfOk result (λ reply. has_record call reply ≡ false → (kernel.new ≡ kernel.old) × (journal.new ≡ journal.old)) }
 {
-    let Ok(reply) = kernel.apply(FIRST_SPACE, &call) else {
+    let Ok(reply) = kernel.apply(space, &call) else {
         return Ok(shortage(alloc, &call));
     };
     if !call.has_record(&reply) {
         return Ok(reply);
     }
-    let stored = Record {
-        space: FIRST_SPACE,
-        call,
-        reply,
-    };
+    let stored = Record { space, call, reply };
     journal.append(&stored)?;
     Ok(stored.reply)
 }
 
 /// The answer to a call while the segment has no room for a record: one that would have a record is refused.
-fn call_without_room(alloc: Global, kernel: &Kernel, call: &Call) -> Reply
-    ensures answers { StepOrShortage kernel.now 1 call.now result kernel.now }
+fn call_without_room(alloc: Global, kernel: &Kernel, space: u32, call: &Call) -> Reply
+    ensures answers { StepOrShortage kernel.now space call.now result kernel.now }
     ensures frame { length (reply_text result) ≤ MAX_FRAME_CONTENT }
     ensures unrecorded { has_record call.now result ≡ false }
 {
-    match kernel.answer(FIRST_SPACE, call) {
+    match kernel.answer(space, call) {
         Ok(Some(reply)) => reply,
         Ok(None) | Err(_) => shortage(alloc, call),
     }

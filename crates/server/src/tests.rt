@@ -4,6 +4,7 @@ use ipc_model::Reply;
 use journal::StoreFault;
 use recover::open;
 use std::alloc::{AllocError, Global};
+use std::process::Abort;
 use std::test::Fail;
 use std::{env, fs};
 use wire::WireFault;
@@ -161,7 +162,7 @@ type Refused = (u32, [u32; 5], u32);
 
 // Each test of each call, and calls that fail two of them: the first answers.
 const REFUSED: [Refused; 77] = [
-    (0, [2, 0, 0, 0, 0], 4),
+    (0, [2, 0, 0, 0, 0], 16),
     (2, [0, 0, 0, 0, 0], 15),
     (2, [0xffff_ffff, 0, 0, 0, 0], 15),
     (2, [0x1ff, 0, 0, 0, 0], 15),
@@ -300,6 +301,197 @@ fn what_rights_set_off_outlives_the_server(rt: HostRuntime) -> Result<(), Fail> 
     }
     assert_eq!(rt; output.as_slice(), replies.as_slice());
     Ok(())
+}
+
+/// The space of the caller, the number and the arguments of a call, and the words of its reply behind the number.
+type Row = (u32, u32, [u32; 5], &'static [u32]);
+
+const NAMES_ARE_CHANGED: [Row; 5] = [
+    (1, 4, [1, 0x200, 0, 0, 0], &[0]),
+    (1, 4, [1, 0x200, 0, 0, 0], &[13]),
+    (1, 4, [1, 0, 0, 0, 0], &[18]),
+    (1, 3, [0x200, 0x300, 0, 0, 0], &[0]),
+    (1, 2, [0x200, 0, 0, 0, 0], &[15]),
+];
+
+const REFERENCES_ARE_COUNTED: [Row; 14] = [
+    (1, 4, [1, 0x300, 0, 0, 0], &[0]),
+    (1, 17, [0x300, 0x300, 20, 0, 0], &[0]),
+    (1, 9, [0x300, 0, 2, 0, 0], &[0]),
+    (1, 9, [0x300, 0, 0xffff_fffc, 0, 0], &[18]),
+    (1, 8, [0x300, 0, 0, 0, 0], &[0, 3]),
+    (1, 17, [0x301, 0x300, 20, 0, 0], &[21]),
+    (1, 18, [0x300, 19, 0, 0, 0], &[0, 0x300, 17]),
+    (1, 8, [0x300, 0, 0, 0, 0], &[0, 4]),
+    (1, 9, [0x300, 1, 0xffff_ffff, 0, 0], &[0]),
+    (1, 2, [0x300, 0, 0, 0, 0], &[0, 0x10_0000]),
+    (1, 8, [0x300, 4, 0, 0, 0], &[0, 4]),
+    (1, 8, [0x300, 0, 0, 0, 0], &[0, 0]),
+    (1, 7, [0x300, 0, 0, 0, 0], &[0]),
+    (1, 8, [0x300, 4, 0, 0, 0], &[0, 3]),
+];
+
+const A_SET_LOSES_ITS_MEMBER: [Row; 7] = [
+    (1, 5, [1, 0, 0, 0, 0], &[0, 0x100]),
+    (1, 5, [3, 0, 0, 0, 0], &[0, 0x101]),
+    (1, 15, [0x100, 0x101, 0, 0, 0], &[0]),
+    (1, 14, [0x101, 0, 0, 0, 0], &[0, 1, 0x100]),
+    (1, 14, [0x100, 0, 0, 0, 0], &[17]),
+    (1, 6, [0x101, 0, 0, 0, 0], &[0]),
+    (1, 15, [0x100, 0, 0, 0, 0], &[12]),
+];
+
+const A_TASK_IS_ATTACHED: [Row; 7] = [
+    (1, 5, [1, 0, 0, 0, 0], &[0, 0x100]),
+    (1, 20, [0x100, 20, 0, 0, 0], &[0, 2, 0x100]),
+    (1, 0, [2, 0, 0, 0, 0], &[0]),
+    (2, 2, [0x100, 0, 0, 0, 0], &[0, 0x1_0000]),
+    (2, 0, [9, 0, 0, 0, 0], &[16]),
+    (2, 2, [0x100, 0, 0, 0, 0], &[0, 0x1_0000]),
+    (2, 5, [4, 0, 0, 0, 0], &[0, 0x101]),
+];
+
+// A connection stays attached to a space that is gone.
+const A_SPACE_GOES: [Row; 6] = [
+    (1, 5, [1, 0, 0, 0, 0], &[0, 0x100]),
+    (1, 20, [0x100, 20, 0, 0, 0], &[0, 2, 0x100]),
+    (2, 21, [0; 5], &[0]),
+    (2, 0, [1, 0, 0, 0, 0], &[16]),
+    (2, 2, [0x100, 0, 0, 0, 0], &[16]),
+    (2, 21, [0; 5], &[16]),
+];
+
+const SEND_ONCE_RIGHTS_GO: [Row; 9] = [
+    (1, 5, [1, 0, 0, 0, 0], &[0, 0x100]),
+    (1, 18, [0x100, 21, 0, 0, 0], &[0, 0x101, 18]),
+    (1, 13, [0x100, 0, 0, 0, 0], &[0, 0, 0, 0, 5, 0, 1, 0, 0, 0]),
+    (1, 6, [0x101, 0, 0, 0, 0], &[0]),
+    (1, 13, [0x100, 0, 0, 0, 0], &[0, 0, 0, 0, 5, 1, 1, 0, 0, 0]),
+    (1, 18, [0x100, 21, 0, 0, 0], &[0, 0x101, 18]),
+    (1, 9, [0x100, 1, 0xffff_ffff, 0, 0], &[0]),
+    (1, 2, [0x101, 0, 0, 0, 0], &[0, 0x10_0000]),
+    (1, 8, [0x101, 4, 0, 0, 0], &[0, 1]),
+];
+
+const REQUESTS_ARE_REPLACED: [Row; 12] = [
+    (1, 5, [1, 0, 0, 0, 0], &[0, 0x100]),
+    (1, 16, [0x100, 72, 0, 0x100, 21], &[0, 0]),
+    (1, 2, [0x100, 0, 0, 0, 0], &[0, 0x8002_0000]),
+    (1, 16, [0x100, 72, 0, 0x100, 21], &[0, 0x101]),
+    (1, 2, [0x101, 0, 0, 0, 0], &[0, 0x4_0000]),
+    (1, 13, [0x100, 0, 0, 0, 0], &[0, 0, 0, 0, 5, 0, 2, 0, 0, 0]),
+    (1, 16, [0x100, 72, 0, 0, 0], &[0, 0x102]),
+    (1, 2, [0x100, 0, 0, 0, 0], &[0, 0x2_0000]),
+    (1, 16, [0x100, 71, 0, 0x100, 21], &[18]),
+    (1, 16, [0x100, 69, 1, 0x100, 21], &[18]),
+    (1, 5, [4, 0, 0, 0, 0], &[0, 0x103]),
+    (1, 16, [0x103, 72, 0, 0x100, 21], &[4]),
+];
+
+const A_PORT_ASKS_FOR_ITSELF: [Row; 4] = [
+    (1, 5, [1, 0, 0, 0, 0], &[0, 0x100]),
+    (1, 16, [0x100, 69, 0, 0x100, 21], &[0, 0]),
+    (1, 6, [0x100, 0, 0, 0, 0], &[0]),
+    (1, 1, [0; 5], &[0, 0]),
+];
+
+const A_DEAD_NAME_IS_TOLD_OF: [Row; 9] = [
+    (1, 5, [1, 0, 0, 0, 0], &[0, 0x100]),
+    (1, 20, [0x100, 20, 0, 0, 0], &[0, 2, 0x100]),
+    (2, 5, [1, 0, 0, 0, 0], &[0, 0x101]),
+    (2, 16, [0x100, 72, 0, 0x101, 21], &[0, 0]),
+    (2, 2, [0x100, 0, 0, 0, 0], &[0, 0x8001_0000]),
+    (1, 6, [0x100, 0, 0, 0, 0], &[0]),
+    (2, 2, [0x100, 0, 0, 0, 0], &[0, 0x10_0000]),
+    (2, 8, [0x100, 4, 0, 0, 0], &[0, 2]),
+    (2, 13, [0x101, 0, 0, 0, 0], &[0, 0, 0, 0, 5, 1, 1, 0, 0, 0]),
+];
+
+const A_DELETED_NAME_IS_TOLD_OF: [Row; 7] = [
+    (1, 5, [1, 0, 0, 0, 0], &[0, 0x100]),
+    (1, 20, [0x100, 20, 0, 0, 0], &[0, 2, 0x100]),
+    (2, 5, [1, 0, 0, 0, 0], &[0, 0x101]),
+    (2, 16, [0x100, 72, 0, 0x101, 21], &[0, 0]),
+    (2, 7, [0x100, 0, 0, 0, 0], &[0]),
+    (2, 2, [0x100, 0, 0, 0, 0], &[15]),
+    (2, 13, [0x101, 0, 0, 0, 0], &[0, 0, 0, 0, 5, 1, 1, 0, 0, 0]),
+];
+
+const BOUNDS_OF_REFERENCES_AND_LIMITS: [Row; 8] = [
+    (1, 5, [1, 0, 0, 0, 0], &[0, 0x100]),
+    (1, 17, [0x100, 0x100, 20, 0, 0], &[0]),
+    (1, 9, [0x100, 0, 65_533, 0, 0], &[0]),
+    (1, 9, [0x100, 0, 1, 0, 0], &[19]),
+    (1, 10, [0x100, 17, 0, 0, 0], &[18]),
+    (1, 15, [0x100, 0, 0, 0, 0], &[12]),
+    (1, 6, [0x1ff, 0, 0, 0, 0], &[15]),
+    (1, 21, [0; 5], &[5]),
+];
+
+/// A call's frame and its reply's.
+fn push_row(input: &mut Vec<u8>, replies: &mut Vec<u8>, row: &Row) -> Result<(), AllocError> {
+    let (_, number, arguments, words) = *row;
+    push_call(input, number, arguments)?;
+    let length = u32::try_from(words.len()).unwrap_or(0);
+    push_word(replies, length.saturating_mul(4).saturating_add(4))?;
+    push_word(replies, number)?;
+    for word in words {
+        push_word(replies, *word)?;
+    }
+    Ok(())
+}
+
+/// Makes calls, one after another: on one server, or each on a server of its own, which stops after it.
+fn story(rt: &impl Abort, alloc: Global, rows: &[Row], stops: bool) -> Result<(), Fail> {
+    let mut disk = MemDisk::new(alloc);
+    let mut input = Vec::new(alloc);
+    let mut replies = Vec::new(alloc);
+    let mut space = 1;
+    for row in rows {
+        if row.0 != space {
+            push_row(
+                &mut input,
+                &mut replies,
+                &(space, 0, [row.0, 0, 0, 0, 0], &[0]),
+            )?;
+            space = row.0;
+        }
+        push_row(&mut input, &mut replies, row)?;
+        if stops {
+            let (output, end, used) = served(alloc, disk, &input)?;
+            assert_eq!(rt; end, Ok(()));
+            assert_eq!(rt; output.as_slice(), replies.as_slice());
+            disk = used.after_stop()?;
+            input.clear();
+            replies.clear();
+            space = 1;
+        }
+    }
+    let (output, end, _) = served(alloc, disk, &input)?;
+    assert_eq!(rt; end, Ok(()));
+    assert_eq!(rt; output.as_slice(), replies.as_slice());
+    Ok(())
+}
+
+#[test]
+fn calls_outlive_a_stop_after_each(rt: HostRuntime) -> Result<(), Fail> {
+    let stories: [&[Row]; 10] = [
+        &NAMES_ARE_CHANGED,
+        &REFERENCES_ARE_COUNTED,
+        &A_SET_LOSES_ITS_MEMBER,
+        &A_TASK_IS_ATTACHED,
+        &SEND_ONCE_RIGHTS_GO,
+        &REQUESTS_ARE_REPLACED,
+        &A_PORT_ASKS_FOR_ITSELF,
+        &A_DEAD_NAME_IS_TOLD_OF,
+        &A_DELETED_NAME_IS_TOLD_OF,
+        &BOUNDS_OF_REFERENCES_AND_LIMITS,
+    ];
+    for rows in stories {
+        story(&rt, rt.alloc(), rows, false)?;
+        story(&rt, rt.alloc(), rows, true)?;
+    }
+    story(&rt, rt.alloc(), &A_SPACE_GOES, false)
 }
 
 // What isn't served yet.

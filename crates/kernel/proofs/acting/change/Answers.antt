@@ -1,7 +1,5 @@
-use Rattle.std.specs.Prelude.{◌≡◌}
 use Rattle.std.proofs.Common.{refl, sym, subst}
 use Rattle.ipc_model.specs.declared.call.Call.{Call}
-use Rattle.ipc_model.specs.declared.call.Call.TheVariants as call
 use Rattle.kernel.specs.Choosing.{Prefers, prefers_told, prefers_allocate}
 use Rattle.kernel.proofs.acting.change.Goals as goal
 

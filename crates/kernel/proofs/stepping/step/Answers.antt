@@ -1,4 +1,3 @@
-use Rattle.std.specs.Prelude.{◌≡◌}
 use Rattle.std.proofs.Common.{sym, ap, ◌∙◌}
 use Rattle.codes.specs.declared.kern_return.KernReturn.TheVariants.{InvalidTask}
 use Rattle.ipc_model.specs.Refusals.{refused_of}

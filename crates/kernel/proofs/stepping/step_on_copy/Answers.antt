@@ -19,8 +19,8 @@ pub returns-clause-step : goal.returns-clause-step
 returns-clause-step c =
     let served = of_some _ c.in_ok-reply.field-0 c.in-Some.reply c.in-Some.is c.in_ok-reply.ensures.served in
     let tries = of_some _ c.in_ok-reply.field-0 c.in-Some.reply c.in-Some.is c.in_ok-reply.ensures.tries in
-    step_tried c.args.state.now c.in_ok-copy.copy c.args.space c.args.call.now c.in-Some.reply c.try_call.new.state c.settle.new.state c.try_call.new.effects c.in_ok-copy.ensures served c.requires.there
-    (sym c.is_refusal.ensures ∙ c.if-is_refusal.false) tries c.in_ok-settle.ensures
+    step_tried c.args.state.now c.in_ok-copy.copy c.args.space c.args.call.now c.in-Some.reply c.try_call.new.state c.in_ok-state.field-0 c.try_call.new.effects c.in_ok-copy.ensures served c.requires.there
+    (sym c.is_refusal.ensures ∙ c.if-is_refusal.false) tries c.in_ok-state.ensures
 
 pub returns-clause-shown : goal.returns-clause-shown
 returns-clause-shown c =

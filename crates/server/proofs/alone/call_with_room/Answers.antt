@@ -1,4 +1,4 @@
-use Rattle.std.proofs.Common.{◌≡◌, true, ℕ, refl, sym, ap, subst, ◌∙◌, arith}
+use Rattle.std.proofs.Common.{◌≡◌, true, ℕ, refl, sym, ap, subst, ◌∙◌}
 use Rattle.disk.specs.Slots.{Slots}
 use Rattle.ipc_model.specs.State.{State}
 use Rattle.ipc_model.specs.Step.{has_record}
@@ -10,20 +10,20 @@ use Rattle.server.proofs.alone.call_with_room.Goals as goal
 
 pub append-requires-clause-call : goal.append-requires-clause-call
 append-requires-clause-call g c =
-    (frames_fit c.args.kernel.now 1 c.args.call c.in-Ok.reply c.apply.new.self (sym c.has_record.ensures ∙ c.if-not-has_record.false) c.in-Ok.ensures.step c.in-Ok.ensures.fits).0
+    (frames_fit c.args.kernel.now c.args.space c.args.call c.in-Ok.reply c.apply.new.self (sym c.has_record.ensures ∙ c.if-not-has_record.false) c.in-Ok.ensures.step c.in-Ok.ensures.fits).0
 
 pub append-requires-clause-reply : goal.append-requires-clause-reply
 append-requires-clause-reply g c =
-    (frames_fit c.args.kernel.now 1 c.args.call c.in-Ok.reply c.apply.new.self (sym c.has_record.ensures ∙ c.if-not-has_record.false) c.in-Ok.ensures.step c.in-Ok.ensures.fits).1
+    (frames_fit c.args.kernel.now c.args.space c.args.call c.in-Ok.reply c.apply.new.self (sym c.has_record.ensures ∙ c.if-not-has_record.false) c.in-Ok.ensures.step c.in-Ok.ensures.fits).1
 
 pub returns-then-not-has_record-clause-kept : goal.returns-then-not-has_record-clause-kept
 returns-then-not-has_record-clause-kept g c = λ honest kept.
-    let same = unrecorded_step c.args.kernel.now 1 c.args.call c.in-Ok.reply c.apply.new.self c.in-Ok.ensures.step (sym c.has_record.ensures ∙ c.if-not-has_record.true) in
+    let same = unrecorded_step c.args.kernel.now c.args.space c.args.call c.in-Ok.reply c.apply.new.self c.in-Ok.ensures.step (sym c.has_record.ensures ∙ c.if-not-has_record.true) in
     subst (λ (s : State). IsKept (g.D.Disk.view c.args.journal.now.disk) s c.args.journal.now.records) (sym same) kept
 
 pub returns-then-not-has_record-clause-unrecorded : goal.returns-then-not-has_record-clause-unrecorded
 returns-then-not-has_record-clause-unrecorded g c = λ none. (
-  unrecorded_step c.args.kernel.now 1 c.args.call c.in-Ok.reply c.apply.new.self c.in-Ok.ensures.step none,
+  unrecorded_step c.args.kernel.now c.args.space c.args.call c.in-Ok.reply c.apply.new.self c.in-Ok.ensures.step none,
   refl,
 )
 
@@ -33,7 +33,7 @@ returns-in_err-append-clause-passes g c = λ honest kept.
     let recorded : has_record c.args.call c.in-Ok.reply ≡ true = sym c.has_record.ensures ∙ c.if-not-has_record.false in
     let fits = c.append.ensures.fits (kept_call c.args.call c.requires.fits) c.in-Ok.ensures.number recorded in
     passes_so old (g.D.Disk.view c.append.new.self.disk) _ _ (c.append.ensures.any_moment honest (λ left may. ap (λ (s : Slots). s.segment0) (kept.at_rest left may)))
-    (mid_append_stands old c.args.kernel.now c.apply.new.self c.args.journal.now.records c.args.call c.in-Ok.reply kept c.in-Ok.ensures.step fits recorded c.requires.room)
+    (mid_append_stands old c.args.kernel.now c.apply.new.self c.args.journal.now.records c.args.space c.args.call c.in-Ok.reply kept c.in-Ok.ensures.step fits recorded c.requires.room)
 
 pub returns-clause-passes : goal.returns-clause-passes
 returns-clause-passes g c = λ honest kept.
@@ -41,7 +41,7 @@ returns-clause-passes g c = λ honest kept.
     let recorded : has_record c.args.call c.in-Ok.reply ≡ true = sym c.has_record.ensures ∙ c.if-not-has_record.false in
     let fits = c.append.ensures.fits (kept_call c.args.call c.requires.fits) c.in-Ok.ensures.number recorded in
     passes_so old (g.D.Disk.view c.append.new.self.disk) _ _ (c.append.ensures.any_moment honest (λ left may. ap (λ (s : Slots). s.segment0) (kept.at_rest left may)))
-    (mid_append_stands old c.args.kernel.now c.apply.new.self c.args.journal.now.records c.args.call c.in-Ok.reply kept c.in-Ok.ensures.step fits recorded c.requires.room)
+    (mid_append_stands old c.args.kernel.now c.apply.new.self c.args.journal.now.records c.args.space c.args.call c.in-Ok.reply kept c.in-Ok.ensures.step fits recorded c.requires.room)
 
 pub returns-clause-kept : goal.returns-clause-kept
 returns-clause-kept g c = λ honest kept.
@@ -50,7 +50,7 @@ returns-clause-kept g c = λ honest kept.
     let recorded : has_record c.args.call c.in-Ok.reply ≡ true = sym c.has_record.ensures ∙ c.if-not-has_record.false in
     let fits = c.append.ensures.fits (kept_call c.args.call c.requires.fits) c.in-Ok.ensures.number recorded in
     subst (λ (n : ℕ). IsKept new c.apply.new.self n) (sym c.in_ok-append.ensures.counted.0)
-    (appended_kept old new c.args.kernel.now c.apply.new.self c.args.journal.now.records c.args.call c.in-Ok.reply kept c.in-Ok.ensures.step fits c.requires.room
+    (appended_kept old new c.args.kernel.now c.apply.new.self c.args.journal.now.records c.args.space c.args.call c.in-Ok.reply kept c.in-Ok.ensures.step fits c.requires.room
     (c.in_ok-append.ensures.stored honest) (c.in_ok-append.ensures.synced honest) (c.append.ensures.any_moment honest (λ left may. ap (λ (s : Slots). s.segment0) (kept.at_rest left may))))
 
 pub returns-in_default-clause-frame : goal.returns-in_default-clause-frame

@@ -1,4 +1,3 @@
-use Rattle.std.specs.Prelude.{◌≡◌}
 use Rattle.std.proofs.Common.{sym, subst, ◌∙◌, arith}
 use Rattle.ipc_model.specs.State.{State}
 use Rattle.kernel.specs.Fitting.{step_within}
