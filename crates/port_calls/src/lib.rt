@@ -26,6 +26,3 @@ pub use removal::destroy;
 pub use renaming::rename;
 pub use requests::request_notification;
 pub use spaces::{attach, space_create, space_destroy};
-
-#[cfg(test)]
-mod tests;
