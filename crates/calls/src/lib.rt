@@ -10,8 +10,6 @@ mod request;
 mod results;
 mod run;
 mod spell;
-#[cfg(test)]
-mod tests;
 
 pub use frame::reply_frame;
 pub use read::read_call;

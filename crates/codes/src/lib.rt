@@ -13,6 +13,3 @@ pub use limits::{
 };
 pub use name::{DEFAULT_QUEUE_LIMIT, FIRST_NAME, MACH_PORT_DEAD, MACH_PORT_NULL, MAX_QUEUE_LIMIT};
 pub use right::Right;
-
-#[cfg(test)]
-mod tests;

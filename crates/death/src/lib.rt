@@ -7,6 +7,3 @@ mod release;
 mod settling;
 
 pub use settling::settle;
-
-#[cfg(test)]
-mod tests;

@@ -8,8 +8,6 @@ mod memory;
 mod plan;
 mod slot;
 mod stop;
-#[cfg(test)]
-mod tests;
 
 pub use device::{Disk, DiskFault};
 pub use file::FileDisk;

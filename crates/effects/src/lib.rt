@@ -8,6 +8,3 @@ mod notice;
 pub use effect::Effect;
 pub use list::Effects;
 pub use notice::Notice;
-
-#[cfg(test)]
-mod tests;

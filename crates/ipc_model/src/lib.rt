@@ -8,8 +8,6 @@ mod message;
 mod port;
 mod record;
 mod sequence;
-#[cfg(test)]
-mod tests;
 
 pub use call::{Call, MACH_MSG, NamedType, ReceiveStatus, Reply};
 pub use entry::{Entry, PortRights};

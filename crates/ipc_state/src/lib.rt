@@ -8,6 +8,3 @@ mod spaces;
 mod state;
 
 pub use state::IpcState;
-
-#[cfg(test)]
-mod tests;

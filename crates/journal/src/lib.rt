@@ -4,8 +4,6 @@
 mod fault;
 mod journal;
 mod read;
-#[cfg(test)]
-mod tests;
 
 pub use fault::StoreFault;
 pub use journal::{CLOSED_GATE, Journal, OPEN_GATE};

@@ -11,6 +11,3 @@ mod stepping;
 
 pub use kernel::{Kernel, ReplayFault};
 pub use laws::{one_served_state, recorded_steps_are_steps, unrecorded_steps_change_nothing};
-
-#[cfg(test)]
-mod tests;

@@ -6,6 +6,3 @@ mod text;
 
 pub use requests::{replace_no_senders, replace_port_destroyed, with_request};
 pub use text::message;
-
-#[cfg(test)]
-mod tests;

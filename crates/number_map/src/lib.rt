@@ -149,6 +149,3 @@ impl<V: Drop> NumberMap<V> {
         });
     }
 }
-
-#[cfg(test)]
-mod tests;

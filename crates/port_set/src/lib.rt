@@ -6,6 +6,3 @@ mod moves;
 
 pub use member::{member_ports, members, received_port, received_ports};
 pub use moves::{move_member, move_ports};
-
-#[cfg(test)]
-mod tests;

@@ -6,6 +6,3 @@ mod death;
 mod space;
 
 pub use space::PortSpace;
-
-#[cfg(test)]
-mod tests;

@@ -6,6 +6,3 @@ mod ports;
 
 pub use port::{Port, PortNumbers};
 pub use ports::Ports;
-
-#[cfg(test)]
-mod tests;

@@ -7,6 +7,3 @@ mod queue;
 mod rights;
 
 pub use queue::{PushFault, Queue};
-
-#[cfg(test)]
-mod tests;

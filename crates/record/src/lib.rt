@@ -4,8 +4,6 @@
 mod frame;
 mod ranges;
 mod read;
-#[cfg(test)]
-mod tests;
 mod write;
 
 pub use frame::take_frame;

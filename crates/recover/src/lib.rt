@@ -5,8 +5,6 @@ mod laws;
 mod making;
 mod opening;
 mod reading;
-#[cfg(test)]
-mod tests;
 
 pub use laws::stands_as_written;
 pub use opening::{Opened, open};

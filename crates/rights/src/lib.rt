@@ -12,6 +12,3 @@ pub use copy_out::{arrival_name, may_arrive, put_right};
 pub use disposition::Disposition;
 pub use left::{announce_left, is_empty, request_of, set_left};
 pub use wanted::names_wanted;
-
-#[cfg(test)]
-mod tests;

@@ -4,8 +4,6 @@
 mod alone;
 mod program;
 mod service;
-#[cfg(test)]
-mod tests;
 
 pub use alone::{Alone, Caller};
 pub use program::lone;

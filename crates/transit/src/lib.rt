@@ -33,6 +33,3 @@ fn climbs_to(ports: &Ports, port: u64, queue: u64) -> bool
     }
     at == port
 }
-
-#[cfg(test)]
-mod tests;

@@ -12,6 +12,3 @@ pub use fault::WireFault;
 pub use frame::Frame;
 pub use read::read_frame;
 pub use write::write_frame;
-
-#[cfg(test)]
-mod tests;

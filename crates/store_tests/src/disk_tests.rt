@@ -1,4 +1,4 @@
-use crate::{Disk, DiskFault, FileDisk, MemDisk, Slot, Torn};
+use disk::{Disk, DiskFault, FileDisk, MemDisk, Slot, Torn};
 use std::alloc::Global;
 use std::io::{self, ErrorKind};
 use std::test::Fail;

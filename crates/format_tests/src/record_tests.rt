@@ -1,6 +1,6 @@
-use super::*;
 use codes::KernReturn;
 use ipc_model::{Call, Record, Reply, Sequence};
+use record::{in_range, push_record, take_frame, take_record};
 use std::test::Fail;
 
 // Number 0: space 1, the call allocate of a receive right, and the reply with the name 0x100.

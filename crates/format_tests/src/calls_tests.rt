@@ -1,7 +1,10 @@
 ghost use Rattle.std.specs.Prelude.{◌≤◌, length};
 ghost use Rattle.ipc_model.specs.Texts.{reply_text};
 
-use super::*;
+use calls::{
+    CallFault, MessageRequest, Request, push_call, push_reply, read_call, read_recorded_reply,
+    read_request, reply_frame,
+};
 use codes::{KernReturn, MAX_FRAME_CONTENT};
 use ipc_model::{Call, NamedType, ReceiveStatus, Reply, RightKind, Sequence};
 use std::alloc::AllocError;
@@ -28,6 +31,29 @@ fn call_bytes(rt: &HostRuntime, call: &Call) -> Result<Vec<u8>, AllocError> {
     let mut text = Vec::new(rt.alloc());
     push_call(&mut text, call)?;
     Ok(text)
+}
+
+// Whether a call is written as these numbers, and so written again once it was read of a record, and of a frame.
+fn read_and_written(rt: &HostRuntime, call: &Call, numbers: &[u32]) -> Result<[bool; 3], Fail> {
+    let text = text_of(rt, numbers)?;
+    let read = read_call(rt.alloc(), &text)?.ok_or("a call is read")?;
+    let Ok(Request::One(asked)) = read_request(rt.alloc(), &frame_of(rt, &text)?) else {
+        return Err(Fail::new("a frame asks for its call"));
+    };
+    Ok([
+        call_bytes(rt, call)?.as_slice() == text.as_slice(),
+        call_bytes(rt, &read)?.as_slice() == text.as_slice(),
+        call_bytes(rt, &asked)?.as_slice() == text.as_slice(),
+    ])
+}
+
+// Whether these numbers with a byte more are no call.
+fn is_one_spelling(rt: &HostRuntime, numbers: &[u32]) -> Result<bool, Fail> {
+    let mut text = text_of(rt, numbers)?;
+    text.push(0)?;
+    let frame = frame_of(rt, &text)?;
+    let is_refused = matches!(read_request(rt.alloc(), &frame), Err(CallFault::NoCall));
+    Ok(read_call(rt.alloc(), &text)?.is_none() && is_refused)
 }
 
 #[test]
@@ -97,31 +123,12 @@ fn calls_as_bytes(rt: HostRuntime) -> Result<(), Fail> {
         (Call::SpaceDestroy, &[21]),
     ];
     for (call, numbers) in &rows {
-        let mut text = text_of(&rt, numbers)?;
         assert_eq!(rt;
-            call_bytes(&rt, call)?.as_slice(),
-            text.as_slice(),
+            read_and_written(&rt, call, numbers)?,
+            [true; 3],
             "{call:?}"
         );
-        let read = read_call(rt.alloc(), &text)?.ok_or("a call is read")?;
-        assert_eq!(rt;
-            call_bytes(&rt, &read)?.as_slice(),
-            text.as_slice(),
-            "{call:?}"
-        );
-        let frame = frame_of(&rt, &text)?;
-        let Ok(Request::One(asked)) = read_request(rt.alloc(), &frame) else {
-            return Err(Fail::from("a frame asks for its call"));
-        };
-        assert_eq!(rt;
-            call_bytes(&rt, &asked)?.as_slice(),
-            text.as_slice(),
-            "{call:?}"
-        );
-        text.push(0)?;
-        assert!(rt; read_call(rt.alloc(), &text)?.is_none(), "{call:?}");
-        let frame = frame_of(&rt, &text)?;
-        assert!(rt; matches!(read_request(rt.alloc(), &frame), Err(CallFault::NoCall)));
+        assert!(rt; is_one_spelling(&rt, numbers)?, "{call:?}");
     }
     Ok(())
 }
@@ -265,6 +272,12 @@ fn replies_as_bytes(rt: HostRuntime) -> Result<(), Fail> {
     assert!(rt; is_spelled_in_words(&rt, &Reply::Allocate { name: 0x100 }, &[5, 0, 0x100])?);
     assert!(rt; is_spelled_in_words(&rt, &Reply::References { count: 3 }, &[8, 0, 3])?);
     assert!(rt; is_spelled_in_words(&rt, &Reply::PreviousTarget { name: 9 }, &[16, 0, 9])?);
+    Ok(())
+}
+
+#[tactic(auto, unfolding(ipc_model::specs::Texts::reply_text))]
+#[test]
+fn replies_with_two_results_as_bytes(rt: HostRuntime) -> Result<(), Fail> {
     let extracted = Reply::Extracted {
         name: 9,
         kind: RightKind::SendOnce,
@@ -272,6 +285,12 @@ fn replies_as_bytes(rt: HostRuntime) -> Result<(), Fail> {
     assert!(rt; is_spelled_in_words(&rt, &extracted, &[18, 0, 9, 18])?);
     let created = Reply::SpaceCreated { space: 2, name: 1 };
     assert!(rt; is_spelled_in_words(&rt, &created, &[20, 0, 2, 1])?);
+    Ok(())
+}
+
+#[tactic(auto, unfolding(ipc_model::specs::Texts::reply_text))]
+#[test]
+fn a_status_as_bytes(rt: HostRuntime) -> Result<(), Fail> {
     let status = ReceiveStatus {
         set: 9,
         sequence_number: 1,
@@ -323,30 +342,41 @@ fn is_recorded(rt: &HostRuntime, call: &Call, numbers: &[u32]) -> Result<bool, F
 }
 
 #[test]
-fn replies_of_records(rt: HostRuntime) -> Result<(), Fail> {
+fn an_allocation_of_a_record(rt: HostRuntime) -> Result<(), Fail> {
     let allocate = Call::Allocate { right: 1 };
     let text = text_of(&rt, &[5, 0, 0x100])?;
     let Some(Reply::Allocate { name }) = read_recorded_reply(rt.alloc(), &allocate, &text)? else {
-        return Err(Fail::from("an allocation is read"));
+        return Err(Fail::new("an allocation is read"));
     };
     assert_eq!(rt; name, 0x100);
-    assert!(rt; is_recorded(&rt, &allocate, &[5, 0])?);
-    assert!(rt; !is_recorded(&rt, &allocate, &[5, 3])?);
-    assert!(rt; !is_recorded(&rt, &allocate, &[5, 0, 1, 2])?);
-    assert!(rt; !is_recorded(&rt, &allocate, &[7, 0])?);
-    assert!(rt; !is_recorded(&rt, &Call::Type { name: 8 }, &[2, 0, 8])?);
-    assert!(rt; is_recorded(&rt, &Call::SpaceDestroy, &[21, 0])?);
-    let extract = Call::ExtractRight {
+    Ok(())
+}
+
+#[test]
+fn replies_of_records(rt: HostRuntime) -> Result<(), Fail> {
+    let allocate = || Call::Allocate { right: 1 };
+    let extract = || Call::ExtractRight {
         name: 8,
         disposition: 17,
     };
-    assert!(rt; is_recorded(&rt, &extract, &[18, 0, 9, 17])?);
-    assert!(rt; !is_recorded(&rt, &extract, &[18, 0, 9, 19])?);
     let create = Call::SpaceCreate {
         name: 8,
         disposition: 19,
     };
-    assert!(rt; is_recorded(&rt, &create, &[20, 0, 2, 1])?);
+    let rows: [(Call, &[u32], bool); 9] = [
+        (allocate(), &[5, 0], true),
+        (allocate(), &[5, 3], false),
+        (allocate(), &[5, 0, 1, 2], false),
+        (allocate(), &[7, 0], false),
+        (Call::Type { name: 8 }, &[2, 0, 8], false),
+        (Call::SpaceDestroy, &[21, 0], true),
+        (extract(), &[18, 0, 9, 17], true),
+        (extract(), &[18, 0, 9, 19], false),
+        (create, &[20, 0, 2, 1], true),
+    ];
+    for (call, numbers, recorded) in &rows {
+        assert_eq!(rt; is_recorded(&rt, call, numbers)?, *recorded, "{numbers:?}");
+    }
     Ok(())
 }
 

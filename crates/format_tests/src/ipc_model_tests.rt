@@ -1,5 +1,5 @@
-use super::*;
 use codes::KernReturn;
+use ipc_model::{Call, MACH_MSG, Message, Reply, RightKind, Sequence};
 use std::test::Fail;
 
 #[test]

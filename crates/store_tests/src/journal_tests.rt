@@ -1,9 +1,9 @@
 ghost use Rattle.std.specs.Prelude.{◌<◌, ◌^◌, length};
 ghost use Rattle.ipc_model.specs.Texts.{call_text, reply_text};
 
-use super::*;
 use disk::{MemDisk, Slot, Torn};
 use ipc_model::{Call, Record, Reply};
+use journal::{Journal, StoreFault, read_batches};
 use std::test::Fail;
 
 // A segment of epoch 0 with one batch: that of the record 0, which is the allocation of the name 0x100.

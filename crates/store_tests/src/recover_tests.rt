@@ -1,10 +1,10 @@
 ghost use Rattle.std.specs.Prelude.{◌<◌, ◌^◌, length};
 ghost use Rattle.ipc_model.specs.Texts.{call_text, reply_text};
 
-use super::*;
 use disk::{MemDisk, Slot, Torn};
 use ipc_model::{Call, Record, Reply};
 use journal::{Journal, StoreFault};
+use recover::{Opened, open};
 use std::alloc::Global;
 use std::test::Fail;
 

@@ -1,8 +1,8 @@
-use crate::{Alone, ServeFault, lone, serve};
 use disk::{Disk, MemDisk, Slot, Torn};
 use ipc_model::Reply;
 use journal::StoreFault;
 use recover::open;
+use server::{Alone, ServeFault, lone, serve};
 use std::alloc::{AllocError, Global};
 use std::process::Abort;
 use std::test::Fail;

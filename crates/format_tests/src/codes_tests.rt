@@ -1,4 +1,4 @@
-use super::*;
+use codes::{KernReturn, Right};
 
 // Numbers that are on the wire, against the definitions that the clauses cite.
 #[test]

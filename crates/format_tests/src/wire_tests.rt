@@ -1,8 +1,8 @@
-use super::*;
 use std::alloc::Global;
 use std::io;
 use std::io::{Read, Write};
 use std::test::Fail;
+use wire::{Frame, WireFault, read_frame, write_frame};
 
 // The frame of the number 5 and the argument 1.
 const FRAME: [u8; 12] = [8, 0, 0, 0, 5, 0, 0, 0, 1, 0, 0, 0];

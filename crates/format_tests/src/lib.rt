@@ -1,0 +1,15 @@
+//! Tests of the formats: words, codes, frames, calls and records.
+#![tactic(auto)]
+
+#[cfg(test)]
+mod calls_tests;
+#[cfg(test)]
+mod codes_tests;
+#[cfg(test)]
+mod ipc_model_tests;
+#[cfg(test)]
+mod record_tests;
+#[cfg(test)]
+mod wire_tests;
+#[cfg(test)]
+mod words_tests;

@@ -1,0 +1,5 @@
+//! Tests of the kernel: calls and what they answer, and the bounds.
+#![tactic(auto)]
+
+#[cfg(test)]
+mod calls_made;
