@@ -1,4 +1,4 @@
-use crate::making::{carrying, right};
+use crate::making::{carrying, right, with_reply};
 use effects::{Effect, Effects, Notice};
 use ipc_model::RightKind;
 use std::alloc::{AllocError, Global};
@@ -21,7 +21,8 @@ fn notices(alloc: Global) -> Result<Effects, AllocError> {
 /// The releases of a message's rights, and of a request's target.
 fn releases(alloc: Global) -> Result<Effects, AllocError> {
     let mut effects = Effects::new(alloc);
-    effects.release_message(&carrying(alloc, 0, &[right(RightKind::Receive, 4)])?)?;
+    let message = carrying(alloc, 0, &[right(RightKind::Receive, 4)])?;
+    effects.release_message(&with_reply(message, 3))?;
     effects.release_target(None)?;
     effects.release_target(Some(5))?;
     Ok(effects)
@@ -41,7 +42,8 @@ fn notices_come_in_their_order(rt: HostRuntime) -> Result<(), Fail> {
 fn releases_come_in_their_order(rt: HostRuntime) -> Result<(), Fail> {
     let taken = take_three(&mut releases(rt.alloc())?);
     let release = |kind, port| Some(Effect::Release { kind, port });
+    let reply = release(RightKind::SendOnce, 3);
     let receive = release(RightKind::Receive, 4);
-    assert_eq!(rt; taken, [receive, release(RightKind::SendOnce, 5), None]);
+    assert_eq!(rt; taken, [reply, receive, release(RightKind::SendOnce, 5)]);
     Ok(())
 }

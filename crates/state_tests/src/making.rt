@@ -1,4 +1,5 @@
-//! Small states for tests. What is made here has no contract, so that a test's proof doesn't carry it along.
+//! Small states for tests. What is made here has no contract but what premises want, so that a test's proof doesn't
+//! carry it along.
 ghost use Rattle.std.specs.Prelude.{◌≤◌};
 ghost use Rattle.port_space.specs.References.{AreFewReferences};
 
@@ -9,7 +10,7 @@ use std::alloc::{AllocError, Global};
 use std::test::Fail;
 
 /// Adds a port, and gives its serial.
-pub fn add_port(state: &mut IpcState) -> Result<u64, Fail> {
+pub(crate) fn add_port(state: &mut IpcState) -> Result<u64, Fail> {
     let serial = state.next_serial();
     if state.is_out_of_ports() || state.ports().contains(serial) {
         return Err(Fail::new("there is room for a port"));
@@ -19,7 +20,7 @@ pub fn add_port(state: &mut IpcState) -> Result<u64, Fail> {
 }
 
 /// Has a name of a space stand for this.
-pub fn put(state: &mut IpcState, space: u32, name: u32, entry: Entry) -> Result<(), Fail>
+pub(crate) fn put(state: &mut IpcState, space: u32, name: u32, entry: Entry) -> Result<(), Fail>
     requires { AreFewReferences entry }
 {
     if state.names(space) >= MAX_NAMES {
@@ -30,7 +31,7 @@ pub fn put(state: &mut IpcState, space: u32, name: u32, entry: Entry) -> Result<
 }
 
 /// The opening state, and in it ports of the serials from 1 on.
-pub fn with_ports(alloc: Global, count: u64) -> Result<IpcState, Fail> {
+pub(crate) fn with_ports(alloc: Global, count: u64) -> Result<IpcState, Fail> {
     let mut state = IpcState::opening(alloc)?;
     for _ in 0..count {
         add_port(&mut state)?;
@@ -39,7 +40,7 @@ pub fn with_ports(alloc: Global, count: u64) -> Result<IpcState, Fail> {
 }
 
 /// A receive right with so many references of a send right, and the target of a dead-name request.
-pub fn received(port: u64, send: u32, dead_name_target: Option<u64>) -> Entry
+pub(crate) fn received(port: u64, send: u32, dead_name_target: Option<u64>) -> Entry
     requires { send ≤ 65534 }
     ensures { AreFewReferences result }
 {
@@ -52,7 +53,7 @@ pub fn received(port: u64, send: u32, dead_name_target: Option<u64>) -> Entry
 }
 
 /// A right of a kind to a live port.
-pub fn right(kind: RightKind, port: u64) -> CarriedRight {
+pub(crate) fn right(kind: RightKind, port: u64) -> CarriedRight {
     CarriedRight {
         kind,
         port: PortInMessage::Live(port),
@@ -60,7 +61,11 @@ pub fn right(kind: RightKind, port: u64) -> CarriedRight {
 }
 
 /// A message by a send right that carries these rights.
-pub fn carrying(alloc: Global, id: u32, rights: &[CarriedRight]) -> Result<Message, AllocError> {
+pub(crate) fn carrying(
+    alloc: Global,
+    id: u32,
+    rights: &[CarriedRight],
+) -> Result<Message, AllocError> {
     let mut carried = Vec::new(alloc);
     for right in rights {
         carried.push(*right)?;
@@ -73,4 +78,12 @@ pub fn carrying(alloc: Global, id: u32, rights: &[CarriedRight]) -> Result<Messa
         rights: Sequence::new(carried),
         body: Sequence::new(Vec::new(alloc)),
     })
+}
+
+/// The message with a send-once right to a port as its reply right.
+pub(crate) fn with_reply(message: Message, port: u64) -> Message {
+    Message {
+        reply: Some(right(RightKind::SendOnce, port)),
+        ..message
+    }
 }

@@ -1,4 +1,4 @@
-use crate::making::{carrying, right};
+use crate::making::{carrying, right, with_reply};
 use ipc_model::{CarriedRight, PortInMessage, RightKind};
 use queue::{PushFault, Queue};
 use std::alloc::{AllocError, Global};
@@ -42,7 +42,7 @@ fn the_oldest_message_comes_first(rt: HostRuntime) -> Result<(), Fail> {
     Ok(())
 }
 
-/// A queue with the receive rights of ports 7 and 8 and two send rights, and what a dead one left.
+/// A queue with the receive rights of ports 7 and 8 and send rights to both, and a reply right to port 9.
 fn with_rights(alloc: Global) -> Result<Queue, AllocError> {
     let mut queue = Queue::new(alloc);
     let receive = [right(RightKind::Receive, 7), right(RightKind::Receive, 8)];
@@ -52,7 +52,7 @@ fn with_rights(alloc: Global) -> Result<Queue, AllocError> {
         port: PortInMessage::Null,
     };
     let send = [right(RightKind::Send, 7), null, right(RightKind::Send, 8)];
-    queue.push_forced(carrying(alloc, 2, &send)?)?;
+    queue.push_forced(with_reply(carrying(alloc, 2, &send)?, 9))?;
     Ok(queue)
 }
 
@@ -64,6 +64,7 @@ fn rights_are_counted(rt: HostRuntime) -> Result<(), Fail> {
     // Two messages by send rights to the queue's own port, and one carried.
     assert_eq!(rt; queue.rights_to(7, RightKind::Send, 7), 3);
     assert_eq!(rt; queue.rights_to(7, RightKind::Receive, 8), 1);
+    assert_eq!(rt; queue.rights_to(7, RightKind::SendOnce, 9), 1);
     Ok(())
 }
 
