@@ -1,5 +1,5 @@
 -- A space that was added, and gets other names at once.
-use Rattle.std.specs.Prelude.{◌≡◌, ℕ, cond, Bool, Option, None, Some}
+use Rattle.std.specs.Prelude.{◌≡◌, ℕ, cond, Bool, Some}
 use Rattle.std.proofs.Common.{◌∙◌, ap}
 use Rattle.std.specs.Cmp.{nat_cmp_total}
 use Rattle.std.specs.Ordering.{nat_cmp}

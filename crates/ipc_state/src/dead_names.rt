@@ -1,11 +1,11 @@
 ghost use Rattle.std.specs.Prelude.{◌≡◌, ◌++◌, flat_map, OnOk};
 ghost use Rattle.std.specs.FinMap as map;
 ghost use Rattle.ipc_model.specs.Effects.{dead_name_of_entry, is_name_of};
-ghost use Rattle.ipc_model.specs.State.{request_of};
+ghost use Rattle.ipc_state.specs.Walked.{notice_under};
 
 use effects::Effects;
 use ipc_model::Entry;
-use port_space::PortSpace;
+use port_space::{PortSpace, request_of};
 use std::alloc::AllocError;
 
 /// Adds the dead-name notices of a port's names in a space, by name.
@@ -16,10 +16,28 @@ pub fn dead_names_in(
 ) -> Result<(), AllocError>
     ensures { OnOk result (effects.new ≡ effects.old ++ flat_map (λ e. dead_name_of_entry serial e.0 e.1) (map.entries space.now)) }
 {
-    for (name, entry) in space.iter() {
-        dead_name_of(*name as u32, *entry, serial, effects)?;
+    let Some(names) = space.names_of(serial) else {
+        return Ok(());
+    };
+    for (name, _) in names.iter() {
+        dead_name_under(space, *name, serial, effects)?;
     }
     Ok(())
+}
+
+/// Adds the dead-name notice of one name, if it is in use and stands for the port.
+fn dead_name_under(
+    space: &PortSpace,
+    name: u64,
+    serial: u64,
+    effects: &mut Effects,
+) -> Result<(), AllocError>
+    ensures { OnOk result (effects.new ≡ effects.old ++ notice_under serial name (map.get space.now name)) }
+{
+    match space.named(name) {
+        Some((name, entry)) => dead_name_of(name, entry, serial, effects),
+        None => Ok(()),
+    }
 }
 
 fn dead_name_of(
@@ -44,19 +62,5 @@ fn is_name_of(entry: Entry, serial: u64) -> bool
         Entry::Port(rights) => rights.port == serial,
         Entry::SendOnce { port, .. } => port == serial,
         Entry::Set | Entry::Dead { .. } => false,
-    }
-}
-
-/// The target of a name's dead-name request.
-fn request_of(entry: Entry) -> Option<u64>
-    ensures { result ≡ request_of entry }
-{
-    match entry {
-        Entry::Port(rights) => rights.dead_name_target,
-        Entry::SendOnce {
-            dead_name_target,
-            ..
-        } => dead_name_target,
-        Entry::Set | Entry::Dead { .. } => None,
     }
 }

@@ -2,8 +2,11 @@
 #![tactic(auto)]
 
 mod dead_names;
+mod indexed;
 mod live_ports;
+mod mentions;
 mod names;
+mod one_space;
 mod spaces;
 mod state;
 

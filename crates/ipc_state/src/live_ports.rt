@@ -1,8 +1,9 @@
-ghost use Rattle.std.specs.Prelude.{◌≡◌, ◌+◌, false, None, OnOk, OnErr, option_map};
+ghost use Rattle.std.specs.Prelude.{◌≡◌, ◌+◌, false, None, Some, OnOk, OnErr, option_map};
 ghost use Rattle.std.specs.FinMap as map;
 ghost use Rattle.ipc_model.specs.Effects.{queued};
 ghost use Rattle.ipc_model.specs.State.{new_port, ports_are_used_up, with_port};
-ghost use Rattle.ports.specs.Changed.{numbers_of, with_numbers};
+ghost use Rattle.ipc_model.specs.declared.port.PortState.{PortState};
+ghost use Rattle.ports.specs.Changed.{KeepsTargets, numbers_of, with_numbers};
 
 use crate::IpcState;
 use ipc_model::Message;
@@ -25,11 +26,21 @@ impl IpcState {
         self.ports.numbers(serial)
     }
 
-    /// Changes what a live port keeps beside its queue.
+    /// Changes what a live port keeps beside its queue, where the targets of its requests stay or go. It takes no
+    /// memory.
     pub fn set_numbers(&mut self, serial: u64, numbers: PortNumbers)
+        requires known { (port : PortState) → map.get self.old.ports serial ≡ Some port → KeepsTargets numbers port }
         ensures { self.new ≡ with_port self.old serial (with_numbers numbers) }
     {
         self.ports.set_numbers(serial, numbers);
+    }
+
+    /// Changes what a live port keeps beside its queue, by whatever targets. Where memory is wanted nothing changed.
+    pub fn replace_numbers(&mut self, serial: u64, numbers: PortNumbers) -> Result<(), AllocError>
+        ensures ok { OnOk result (self.new ≡ with_port self.old serial (with_numbers numbers)) }
+        ensures err { OnErr result (self.new ≡ self.old) }
+    {
+        self.ports.replace_numbers(serial, numbers)
     }
 
     /// Puts a message at the end of a port's queue, whatever the limit; where the port is dead it is dropped. Where

@@ -1,7 +1,9 @@
-ghost use Rattle.std.specs.Prelude.{◌≡◌, ℕ, ◌<◌, ◌≤◌, ◌↔◌, None, OnOk, OnErr, IsSome, IfSome, IsTrue, is_some, option_copied};
+ghost use Rattle.std.specs.Prelude.{◌≡◌, ℕ, ◌<◌, ◌≤◌, ◌↔◌, None, Some, OnOk, OnErr, IsSome, IfSome, IsTrue, is_some, option_copied};
 ghost use Rattle.std.specs.FinMap as map;
 ghost use Rattle.ipc_model.specs.PortCalls.{names_in, stands_elsewhere};
 ghost use Rattle.ipc_model.specs.State.{IsUnused, entry_at, with_changed, with_entry, without_name, name_of_port};
+ghost use Rattle.port_index.specs.Indexed.{MentionsNoOther};
+ghost use Rattle.port_space.specs.Mentions.{entry_mentions};
 ghost use Rattle.port_space.specs.References.{AreFewReferences};
 ghost use Rattle.port_space.specs.Renaming.{under_other_name};
 
@@ -17,14 +19,14 @@ impl IpcState {
     pub fn space(&self, space: u32) -> Option<&PortSpace>
         ensures { option_copied result ≡ map.get self.now.spaces space }
     {
-        self.spaces.get(u64::from(space))
+        self.spaces.get(space)
     }
 
     /// Whether a space is there.
     pub fn has_space(&self, space: u32) -> bool
         ensures { result ≡ is_some (map.get self.now.spaces space) }
     {
-        self.spaces.contains_key(u64::from(space))
+        self.spaces.contains(space)
     }
 
     /// How many names a space has in use.
@@ -92,54 +94,46 @@ impl IpcState {
         }
     }
 
-    /// Has a name of a space stand for this, where the space is there. Only a name that wasn't in use may lack
-    /// memory, and then nothing changed.
+    /// Has a name of a space stand for this, where the space is there. Where memory is wanted nothing changed.
+    #[tactic(auto, using(crate::specs::Changed::changed_state))]
     pub fn put_name(&mut self, space: u32, name: u32, entry: Entry) -> Result<(), AllocError>
         requires room { entry_at self.old space name ≡ None → map.len (names_in self.old space) < MAX_NAMES }
         requires few { AreFewReferences entry }
         ensures ok { OnOk result (self.new ≡ with_entry self.old space name entry) }
         ensures err { OnErr result (self.new ≡ self.old) }
-        ensures absent { OnErr result (entry_at self.old space name ≡ None) }
     {
-        let Some(names) = self.spaces.get_mut(u64::from(space)) else {
-            return Ok(());
-        };
-        names.insert(name, entry)?;
-        Ok(())
+        self.spaces.put_name(space, name, entry)
     }
 
-    /// Has a name that is in use stand for this. It takes no memory.
+    /// Has a name that is in use stand for this, where it mentions no port that the name doesn't mention already.
+    /// It takes no memory.
+    #[tactic(auto, using(crate::specs::Changed::changed_state))]
     pub fn set_entry(&mut self, space: u32, name: u32, entry: Entry)
         requires named { IsSome (entry_at self.old space name) }
+        requires known { (former : Entry) → entry_at self.old space name ≡ Some former → MentionsNoOther entry_mentions entry former }
         requires few { AreFewReferences entry }
         ensures { self.new ≡ with_entry self.old space name entry }
     {
-        let Ok(()) = self.put_name(space, name, entry) else {
-            unreachable!()
-        };
+        self.spaces.set_entry(space, name, entry);
     }
 
     /// Has what stands under one name of a space, if anything does, stand under another. Where memory is wanted
     /// nothing changed.
+    #[tactic(auto, using(crate::specs::Changed::changed_state))]
     pub fn rename(&mut self, space: u32, from: u32, to: u32) -> Result<(), AllocError>
         requires unused { entry_at self.old space to ≡ None }
         ensures ok { OnOk result (self.new ≡ with_changed self.old space (λ names. under_other_name names from to)) }
         ensures err { OnErr result (self.new ≡ self.old) }
     {
-        let Some(names) = self.spaces.get_mut(u64::from(space)) else {
-            return Ok(());
-        };
-        names.rename(from, to)?;
-        Ok(())
+        self.spaces.rename(space, from, to)
     }
 
     /// Takes a name of a space out of use.
+    #[tactic(auto, using(crate::specs::Changed::changed_state))]
     pub fn remove_name(&mut self, space: u32, name: u32)
         ensures { self.new ≡ without_name self.old space name }
     {
-        if let Some(names) = self.spaces.get_mut(u64::from(space)) {
-            names.remove(name);
-        }
+        self.spaces.remove_name(space, name);
     }
 }
 

@@ -44,8 +44,7 @@ impl IpcState {
         ensures ok { OnOk result (self.new ≡ with_names self.old number names) }
         ensures err { OnErr result (self.new ≡ self.old) }
     {
-        self.spaces.insert(u64::from(number), names)?;
-        Ok(())
+        self.spaces.put(number, names)
     }
 
     /// Takes a space out with all its names, if it is there.
@@ -53,6 +52,6 @@ impl IpcState {
         ensures was { result ≡ map.get self.old.spaces number }
         ensures removed { self.new ≡ record self.old { spaces = map.remove self.old.spaces number } }
     {
-        self.spaces.remove(u64::from(number))
+        self.spaces.remove(number)
     }
 }

@@ -5,24 +5,23 @@ ghost use Rattle.ipc_model.specs.Placed.{placed, send_count};
 ghost use Rattle.ipc_model.specs.State.{opening_state};
 ghost use Rattle.queue.specs.Counts.{capped_count};
 
-use crate::dead_names::dead_names_in;
+use crate::indexed::IndexedSpaces;
 use effects::Effects;
 use ipc_model::RightKind;
-use number_map::{Change, Copier, NumberMap};
 use port_space::PortSpace;
 use ports::Ports;
 use std::alloc::{AllocError, Global};
 use std::marker::Model;
 
 /// The number of the space that is always there.
-const FIRST_SPACE: u64 = 1;
+const FIRST_SPACE: u32 = 1;
 
 /// The spaces, the live ports, and the serial that the next port gets. Contracts see the state of the written
 /// definition.
 #[derive(Drop)]
 pub struct IpcState {
     pub(crate) alloc: Global,
-    pub(crate) spaces: NumberMap<PortSpace>,
+    pub(crate) spaces: IndexedSpaces,
     pub(crate) ports: Ports,
     pub(crate) next: u64,
 }
@@ -38,39 +37,13 @@ impl Model for IpcState {
     ghost view = { λ s. record { spaces = s.spaces; ports = s.ports; next = s.next } };
 }
 
-/// Copies spaces.
-#[derive(Drop)]
-struct SpaceCopier;
-
-impl Copier<PortSpace> for SpaceCopier {
-    fn copy(&self, space: &PortSpace) -> Result<PortSpace, AllocError> {
-        space.copy()
-    }
-}
-
-/// The death of the port of a serial, as the names of a space see it.
-#[derive(Drop)]
-struct Death {
-    serial: u64,
-}
-
-impl Change<PortSpace> for Death {
-    ghost use Rattle.ipc_model.specs.Effects.{map_values, entry_after_death};
-
-    ghost changed = { λ death names. map_values (entry_after_death death.serial) names };
-
-    fn change(&self, space: &mut PortSpace) {
-        space.forget_port(self.serial);
-    }
-}
-
 impl IpcState {
     /// The state of a new store: space 1 without names, and no port.
     pub fn opening(alloc: Global) -> Result<Self, AllocError>
         ensures { IfOk result (λ state. state ≡ opening_state) }
     {
-        let mut spaces = NumberMap::new(alloc);
-        spaces.insert(FIRST_SPACE, PortSpace::new(alloc))?;
+        let mut spaces = IndexedSpaces::new(alloc);
+        spaces.put(FIRST_SPACE, PortSpace::new(alloc))?;
         Ok(IpcState {
             alloc,
             spaces,
@@ -85,7 +58,7 @@ impl IpcState {
     {
         Ok(IpcState {
             alloc: self.alloc,
-            spaces: self.spaces.copy(&SpaceCopier)?,
+            spaces: self.spaces.copy()?,
             ports: self.ports.copy()?,
             next: self.next,
         })
@@ -96,11 +69,8 @@ impl IpcState {
     pub fn rights_to(&self, kind: RightKind, serial: u64) -> u32
         ensures { result ≡ capped_count kind serial (placed self.now) }
     {
-        let mut count: u32 = 0;
-        for (_, space) in self.spaces.iter() {
-            count = count.saturating_add(space.rights_to(kind, serial));
-        }
-        count.saturating_add(self.ports.rights_to(kind, serial))
+        let held = self.spaces.rights_to(kind, serial);
+        held.saturating_add(self.ports.rights_to(kind, serial))
     }
 
     /// Whether there are send rights to a port, held or in messages.
@@ -114,10 +84,7 @@ impl IpcState {
     pub fn dead_names(&self, serial: u64, effects: &mut Effects) -> Result<(), AllocError>
         ensures { OnOk result (effects.new ≡ effects.old ++ dead_name_notices self.now serial) }
     {
-        for (_, names) in self.spaces.iter() {
-            dead_names_in(names, serial, effects)?;
-        }
-        Ok(())
+        self.spaces.dead_names(serial, effects)
     }
 
     /// A port that has died is forgotten: names of it become dead names, carried rights to it become
@@ -128,7 +95,7 @@ impl IpcState {
           ports = map_values (port_after_death serial) self.old.ports;
         } }
     {
-        self.spaces.change_all(&Death { serial });
+        self.spaces.forget_port(serial);
         self.ports.forget_port(serial);
     }
 }

@@ -1,4 +1,4 @@
-ghost use Rattle.std.specs.Prelude.{◌≡◌, option_and_then};
+ghost use Rattle.std.specs.Prelude.{◌≡◌, IfOk, OnOk, OnErr, option_and_then};
 ghost use Rattle.std.specs.FinMap as map;
 ghost use Rattle.ipc_model.specs.State.{with_port};
 ghost use Rattle.port_space.specs.References.{AreFewReferences};
@@ -7,37 +7,52 @@ ghost use Rattle.notify.specs.Requests.{with_request};
 use ipc_model::{Entry, PortRights};
 use ipc_state::IpcState;
 use ports::PortNumbers;
+use std::alloc::AllocError;
 
 /// The target of a port's no-senders request becomes this one, or the request is taken or cancelled where it is
-/// none. It gives the former target.
-pub fn replace_no_senders(state: &mut IpcState, port: u64, target: Option<u64>) -> Option<u64>
-    ensures former { result ≡ option_and_then (λ port. port.no_senders_target) (map.get state.old.ports port) }
-    ensures kept { state.new ≡ with_port state.old port (λ port. record port { no_senders_target = target }) }
+/// none. It gives the former target. Where memory is wanted nothing changed.
+pub fn replace_no_senders(
+    state: &mut IpcState,
+    port: u64,
+    target: Option<u64>,
+) -> Result<Option<u64>, AllocError>
+    ensures former { IfOk result (λ former. former ≡ option_and_then (λ port. port.no_senders_target) (map.get state.old.ports port)) }
+    ensures kept { OnOk result (state.new ≡ with_port state.old port (λ port. record port { no_senders_target = target })) }
+    ensures err { OnErr result (state.new ≡ state.old) }
 {
-    let numbers = state.numbers(port)?;
+    let Some(numbers) = state.numbers(port) else {
+        return Ok(None);
+    };
     let former = numbers.no_senders_target;
     let asked = PortNumbers {
         no_senders_target: target,
         ..numbers
     };
-    state.set_numbers(port, asked);
-    former
+    state.replace_numbers(port, asked)?;
+    Ok(former)
 }
 
 /// The target of a port's port-destroyed request becomes this one, or the request is taken or cancelled where it
-/// is none. It gives the former target.
-pub fn replace_port_destroyed(state: &mut IpcState, port: u64, target: Option<u64>) -> Option<u64>
-    ensures former { result ≡ option_and_then (λ port. port.port_destroyed_target) (map.get state.old.ports port) }
-    ensures kept { state.new ≡ with_port state.old port (λ port. record port { port_destroyed_target = target }) }
+/// is none. It gives the former target. Where memory is wanted nothing changed.
+pub fn replace_port_destroyed(
+    state: &mut IpcState,
+    port: u64,
+    target: Option<u64>,
+) -> Result<Option<u64>, AllocError>
+    ensures former { IfOk result (λ former. former ≡ option_and_then (λ port. port.port_destroyed_target) (map.get state.old.ports port)) }
+    ensures kept { OnOk result (state.new ≡ with_port state.old port (λ port. record port { port_destroyed_target = target })) }
+    ensures err { OnErr result (state.new ≡ state.old) }
 {
-    let numbers = state.numbers(port)?;
+    let Some(numbers) = state.numbers(port) else {
+        return Ok(None);
+    };
     let former = numbers.port_destroyed_target;
     let asked = PortNumbers {
         port_destroyed_target: target,
         ..numbers
     };
-    state.set_numbers(port, asked);
-    former
+    state.replace_numbers(port, asked)?;
+    Ok(former)
 }
 
 /// What a name stands for, with this dead-name request in place of its own. A set has none, and to a dead name

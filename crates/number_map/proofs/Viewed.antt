@@ -1,9 +1,9 @@
 -- The entries of a std map seen as a finite map.
-use Rattle.std.proofs.Common.{◌≡◌, ℕ, false, cond, List, [], ◌∷◌, length, Option, None, Some, is_some, map, T, subst, refl, sym, ◌∙◌, ap, arith}
+use Rattle.std.proofs.Common.{◌≡◌, ℕ, false, cond, List, [], ◌∷◌, length, Option, None, Some, is_some, map, T, refl, sym, ◌∙◌, ap, arith}
 use Rattle.std.specs.Cmp.{nat_cmp_total, eq_by_cmp_equiv}
 use Rattle.std.specs.Ordering.{nat_cmp}
 use Rattle.std.specs.declared.cmp.Ordering.TheVariants.{Less}
-use Rattle.std.specs.FinMap.{FinMap, find, put, empty, entries, entries-insert, entries_sorted, entries-from_sorted, from_sorted, is_sorted, same_entries_map, from_entries, get, insert, remove, len, get-from_entries, get-insert, get-remove, len-empty, len-entries, len-insert, same_map, nat_cmp-IsAntisymmetric}
+use Rattle.std.specs.FinMap.{FinMap, find, put, empty, entries, entries-insert, from_entries, get, insert, remove, len, get-from_entries, get-insert, get-remove, len-empty, len-entries, len-insert, same_map, nat_cmp-IsAntisymmetric}
 use Rattle.std.specs.BTreeMap.{is_at}
 use Rattle.std.specs.Map.{lookup, keys_of}
 use Rattle.std.specs.List.{AllByRecursion}
@@ -66,11 +66,3 @@ module _ {X : Type 0} where
   removed es fs k is = same_map nat_cmp_total nat_cmp-IsAntisymmetric _ _ (λ q.
       get_viewed fs q ∙ is q ∙ ap (λ b. cond b None (lookup (is_at (nat_cmp q)) es)) ((eq_by_cmp_equiv nat_cmp_total).symm k q)
       ∙ sym (get-remove nat_cmp_total (from_entries es) k q ∙ ap (cond (is_at (nat_cmp q) k) None) (get_viewed es q)))
-
-  -- entries whose values are changed make the map with its values changed
-  pub changed : (es fs : List (ℕ × X)) (change : X → X) → IsStrictlySortedBy nat_cmp (keys_of es) → IsStrictlySortedBy nat_cmp (keys_of fs) → fs ≡ map (λ e. (e.0, change e.1)) es → from_entries {R = nat_cmp} fs ≡ from_sorted (map (λ e. (e.0, change e.1)) (entries (from_entries {R = nat_cmp} es)))
-  changed es fs change sorted sorted_changed is =
-      let these : entries (from_entries {R = nat_cmp} fs) ≡ map (λ e. (e.0, change e.1)) es = entries_viewed fs sorted_changed ∙ is in
-      let rising : T (is_sorted nat_cmp (map (λ e. (e.0, change e.1)) es)) = subst (λ l. T (is_sorted nat_cmp l)) these (entries_sorted (from_entries {R = nat_cmp} fs)) in
-      let those : entries (from_sorted {R = nat_cmp} (map (λ e. (e.0, change e.1)) es)) ≡ map (λ e. (e.0, change e.1)) es = entries-from_sorted nat_cmp _ rising in
-      same_entries_map _ _ (these ∙ sym those) ∙ ap (λ (l : List (ℕ × X)). from_sorted {R = nat_cmp} (map (λ e. (e.0, change e.1)) l)) (sym (entries_viewed es sorted))

@@ -1,7 +1,7 @@
 //! A map from numbers to values, which contracts see as a finite map.
 #![tactic(auto)]
 
-ghost use Rattle.std.specs.Prelude.{◌≡◌, ◌==◌, IfOk, OnOk, OnErr, is_some, None, option_copied, ℕ, map as list_map};
+ghost use Rattle.std.specs.Prelude.{◌≡◌, ◌==◌, IfOk, OnOk, OnErr, is_some, None, option_copied, ℕ};
 ghost use Rattle.std.specs.Ordering.{nat_cmp};
 ghost use Rattle.std.specs.FinMap as map;
 ghost use Rattle.std.specs.Map.Iter.{ShowsInOrder, ShowsValuesInOrder, deref_pair};
@@ -19,16 +19,6 @@ pub trait Copier<V> {
     /// A copy of a value.
     fn copy(&self, value: &V) -> Result<V, AllocError>
         ensures { IfOk result (λ copy. copy ≡ value.now) };
-}
-
-/// A change of a value.
-pub trait Change<V> {
-    /// The value after the change.
-    ghost changed: { Self → V → V };
-
-    /// Changes a value in place.
-    fn change(&self, value: &mut V)
-        ensures { value.new ≡ Self.changed self.now value.old };
 }
 
 /// A map from numbers to values.
@@ -137,15 +127,5 @@ impl<V: Drop> NumberMap<V> {
             copy.insert(*key, copier.copy(value)?)?;
         }
         Ok(copy)
-    }
-
-    /// Changes each value in place.
-    pub fn change_all<C: Change<V>>(&mut self, change: &C)
-        ensures { self.new ≡ map.from_sorted (list_map (λ e. (e.0, C.changed change.now e.1)) (map.entries self.old)) }
-    {
-        self.entries.retain(|_, value| {
-            change.change(value);
-            true
-        });
     }
 }

@@ -1,4 +1,4 @@
-ghost use Rattle.std.specs.Prelude.{◌≡◌, ◌++◌, ◌∷◌, ◌==◌, ◌≤◌, ◌||◌, ◌&&◌, [], IfOk, OnOk, IsSome};
+ghost use Rattle.std.specs.Prelude.{◌≡◌, ◌++◌, ◌∷◌, ◌==◌, ◌≤◌, ◌||◌, ◌&&◌, [], IfOk, OnOk, IsSome, Some};
 ghost use Rattle.codes.specs.declared.limits.TheConstants.{MAX_SEND_REFERENCES, MAX_DEAD_REFERENCES};
 ghost use Rattle.ipc_model.specs.Actions.{release_if, effects_of_name};
 ghost use Rattle.ipc_model.specs.CopyIn.{with_left, notices_of_left};
@@ -7,6 +7,9 @@ ghost use Rattle.ipc_model.specs.Effects.{release, port_deleted};
 ghost use Rattle.ipc_model.specs.PortCalls.{names_in, is_set, has_receive, send_references};
 ghost use Rattle.ipc_model.specs.State.{entry_at, without_name};
 ghost use Rattle.ipc_model.specs.Step.{ActsIn};
+ghost use Rattle.ipc_model.specs.declared.entry.Entry.{Entry};
+ghost use Rattle.port_index.specs.Indexed.{MentionsNoOther};
+ghost use Rattle.port_space.specs.Mentions.{entry_mentions};
 
 use crate::ask::named;
 use codes::KernReturn;
@@ -88,6 +91,7 @@ pub fn send_left(
 ) -> Result<(), AllocError>
     requires named { IsSome (entry_at state.old space name) }
     requires few { left ≤ MAX_SEND_REFERENCES }
+    requires known { (former : Entry) → entry_at state.old space name ≡ Some former → MentionsNoOther entry_mentions (Entry.Port rights) former }
     ensures state { OnOk result (state.new ≡ with_left state.old space name (Entry.Port (record rights { send = left }))) }
     ensures effects { OnOk result (effects.new ≡ effects.old ++ (release_if (left == 0) (release RightKind.Send rights.port) ++ notices_of_left name (Entry.Port (record rights { send = left })))) }
 {

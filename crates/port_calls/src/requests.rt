@@ -19,7 +19,8 @@ use ipc_model::{Entry, PortInMessage, Reply};
 use ipc_state::IpcState;
 use notify::{replace_no_senders, replace_port_destroyed, with_request};
 use port_set::received_port;
-use rights::{Disposition, request_of, take_right};
+use port_space::request_of;
+use rights::{Disposition, take_right};
 use std::alloc::AllocError;
 
 /// `MACH_NOTIFY_PORT_DESTROYED`.
@@ -289,7 +290,7 @@ fn set_dead_name_request(
 {
     match entry {
         Entry::Port(_) | Entry::SendOnce { .. } => {
-            state.set_entry(space, name, with_request(entry, target));
+            state.put_name(space, name, with_request(entry, target))?;
             Ok(())
         }
         Entry::Set => Ok(()),
@@ -323,15 +324,15 @@ fn set_port_request(
     ensures effects { OnOk result (effects.new ≡ effects.old ++ (port_request_set state.old variant sync port target).1) }
 {
     if variant == PORT_DESTROYED {
-        replace_port_destroyed(state, port, target);
+        replace_port_destroyed(state, port, target)?;
         return Ok(());
     }
     let Some(asked) = target else {
-        replace_no_senders(state, port, None);
+        replace_no_senders(state, port, None)?;
         return Ok(());
     };
     if !lacks_senders(state, sync, port) {
-        replace_no_senders(state, port, target);
+        replace_no_senders(state, port, target)?;
         return Ok(());
     }
     let count = make_send_count(state, port);
@@ -339,7 +340,7 @@ fn set_port_request(
         target: asked,
         notice: Notice::NoSenders { count },
     })?;
-    replace_no_senders(state, port, None);
+    replace_no_senders(state, port, None)?;
     Ok(())
 }
 

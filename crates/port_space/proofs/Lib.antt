@@ -1,3 +1,4 @@
 mod Bounds
 mod Renamed
-mod Walks
+mod Small
+mod Walked

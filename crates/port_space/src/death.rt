@@ -3,27 +3,9 @@ ghost use Rattle.ipc_model.specs.Effects.{one_more_if, without_target};
 ghost use Rattle.port_space.specs.Deaths.{dead_name, entry_without};
 
 use ipc_model::{Entry, PortRights};
-use number_map::Change;
-
-/// The death of a port, as a change of what names stand for.
-#[derive(Drop)]
-pub(crate) struct Death {
-    /// The port's serial number.
-    pub(crate) serial: u64,
-}
-
-impl Change<Entry> for Death {
-    ghost use Rattle.port_space.specs.Deaths.{entry_without};
-
-    ghost changed = { λ death entry. entry_without death.serial entry };
-
-    fn change(&self, entry: &mut Entry) {
-        *entry = entry_without(*entry, self.serial);
-    }
-}
 
 /// What an entry becomes when the port dies.
-fn entry_without(entry: Entry, serial: u64) -> Entry
+pub(crate) fn entry_without(entry: Entry, serial: u64) -> Entry
     ensures { result ≡ entry_without serial entry }
 {
     match entry {

@@ -3,6 +3,9 @@
 
 mod count;
 mod death;
+mod indexed;
+mod mentions;
 mod space;
 
+pub use mentions::{request_of, right_port};
 pub use space::PortSpace;

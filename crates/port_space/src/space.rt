@@ -1,4 +1,4 @@
-ghost use Rattle.std.specs.Prelude.{◌≡◌, ℕ, ◌+◌, ◌≤◌, ◌<◌, ◌↔◌, ◌==◌, not, nat_le, IfOk, OnOk, OnErr, IsSome, IfSome, IsTrue, ◌-◌, ◌^◌, ◌&&◌, min, count_by, is_some, None};
+ghost use Rattle.std.specs.Prelude.{◌≡◌, ℕ, ◌+◌, ◌≤◌, ◌<◌, ◌↔◌, ◌==◌, not, nat_le, IfOk, OnOk, OnErr, IsSome, IfSome, IsTrue, MatchOption, Some, true, option_copied, [], ◌-◌, ◌^◌, ◌&&◌, min, count_by, is_some, None};
 ghost use Rattle.std.specs.FinMap as map;
 ghost use Rattle.std.specs.List.{AllByRecursion};
 ghost use Rattle.std.specs.Map.Iter.{ShowsInOrder, ShowsValuesInOrder, deref_pair};
@@ -7,13 +7,18 @@ ghost use Rattle.ipc_model.specs.Placed.{rights_of_space, same_kind};
 ghost use Rattle.ipc_model.specs.State.{IsUnused, is_number, name_of_port, port_held};
 ghost use Rattle.ipc_model.specs.PortCalls.{stands_elsewhere};
 ghost use Rattle.port_space.specs.References.{AreFewReferences};
+ghost use Rattle.port_index.specs.Indexed.{MentionsNoOther};
+ghost use Rattle.port_index.specs.Standing.{is_mentioned, next_standing};
+ghost use Rattle.port_space.specs.Mentions.{entry_mentions, names_mention};
 ghost use Rattle.port_space.specs.Renaming.{under_other_name};
+ghost use Rattle.port_space.specs.Walks.{any_elsewhere, first_name, rights_in};
 
 use crate::count::rights_of_entry;
-use crate::death::Death;
+use crate::indexed::IndexedNames;
+use crate::mentions::mentions;
 use codes::{FIRST_NAME, MACH_PORT_DEAD, MACH_PORT_NULL, MAX_NAMES};
 use ipc_model::{Entry, RightKind};
-use number_map::{Copier, NumberMap};
+use number_map::NumberMap;
 use std::alloc::{AllocError, Global};
 use std::collections::btree_map::Iter;
 use std::marker::Model;
@@ -22,7 +27,7 @@ use std::marker::Model;
 /// as the finite map from names to entries.
 #[derive(Drop)]
 pub struct PortSpace {
-    names: NumberMap<Entry>,
+    names: IndexedNames,
 }
 
 impl Model for PortSpace {
@@ -42,23 +47,13 @@ impl Model for PortSpace {
     ghost invariant = { λ s. AreBounded s.names };
 }
 
-/// Copies what names stand for.
-#[derive(Drop)]
-struct EntryCopier;
-
-impl Copier<Entry> for EntryCopier {
-    fn copy(&self, entry: &Entry) -> Result<Entry, AllocError> {
-        Ok(*entry)
-    }
-}
-
 impl PortSpace {
     /// A space without names. It takes no memory.
     pub fn new(alloc: Global) -> Self
         ensures { result ≡ map.empty }
     {
         PortSpace {
-            names: NumberMap::new(alloc),
+            names: IndexedNames::new(alloc),
         }
     }
 
@@ -66,28 +61,28 @@ impl PortSpace {
     pub fn len(&self) -> usize
         ensures { result ≡ map.len self.now }
     {
-        self.names.len()
+        self.names.names().len()
     }
 
     /// Whether no name is in use.
     pub fn is_empty(&self) -> bool
         ensures { result ≡ (map.len self.now == 0) }
     {
-        self.names.is_empty()
+        self.names.names().is_empty()
     }
 
     /// Whether as many names are in use as may be.
     pub fn is_full(&self) -> bool
         ensures { result ≡ nat_le MAX_NAMES (map.len self.now) }
     {
-        MAX_NAMES <= self.names.len()
+        MAX_NAMES <= self.names.names().len()
     }
 
     /// Whether a name is in use.
     pub fn contains(&self, name: u32) -> bool
         ensures { result ≡ is_some (map.get self.now name) }
     {
-        self.names.contains_key(u64::from(name))
+        self.names.names().contains_key(u64::from(name))
     }
 
     /// What a name stands for, if it is in use.
@@ -95,20 +90,30 @@ impl PortSpace {
         ensures value { result ≡ map.get self.now name }
         ensures few { IfSome result AreFewReferences }
     {
-        self.names.get(u64::from(name)).copied()
+        self.names.names().get(u64::from(name)).copied()
     }
 
-    /// Has a name stand for this, and gives what it stood for before. Only a name that wasn't in use may lack
-    /// memory, and then nothing changed.
+    /// Has a name stand for this, and gives what it stood for before. Where memory is wanted nothing changed.
     pub fn insert(&mut self, name: u32, entry: Entry) -> Result<Option<Entry>, AllocError>
         requires room { map.get self.old name ≡ None → map.len self.old < MAX_NAMES }
         requires few { AreFewReferences entry }
         ensures before { IfOk result (λ before. before ≡ map.get self.old name) }
         ensures ok { OnOk result (self.new ≡ map.insert self.old name entry) }
         ensures err { OnErr result (self.new ≡ self.old) }
-        ensures absent { OnErr result (map.get self.old name ≡ None) }
     {
-        self.names.insert(u64::from(name), entry)
+        self.names.put(name, entry)
+    }
+
+    /// Has a name that is in use stand for this, and gives what it stood for before. What it stands for now
+    /// mentions no port that it didn't mention before, so it takes no memory.
+    pub fn replace(&mut self, name: u32, entry: Entry) -> Option<Entry>
+        requires named { IsSome (map.get self.old name) }
+        requires known { (former : Entry) → map.get self.old name ≡ Some former → MentionsNoOther entry_mentions entry former }
+        requires few { AreFewReferences entry }
+        ensures before { result ≡ map.get self.old name }
+        ensures replaced { self.new ≡ map.insert self.old name entry }
+    {
+        self.names.replace(name, entry)
     }
 
     /// Takes a name out of use, and gives what it stood for.
@@ -116,7 +121,7 @@ impl PortSpace {
         ensures before { result ≡ map.get self.old name }
         ensures removed { self.new ≡ map.remove self.old name }
     {
-        self.names.remove(u64::from(name))
+        self.names.remove(name)
     }
 
     /// Has what stands under one name, if anything does, stand under another. Where memory is wanted nothing
@@ -130,8 +135,8 @@ impl PortSpace {
             return Ok(());
         };
         // The new name comes first, so that nothing has changed where memory is wanted.
-        self.names.insert(u64::from(to), entry)?;
-        self.names.remove(u64::from(from));
+        self.names.put(to, entry)?;
+        self.names.remove(from);
         Ok(())
     }
 
@@ -142,14 +147,60 @@ impl PortSpace {
         ensures values_run { ShowsValuesInOrder (deref_pair {K = ℕ} {X = Entry}) }
         ensures small { AllByRecursion (λ e. e.0 < 2 ^ 32) (map.entries self.now) }
     {
-        self.names.iter()
+        self.names.names().iter()
+    }
+
+    /// The names that may mention a port, by a right to it or by a dead-name request whose target it is. There
+    /// may be more than do.
+    pub fn names_of(&self, port: u64) -> Option<&NumberMap<()>>
+        ensures all { MatchOption (option_copied result)
+            ((name : ℕ) → is_mentioned entry_mentions self.now port name ≡ true → ⊥)
+            (λ names. (name : ℕ) → is_mentioned entry_mentions self.now port name ≡ true → is_some (map.get names name) ≡ true) }
+    {
+        self.names.names_of(port)
+    }
+
+    /// What stands under a name, if anything does, with the name.
+    pub fn named(&self, name: u64) -> Option<(u32, Entry)>
+        ensures { MatchOption result (map.get self.now name ≡ None)
+            (λ found. (found.0 ≡ name) × (map.get self.now name ≡ Some found.1)) }
+    {
+        match self.names.names().get(name) {
+            Some(entry) => Some((name as u32, *entry)),
+            None => None,
+        }
+    }
+
+    /// Whether any name mentions a port.
+    pub fn mentions(&self, port: u64) -> bool
+        ensures { result ≡ names_mention port self.now }
+    {
+        let Some(names) = self.names_of(port) else {
+            return false;
+        };
+        for (name, _) in names.iter() {
+            if self.mentions_under(*name, port) {
+                return true;
+            }
+        }
+        false
+    }
+
+    /// Whether what stands under a name, if anything does, mentions a port.
+    fn mentions_under(&self, name: u64, port: u64) -> bool
+        ensures { result ≡ is_mentioned entry_mentions self.now port name }
+    {
+        match self.named(name) {
+            Some((_, entry)) => mentions(entry, port),
+            None => false,
+        }
     }
 
     /// A copy of the space.
     pub fn copy(&self) -> Result<PortSpace, AllocError>
         ensures { IfOk result (λ copy. copy ≡ self.now) }
     {
-        let names = self.names.copy(&EntryCopier)?;
+        let names = self.names.copy()?;
         Ok(PortSpace { names })
     }
 
@@ -158,7 +209,7 @@ impl PortSpace {
     pub fn forget_port(&mut self, serial: u64)
         ensures { self.new ≡ map_values (entry_after_death serial) self.old }
     {
-        self.names.change_all(&Death { serial });
+        self.names.forget_port(serial);
     }
 
     /// How many rights of a kind to a port stand under the names, targets of dead-name requests among them. It is
@@ -167,35 +218,74 @@ impl PortSpace {
         ensures { (space : ℕ) → result
             ≡ min (2 ^ 32 - 1) (count_by (λ r. same_kind r.kind kind && r.port == serial) (rights_of_space space self.now)) }
     {
-        let mut count = 0u32;
-        for (_, entry) in self.names.iter() {
-            count = count.saturating_add(rights_of_entry(entry, kind, serial));
+        let Some(names) = self.names_of(serial) else {
+            return 0;
+        };
+        let mut count: u32 = 0;
+        for (name, _) in names.iter() {
+            count = count.saturating_add(self.rights_under(*name, kind, serial));
         }
         count
+    }
+
+    /// How many rights of a kind to a port stand under a name.
+    fn rights_under(&self, name: u64, kind: RightKind, serial: u64) -> u32
+        ensures { (space : ℕ) → result ≡ rights_in (λ r. same_kind r.kind kind && r.port == serial) space (next_standing name (map.get self.now name) []) }
+    {
+        match self.named(name) {
+            Some((_, entry)) => rights_of_entry(&entry, kind, serial),
+            None => 0,
+        }
     }
 
     /// The name under which the space holds a send or receive right of a port, the least if there were several.
     pub fn name_of_port(&self, serial: u64) -> Option<u32>
         ensures { result ≡ name_of_port self.now serial }
     {
-        for (name, entry) in self.names.iter() {
-            if holds_port(entry, serial) {
-                return Some(*name as u32);
+        let Some(names) = self.names_of(serial) else {
+            return None;
+        };
+        for (name, _) in names.iter() {
+            if let Some(name) = self.name_holding(*name, serial) {
+                return Some(name);
             }
         }
         None
+    }
+
+    /// A name, if a send or receive right of the port stands under it.
+    fn name_holding(&self, name: u64, serial: u64) -> Option<u32>
+        ensures { result ≡ first_name serial (next_standing name (map.get self.now name) []) }
+    {
+        match self.named(name) {
+            Some((name, entry)) if holds_port(&entry, serial) => Some(name),
+            _ => None,
+        }
     }
 
     /// Whether a send or receive right of a port stands under a name other than this one.
     pub fn stands_elsewhere(&self, name: u32, serial: u64) -> bool
         ensures { result ≡ stands_elsewhere self.now name serial }
     {
-        for (other, entry) in self.names.iter() {
-            if holds_elsewhere(*other, entry, name, serial) {
+        let Some(names) = self.names_of(serial) else {
+            return false;
+        };
+        for (other, _) in names.iter() {
+            if self.is_elsewhere(*other, name, serial) {
                 return true;
             }
         }
         false
+    }
+
+    /// Whether a send or receive right of the port stands under this name, which isn't the given one.
+    fn is_elsewhere(&self, other: u64, name: u32, serial: u64) -> bool
+        ensures { result ≡ any_elsewhere name serial (next_standing other (map.get self.now other) []) }
+    {
+        match self.named(other) {
+            Some((other, entry)) => holds_port(&entry, serial) && other != name,
+            None => false,
+        }
     }
 
     /// Whether a name may be handed out: it is neither `MACH_PORT_NULL` nor `MACH_PORT_DEAD`, and not in use.
@@ -230,11 +320,4 @@ fn holds_port(entry: &Entry, serial: u64) -> bool
         Entry::Port(rights) => rights.port == serial,
         _ => false,
     }
-}
-
-/// Whether a send or receive right of the port stands under this name, which isn't the given one.
-fn holds_elsewhere(other: u64, entry: &Entry, name: u32, serial: u64) -> bool
-    ensures { result ≡ (is_number (port_held entry.now) serial && not (other == name)) }
-{
-    holds_port(entry, serial) && other != u64::from(name)
 }

@@ -1,2 +1,9 @@
+mod Bools
+mod Borrowed
+mod Carriers
 mod Counted
-mod Lent
+mod Deaths
+mod Forgotten
+mod Kept
+mod Steps
+mod Totals

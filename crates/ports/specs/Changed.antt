@@ -1,9 +1,10 @@
 -- What a port keeps beside its queue, and a change of one port among all.
-use Rattle.std.specs.Prelude.{ℕ, List, [], None, Some}
+use Rattle.std.specs.Prelude.{◌≡◌, ℕ, Bool, ◌||◌, List, [], None, Some}
 use Rattle.std.specs.Ordering.{nat_cmp}
 use Rattle.std.specs.FinMap as finmap
 use Rattle.ipc_model.specs.declared.message.Message.{Message}
 use Rattle.ipc_model.specs.declared.port.PortState.{PortState}
+use Rattle.ipc_model.specs.State.{is_number}
 use Rattle.ports.specs.declared.port.PortNumbers.{PortNumbers}
 
 abbrev pub numbers_of : PortState → PortNumbers
@@ -27,6 +28,16 @@ with_numbers numbers port = record {
   no_senders_target = numbers.no_senders_target;
   port_destroyed_target = numbers.port_destroyed_target;
 }
+
+-- whether the target of a request is the port of this serial
+abbrev pub numbers_mention : ℕ → PortNumbers → Bool
+numbers_mention serial numbers = is_number numbers.no_senders_target serial || is_number numbers.port_destroyed_target serial
+
+-- each target is one that the port has for the same request, or none
+abbrev pub KeepsTargets : PortNumbers → PortState → Type 0
+KeepsTargets numbers port =
+    ((target : ℕ) → numbers.no_senders_target ≡ Some target → port.no_senders_target ≡ Some target)
+    × ((target : ℕ) → numbers.port_destroyed_target ≡ Some target → port.port_destroyed_target ≡ Some target)
 
 -- the ports with one of them changed, if it lives
 abbrev pub changed : finmap.FinMap nat_cmp PortState → ℕ → (PortState → PortState) → finmap.FinMap nat_cmp PortState

@@ -1,1 +1,4 @@
 pub mod Changed
+pub mod Lookups
+pub mod Mentions
+pub mod PlaceChanges

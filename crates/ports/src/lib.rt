@@ -1,6 +1,8 @@
 //! The live ports.
 #![tactic(auto)]
 
+mod found;
+mod places;
 mod port;
 mod ports;
 

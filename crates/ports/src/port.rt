@@ -1,14 +1,15 @@
-ghost use Rattle.std.specs.Prelude.{◌≡◌, ◌≤◌, ◌↔◌, ◌∷◌, ◌++◌, [], length, drop, IfOk, OnOk, OnErr, IsErrOf, MatchOption};
+ghost use Rattle.std.specs.Prelude.{◌≡◌, ◌≤◌, ◌↔◌, ◌∷◌, ◌++◌, [], length, drop, IfOk, OnOk, OnErr, IsTrue, MatchOption};
 ghost use Rattle.ipc_model.specs.Circular.{carries};
 ghost use Rattle.ipc_model.specs.Effects.{port_after_death, without_target};
 ghost use Rattle.ipc_model.specs.Placed.{rights_of_port, right_of_target};
-ghost use Rattle.ipc_model.specs.State.{new_port};
+ghost use Rattle.ipc_model.specs.State.{is_number, new_port};
 ghost use Rattle.queue.specs.Counts.{capped_count};
-ghost use Rattle.ports.specs.Changed.{numbers_of, with_numbers};
+ghost use Rattle.ports.specs.Changed.{numbers_mention, numbers_of, with_numbers};
+ghost use Rattle.ports.specs.Mentions.{port_mentions};
 
 use codes::DEFAULT_QUEUE_LIMIT;
 use ipc_model::{Message, RightKind};
-use queue::{PushFault, Queue};
+use queue::Queue;
 use std::alloc::{AllocError, Global};
 use std::marker::Model;
 
@@ -102,14 +103,11 @@ impl Port {
         self.numbers = numbers;
     }
 
-    /// Puts a message at the queue's end, unless that holds as many as its limit allows. With a fault nothing
-    /// changed.
-    pub(crate) fn push(&mut self, message: Message) -> Result<(), PushFault>
-        ensures ok { OnOk result (self.new ≡ record self.old { messages = self.old.messages ++ message ∷ [] }) }
-        ensures err { OnErr result (self.new ≡ self.old) }
-        ensures full { IsErrOf result PushFault.Full ↔ self.old.limit ≤ length self.old.messages }
+    /// Whether the queue holds as many messages as its limit allows.
+    pub(crate) fn has_full_queue(&self) -> bool
+        ensures { IsTrue result ↔ self.now.limit ≤ length self.now.messages }
     {
-        self.queue.push(self.numbers.limit, message)
+        self.numbers.limit <= self.queue.len()
     }
 
     /// Puts a message at the queue's end, whatever the limit. Without memory nothing changed.
@@ -169,6 +167,36 @@ impl Port {
         ensures { result ≡ carries serial self.now }
     {
         self.queue.carries(serial)
+    }
+
+    /// Whether its messages or the targets of its requests mention the port `serial`, beside the destinations of
+    /// the messages.
+    pub(crate) fn mentions(&self, serial: u64) -> bool
+        ensures { result ≡ port_mentions serial self.now }
+    {
+        if has_target(self.numbers, serial) {
+            return true;
+        }
+        self.queue.mentions(serial)
+    }
+}
+
+/// Whether the target of a request is the port.
+fn has_target(numbers: PortNumbers, serial: u64) -> bool
+    ensures { result ≡ numbers_mention serial numbers }
+{
+    if is_target(numbers.no_senders_target, serial) {
+        return true;
+    }
+    is_target(numbers.port_destroyed_target, serial)
+}
+
+fn is_target(target: Option<u64>, serial: u64) -> bool
+    ensures { result ≡ is_number target serial }
+{
+    match target {
+        Some(port) => port == serial,
+        None => false,
     }
 }
 

@@ -1,26 +1,36 @@
-ghost use Rattle.std.specs.Prelude.{◌≡◌, ◌<◌, ◌≤◌, ◌↔◌, ◌∷◌, ◌++◌, ◌==◌, [], length, drop, IsSomeAnd, nat_le, flat_map, find, None, IfOk, OnOk, OnErr, IsErrOf, MatchOption, is_some, option_map, option_copied};
+ghost use Rattle.std.specs.Prelude.{◌≡◌, ◌<◌, ◌≤◌, ◌↔◌, ◌∷◌, ◌++◌, ◌==◌, [], length, drop, IsSomeAnd, nat_le, flat_map, find, None, IfOk, OnOk, OnErr, IsErrOf, MatchOption, is_some, option_map, option_copied, IsTrue, Some};
 ghost use Rattle.std.specs.FinMap as map;
 ghost use Rattle.ipc_model.specs.Circular.{carries};
 ghost use Rattle.ipc_model.specs.Effects.{map_values, port_after_death};
 ghost use Rattle.ipc_model.specs.Placed.{rights_of_port};
 ghost use Rattle.ipc_model.specs.State.{new_port};
+ghost use Rattle.ipc_model.specs.declared.port.PortState.{PortState};
 ghost use Rattle.queue.specs.Counts.{capped_count};
-ghost use Rattle.ports.specs.Changed.{changed, messages_at, numbers_of, with_numbers};
+ghost use Rattle.ports.specs.Changed.{changed, messages_at, numbers_of, with_numbers, KeepsTargets};
 
+use crate::found::{
+    carrier_among, count_at, count_elsewhere, forget_at, push_message, put_numbers, take_message,
+};
+use crate::places::{add_message, add_target, drop_message, drop_port};
 use crate::port::{Port, PortNumbers};
 use codes::MAX_PORTS;
 use ipc_model::{Message, RightKind};
-use number_map::{Change, Copier, NumberMap};
+use number_map::{Copier, NumberMap};
+use port_index::PortIndex;
 use queue::{PushFault, Queue};
 use std::alloc::{AllocError, Global};
 use std::marker::Model;
 
 /// The live ports by their serials, at most `MAX_PORTS`. Contracts see them as the finite map from serials to
 /// ports.
+///
+/// The index has the serials of the ports that mention a port, so that a death, a count of rights and the search for
+/// a carrier look at these alone. It may have further ones, which cost a look and change nothing.
 #[derive(Drop)]
 pub struct Ports {
     alloc: Global,
     ports: NumberMap<Port>,
+    index: PortIndex,
 }
 
 impl Model for Ports {
@@ -31,6 +41,8 @@ impl Model for Ports {
     ghost use Rattle.codes.specs.declared.limits.TheConstants.{MAX_PORTS};
     ghost use Rattle.ipc_model.specs.declared.port.PortState.{PortState};
     ghost use Rattle.ipc_model.specs.contracts.port.PortState as state;
+    ghost use Rattle.port_index.specs.Indexed.{IsIndexed};
+    ghost use Rattle.ports.specs.Mentions.{port_mentions};
 
     ghost Value = { map.FinMap nat_cmp PortState };
 
@@ -38,26 +50,7 @@ impl Model for Ports {
 
     ghost view = { λ p. p.ports };
 
-    ghost invariant = { λ p. map.len p.ports ≤ MAX_PORTS };
-}
-
-/// The death of the port of a serial, as the other ports see it.
-#[derive(Drop)]
-struct Death {
-    serial: u64,
-}
-
-impl Change<Port> for Death {
-    ghost use Rattle.std.specs.Prelude.{◌≡◌};
-    ghost use Rattle.ipc_model.specs.Effects.{port_after_death};
-
-    ghost changed = { λ death port. port_after_death death.serial port };
-
-    fn change(&self, port: &mut Port)
-        ensures { port.new ≡ port_after_death self.now.serial port.old }
-    {
-        port.forget_port(self.serial);
-    }
+    ghost invariant = { λ p. (map.len p.ports ≤ MAX_PORTS) × IsIndexed port_mentions p.ports p.index };
 }
 
 /// Copies ports one by one.
@@ -78,6 +71,7 @@ impl Ports {
         Ports {
             alloc,
             ports: NumberMap::new(alloc),
+            index: PortIndex::new(alloc),
         }
     }
 
@@ -119,13 +113,28 @@ impl Ports {
         }
     }
 
-    /// Replaces what a port keeps beside its queue. It does nothing where the port is dead.
+    /// Replaces what a port keeps beside its queue, where its targets stay or go: there are none that the index would
+    /// need memory for. It does nothing where the port is dead.
     pub fn set_numbers(&mut self, serial: u64, numbers: PortNumbers)
+        requires known { (port : PortState) → map.get self.old serial ≡ Some port → KeepsTargets numbers port }
         ensures { self.new ≡ changed self.old serial (with_numbers numbers) }
     {
-        if let Some(port) = self.ports.get_mut(serial) {
-            port.set_numbers(numbers);
+        put_numbers(&mut self.ports, &mut self.index, serial, numbers);
+    }
+
+    /// Replaces what a port keeps beside its queue, by whatever targets. It does nothing where the port is dead.
+    /// Without memory nothing changed.
+    pub fn replace_numbers(&mut self, serial: u64, numbers: PortNumbers) -> Result<(), AllocError>
+        ensures ok { OnOk result (self.new ≡ changed self.old serial (with_numbers numbers)) }
+        ensures err { OnErr result (self.new ≡ self.old) }
+    {
+        if !self.contains(serial) {
+            return Ok(());
         }
+        add_target(&mut self.index, serial, numbers.no_senders_target)?;
+        add_target(&mut self.index, serial, numbers.port_destroyed_target)?;
+        put_numbers(&mut self.ports, &mut self.index, serial, numbers);
+        Ok(())
     }
 
     /// The messages of a port, if it lives.
@@ -154,7 +163,9 @@ impl Ports {
         ensures before { result ≡ map.get self.old serial }
         ensures removed { self.new ≡ map.remove self.old serial }
     {
-        self.ports.remove(serial)
+        let port = self.ports.remove(serial)?;
+        drop_port(&mut self.index, serial, &port, &Port::new(self.alloc));
+        Some(port)
     }
 
     /// Puts a message at the end of a port's queue, unless that holds as many as its limit allows. Where the port
@@ -166,10 +177,10 @@ impl Ports {
         ensures full { IsErrOf result PushFault.Full ↔ IsSomeAnd (map.get self.old serial)
             (λ port. port.limit ≤ length port.messages) }
     {
-        match self.ports.get_mut(serial) {
-            Some(port) => port.push(message),
-            None => Ok(()),
+        if self.has_full_queue(serial) {
+            return Err(PushFault::Full);
         }
+        Ok(self.push_forced(serial, message)?)
     }
 
     /// Puts a message at the end of a port's queue, whatever the limit. Where the port is dead the message is
@@ -179,10 +190,12 @@ impl Ports {
             (λ port. record port { messages = port.messages ++ message ∷ [] })) }
         ensures err { OnErr result (self.new ≡ self.old) }
     {
-        match self.ports.get_mut(serial) {
-            Some(port) => port.push_forced(message),
-            None => Ok(()),
+        if !self.ports.contains_key(serial) {
+            return Ok(());
         }
+        add_message(&mut self.index, serial, &message)?;
+        push_message(&mut self.ports, serial, message)?;
+        Ok(())
     }
 
     /// Takes the oldest message of a port out, if the port lives and has one.
@@ -191,10 +204,12 @@ impl Ports {
             (λ message. (messages_at self.old serial ≡ message ∷ drop 1 (messages_at self.old serial))
             × (self.new ≡ changed self.old serial (λ port. record port { messages = drop 1 port.messages }))) }
     {
-        match self.ports.get_mut(serial) {
-            Some(port) => port.take(),
-            None => None,
-        }
+        let message = take_message(&mut self.ports, serial)?;
+        let Some(port) = self.ports.get(serial) else {
+            return Some(message);
+        };
+        drop_message(&mut self.index, serial, &message, port);
+        Some(message)
     }
 
     /// The same ports again.
@@ -204,6 +219,7 @@ impl Ports {
         Ok(Ports {
             alloc: self.alloc,
             ports: self.ports.copy(&PortCopier)?,
+            index: self.index.copy()?,
         })
     }
 
@@ -212,29 +228,38 @@ impl Ports {
     pub fn forget_port(&mut self, serial: u64)
         ensures { self.new ≡ map_values (port_after_death serial) self.old }
     {
-        self.ports.change_all(&Death { serial });
+        let Some(places) = self.index.take(serial) else {
+            return;
+        };
+        forget_at(&mut self.ports, &places, serial);
     }
 
     /// How many rights of a kind to the port `serial` the live ports keep, at most `u32::MAX`.
     pub fn rights_to(&self, kind: RightKind, serial: u64) -> u32
         ensures { result ≡ capped_count kind serial (flat_map (λ e. rights_of_port e.0 e.1) (map.entries self.now)) }
     {
-        let mut count: u32 = 0;
-        for (owner, port) in self.ports.iter() {
-            count = count.saturating_add(port.rights_to(*owner, kind, serial));
-        }
-        count
+        let own = count_at(&self.ports, serial, kind, serial);
+        let Some(places) = self.index.places(serial) else {
+            return own;
+        };
+        own.saturating_add(count_elsewhere(&self.ports, places, kind, serial))
     }
 
     /// The port in whose queue the receive right of a port travels, if it does: the least serial.
     pub fn carrier(&self, serial: u64) -> Option<u64>
         ensures { result ≡ option_map (λ e. e.0) (find (λ e. carries serial e.1) (map.entries self.now)) }
     {
-        for (owner, port) in self.ports.iter() {
-            if port.carries(serial) {
-                return Some(*owner);
-            }
+        let places = self.index.places(serial)?;
+        carrier_among(&self.ports, places, serial)
+    }
+
+    /// Whether a port lives whose queue holds as many messages as its limit allows.
+    fn has_full_queue(&self, serial: u64) -> bool
+        ensures { IsTrue result ↔ IsSomeAnd (map.get self.now serial) (λ port. port.limit ≤ length port.messages) }
+    {
+        match self.ports.get(serial) {
+            Some(port) => port.has_full_queue(),
+            None => false,
         }
-        None
     }
 }

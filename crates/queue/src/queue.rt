@@ -1,13 +1,14 @@
-ghost use Rattle.std.specs.Prelude.{◌≡◌, ◌≤◌, ◌↔◌, ◌==◌, ◌∷◌, ◌++◌, [], length, drop, map, flat_map, option_copied, IfOk, OnOk, OnErr, IsErrOf, MatchOption};
+ghost use Rattle.std.specs.Prelude.{◌≡◌, ◌<◌, ◌≤◌, ◌↔◌, ◌==◌, ◌∷◌, ◌++◌, [], length, drop, map, flat_map, option_copied, IfOk, OnOk, OnErr, IsErrOf, MatchOption, slice_index_or};
 ghost use Rattle.std.specs.List.{list_any};
 ghost use Rattle.ipc_model.specs.Circular.{is_receive_right};
 ghost use Rattle.ipc_model.specs.Effects.{message_after_death};
 ghost use Rattle.ipc_model.specs.Placed.{rights_of_message};
 ghost use Rattle.queue.specs.Counts.{capped_count};
+ghost use Rattle.queue.specs.Mentions.{message_mentions};
 
 use crate::copy::copy_of_message;
 use crate::death::forget_in_message;
-use crate::rights::{carries_receive_right, count_in_message};
+use crate::rights::{carries_receive_right, count_in_message, mentions_port};
 use ipc_model::{Message, RightKind};
 use std::alloc::{AllocError, Global};
 use std::collections::VecDeque;
@@ -119,6 +120,14 @@ impl Queue {
         self.messages.front()
     }
 
+    /// The message of an index, counted from the oldest.
+    pub fn message(&self, index: u32) -> &Message
+        requires { index < length self.now }
+        ensures { result.now ≡ slice_index_or self.now index result.now }
+    {
+        &self.messages[index as usize]
+    }
+
     /// Another queue of the same messages.
     pub fn copy(&self) -> Result<Queue, AllocError>
         ensures { IfOk result (λ copy. copy ≡ self.now) }
@@ -161,5 +170,14 @@ impl Queue {
         self.messages
             .iter()
             .any(|message| carries_receive_right(message, serial))
+    }
+
+    /// Whether a message has a right to the port beside its destination, which is the queue's own port.
+    pub fn mentions(&self, serial: u64) -> bool
+        ensures { result ≡ list_any (message_mentions serial) self.now }
+    {
+        self.messages
+            .iter()
+            .any(|message| mentions_port(message, serial))
     }
 }

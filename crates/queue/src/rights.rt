@@ -4,6 +4,7 @@ ghost use Rattle.std.specs.List.{list_any};
 ghost use Rattle.ipc_model.specs.Circular.{is_port, is_receive_right};
 ghost use Rattle.ipc_model.specs.Placed.{Place, same_kind, right_of_carried, right_of_reply, rights_of_message};
 ghost use Rattle.queue.specs.Counts.{capped_count};
+ghost use Rattle.queue.specs.Mentions.{message_mentions, reply_mentions, right_mentions};
 
 use ipc_model::{CarriedRight, Message, PortInMessage, RightKind};
 
@@ -68,4 +69,35 @@ pub(crate) fn carries_receive_right(message: &Message, serial: u64) -> bool
         .as_slice()
         .iter()
         .any(|right| is_right_to(*right, RightKind::Receive, serial))
+}
+
+/// Whether the reply right or a right of the body is to the port.
+pub(crate) fn mentions_port(message: &Message, serial: u64) -> bool
+    ensures { result ≡ message_mentions serial message.now }
+{
+    if reply_mentions(message.reply, serial) {
+        return true;
+    }
+    rights_mention(message.rights.as_slice(), serial)
+}
+
+fn rights_mention(rights: &[CarriedRight], serial: u64) -> bool
+    ensures { result ≡ list_any (right_mentions serial) rights.now }
+{
+    rights.iter().any(|right| is_to_port(*right, serial))
+}
+
+fn reply_mentions(reply: Option<CarriedRight>, serial: u64) -> bool
+    ensures { result ≡ reply_mentions serial reply }
+{
+    match reply {
+        Some(right) => is_to_port(right, serial),
+        None => false,
+    }
+}
+
+fn is_to_port(right: CarriedRight, serial: u64) -> bool
+    ensures { result ≡ right_mentions serial right }
+{
+    right.port == PortInMessage::Live(serial)
 }

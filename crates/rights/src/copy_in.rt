@@ -1,7 +1,10 @@
-ghost use Rattle.std.specs.Prelude.{◌≡◌, true, false, IfOk, OnErr, IfSome, IfNone, IsSome};
+ghost use Rattle.std.specs.Prelude.{◌≡◌, Some, true, false, IfOk, OnErr, IfSome, IfNone, IsSome};
 ghost use Rattle.ipc_model.specs.CopyIn.{copy_in, taken_of_port, taken_of_send_once, taken_of_dead, taken_leaving, moved_port};
 ghost use Rattle.ipc_model.specs.State.{entry_at, with_port, next_count};
 ghost use Rattle.ipc_model.specs.declared.port.PortState.{PortState};
+ghost use Rattle.ipc_model.specs.declared.entry.Entry.{Entry};
+ghost use Rattle.port_index.specs.Indexed.{MentionsNoOther};
+ghost use Rattle.port_space.specs.Mentions.{entry_mentions};
 ghost use Rattle.port_space.specs.References.{AreFewReferences};
 ghost use Rattle.rights.specs.Meaning.{disposition_meant};
 ghost use Rattle.rights.specs.Taking.{Takes};
@@ -76,6 +79,7 @@ fn take_from_port(
 ) -> Result<Option<CarriedRight>, AllocError>
     requires named { IsSome (entry_at state.old space name) }
     requires few { AreFewReferences (Entry.Port rights) }
+    requires known { (former : Entry) → entry_at state.old space name ≡ Some former → MentionsNoOther entry_mentions (Entry.Port rights) former }
     ensures taken { IfOk result (λ right. Takes (taken_of_port state.old space name (disposition_meant disposition) rights) state.old effects.old right state.new effects.new) }
     ensures err { OnErr result ((state.new ≡ state.old) × (effects.new ≡ effects.old)) }
 {
@@ -104,6 +108,7 @@ fn move_receive(
 ) -> Result<Option<CarriedRight>, AllocError>
     requires named { IsSome (entry_at state.old space name) }
     requires few { AreFewReferences (Entry.Port rights) }
+    requires known { (former : Entry) → entry_at state.old space name ≡ Some former → MentionsNoOther entry_mentions (Entry.Port rights) former }
     ensures taken { IfOk result (λ right. Takes (taken_of_port state.old space name (disposition_meant Disposition.MoveReceive) rights) state.old effects.old right state.new effects.new) }
     ensures err { OnErr result ((state.new ≡ state.old) × (effects.new ≡ effects.old)) }
 {
@@ -146,6 +151,7 @@ fn move_send(
 ) -> Result<Option<CarriedRight>, AllocError>
     requires named { IsSome (entry_at state.old space name) }
     requires few { AreFewReferences (Entry.Port rights) }
+    requires known { (former : Entry) → entry_at state.old space name ≡ Some former → MentionsNoOther entry_mentions (Entry.Port rights) former }
     ensures taken { IfOk result (λ right. Takes (taken_of_port state.old space name (disposition_meant Disposition.MoveSend) rights) state.old effects.old right state.new effects.new) }
     ensures err { OnErr result ((state.new ≡ state.old) × (effects.new ≡ effects.old)) }
 {

@@ -1,11 +1,15 @@
-ghost use Rattle.std.specs.Prelude.{◌≡◌, ◌++◌, OnOk, OnErr, IsSome};
+ghost use Rattle.std.specs.Prelude.{◌≡◌, ◌++◌, OnOk, OnErr, IsSome, Some};
 ghost use Rattle.ipc_model.specs.CopyIn.{with_left, notices_of_left};
-ghost use Rattle.ipc_model.specs.State.{entry_at, is_empty_entry, request_of};
+ghost use Rattle.ipc_model.specs.State.{entry_at, is_empty_entry};
+ghost use Rattle.ipc_model.specs.declared.entry.Entry.{Entry};
+ghost use Rattle.port_index.specs.Indexed.{MentionsNoOther};
+ghost use Rattle.port_space.specs.Mentions.{entry_mentions};
 ghost use Rattle.port_space.specs.References.{AreFewReferences};
 
 use effects::Effects;
 use ipc_model::Entry;
 use ipc_state::IpcState;
+use port_space::request_of;
 use std::alloc::AllocError;
 
 /// Whether a name stands for nothing any more, and so ceases to be.
@@ -16,20 +20,6 @@ pub fn is_empty(entry: Entry) -> bool
         Entry::Port(rights) => !rights.receive && rights.send == 0,
         Entry::Dead { references } => references == 0,
         Entry::SendOnce { .. } | Entry::Set => false,
-    }
-}
-
-/// The target of a name's dead-name request.
-pub fn request_of(entry: Entry) -> Option<u64>
-    ensures { result ≡ request_of entry }
-{
-    match entry {
-        Entry::Port(rights) => rights.dead_name_target,
-        Entry::SendOnce {
-            dead_name_target,
-            ..
-        } => dead_name_target,
-        Entry::Set | Entry::Dead { .. } => None,
     }
 }
 
@@ -45,10 +35,12 @@ pub fn announce_left(effects: &mut Effects, name: u32, entry: Entry) -> Result<(
     Ok(())
 }
 
-/// A name that is in use comes to stand for this; left without a right, it ceases to be.
+/// A name that is in use comes to stand for this, which mentions no port that it didn't; left without a right, it
+/// ceases to be.
 pub fn set_left(state: &mut IpcState, space: u32, name: u32, entry: Entry)
     requires named { IsSome (entry_at state.old space name) }
     requires few { AreFewReferences entry }
+    requires known { (former : Entry) → entry_at state.old space name ≡ Some former → MentionsNoOther entry_mentions entry former }
     ensures { state.new ≡ with_left state.old space name entry }
 {
     if is_empty(entry) {

@@ -10,5 +10,5 @@ mod wanted;
 pub use copy_in::take_right;
 pub use copy_out::{arrival_name, may_arrive, put_right};
 pub use disposition::Disposition;
-pub use left::{announce_left, is_empty, request_of, set_left};
+pub use left::{announce_left, is_empty, set_left};
 pub use wanted::names_wanted;

@@ -49,7 +49,7 @@ fn a_request_takes_the_receive_right_along(rt: HostRuntime) -> Result<(), Fail> 
         port_destroyed_target: Some(2),
         ..numbers
     };
-    state.set_numbers(1, asked);
+    state.replace_numbers(1, asked)?;
     let state = release(rt.alloc(), state, &[(RightKind::Receive, 1)])?;
     assert_eq!(rt; lengths(&state), [Some(0), Some(1)]);
     // The death of port 2 releases the receive right that its queue carries.
@@ -67,7 +67,7 @@ fn the_last_sender_is_told_of(rt: HostRuntime) -> Result<(), Fail> {
         no_senders_target: Some(2),
         ..numbers
     };
-    state.set_numbers(1, asked);
+    state.replace_numbers(1, asked)?;
     let mut state = release(rt.alloc(), state, &[(RightKind::Send, 1)])?;
     assert_eq!(rt;
         (state.numbers(1), lengths(&state)),

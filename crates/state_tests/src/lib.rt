@@ -14,6 +14,8 @@ mod notify_tests;
 #[cfg(test)]
 mod number_map_tests;
 #[cfg(test)]
+mod port_index_tests;
+#[cfg(test)]
 mod port_set_tests;
 #[cfg(test)]
 mod port_space_tests;

@@ -3,7 +3,7 @@ use effects::Notice;
 use ipc_model::{CarriedRight, Entry, RightKind};
 use ipc_state::IpcState;
 use notify::{message, replace_no_senders, replace_port_destroyed, with_request};
-use std::alloc::Global;
+use std::alloc::{AllocError, Global};
 use std::process::Abort;
 use std::test::Fail;
 
@@ -69,21 +69,21 @@ fn replace(
     state: &mut IpcState,
     no_senders: Option<u64>,
     port_destroyed: Option<u64>,
-) -> [Option<u64>; 2] {
-    [
-        replace_no_senders(state, 1, no_senders),
-        replace_port_destroyed(state, 1, port_destroyed),
-    ]
+) -> Result<[Option<u64>; 2], AllocError> {
+    Ok([
+        replace_no_senders(state, 1, no_senders)?,
+        replace_port_destroyed(state, 1, port_destroyed)?,
+    ])
 }
 
 #[test]
 fn keeps_and_gives_back_requests(rt: HostRuntime) -> Result<(), Fail> {
     let mut state = with_ports(rt.alloc(), 1)?;
     let given = [
-        replace(&mut state, Some(8), None),
-        replace(&mut state, Some(9), Some(7)),
-        replace(&mut state, None, None),
-        replace(&mut state, None, None),
+        replace(&mut state, Some(8), None)?,
+        replace(&mut state, Some(9), Some(7))?,
+        replace(&mut state, None, None)?,
+        replace(&mut state, None, None)?,
     ];
     let before = [
         [None, None],

@@ -1,4 +1,4 @@
-use number_map::{Change, Copier, NumberMap};
+use number_map::{Copier, NumberMap};
 use std::alloc::{AllocError, Global};
 use std::test::Fail;
 
@@ -7,18 +7,6 @@ struct Numbers;
 impl Copier<u32> for Numbers {
     fn copy(&self, value: &u32) -> Result<u32, AllocError> {
         Ok(*value)
-    }
-}
-
-struct Halving;
-
-impl Change<u32> for Halving {
-    ghost use Rattle.std.specs.Prelude.{◌/◌};
-
-    ghost changed = { λ _ value. value / 2 };
-
-    fn change(&self, value: &mut u32) {
-        *value /= 2;
     }
 }
 
@@ -76,8 +64,8 @@ fn a_value_is_changed_in_place(rt: HostRuntime) -> Result<(), Fail> {
 fn a_copy_keeps_its_values(rt: HostRuntime) -> Result<(), Fail> {
     let mut map = two_values(rt.alloc())?;
     let copy = map.copy(&Numbers)?;
-    map.change_all(&Halving);
-    assert_eq!(rt; values(&map), [Some(15), Some(35), None]);
+    let _ = map.remove(3);
+    assert_eq!(rt; values(&map), [None, Some(70), None]);
     assert_eq!(rt; values(&copy), [Some(30), Some(70), None]);
     Ok(())
 }

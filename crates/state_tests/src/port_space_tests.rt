@@ -129,3 +129,40 @@ fn a_name_is_renamed(rt: HostRuntime) -> Result<(), Fail> {
     assert_eq!(rt; [space.get(0x102), space.get(0x105)], [None, Some(HELD)]);
     Ok(())
 }
+
+/// How many names may mention the ports 7, 9 and 8.
+fn names_known(space: &PortSpace) -> [Option<usize>; 3] {
+    [7, 9, 8].map(|port| space.names_of(port).map(|names| names.len()))
+}
+
+#[test]
+fn knows_the_names_that_mention_a_port(rt: HostRuntime) -> Result<(), Fail> {
+    let mut space = two_rights(rt.alloc())?;
+    assert_eq!(rt; names_known(&space), [Some(2), Some(2), None]);
+    let mentioned = [7, 9, 8].map(|port| space.mentions(port));
+    assert_eq!(rt; mentioned, [true, true, false]);
+    put(&mut space, 0x100, once(None))?;
+    assert_eq!(rt; names_known(&space), [Some(1), Some(2), None]);
+    Ok(())
+}
+
+#[test]
+fn forgets_where_ports_were_mentioned(rt: HostRuntime) -> Result<(), Fail> {
+    let mut space = two_rights(rt.alloc())?;
+    if !space.contains(0x105) {
+        space.rename(0x102, 0x105)?;
+    }
+    let _ = space.remove(0x100);
+    assert_eq!(rt; names_known(&space), [Some(1), Some(1), None]);
+    space.forget_port(7);
+    assert_eq!(rt; names_known(&space)[0], None);
+    Ok(())
+}
+
+#[test]
+fn gives_what_stands_under_a_place(rt: HostRuntime) -> Result<(), Fail> {
+    let space = two_rights(rt.alloc())?;
+    let named = [0x102, 0x101, 1 << 40].map(|name| space.named(name));
+    assert_eq!(rt; named, [Some((0x102, HELD)), None, None]);
+    Ok(())
+}

@@ -83,7 +83,7 @@ const NUMBERS: PortNumbers = PortNumbers {
 #[test]
 fn requests_are_kept(rt: HostRuntime) -> Result<(), Fail> {
     let mut ports = two_ports(rt.alloc())?;
-    ports.set_numbers(7, NUMBERS);
+    ports.replace_numbers(7, NUMBERS)?;
     assert_eq!(rt; [ports.numbers(7), ports.numbers(8)], [Some(NUMBERS), None]);
     let counts = [9, 8, 7].map(|serial| ports.rights_to(RightKind::SendOnce, serial));
     assert_eq!(rt; counts, [1, 1, 0]);
@@ -93,7 +93,7 @@ fn requests_are_kept(rt: HostRuntime) -> Result<(), Fail> {
 #[test]
 fn a_dead_port_is_forgotten(rt: HostRuntime) -> Result<(), Fail> {
     let mut ports = two_ports(rt.alloc())?;
-    ports.set_numbers(7, NUMBERS);
+    ports.replace_numbers(7, NUMBERS)?;
     let carriers = [9, 8].map(|serial| ports.carrier(serial));
     ports.forget_port(9);
     assert_eq!(rt; (carriers, ports.carrier(9)), ([Some(4), None], None));

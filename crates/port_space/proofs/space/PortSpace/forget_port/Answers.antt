@@ -7,8 +7,8 @@ use Rattle.port_space.proofs.space.PortSpace.forget_port.Goals as goal
 pub invariant_of-self : goal.invariant_of-self
 invariant_of-self c =
     let names = c.self.inside.names in
-    subst AreBounded (sym (c.change_all.ensures ∙ forgets names c.args.serial c.self.invariant)) (bounded_death names c.args.serial c.self.invariant)
+    subst AreBounded (sym (c.forget_port.ensures ∙ forgets names c.args.serial c.self.invariant)) (bounded_death names c.args.serial c.self.invariant)
 
 pub returns : goal.returns
 returns c =
-    c.change_all.ensures ∙ forgets c.self.inside.names c.args.serial c.self.invariant ∙ ap (map_values (entry_after_death c.args.serial)) c.self.view_is
+    c.forget_port.ensures ∙ forgets c.self.inside.names c.args.serial c.self.invariant ∙ ap (map_values (entry_after_death c.args.serial)) c.self.view_is

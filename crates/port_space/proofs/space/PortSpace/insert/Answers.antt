@@ -13,8 +13,8 @@ either P (Err e) old more new ok err before after = subst P (sym err) before
 pub invariant_of-self : goal.invariant_of-self
 invariant_of-self c =
     let names = c.self.inside.names in
-    let room : get names c.from.result ≡ None → len names < MAX_NAMES = λ none.
-    subst (λ m. len m < MAX_NAMES) (sym c.self.view_is) (c.requires.room (subst (λ m. get m c.args.name ≡ None) c.self.view_is (subst (λ n. get names n ≡ None) c.from.ensures none))) in
-    let small : c.from.result < 2 ^ 32 = omega arith in
-    let within = bounded_insert names c.from.result c.args.entry c.self.invariant room small c.requires.few in
-    either AreBounded c.insert.result names (insert names c.from.result c.args.entry) c.insert.new.self c.insert.ensures.ok c.insert.ensures.err c.self.invariant within
+    let room : get names c.args.name ≡ None → len names < MAX_NAMES = λ none.
+    subst (λ m. len m < MAX_NAMES) (sym c.self.view_is) (c.requires.room (subst (λ m. get m c.args.name ≡ None) c.self.view_is none)) in
+    let small : c.args.name < 2 ^ 32 = omega arith in
+    let within = bounded_insert names c.args.name c.args.entry c.self.invariant room small c.requires.few in
+    either AreBounded c.put.result names (insert names c.args.name c.args.entry) c.put.new.self c.put.ensures.ok c.put.ensures.err c.self.invariant within

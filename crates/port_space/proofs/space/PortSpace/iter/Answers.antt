@@ -3,7 +3,7 @@ use Rattle.std.specs.FinMap as map
 use Rattle.std.specs.List.{AllByRecursion}
 use Rattle.ipc_model.specs.declared.entry.Entry.{Entry}
 use Rattle.ipc_model.specs.State.{Names}
-use Rattle.port_space.proofs.Walks.{small_names}
+use Rattle.port_space.proofs.Small.{small_names}
 use Rattle.port_space.proofs.space.PortSpace.iter.Goals as goal
 
 pub returns-clause-small : goal.returns-clause-small

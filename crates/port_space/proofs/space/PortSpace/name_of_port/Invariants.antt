@@ -1,10 +1,9 @@
-use Rattle.std.proofs.Common.{◌≡◌, ◌^◌, ◌<◌}
-use Rattle.std.specs.List.{AllByRecursion}
+use Rattle.std.proofs.Common.{◌≡◌}
+use Rattle.port_index.specs.Standing.{standing}
 use Rattle.ipc_model.specs.State.{name_of_port}
-use Rattle.port_space.proofs.Walks.{first_name}
+use Rattle.port_space.specs.Walks.{first_name}
 use Rattle.port_space.proofs.space.PortSpace.name_of_port.Given as goal
 
--- the names that are left fit a u32, and the first of them that is the port's is that of the space
+-- what stands under the names that are left tells what all names do
 abbrev pub invariant-loop-name : goal.invariant-loop-name
-invariant-loop-name l =
-    AllByRecursion (λ e. e.0 < 2 ^ 32) l.name-iterator × (first_name l.serial l.name-iterator ≡ name_of_port l.self l.serial)
+invariant-loop-name l = first_name l.serial (standing l.self l.name-iterator) ≡ name_of_port l.self l.serial

@@ -1,10 +1,9 @@
-use Rattle.std.proofs.Common.{◌≡◌, ◌==◌, ◌&&◌, not}
-use Rattle.std.specs.List.{list_any}
+use Rattle.std.proofs.Common.{◌≡◌}
+use Rattle.port_index.specs.Standing.{standing}
 use Rattle.ipc_model.specs.PortCalls.{stands_elsewhere}
-use Rattle.ipc_model.specs.State.{is_number, port_held}
+use Rattle.port_space.specs.Walks.{any_elsewhere}
 use Rattle.port_space.proofs.space.PortSpace.stands_elsewhere.Given as goal
 
--- the names that are left tell what all of them do
+-- what stands under the names that are left tells what all names do
 abbrev pub invariant-loop-other : goal.invariant-loop-other
-invariant-loop-other l =
-    list_any (λ e. is_number (port_held e.1) l.serial && not (e.0 == l.name)) l.other-iterator ≡ stands_elsewhere l.self l.name l.serial
+invariant-loop-other l = any_elsewhere l.name l.serial (standing l.self l.other-iterator) ≡ stands_elsewhere l.self l.name l.serial

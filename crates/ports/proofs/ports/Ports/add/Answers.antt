@@ -1,12 +1,12 @@
-use Rattle.std.proofs.Common.{◌<◌, ap, arith, subst, sym}
+use Rattle.std.proofs.Common.{◌<◌, subst, sym}
 use Rattle.std.specs.FinMap.{len}
 use Rattle.codes.specs.declared.limits.TheConstants.{MAX_PORTS}
-use Rattle.ports.proofs.Counted.{len_inserted}
+use Rattle.ports.proofs.Kept.{added_kept, one_more_port}
 use Rattle.ports.proofs.ports.Ports.add.Goals as goal
 
 pub invariant_of-self-2 : goal.invariant_of-self-2
 invariant_of-self-2 c =
-    let before : len c.self.inside.ports < MAX_PORTS = subst (λ m. len m < MAX_PORTS) (sym c.self.view_is) c.requires.room in
-    let after = ap len c.in_ok-insert.ensures.ok in
-    let more = len_inserted c.self.inside.ports c.args.serial c.new.result in
-    omega arith
+    let before : len c.self.inside.ports < MAX_PORTS = subst (λ m. len m < MAX_PORTS) (sym c.self.view_is) c.requires.room in (
+      one_more_port c.self.inside.ports c.insert.new.self _ _ c.in_ok-insert.ensures.ok before,
+      added_kept c.self.inside.ports c.insert.new.self c.self.inside.index _ _ c.in_ok-insert.ensures.ok c.new.ensures c.self.invariant.1,
+    )

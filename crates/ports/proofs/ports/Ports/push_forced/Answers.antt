@@ -1,16 +1,17 @@
-use Rattle.std.proofs.Common.{OnErr, ◌≡◌, subst}
-use Rattle.ports.proofs.Lent.{as_many, unchanged, nothing_done, no_error}
+use Rattle.std.proofs.Common.{◌++◌, ◌∷◌, []}
+use Rattle.queue.specs.Mentions.{message_mentions}
+use Rattle.ports.proofs.Kept.{indexed_changed, len_changed, more_kept, none_gone, pushed_covered}
 use Rattle.ports.proofs.ports.Ports.push_forced.Goals as goal
-use Rattle.ports.proofs.ports.Ports.push_forced.Goals.{in-Some, in-None}
 
-pub invariant_of-self : goal.invariant_of-self
-invariant_of-self c = elim c.match-get_mut.branch [
-  | in-Some w ↦ as_many c.self.inside c.match-get_mut.self-inside c.args.serial c.get_mut.result w.in-Some.port w.push_forced.new.self c.self.invariant c.get_mut.ensures.value w.in-Some.is w.self-inside-is
-  | in-None w ↦ unchanged c.self.inside c.match-get_mut.self-inside c.self.invariant w.self-inside-is
-]
-
-pub returns-clause-err : goal.returns-clause-err
-returns-clause-err c = subst (λ ports. OnErr c.match-get_mut.result (c.match-get_mut.self-inside.ports ≡ ports)) c.self.view_is (elim c.match-get_mut.branch [
-  | in-Some w ↦ nothing_done c.match-get_mut.result w.push_forced.result c.self.inside c.match-get_mut.self-inside c.args.serial c.get_mut.result w.in-Some.port w.push_forced.new.self w.result-is w.push_forced.ensures.err c.get_mut.ensures.value w.in-Some.is w.self-inside-is
-  | in-None w ↦ no_error _ c.match-get_mut.result _ w.result-is
-])
+pub invariant_of-self-2 : goal.invariant_of-self-2
+invariant_of-self-2 c =
+    let ports = c.self.inside.ports in
+    let old = c.self.inside.index in
+    let new = c.add_message.new.index in
+    let added = c.in_ok-add_message.ensures.ok in
+    let is = c.in_ok-push_message.ensures.ok in (
+      len_changed ports c.push_message.new.ports c.args.serial (λ port. record port { messages = port.messages ++ c.args.message ∷ [] }) is c.self.invariant.0,
+      indexed_changed ports c.push_message.new.ports new c.args.serial (λ port. record port { messages = port.messages ++ c.args.message ∷ [] }) is
+          (more_kept ports old new (none_gone old new c.args.serial (λ p. message_mentions p c.args.message) added) c.self.invariant.1)
+          (λ port there. pushed_covered ports old new c.args.serial port c.args.message added c.self.invariant.1 there),
+    )

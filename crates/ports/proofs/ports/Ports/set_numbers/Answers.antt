@@ -1,9 +1,14 @@
-use Rattle.ports.proofs.Lent.{as_many, unchanged}
+use Rattle.std.proofs.Common.{sym, ◌∙◌, ap}
+use Rattle.std.specs.FinMap as map
+use Rattle.ports.specs.Changed.{with_numbers}
+use Rattle.ports.proofs.Kept.{fewer_covered, indexed_changed, len_changed, numbers_fewer}
 use Rattle.ports.proofs.ports.Ports.set_numbers.Goals as goal
-use Rattle.ports.proofs.ports.Ports.set_numbers.Goals.{in-Some, in_default}
 
 pub invariant_of-self : goal.invariant_of-self
-invariant_of-self c = elim c.match-get_mut.branch [
-  | in-Some w ↦ as_many c.self.inside c.match-get_mut.self-inside c.args.serial c.get_mut.result w.in-Some.port w.set_numbers.new.self c.self.invariant c.get_mut.ensures.value w.in-Some.is w.self-inside-is
-  | in_default w ↦ unchanged c.self.inside c.match-get_mut.self-inside c.self.invariant w.self-inside-is
-]
+invariant_of-self c =
+    let ports = c.self.inside.ports in
+    let change = with_numbers c.args.numbers in (
+      len_changed ports c.put_numbers.new.ports c.args.serial change c.put_numbers.ensures.ports c.self.invariant.0,
+      c.put_numbers.ensures.indexed (indexed_changed ports c.put_numbers.new.ports c.self.inside.index c.args.serial change c.put_numbers.ensures.ports c.self.invariant.1
+          (fewer_covered ports c.self.inside.index c.args.serial change c.self.invariant.1 (λ port there. numbers_fewer c.args.numbers port (c.requires.known port (sym (ap (λ m. map.get m c.args.serial) c.self.view_is) ∙ there))))),
+    )

@@ -1,16 +1,24 @@
-use Rattle.std.proofs.Common.{subst}
-use Rattle.ports.proofs.Lent.{as_many, unchanged, Taken, taken, none_taken}
+use Rattle.std.proofs.Common.{drop, sym, ◌∙◌, ap, option_copied}
+use Rattle.queue.specs.Mentions.{message_mentions}
+use Rattle.ports.proofs.Kept.{dropped_kept, fewer_covered, found_there, indexed_changed, len_changed, taken_fewer}
 use Rattle.ports.proofs.ports.Ports.take.Goals as goal
-use Rattle.ports.proofs.ports.Ports.take.Goals.{in-Some, in-None}
 
-pub invariant_of-self : goal.invariant_of-self
-invariant_of-self c = elim c.match-get_mut.branch [
-  | in-Some w ↦ as_many c.self.inside c.match-get_mut.self-inside c.args.serial c.get_mut.result w.in-Some.port w.take.new.self c.self.invariant c.get_mut.ensures.value w.in-Some.is w.self-inside-is
-  | in-None w ↦ unchanged c.self.inside c.match-get_mut.self-inside c.self.invariant w.self-inside-is
-]
+pub invariant_of-self-in_default : goal.invariant_of-self-in_default
+invariant_of-self-in_default c =
+    let ports = c.self.inside.ports in
+    let is = c.in_ok-message.ensures.1 in (
+      len_changed ports c.take_message.new.ports c.args.serial (λ port. record port { messages = drop 1 port.messages }) is c.self.invariant.0,
+      indexed_changed ports c.take_message.new.ports c.self.inside.index c.args.serial (λ port. record port { messages = drop 1 port.messages }) is c.self.invariant.1
+          (fewer_covered ports c.self.inside.index c.args.serial (λ port. record port { messages = drop 1 port.messages }) c.self.invariant.1 (λ port there. taken_fewer port)),
+    )
 
-pub returns : goal.returns
-returns c = subst (λ ports. Taken ports c.args.serial c.match-get_mut.result c.match-get_mut.self-inside.ports) c.self.view_is (elim c.match-get_mut.branch [
-  | in-Some w ↦ taken c.match-get_mut.result w.take.result c.self.inside c.match-get_mut.self-inside c.args.serial c.get_mut.result w.in-Some.port w.take.new.self w.result-is w.take.ensures c.get_mut.ensures.value w.in-Some.is w.self-inside-is
-  | in-None w ↦ none_taken c.match-get_mut.result c.self.inside c.match-get_mut.self-inside c.args.serial c.get_mut.result w.result-is c.get_mut.ensures.value w.in-None.is w.self-inside-is
-])
+pub invariant_of-self-2 : goal.invariant_of-self-2
+invariant_of-self-2 c =
+    let ports = c.self.inside.ports in
+    let is = c.in_ok-message.ensures.1 in (
+      len_changed ports c.take_message.new.ports c.args.serial (λ port. record port { messages = drop 1 port.messages }) is c.self.invariant.0,
+      dropped_kept c.take_message.new.ports c.self.inside.index c.drop_message.new.index c.args.serial (λ p. message_mentions p c.in_ok-message.message) c.in-Some.port.now c.drop_message.ensures
+          (λ x there. found_there c.take_message.new.ports c.args.serial c.in-Some.port.now x (sym (ap option_copied c.in-Some.is) ∙ c.get.ensures) there)
+          (indexed_changed ports c.take_message.new.ports c.self.inside.index c.args.serial (λ port. record port { messages = drop 1 port.messages }) is c.self.invariant.1
+          (fewer_covered ports c.self.inside.index c.args.serial (λ port. record port { messages = drop 1 port.messages }) c.self.invariant.1 (λ port there. taken_fewer port))),
+    )

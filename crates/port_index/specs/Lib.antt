@@ -1,0 +1,4 @@
+pub mod Places
+pub mod PlaceLaws
+pub mod Indexed
+pub mod Standing

@@ -1,8 +1,0 @@
-use Rattle.std.proofs.Common.{◌≡◌, find}
-use Rattle.std.specs.FinMap as map
-use Rattle.ipc_model.specs.Circular.{carries}
-use Rattle.ports.proofs.ports.Ports.carrier.Given as goal
-
--- none of the ports so far carries it
-abbrev pub invariant-loop-owner : goal.invariant-loop-owner
-invariant-loop-owner l = find (λ e. carries l.serial e.1) l.owner-iterator ≡ find (λ e. carries l.serial e.1) (map.entries l.self)
