@@ -3,9 +3,9 @@ use Rattle.std.proofs.Common.{◌≡◌, ◌≢◌, ℕ, Bool, true, false, ◌=
 use Rattle.codes.specs.declared.kern_return.KernReturn.TheVariants.{Success, InvalidArgument}
 use Rattle.ipc_model.specs.declared.call.Call.{Call}
 use Rattle.ipc_model.specs.declared.call.Call.TheVariants as call
-use Rattle.ipc_model.specs.Step.{number_of_call}
-use Rattle.ipc_model.specs.TextReading.{number-fits}
-use Rattle.ipc_model.specs.Texts.{call_text, arguments_text, FitsCall}
+use Rattle.ipc_model.specs.calls.Step.{number_of_call}
+use Rattle.ipc_laws.specs.TextReading.{number-fits}
+use Rattle.ipc_model.specs.texts.Texts.{call_text, arguments_text, FitsCall}
 use Rattle.words.specs.WordLaws.{same_word}
 use Rattle.words.specs.Words.{word}
 use Rattle.calls.specs.declared.request.CallFault.{CallFault}

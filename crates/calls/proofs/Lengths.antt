@@ -3,7 +3,7 @@ use Rattle.std.proofs.Common.{◌≡◌, ℕ, ◌+◌, ◌*◌, ◌<◌, ◌≤�
 use Rattle.ipc_model.specs.declared.call.NamedType.{NamedType}
 use Rattle.ipc_model.specs.declared.call.Reply.{Reply}
 use Rattle.ipc_model.specs.declared.call.Reply.TheVariants as reply
-use Rattle.ipc_model.specs.Texts.{reply_text}
+use Rattle.ipc_model.specs.texts.Texts.{reply_text}
 use Rattle.words.specs.Words.{word}
 use Rattle.calls.specs.Rows.{names_text}
 

@@ -2,9 +2,9 @@
 use Rattle.std.proofs.Common.{◌≡◌, ℕ, zero, suc, ◌+◌, ◌*◌, ◌/◌, ◌%◌, ◌^◌, ◌<◌, ◌≤◌, min, Bool, true, false, ◌==◌, List, [], ◌∷◌, length, take, drop, get_or, set, slice_index, bit_and, refl, sym, ap, ◌∙◌, arith}
 use Rattle.std.proofs.lemmas.Nat.{and_le_l, and_le_r, and_mask}
 use Rattle.std.proofs.lemmas.Nat.Bits.{and_pow}
-use Rattle.ipc_model.specs.Messages.{bits_of, is_complex, complex_bit}
-use Rattle.ipc_model.specs.Texts.{IsKeptMessage}
-use Rattle.words.specs.WordLaws.{AreBytes}
+use Rattle.ipc_model.specs.messages.Messages.{bits_of, is_complex, complex_bit}
+use Rattle.ipc_model.specs.texts.Texts.{IsKeptMessage}
+use Rattle.words.specs.Words.{AreBytes}
 use Rattle.calls.specs.Kept.{masked, used_bits, kept_message}
 
 pub length-masked : (masks bytes : List ℕ) → length (masked masks bytes) ≡ length bytes

@@ -5,10 +5,9 @@ use Rattle.std.proofs.lemmas.Slice.Eq.{slice_eq-Decides}
 use Rattle.std.specs.Cmp.Lexicographic.{pointwise}
 use Rattle.ipc_model.specs.declared.call.Call.{Call}
 use Rattle.ipc_model.specs.declared.call.Call.TheVariants as call
-use Rattle.ipc_model.specs.Step.{number_of_call}
-use Rattle.ipc_model.specs.Texts.{arguments_text, receive_option, number_of_bool, FitsCall}
-use Rattle.words.specs.WordLaws.{AreBytes}
-use Rattle.words.specs.Words.{word}
+use Rattle.ipc_model.specs.calls.Step.{number_of_call}
+use Rattle.ipc_model.specs.texts.Texts.{arguments_text, receive_option, number_of_bool, FitsCall}
+use Rattle.words.specs.Words.{AreBytes, word}
 use Rattle.calls.proofs.Masks.{at_drop}
 
 true_of_not : (b : Bool) → not b ≡ false → b ≡ true

@@ -3,10 +3,10 @@ use Rattle.std.proofs.Common.{◌≡◌, ℕ, ◌<◌, ◌≤◌, ◌^◌, Bool,
 use Rattle.ipc_model.specs.declared.call.Call.{Call}
 use Rattle.ipc_model.specs.declared.call.Reply.{Reply}
 use Rattle.ipc_model.specs.declared.call.Reply.TheVariants as reply
-use Rattle.ipc_model.specs.Step.{number_of_call, is_recorded, succeeded, destroyed_message}
-use Rattle.ipc_model.specs.TextLaws.{reply_text_once}
-use Rattle.ipc_model.specs.TextReading.{number-fits}
-use Rattle.ipc_model.specs.Texts.{reply_text, number_of_reply, FitsReply}
+use Rattle.ipc_model.specs.calls.Step.{number_of_call, is_recorded, succeeded, destroyed_message}
+use Rattle.ipc_laws.specs.TextLaws.{reply_text_once}
+use Rattle.ipc_laws.specs.TextReading.{number-fits}
+use Rattle.ipc_model.specs.texts.Texts.{reply_text, number_of_reply, FitsReply}
 use Rattle.words.specs.WordLaws.{same_word}
 use Rattle.words.specs.Words.{word}
 use Rattle.calls.specs.Recorded.{IsRecordedReply}

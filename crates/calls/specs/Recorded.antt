@@ -2,8 +2,8 @@
 use Rattle.std.specs.Prelude.{◌≡◌, IsTrue}
 use Rattle.ipc_model.specs.declared.call.Call.{Call}
 use Rattle.ipc_model.specs.declared.call.Reply.{Reply}
-use Rattle.ipc_model.specs.Step.{number_of_call, has_record}
-use Rattle.ipc_model.specs.Texts.{number_of_reply, FitsReply}
+use Rattle.ipc_model.specs.calls.Step.{number_of_call, has_record}
+use Rattle.ipc_model.specs.texts.Texts.{number_of_reply, FitsReply}
 
 -- a reply that stands in a record of this call
 pub record IsRecordedReply (c : Call) (answer : Reply) : Type 0 where

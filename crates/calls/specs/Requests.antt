@@ -3,10 +3,9 @@ use Rattle.std.specs.Prelude.{◌≡◌, ◌≢◌, ℕ, ◌<◌, ◌^◌, Bool,
 use Rattle.codes.specs.declared.kern_return.KernReturn.TheVariants.{Success, InvalidArgument}
 use Rattle.ipc_model.specs.declared.call.Call.{Call}
 use Rattle.ipc_model.specs.declared.call.Call.TheVariants as call
-use Rattle.ipc_model.specs.Step.{number_of_call}
-use Rattle.ipc_model.specs.Texts.{call_text, FitsCall}
-use Rattle.words.specs.WordLaws.{AreBytes}
-use Rattle.words.specs.Words.{word}
+use Rattle.ipc_model.specs.calls.Step.{number_of_call}
+use Rattle.ipc_model.specs.texts.Texts.{call_text, FitsCall}
+use Rattle.words.specs.Words.{AreBytes, word}
 use Rattle.calls.specs.declared.request.MessageRequest.{MessageRequest}
 use Rattle.calls.specs.declared.request.Request.{Request}
 use Rattle.calls.specs.declared.request.Request.TheVariants as request

@@ -1,7 +1,7 @@
 ghost use Rattle.std.specs.Prelude.{◌≡◌, ◌≢◌, ◌++◌, IfSome, IfNone, Some, []};
 ghost use Rattle.ipc_model.specs.declared.call.Call.{Call};
-ghost use Rattle.ipc_model.specs.Step.{number_of_call};
-ghost use Rattle.ipc_model.specs.Texts.{arguments_text, FitsCall};
+ghost use Rattle.ipc_model.specs.calls.Step.{number_of_call};
+ghost use Rattle.ipc_model.specs.texts.Texts.{arguments_text, FitsCall};
 ghost use Rattle.words.specs.Words.{word};
 ghost use Rattle.calls.specs.Shapes.{count_of_words};
 

@@ -1,5 +1,5 @@
 ghost use Rattle.std.specs.Prelude.{◌≡◌, ◌+◌, ◌*◌, ◌≤◌, ◌++◌, length, flat_map};
-ghost use Rattle.ipc_model.specs.Texts.{reply_text, done_text, status_text};
+ghost use Rattle.ipc_model.specs.texts.Texts.{reply_text, done_text, status_text};
 ghost use Rattle.words.specs.Words.{word};
 ghost use Rattle.calls.specs.Rows.{names_text};
 
@@ -53,7 +53,7 @@ fn start_status(frame: &mut Frame, status: &ReceiveStatus)
     start_reply(frame, 13, 0, &status_words(status));
 }
 
-#[tactic(auto, unfolding(ipc_model::specs::Texts::reply_text))]
+#[tactic(auto, unfolding(ipc_model::specs::texts::Texts::reply_text))]
 /// Writes a reply into a frame. It takes no memory.
 pub fn reply_frame(reply: &Reply, frame: &mut Frame)
     requires room { MAX_FRAME_CONTENT ≤ frame.old.room }

@@ -1,8 +1,8 @@
 ghost use Rattle.std.specs.Prelude.{◌≡◌, ◌≢◌, ◌<◌, ◌^◌, ◌++◌, Bool, ℕ, List, None, Some, IfOk, IfSome, IfNone};
 ghost use Rattle.ipc_model.specs.declared.call.Call.{Call};
 ghost use Rattle.ipc_model.specs.declared.call.Call.TheVariants as call_variants;
-ghost use Rattle.ipc_model.specs.Step.{number_of_call};
-ghost use Rattle.ipc_model.specs.Texts.{arguments_text, call_text, receive_option, number_of_bool, FitsCall, IsKeptMessage};
+ghost use Rattle.ipc_model.specs.calls.Step.{number_of_call};
+ghost use Rattle.ipc_model.specs.texts.Texts.{arguments_text, call_text, receive_option, number_of_bool, FitsCall, IsKeptMessage};
 ghost use Rattle.words.specs.Words.{word};
 
 use crate::arguments::read_arguments;
@@ -93,7 +93,7 @@ fn read_message_call(alloc: Global, arguments: &[u8]) -> Result<Option<Call>, Al
     }
 }
 
-#[tactic(auto, unfolding(ipc_model::specs::Texts::call_text))]
+#[tactic(auto, unfolding(ipc_model::specs::texts::Texts::call_text))]
 /// The call whose text these bytes are, if they are that of a call as a record has it. Memory is wanted for the
 /// message of a send alone.
 pub fn read_call(alloc: Global, content: &[u8]) -> Result<Option<Call>, AllocError>

@@ -162,7 +162,7 @@ fn read_mach_msg(alloc: Global, arguments: &[u8]) -> Result<Request, CallFault>
     Ok(request)
 }
 
-#[tactic(auto, unfolding(ipc_model::specs::Texts::call_text))]
+#[tactic(auto, unfolding(ipc_model::specs::texts::Texts::call_text))]
 /// What a frame asks for. `NoCall`: no call has this number and arguments of this length. `NoMemory`, which comes for a
 /// send alone: no memory for its message.
 pub fn read_request(alloc: Global, frame: &Frame) -> Result<Request, CallFault>

@@ -4,9 +4,9 @@ ghost use Rattle.codes.specs.declared.kern_return.KernReturn.{KernReturn};
 ghost use Rattle.ipc_model.specs.declared.call.Call.{Call};
 ghost use Rattle.ipc_model.specs.declared.call.Reply.{Reply};
 ghost use Rattle.ipc_model.specs.declared.message.RightKind.{RightKind};
-ghost use Rattle.ipc_model.specs.Dispositions.{number_of_kind};
-ghost use Rattle.ipc_model.specs.Step.{number_of_call, has_record, has_destroyed, is_recorded, is_success, succeeded};
-ghost use Rattle.ipc_model.specs.Texts.{reply_text, done_text, number_of_reply, FitsReply};
+ghost use Rattle.ipc_model.specs.rights.Dispositions.{number_of_kind};
+ghost use Rattle.ipc_model.specs.calls.Step.{number_of_call, has_record, has_destroyed, is_recorded, is_success, succeeded};
+ghost use Rattle.ipc_model.specs.texts.Texts.{reply_text, done_text, number_of_reply, FitsReply};
 ghost use Rattle.words.specs.Words.{word};
 ghost use Rattle.calls.specs.Recorded.{IsRecordedReply};
 
@@ -63,7 +63,7 @@ fn take_message(results: &[u8]) -> Option<(u32, u32, &[u8])>
     Some((size, member, message))
 }
 
-#[tactic(auto, unfolding(ipc_model::specs::Texts::reply_text))]
+#[tactic(auto, unfolding(ipc_model::specs::texts::Texts::reply_text))]
 /// The reply to a `mach_msg` that has a record, of which this is the code and what stands behind it.
 fn read_message_reply(
     alloc: Global,
@@ -93,7 +93,7 @@ fn read_message_reply(
     }))
 }
 
-#[tactic(auto, unfolding(ipc_model::specs::Texts::reply_text))]
+#[tactic(auto, unfolding(ipc_model::specs::texts::Texts::reply_text))]
 /// The reply to a call of this number, of any but `mach_msg`, that was done and has these results.
 fn read_plain_reply(number: u32, results: &[u8]) -> Option<Reply>
     ensures found { IfSome result (λ answer. (done_text number results.now ≡ reply_text answer) × FitsReply answer
@@ -123,7 +123,7 @@ fn read_plain_reply(number: u32, results: &[u8]) -> Option<Reply>
     }
 }
 
-#[tactic(auto, unfolding(ipc_model::specs::Texts::reply_text))]
+#[tactic(auto, unfolding(ipc_model::specs::texts::Texts::reply_text))]
 /// The reply to a call that has a record, of which this is the code and what stands behind it.
 fn read_results(
     alloc: Global,

@@ -1,6 +1,6 @@
 ghost use Rattle.std.specs.Prelude.{◌≡◌, ◌++◌, ◌<◌, ◌^◌, OnOk, flat_map, length};
-ghost use Rattle.ipc_model.specs.Dispositions.{number_of_kind};
-ghost use Rattle.ipc_model.specs.Texts.{call_text, reply_text, done_text, status_text, receive_option, number_of_bool};
+ghost use Rattle.ipc_model.specs.rights.Dispositions.{number_of_kind};
+ghost use Rattle.ipc_model.specs.texts.Texts.{call_text, reply_text, done_text, status_text, receive_option, number_of_bool};
 ghost use Rattle.words.specs.Words.{word};
 ghost use Rattle.calls.specs.Rows.{names_text};
 
@@ -9,7 +9,7 @@ use crate::run::push_words;
 use ipc_model::{Call, NamedType, ReceiveStatus, Reply, RightKind};
 use std::alloc::AllocError;
 
-#[tactic(auto, unfolding(ipc_model::specs::Texts::call_text))]
+#[tactic(auto, unfolding(ipc_model::specs::texts::Texts::call_text))]
 /// Adds the number and the arguments of a call. Where memory is wanted some of them may have been added.
 pub fn push_call(out: &mut Vec<u8>, call: &Call) -> Result<(), AllocError>
     ensures ok { OnOk result (out.new.items ≡ out.old.items ++ call_text call.now) }
@@ -128,7 +128,7 @@ fn push_status(out: &mut Vec<u8>, status: &ReceiveStatus) -> Result<(), AllocErr
     push_words(out, &status_words(status))
 }
 
-#[tactic(auto, unfolding(ipc_model::specs::Texts::reply_text))]
+#[tactic(auto, unfolding(ipc_model::specs::texts::Texts::reply_text))]
 /// Adds the number, the code and the results of a reply. Where memory is wanted some of them may have been
 /// added.
 pub fn push_reply(out: &mut Vec<u8>, reply: &Reply) -> Result<(), AllocError>

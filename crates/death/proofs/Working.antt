@@ -1,8 +1,8 @@
 -- Working a list of effects off, one after another.
 use Rattle.std.proofs.Common.{◌≡◌, ◌<◌, List, [], ◌∷◌, ◌++◌, sym, subst}
-use Rattle.ipc_model.specs.Effects.{Effect, Settles, settled, next_effect, effect}
-use Rattle.ipc_model.specs.Settling.{measure, effects_lower}
-use Rattle.ipc_model.specs.State.{State}
+use Rattle.ipc_model.specs.effects.Effects.{Effect, Settles, settled, next_effect, effect}
+use Rattle.ipc_laws.specs.Settling.{measure, effects_lower}
+use Rattle.ipc_model.specs.state.State.{State}
 
 module _ (state new : State) (effects rest after : List Effect) (first : Effect)
     (front : effects ≡ first ∷ rest) (changed : new ≡ (effect state first).0) (added : after ≡ rest ++ (effect state first).1) where

@@ -1,7 +1,7 @@
 -- Where a released receive right goes.
 use Rattle.std.specs.Prelude.{ℕ, ◌&&◌, not, Option, None, Some, if◌then◌else◌}
-use Rattle.ipc_model.specs.Circular.{is_circular}
-use Rattle.ipc_model.specs.State.{State, lives}
+use Rattle.ipc_model.specs.state.Circular.{is_circular}
+use Rattle.ipc_model.specs.state.State.{State, lives}
 
 -- The target of a port-destroyed request that takes the receive right of a port along: where the target lives, and
 -- the right would not come back to the port's own queue.

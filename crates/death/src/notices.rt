@@ -1,5 +1,5 @@
 ghost use Rattle.std.specs.Prelude.{◌≡◌, OnOk};
-ghost use Rattle.ipc_model.specs.Effects.{notified};
+ghost use Rattle.ipc_model.specs.effects.Effects.{notified};
 ghost use Rattle.effects.specs.Meaning.{notice_meant};
 
 use effects::Notice;

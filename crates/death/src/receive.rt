@@ -1,6 +1,6 @@
 ghost use Rattle.std.specs.Prelude.{◌≡◌, ◌++◌, OnOk, Some, None};
 ghost use Rattle.std.specs.FinMap as map;
-ghost use Rattle.ipc_model.specs.Effects.{released_if_live, after_death, effects_of_death, releases_of, sent_to_target};
+ghost use Rattle.ipc_model.specs.effects.Effects.{released_if_live, after_death, effects_of_death, releases_of, sent_to_target};
 ghost use Rattle.ipc_model.specs.declared.port.PortState.{PortState};
 ghost use Rattle.death.specs.Taking.{taker};
 ghost use Rattle.std.specs.Prelude.{flat_map};

@@ -1,6 +1,6 @@
 ghost use Rattle.std.specs.Prelude.{◌≡◌, OnOk};
 ghost use Rattle.std.specs.FinMap as map;
-ghost use Rattle.ipc_model.specs.Effects.{released_if_live};
+ghost use Rattle.ipc_model.specs.effects.Effects.{released_if_live};
 
 use crate::notices::notify;
 use effects::Notice;

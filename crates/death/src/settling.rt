@@ -1,6 +1,6 @@
 ghost use Rattle.std.specs.Prelude.{◌≡◌, ◌++◌, IfOk, OnOk};
 ghost use Rattle.std.specs.FinMap as map;
-ghost use Rattle.ipc_model.specs.Effects.{Settles, effect, released_if_live};
+ghost use Rattle.ipc_model.specs.effects.Effects.{Settles, effect, released_if_live};
 ghost use Rattle.effects.specs.Meaning.{effect_meant};
 
 use crate::notices::notify;
@@ -25,7 +25,7 @@ pub fn settle(alloc: Global, state: IpcState, effects: Effects) -> Result<IpcSta
 }
 
 /// One effect; what it sets off goes to the end of the list.
-#[tactic(auto, unfolding(ipc_model::specs::Effects::effect))]
+#[tactic(auto, unfolding(ipc_model::specs::effects::Effects::effect))]
 fn run(
     alloc: Global,
     state: &mut IpcState,

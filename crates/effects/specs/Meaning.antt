@@ -3,8 +3,8 @@ use Rattle.effects.specs.declared.effect.Effect.{Effect}
 use Rattle.effects.specs.declared.effect.Effect.TheVariants as this
 use Rattle.effects.specs.declared.notice.Notice.{Notice}
 use Rattle.effects.specs.declared.notice.Notice.TheVariants as told
-use Rattle.ipc_model.specs.Effects as machine
-use Rattle.ipc_model.specs.Notices as notice
+use Rattle.ipc_model.specs.effects.Effects as machine
+use Rattle.ipc_model.specs.messages.Notices as notice
 
 abbrev pub notice_meant : Notice → notice.Notice
 notice_meant (told.PortDeleted name) = notice.PortDeleted name

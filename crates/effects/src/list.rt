@@ -1,5 +1,5 @@
 ghost use Rattle.std.specs.Prelude.{◌≡◌, [], ◌∷◌, ◌++◌, OnOk, OnErr, MatchOption, flat_map};
-ghost use Rattle.ipc_model.specs.Effects as machine;
+ghost use Rattle.ipc_model.specs.effects.Effects as machine;
 ghost use Rattle.effects.specs.Meaning.{effect_meant};
 
 use crate::{Effect, Notice};
@@ -16,7 +16,7 @@ pub struct Effects {
 
 impl Model for Effects {
     ghost use Rattle.std.specs.Prelude.{List, map};
-    ghost use Rattle.ipc_model.specs.Effects.{Effect};
+    ghost use Rattle.ipc_model.specs.effects.Effects.{Effect};
 
     ghost Value = { List Effect };
 

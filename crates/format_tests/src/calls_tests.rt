@@ -1,5 +1,5 @@
 ghost use Rattle.std.specs.Prelude.{◌≤◌, length};
-ghost use Rattle.ipc_model.specs.Texts.{reply_text};
+ghost use Rattle.ipc_model.specs.texts.Texts.{reply_text};
 
 use calls::{
     CallFault, MessageRequest, Request, push_call, push_reply, read_call, read_recorded_reply,
@@ -259,7 +259,7 @@ fn is_spelled_in_words(rt: &HostRuntime, reply: &Reply, numbers: &[u32]) -> Resu
     is_spelled(rt, reply, &text_of(rt, numbers)?)
 }
 
-#[tactic(auto, unfolding(ipc_model::specs::Texts::reply_text))]
+#[tactic(auto, unfolding(ipc_model::specs::texts::Texts::reply_text))]
 #[test]
 fn replies_as_bytes(rt: HostRuntime) -> Result<(), Fail> {
     let full = Reply::Refused {
@@ -275,7 +275,7 @@ fn replies_as_bytes(rt: HostRuntime) -> Result<(), Fail> {
     Ok(())
 }
 
-#[tactic(auto, unfolding(ipc_model::specs::Texts::reply_text))]
+#[tactic(auto, unfolding(ipc_model::specs::texts::Texts::reply_text))]
 #[test]
 fn replies_with_two_results_as_bytes(rt: HostRuntime) -> Result<(), Fail> {
     let extracted = Reply::Extracted {
@@ -288,7 +288,7 @@ fn replies_with_two_results_as_bytes(rt: HostRuntime) -> Result<(), Fail> {
     Ok(())
 }
 
-#[tactic(auto, unfolding(ipc_model::specs::Texts::reply_text))]
+#[tactic(auto, unfolding(ipc_model::specs::texts::Texts::reply_text))]
 #[test]
 fn a_status_as_bytes(rt: HostRuntime) -> Result<(), Fail> {
     let status = ReceiveStatus {
@@ -307,7 +307,7 @@ fn a_status_as_bytes(rt: HostRuntime) -> Result<(), Fail> {
     Ok(())
 }
 
-#[tactic(auto, unfolding(ipc_model::specs::Texts::reply_text))]
+#[tactic(auto, unfolding(ipc_model::specs::texts::Texts::reply_text))]
 #[test]
 fn rows_as_bytes(rt: HostRuntime) -> Result<(), Fail> {
     let first = NamedType {

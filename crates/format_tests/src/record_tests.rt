@@ -45,7 +45,7 @@ fn records_as_bytes(rt: HostRuntime) -> Result<(), Fail> {
     Ok(())
 }
 
-#[tactic(auto, unfolding(ipc_model::specs::Texts::call_text, ipc_model::specs::Texts::reply_text))]
+#[tactic(auto, unfolding(ipc_model::specs::texts::Texts::call_text, ipc_model::specs::texts::Texts::reply_text))]
 #[test]
 fn a_receipt_as_bytes(rt: HostRuntime) -> Result<(), Fail> {
     let message = Sequence::new(Vec::from_slice(rt.alloc(), &RECEIPT[56..])?);

@@ -124,7 +124,7 @@ pub enum Call {
 
 impl Call {
     ghost use Rattle.std.specs.Prelude.{◌≡◌};
-    ghost use Rattle.ipc_model.specs.Step.{number_of_call, is_recorded, succeeded, destroyed_message, has_record};
+    ghost use Rattle.ipc_model.specs.calls.Step.{number_of_call, is_recorded, succeeded, destroyed_message, has_record};
 
     /// The number of the call in its frame.
     pub fn number(&self) -> u32
@@ -284,9 +284,9 @@ pub enum Reply {
 impl Reply {
     ghost use Rattle.std.specs.Prelude.{◌≡◌};
     ghost use Rattle.ipc_model.specs.declared.call.Call.{Call};
-    ghost use Rattle.ipc_model.specs.Receiving.{without_message};
-    ghost use Rattle.ipc_model.specs.Refusals.{refused_of};
-    ghost use Rattle.ipc_model.specs.Step.{succeeded};
+    ghost use Rattle.ipc_model.specs.messages.Receiving.{without_message};
+    ghost use Rattle.ipc_model.specs.calls.Refusals.{refused_of};
+    ghost use Rattle.ipc_model.specs.calls.Step.{succeeded};
 
     /// What `mach_msg` answers that received no message. It takes no memory.
     pub fn without_message(alloc: Global, code: KernReturn, size: u32, member: u32) -> Self

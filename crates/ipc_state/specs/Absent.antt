@@ -7,9 +7,9 @@ use Rattle.std.specs.FinMap as finmap
 use Rattle.std.specs.FinMap.{get-empty, len-empty}
 use Rattle.codes.specs.declared.name.TheConstants.{MACH_PORT_DEAD}
 use Rattle.ipc_model.specs.declared.entry.Entry.{Entry}
-use Rattle.ipc_model.specs.PortCalls.{names_in, stands_elsewhere}
-use Rattle.ipc_model.specs.RowRules.{entries_none}
-use Rattle.ipc_model.specs.State.{State, Names, name_of_port, is_number, port_held, IsUnused}
+use Rattle.ipc_model.specs.calls.PortCalls.{names_in, stands_elsewhere}
+use Rattle.ipc_laws.specs.MapLaws.{entries_none}
+use Rattle.ipc_model.specs.state.State.{State, Names, name_of_port, is_number, port_held, IsUnused}
 
 module _ (state : State) (space : ℕ) (gone : finmap.get state.spaces space ≡ None) where
   abbrev or_empty : Option Names → Names

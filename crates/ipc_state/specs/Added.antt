@@ -5,9 +5,9 @@ use Rattle.std.specs.Cmp.{nat_cmp_total}
 use Rattle.std.specs.Ordering.{nat_cmp}
 use Rattle.std.specs.FinMap as finmap
 use Rattle.std.specs.FinMap.{FinMap, get-insert}
-use Rattle.ipc_model.specs.MapSums.{insert-insert, same_key}
-use Rattle.ipc_model.specs.PortCalls.{names_in}
-use Rattle.ipc_model.specs.State.{State, Names, with_names}
+use Rattle.ipc_laws.specs.MapSums.{insert-insert, same_key}
+use Rattle.ipc_model.specs.calls.PortCalls.{names_in}
+use Rattle.ipc_model.specs.state.State.{State, Names, with_names}
 use Rattle.ipc_state.specs.There.{or_empty}
 
 module _ (state : State) (space : ℕ) (names : Names) where

@@ -3,7 +3,7 @@ use Rattle.std.specs.Prelude.{◌≡◌, ℕ, Option, None, Some, IsSome, option
 use Rattle.std.proofs.Common.{sym, ◌∙◌, ap, subst}
 use Rattle.std.specs.FinMap as finmap
 use Rattle.ipc_model.specs.declared.entry.Entry.{Entry}
-use Rattle.ipc_model.specs.State.{State, Names, with_changed, with_names}
+use Rattle.ipc_model.specs.state.State.{State, Names, with_changed, with_names}
 use Rattle.port_index.specs.Indexed.{Covers, IsIndexed, MentionsNoOther, changed_here, put_indexed, replaced_indexed, standing_covered}
 use Rattle.port_index.specs.Places.{Places}
 use Rattle.port_index.specs.Standing.{Map}

@@ -8,12 +8,12 @@ use Rattle.std.specs.FinMap as finmap
 use Rattle.std.specs.FinMap.{find, entries_sorted, get-entries, get-insert, get-remove, is_sorted}
 use Rattle.std.specs.FinMap.Entries.{below_all}
 use Rattle.ipc_model.specs.declared.entry.Entry.{Entry}
-use Rattle.ipc_model.specs.Dangling.{later_found, front_of, back_of}
-use Rattle.ipc_model.specs.Effects.{entry_after_death, map_values}
-use Rattle.ipc_model.specs.ListLaws.{some_same}
-use Rattle.ipc_model.specs.MapLaws.{get-map_values}
-use Rattle.ipc_model.specs.MapSums.{same_key}
-use Rattle.ipc_model.specs.State.{Names}
+use Rattle.ipc_laws.specs.Dangling.{later_found, front_of, back_of}
+use Rattle.ipc_model.specs.effects.Effects.{entry_after_death, map_values}
+use Rattle.ipc_laws.specs.ListLaws.{some_same}
+use Rattle.ipc_laws.specs.MapLaws.{get-map_values}
+use Rattle.ipc_laws.specs.MapSums.{same_key}
+use Rattle.ipc_model.specs.state.State.{Names}
 use Rattle.port_index.specs.Indexed.{Covers, Forgets, MentionsNoOther, none_changed}
 use Rattle.port_index.specs.Places.{Places, is_place}
 use Rattle.port_index.specs.Standing.{is_mentioned, mentioned_in}

@@ -6,9 +6,9 @@ use Rattle.std.specs.Ordering.{nat_cmp, eq_by_cmp}
 use Rattle.std.specs.FinMap as finmap
 use Rattle.std.specs.FinMap.{FinMap, get-insert, get-remove, same_map, nat_cmp-IsAntisymmetric}
 use Rattle.ipc_model.specs.declared.entry.Entry.{Entry}
-use Rattle.ipc_model.specs.MapSums.{insert-insert, insert-same, key_is, same_key}
-use Rattle.ipc_model.specs.PortCalls.{names_in}
-use Rattle.ipc_model.specs.State.{State, Names, with_names, with_changed, with_entry, without_name}
+use Rattle.ipc_laws.specs.MapSums.{insert-insert, insert-same, key_is, same_key}
+use Rattle.ipc_model.specs.calls.PortCalls.{names_in}
+use Rattle.ipc_model.specs.state.State.{State, Names, with_names, with_changed, with_entry, without_name}
 
 abbrev pub or_empty : Option Names → Names
 or_empty None = finmap.empty

@@ -7,9 +7,9 @@ use Rattle.ipc_model.specs.declared.entry.Entry.{Entry}
 use Rattle.ipc_model.specs.declared.entry.Entry.TheVariants.{Port, SendOnce, Set, Dead}
 use Rattle.ipc_model.specs.declared.message.RightKind.{RightKind}
 use Rattle.ipc_model.specs.declared.message.RightKind.TheVariants as kind
-use Rattle.ipc_model.specs.Effects.{Effect, dead_name_of_entry, dead_name_notice}
-use Rattle.ipc_model.specs.Placed.{Right, rights_of_entry, rights_of_space}
-use Rattle.ipc_model.specs.State.{Names, is_number}
+use Rattle.ipc_model.specs.effects.Effects.{Effect, dead_name_of_entry, dead_name_notice}
+use Rattle.ipc_model.specs.state.Placed.{Right, rights_of_entry, rights_of_space}
+use Rattle.ipc_model.specs.state.State.{Names, is_number}
 use Rattle.port_index.specs.Standing.{next_standing}
 use Rattle.port_space.specs.Mentions.{entry_mentions, names_mention}
 use Rattle.port_space.specs.Unmentioned.{count-append, left_off, no_rights, right_off}

@@ -1,6 +1,6 @@
 ghost use Rattle.std.specs.Prelude.{◌≡◌, ◌++◌, flat_map, OnOk};
 ghost use Rattle.std.specs.FinMap as map;
-ghost use Rattle.ipc_model.specs.Effects.{dead_name_of_entry, is_name_of};
+ghost use Rattle.ipc_model.specs.effects.Effects.{dead_name_of_entry, is_name_of};
 ghost use Rattle.ipc_state.specs.Walked.{notice_under};
 
 use effects::Effects;

@@ -1,9 +1,9 @@
 // The spaces, and for each port those in which a name mentions it.
 ghost use Rattle.std.specs.Prelude.{◌≡◌, ◌++◌, ◌<◌, Some, None, flat_map, is_some, IsSome, IfOk, OnOk, OnErr, option_copied};
 ghost use Rattle.std.specs.FinMap as map;
-ghost use Rattle.ipc_model.specs.Effects.{entry_after_death, map_values};
-ghost use Rattle.ipc_model.specs.Placed.{rights_of_space};
-ghost use Rattle.ipc_model.specs.State.{Names};
+ghost use Rattle.ipc_model.specs.effects.Effects.{entry_after_death, map_values};
+ghost use Rattle.ipc_model.specs.state.Placed.{rights_of_space};
+ghost use Rattle.ipc_model.specs.state.State.{Names};
 ghost use Rattle.ipc_state.specs.Changed.{entry_in};
 ghost use Rattle.ipc_state.specs.Walked.{notices_in};
 ghost use Rattle.port_index.specs.Indexed.{MentionsNoOther, changed_here};
@@ -38,7 +38,7 @@ impl Model for IndexedSpaces {
     ghost use Rattle.std.specs.FinMap as map;
     ghost use Rattle.std.specs.Coded.{coded_ℕ};
     ghost use Rattle.ipc_model.specs.contracts.entry.Entry as entry;
-    ghost use Rattle.ipc_model.specs.State.{Names};
+    ghost use Rattle.ipc_model.specs.state.State.{Names};
     ghost use Rattle.port_index.specs.Indexed.{IsIndexed};
     ghost use Rattle.port_space.specs.Mentions.{names_mention};
 

@@ -1,7 +1,7 @@
 ghost use Rattle.std.specs.Prelude.{◌≡◌, ◌+◌, false, None, Some, OnOk, OnErr, option_map};
 ghost use Rattle.std.specs.FinMap as map;
-ghost use Rattle.ipc_model.specs.Effects.{queued};
-ghost use Rattle.ipc_model.specs.State.{new_port, ports_are_used_up, with_port};
+ghost use Rattle.ipc_model.specs.effects.Effects.{queued};
+ghost use Rattle.ipc_model.specs.state.State.{new_port, ports_are_used_up, with_port};
 ghost use Rattle.ipc_model.specs.declared.port.PortState.{PortState};
 ghost use Rattle.ports.specs.Changed.{KeepsTargets, numbers_of, with_numbers};
 

@@ -1,6 +1,6 @@
 // The ports that names mention, and the index of the spaces in which they do.
 ghost use Rattle.std.specs.Prelude.{◌≡◌, ℕ, true, OnOk};
-ghost use Rattle.ipc_model.specs.State.{is_number};
+ghost use Rattle.ipc_model.specs.state.State.{is_number};
 ghost use Rattle.port_index.specs.Indexed.{Covers, Grows, IsIndexed};
 ghost use Rattle.port_index.specs.Places.{is_place};
 ghost use Rattle.port_index.specs.Standing.{is_mentioned};

@@ -1,7 +1,7 @@
 ghost use Rattle.std.specs.Prelude.{◌≡◌, ℕ, ◌<◌, ◌≤◌, ◌↔◌, None, Some, OnOk, OnErr, IsSome, IfSome, IsTrue, is_some, option_copied};
 ghost use Rattle.std.specs.FinMap as map;
-ghost use Rattle.ipc_model.specs.PortCalls.{names_in, stands_elsewhere};
-ghost use Rattle.ipc_model.specs.State.{IsUnused, entry_at, with_changed, with_entry, without_name, name_of_port};
+ghost use Rattle.ipc_model.specs.calls.PortCalls.{names_in, stands_elsewhere};
+ghost use Rattle.ipc_model.specs.state.State.{IsUnused, entry_at, with_changed, with_entry, without_name, name_of_port};
 ghost use Rattle.port_index.specs.Indexed.{MentionsNoOther};
 ghost use Rattle.port_space.specs.Mentions.{entry_mentions};
 ghost use Rattle.port_space.specs.References.{AreFewReferences};

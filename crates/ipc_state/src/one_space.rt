@@ -1,8 +1,8 @@
 // What is asked of one of the spaces, and done to it, where it is there.
 ghost use Rattle.std.specs.Prelude.{◌≡◌, ◌++◌, ◌<◌, Some, None, IsSome, IfOk, OnOk, OnErr};
 ghost use Rattle.std.specs.FinMap as map;
-ghost use Rattle.ipc_model.specs.Effects.{entry_after_death, map_values};
-ghost use Rattle.ipc_model.specs.State.{Names};
+ghost use Rattle.ipc_model.specs.effects.Effects.{entry_after_death, map_values};
+ghost use Rattle.ipc_model.specs.state.State.{Names};
 ghost use Rattle.ipc_state.specs.Changed.{entry_in};
 ghost use Rattle.ipc_state.specs.Walked.{notices_under, rights_under};
 ghost use Rattle.port_index.specs.Indexed.{MentionsNoOther, changed_here};

@@ -1,7 +1,7 @@
 ghost use Rattle.std.specs.Prelude.{◌≡◌, ℕ, ◌<◌, ◌↔◌, IsTrue, IsSome, OnOk, OnErr};
 ghost use Rattle.std.specs.FinMap as map;
-ghost use Rattle.ipc_model.specs.Actions.{IsUnusedSpace};
-ghost use Rattle.ipc_model.specs.State.{with_names};
+ghost use Rattle.ipc_model.specs.calls.Actions.{IsUnusedSpace};
+ghost use Rattle.ipc_model.specs.state.State.{with_names};
 
 use crate::IpcState;
 use codes::MAX_SPACES;

@@ -1,8 +1,8 @@
 ghost use Rattle.std.specs.Prelude.{◌≡◌, ◌++◌, ◌==◌, not, nat_le, IfOk, OnOk, OnErr, is_some};
 ghost use Rattle.std.specs.FinMap as map;
-ghost use Rattle.ipc_model.specs.Effects.{map_values, entry_after_death, port_after_death, dead_name_notices};
-ghost use Rattle.ipc_model.specs.Placed.{placed, send_count};
-ghost use Rattle.ipc_model.specs.State.{opening_state};
+ghost use Rattle.ipc_model.specs.effects.Effects.{map_values, entry_after_death, port_after_death, dead_name_notices};
+ghost use Rattle.ipc_model.specs.state.Placed.{placed, send_count};
+ghost use Rattle.ipc_model.specs.state.State.{opening_state};
 ghost use Rattle.queue.specs.Counts.{capped_count};
 
 use crate::indexed::IndexedSpaces;
@@ -27,8 +27,8 @@ pub struct IpcState {
 }
 
 impl Model for IpcState {
-    ghost use Rattle.ipc_model.specs.State.{State};
-    ghost use Rattle.ipc_model.specs.StateCode.{state_code};
+    ghost use Rattle.ipc_model.specs.state.State.{State};
+    ghost use Rattle.ipc_model.specs.state.StateCode.{state_code};
 
     ghost Value = { State };
 
@@ -65,7 +65,7 @@ impl IpcState {
     }
 
     /// How many rights of a kind a port has, wherever they stand; at most `u32::MAX`.
-    #[tactic(auto, unfolding(ipc_model::specs::Placed::placed))]
+    #[tactic(auto, unfolding(ipc_model::specs::state::Placed::placed))]
     pub fn rights_to(&self, kind: RightKind, serial: u64) -> u32
         ensures { result ≡ capped_count kind serial (placed self.now) }
     {

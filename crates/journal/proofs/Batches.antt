@@ -4,9 +4,9 @@ use Rattle.std.proofs.lemmas.List.{append-nil, drop_all}
 use Rattle.codes.specs.declared.limits.TheConstants.{MAX_RECORDS}
 use Rattle.words.specs.Words.{word, long_word}
 use Rattle.ipc_model.specs.declared.record.Record.{Record}
-use Rattle.ipc_model.specs.Texts.{record_text, records_text, IsRecord}
-use Rattle.ipc_model.specs.Store.{batch_text, batches_text, all_records, open_gate, NoneEmpty, AreRecords}
-use Rattle.ipc_model.specs.StoreLaws.{all_records-push, batches_text-push, none_empty-push, are_records-join}
+use Rattle.ipc_model.specs.texts.Texts.{record_text, records_text, IsRecord}
+use Rattle.ipc_model.specs.store.Store.{batch_text, batches_text, all_records, open_gate, NoneEmpty, AreRecords}
+use Rattle.ipc_laws.specs.StoreLaws.{all_records-push, batches_text-push, none_empty-push, are_records-join}
 use Rattle.journal.specs.Reading.{IsContent, IsBatch}
 use Rattle.journal.proofs.Reading.{HasContent, Remain, content_first, remain_on}
 

@@ -5,10 +5,10 @@ use Rattle.std.proofs.lemmas.List.{take_at}
 use Rattle.codes.specs.declared.limits.TheConstants.{MAX_RECORDS}
 use Rattle.words.specs.Words.{word, long_word}
 use Rattle.words.specs.WordLaws.{same_word}
-use Rattle.ipc_model.specs.BatchLaws.{same_heads, batch_apart, records_are_short, same_batches, are_records-front, are_records-back}
+use Rattle.ipc_laws.specs.BatchLaws.{same_heads, batch_apart, records_are_short, same_batches, are_records-front, are_records-back}
 use Rattle.ipc_model.specs.declared.record.Record.{Record}
-use Rattle.ipc_model.specs.Texts.{record_text, records_text, IsRecord}
-use Rattle.ipc_model.specs.Store.{batch_text, batches_text, all_records, open_gate, IsClosed, NoneEmpty, AreRecords, SpellsBatches}
+use Rattle.ipc_model.specs.texts.Texts.{record_text, records_text, IsRecord}
+use Rattle.ipc_model.specs.store.Store.{batch_text, batches_text, all_records, open_gate, IsClosed, NoneEmpty, AreRecords, SpellsBatches}
 use Rattle.journal.specs.Reading.{IsContent, IsBatch}
 
 -- the content of a batch, whatever its records

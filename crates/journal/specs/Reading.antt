@@ -2,8 +2,8 @@
 use Rattle.std.specs.Prelude.{◌≡◌, ℕ, ◌+◌, ◌<◌, ◌≤◌, List, ◌++◌, length}
 use Rattle.codes.specs.declared.limits.TheConstants.{MAX_RECORDS}
 use Rattle.ipc_model.specs.declared.record.Record.{Record}
-use Rattle.ipc_model.specs.Texts.{records_text}
-use Rattle.ipc_model.specs.Store.{batch_text, AreRecords}
+use Rattle.ipc_model.specs.texts.Texts.{records_text}
+use Rattle.ipc_model.specs.store.Store.{batch_text, AreRecords}
 
 -- The content of a batch: so many records, numbered from n.
 pub record IsContent (n count : ℕ) (content : List ℕ) (records : List Record) : Type 0 where

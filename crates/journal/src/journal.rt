@@ -1,10 +1,10 @@
 ghost use Rattle.std.specs.Prelude.{◌≡◌, ◌≢◌, ◌↔◌, ◌⊎◌, ◌+◌, ◌-◌, ◌<◌, ◌≤◌, ◌^◌, ◌++◌, ◌∷◌, [], length, take, true, false, IsTrue, OnOk, OnErr, IfOk, IsErrOf};
 ghost use Rattle.disk.specs.Slots.{slot_of, with_slot};
 ghost use Rattle.disk.specs.Moments.{IsSynced, Passes, Follows, Grew, CountsFailure};
-ghost use Rattle.ipc_model.specs.Step.{number_of_call, has_record};
-ghost use Rattle.ipc_model.specs.Texts.{call_text, reply_text, number_of_reply, IsRecord};
+ghost use Rattle.ipc_model.specs.calls.Step.{number_of_call, has_record};
+ghost use Rattle.ipc_model.specs.texts.Texts.{call_text, reply_text, number_of_reply, IsRecord};
 ghost use Rattle.record.specs.Ranges.{IsKeptCall};
-ghost use Rattle.ipc_model.specs.Store.{with_batch, batch_text, open_gate, closed_gate, IsMidAppend};
+ghost use Rattle.ipc_model.specs.store.Store.{with_batch, batch_text, open_gate, closed_gate, IsMidAppend};
 ghost use Rattle.journal.specs.Storing.{IsMidStore};
 
 use crate::StoreFault;
@@ -45,7 +45,7 @@ impl<D: Disk> Model for Journal<D> {
     ghost invariant = { λ j. j.failed ≡ false → D.honest → 0 < length (D.view j.disk).seen.segment0 };
 }
 
-#[tactic(auto, unfolding(ipc_model::specs::Store::batch_text))]
+#[tactic(auto, unfolding(ipc_model::specs::store::Store::batch_text))]
 /// The text behind a batch's gate, and the closed gate behind it.
 fn batch_of(alloc: Global, number: u64, entry: &Record) -> Result<Vec<u8>, AllocError>
     requires call { length (call_text entry.now.call) < 2 ^ 32 }

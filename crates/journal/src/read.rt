@@ -1,6 +1,6 @@
 ghost use Rattle.std.specs.Prelude.{◌≡◌, ◌⊎◌, ◌≤◌, ◌++◌, ℕ, List, length, drop, ◌∷◌, Err, OnOk, OnErr, IfOk, IfSome, IfNone, IsErrOf};
 ghost use Rattle.ipc_model.specs.declared.record.Record.{Record};
-ghost use Rattle.ipc_model.specs.Store.{open_gate, IsClosed, SpellsBatches};
+ghost use Rattle.ipc_model.specs.store.Store.{open_gate, IsClosed, SpellsBatches};
 ghost use Rattle.journal.specs.Reading.{IsContent, IsBatch};
 
 use crate::StoreFault;

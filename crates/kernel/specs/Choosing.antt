@@ -8,15 +8,15 @@ use Rattle.ipc_model.specs.declared.call.Reply.{Reply}
 use Rattle.ipc_model.specs.declared.call.Reply.TheVariants as reply
 use Rattle.ipc_model.specs.declared.entry.Entry.{Entry}
 use Rattle.ipc_model.specs.declared.message.RightKind.{RightKind}
-use Rattle.ipc_model.specs.Actions as actions
-use Rattle.ipc_model.specs.Actions.{Action, ActsOn, Done}
-use Rattle.ipc_model.specs.CopyIn.{Taken}
-use Rattle.ipc_model.specs.Effects.{Effect}
-use Rattle.ipc_model.specs.PortCalls.{names_in, tests_of}
-use Rattle.ipc_model.specs.State.{State, Names}
-use Rattle.ipc_model.specs.Step.{ActsIn}
-use Rattle.ipc_model.specs.StepLaws.{Called}
-use Rattle.ipc_model.specs.Tests.{first_failing}
+use Rattle.ipc_model.specs.calls.Actions as actions
+use Rattle.ipc_model.specs.calls.Actions.{Action, ActsOn, Done}
+use Rattle.ipc_model.specs.rights.CopyIn.{Taken}
+use Rattle.ipc_model.specs.effects.Effects.{Effect}
+use Rattle.ipc_model.specs.calls.PortCalls.{names_in, tests_of}
+use Rattle.ipc_model.specs.state.State.{State, Names}
+use Rattle.ipc_model.specs.calls.Step.{ActsIn}
+use Rattle.ipc_laws.specs.StepLaws.{Called}
+use Rattle.ipc_model.specs.calls.Tests.{first_failing}
 use Rattle.kernel.specs.declared.shown.Shown.{Shown}
 use Rattle.kernel.specs.PortCallLaws.{as_called}
 use Rattle.kernel.specs.Served.{is_served}

@@ -14,17 +14,17 @@ use Rattle.ipc_model.specs.declared.call.ReceiveStatus.{ReceiveStatus}
 use Rattle.ipc_model.specs.declared.call.Reply.{Reply}
 use Rattle.ipc_model.specs.declared.call.Reply.TheVariants as reply
 use Rattle.ipc_model.specs.declared.entry.Entry.{Entry}
-use Rattle.ipc_model.specs.Actions.{Done}
-use Rattle.ipc_model.specs.Dispositions.{number_of_kind}
-use Rattle.ipc_model.specs.Effects.{Effect}
-use Rattle.ipc_model.specs.Lawful.{Lawful}
-use Rattle.ipc_model.specs.PortCalls.{tests_of}
-use Rattle.ipc_model.specs.Receiving.{without_message}
-use Rattle.ipc_model.specs.State.{State, Names, is_member, members_of, type_of}
-use Rattle.ipc_model.specs.Step.{Step, ActsFrom, refused, number_of_call}
-use Rattle.ipc_model.specs.StepLaws.{Called}
-use Rattle.ipc_model.specs.Tests.{first_failing}
-use Rattle.ipc_model.specs.Texts.{reply_text, done_text, status_text, number_of_bool, number_of_reply}
+use Rattle.ipc_model.specs.calls.Actions.{Done}
+use Rattle.ipc_model.specs.rights.Dispositions.{number_of_kind}
+use Rattle.ipc_model.specs.effects.Effects.{Effect}
+use Rattle.ipc_model.specs.state.Lawful.{Lawful}
+use Rattle.ipc_model.specs.calls.PortCalls.{tests_of}
+use Rattle.ipc_model.specs.messages.Receiving.{without_message}
+use Rattle.ipc_model.specs.state.State.{State, Names, is_member, members_of, type_of}
+use Rattle.ipc_model.specs.calls.Step.{Step, ActsFrom, refused, number_of_call}
+use Rattle.ipc_laws.specs.StepLaws.{Called}
+use Rattle.ipc_model.specs.calls.Tests.{first_failing}
+use Rattle.ipc_model.specs.texts.Texts.{reply_text, done_text, status_text, number_of_bool, number_of_reply}
 use Rattle.kernel.specs.PortCallLaws.{as_called, answers_done, is_short, answer_number}
 use Rattle.kernel.specs.Served.{is_served, unserved_code, ServedStep}
 use Rattle.words.specs.WordLaws.{length-word}

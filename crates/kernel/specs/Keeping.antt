@@ -6,13 +6,13 @@ use Rattle.codes.specs.declared.kern_return.KernReturn.TheVariants.{InvalidTask}
 use Rattle.codes.specs.declared.limits.TheConstants.{MAX_FRAME_CONTENT}
 use Rattle.ipc_model.specs.declared.call.Call.{Call}
 use Rattle.ipc_model.specs.declared.call.Reply.{Reply}
-use Rattle.ipc_model.specs.Circular.{Grounded}
-use Rattle.ipc_model.specs.Lawful.{Lawful}
-use Rattle.ipc_model.specs.State.{State}
-use Rattle.ipc_model.specs.PortCalls.{names_in}
-use Rattle.ipc_model.specs.Step.{Step, ActsIn, number_of_call, refused}
-use Rattle.ipc_model.specs.StepsKeep.{steps_keep_lawful}
-use Rattle.ipc_model.specs.Texts.{FitsCall, number_of_reply, reply_text}
+use Rattle.ipc_model.specs.state.Circular.{Grounded}
+use Rattle.ipc_model.specs.state.Lawful.{Lawful}
+use Rattle.ipc_model.specs.state.State.{State}
+use Rattle.ipc_model.specs.calls.PortCalls.{names_in}
+use Rattle.ipc_model.specs.calls.Step.{Step, ActsIn, number_of_call, refused}
+use Rattle.ipc_laws.specs.StepsKeep.{steps_keep_lawful}
+use Rattle.ipc_model.specs.texts.Texts.{FitsCall, number_of_reply, reply_text}
 use Rattle.kernel.specs.Fitting.{step_number, step_within}
 use Rattle.kernel.specs.Served.{is_served, unserved_code, ServedStep}
 use Rattle.kernel.specs.Stepping.{step_alone, step_gone}

@@ -11,16 +11,16 @@ use Rattle.ipc_model.specs.declared.call.Reply.TheVariants as reply
 use Rattle.ipc_model.specs.declared.entry.Entry.{Entry}
 use Rattle.ipc_model.specs.declared.entry.Entry.TheVariants.{Port, SendOnce, Set, Dead}
 use Rattle.ipc_model.specs.declared.port.PortState.{PortState}
-use Rattle.ipc_model.specs.Actions as actions
-use Rattle.ipc_model.specs.Actions.{Action, ActsOn, Done}
-use Rattle.ipc_model.specs.CopyIn.{Taken}
-use Rattle.ipc_model.specs.Effects.{Effect}
-use Rattle.ipc_model.specs.PortCalls.{tests_of, is_right, minus_one}
-use Rattle.ipc_model.specs.State.{State, Names, received_port}
-use Rattle.ipc_model.specs.Step.{ActsIn, is_recorded, succeeded, has_record, number_of_call}
-use Rattle.ipc_model.specs.StepLaws.{Called}
-use Rattle.ipc_model.specs.Tests.{first_failing}
-use Rattle.ipc_model.specs.Texts.{number_of_reply}
+use Rattle.ipc_model.specs.calls.Actions as actions
+use Rattle.ipc_model.specs.calls.Actions.{Action, ActsOn, Done}
+use Rattle.ipc_model.specs.rights.CopyIn.{Taken}
+use Rattle.ipc_model.specs.effects.Effects.{Effect}
+use Rattle.ipc_model.specs.calls.PortCalls.{tests_of, is_right, minus_one}
+use Rattle.ipc_model.specs.state.State.{State, Names, received_port}
+use Rattle.ipc_model.specs.calls.Step.{ActsIn, is_recorded, succeeded, has_record, number_of_call}
+use Rattle.ipc_laws.specs.StepLaws.{Called}
+use Rattle.ipc_model.specs.calls.Tests.{first_failing}
+use Rattle.ipc_model.specs.texts.Texts.{number_of_reply}
 use Rattle.kernel.specs.Served.{is_served}
 
 -- a call that is no send and no receipt is refused by its first failing test, or done

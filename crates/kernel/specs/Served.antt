@@ -7,8 +7,8 @@ use Rattle.ipc_model.specs.declared.call.Call.{Call}
 use Rattle.ipc_model.specs.declared.call.Call.TheVariants as call
 use Rattle.ipc_model.specs.declared.call.Reply.{Reply}
 use Rattle.ipc_model.specs.declared.record.Record.{Record}
-use Rattle.ipc_model.specs.State.{State}
-use Rattle.ipc_model.specs.Step.{Step, refused}
+use Rattle.ipc_model.specs.state.State.{State}
+use Rattle.ipc_model.specs.calls.Step.{Step, refused}
 
 -- every call is served but sends and receipts
 abbrev pub is_served : Call → Bool

@@ -8,12 +8,12 @@ use Rattle.ipc_model.specs.declared.call.Call.{Call}
 use Rattle.ipc_model.specs.declared.call.Call.TheVariants as call
 use Rattle.ipc_model.specs.declared.call.Reply.{Reply}
 use Rattle.ipc_model.specs.declared.record.Record.{Record}
-use Rattle.ipc_model.specs.Effects.{Effect, Settles, settled}
-use Rattle.ipc_model.specs.PortCalls.{tests_of}
-use Rattle.ipc_model.specs.State.{State, Names}
-use Rattle.ipc_model.specs.Step.{Step, ActsFrom, refused, has_record}
-use Rattle.ipc_model.specs.StepLaws.{Called, SameOutcome, one_end, same_done}
-use Rattle.ipc_model.specs.Tests.{first_failing}
+use Rattle.ipc_model.specs.effects.Effects.{Effect, Settles, settled}
+use Rattle.ipc_model.specs.calls.PortCalls.{tests_of}
+use Rattle.ipc_model.specs.state.State.{State, Names}
+use Rattle.ipc_model.specs.calls.Step.{Step, ActsFrom, refused, has_record}
+use Rattle.ipc_laws.specs.StepLaws.{Called, SameOutcome, one_end, same_done}
+use Rattle.ipc_model.specs.calls.Tests.{first_failing}
 use Rattle.kernel.specs.PortCallLaws.{as_called, unrecorded_act}
 use Rattle.kernel.specs.Served.{is_served, unserved_code, ServedStep, ServedRun}
 

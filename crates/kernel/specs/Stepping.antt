@@ -7,11 +7,11 @@ use Rattle.codes.specs.declared.kern_return.KernReturn.TheVariants.{InvalidArgum
 use Rattle.ipc_model.specs.declared.call.Call.{Call}
 use Rattle.ipc_model.specs.declared.call.Call.TheVariants as call
 use Rattle.ipc_model.specs.declared.call.Reply.{Reply}
-use Rattle.ipc_model.specs.Effects.{Effect, Settles, settled}
-use Rattle.ipc_model.specs.PortCalls.{names_in}
-use Rattle.ipc_model.specs.State.{State, Names}
-use Rattle.ipc_model.specs.Refusals.{refused_of}
-use Rattle.ipc_model.specs.Step.{Step, ActsIn, ActsFrom, refused, number_of_call}
+use Rattle.ipc_model.specs.effects.Effects.{Effect, Settles, settled}
+use Rattle.ipc_model.specs.calls.PortCalls.{names_in}
+use Rattle.ipc_model.specs.state.State.{State, Names}
+use Rattle.ipc_model.specs.calls.Refusals.{refused_of}
+use Rattle.ipc_model.specs.calls.Step.{Step, ActsIn, ActsFrom, refused, number_of_call}
 use Rattle.kernel.specs.declared.shown.Shown.{Shown}
 use Rattle.kernel.specs.Choosing.{Prefers, gives_up, hands_over, only_reads, sets_nothing_off, shown_by}
 use Rattle.kernel.specs.Served.{is_served, unserved_code, ServedStep}

@@ -6,12 +6,12 @@ use Rattle.ipc_model.specs.declared.call.Call.{Call}
 use Rattle.ipc_model.specs.declared.call.Call.TheVariants as call
 use Rattle.ipc_model.specs.declared.call.Reply.{Reply}
 use Rattle.ipc_model.specs.declared.call.Reply.TheVariants as reply
-use Rattle.ipc_model.specs.Effects.{Effect}
-use Rattle.ipc_model.specs.PortCalls.{names_in, tests_of}
-use Rattle.ipc_model.specs.State.{State}
-use Rattle.ipc_model.specs.Step.{ActsIn, succeeded}
-use Rattle.ipc_model.specs.StepLaws.{Called}
-use Rattle.ipc_model.specs.Tests.{first_failing}
+use Rattle.ipc_model.specs.effects.Effects.{Effect}
+use Rattle.ipc_model.specs.calls.PortCalls.{names_in, tests_of}
+use Rattle.ipc_model.specs.state.State.{State}
+use Rattle.ipc_model.specs.calls.Step.{ActsIn, succeeded}
+use Rattle.ipc_laws.specs.StepLaws.{Called}
+use Rattle.ipc_model.specs.calls.Tests.{first_failing}
 use Rattle.kernel.specs.PortCallLaws.{as_called, answers_done}
 use Rattle.kernel.specs.Served.{is_served}
 use Rattle.port_calls.specs.Trying.{Tries, is_refusal}

@@ -1,7 +1,7 @@
 ghost use Rattle.std.specs.Prelude.{◌≡◌, [], false, true, None, IfOk, IfSome, IfNone, OnErr, IsSome};
 ghost use Rattle.std.specs.FinMap as map;
-ghost use Rattle.ipc_model.specs.PortCalls.{names_in};
-ghost use Rattle.ipc_model.specs.Step.{ActsIn};
+ghost use Rattle.ipc_model.specs.calls.PortCalls.{names_in};
+ghost use Rattle.ipc_model.specs.calls.Step.{ActsIn};
 ghost use Rattle.kernel.specs.Choosing.{Prefers, gives_up, hands_over, only_reads, sets_nothing_off};
 ghost use Rattle.port_calls.specs.Trying.{Tries};
 

@@ -1,8 +1,8 @@
 ghost use Rattle.std.specs.Prelude.{◌≡◌, ◌≤◌, true, false, length, IfOk, OnErr, IsErrOf, IfSome, IfNone};
 ghost use Rattle.codes.specs.declared.limits.TheConstants.{MAX_FRAME_CONTENT};
-ghost use Rattle.ipc_model.specs.State.{State, opening_state};
-ghost use Rattle.ipc_model.specs.Step.{Step, has_record, number_of_call};
-ghost use Rattle.ipc_model.specs.Texts.{number_of_reply, reply_text};
+ghost use Rattle.ipc_model.specs.state.State.{State, opening_state};
+ghost use Rattle.ipc_model.specs.calls.Step.{Step, has_record, number_of_call};
+ghost use Rattle.ipc_model.specs.texts.Texts.{number_of_reply, reply_text};
 ghost use Rattle.kernel.specs.Served.{ServedStep};
 
 use crate::ranges::arguments_in_range;
@@ -43,10 +43,10 @@ pub struct Kernel {
 }
 
 impl Model for Kernel {
-    ghost use Rattle.ipc_model.specs.Circular.{Grounded};
-    ghost use Rattle.ipc_model.specs.Lawful.{Lawful};
-    ghost use Rattle.ipc_model.specs.State.{State};
-    ghost use Rattle.ipc_model.specs.StateCode.{state_code};
+    ghost use Rattle.ipc_model.specs.state.Circular.{Grounded};
+    ghost use Rattle.ipc_model.specs.state.Lawful.{Lawful};
+    ghost use Rattle.ipc_model.specs.state.State.{State};
+    ghost use Rattle.ipc_model.specs.state.StateCode.{state_code};
 
     ghost Value = { State };
 

@@ -1,5 +1,5 @@
 ghost use Rattle.std.specs.Prelude.{◌≡◌, ◌<◌, ◌^◌, All, true};
-ghost use Rattle.ipc_model.specs.Texts.{FitsCall};
+ghost use Rattle.ipc_model.specs.texts.Texts.{FitsCall};
 ghost use Rattle.kernel.specs.Served.{is_served};
 
 use ipc_model::Call;

@@ -11,22 +11,22 @@ use Rattle.codes.specs.declared.kern_return.KernReturn.TheVariants.{NoSpace, Inv
 use Rattle.codes.specs.declared.limits.TheConstants.{MAX_NAMES}
 use Rattle.ipc_model.specs.declared.entry.Entry.{Entry}
 use Rattle.ipc_model.specs.declared.entry.Entry.TheVariants.{Port, SendOnce, Set, Dead}
-use Rattle.ipc_model.specs.Actions.{dead_name_request_set, lacks_senders, port_request_set, request_set, request_set_under}
-use Rattle.ipc_model.specs.CallsKeep.{first_passes}
-use Rattle.ipc_model.specs.CopyIn.{Taken, copy_in}
-use Rattle.ipc_model.specs.Dispositions.{Disposition}
-use Rattle.ipc_model.specs.ListLaws.{some_same}
-use Rattle.ipc_model.specs.Sending.{live_port}
+use Rattle.ipc_model.specs.calls.Actions.{dead_name_request_set, lacks_senders, port_request_set, request_set, request_set_under}
+use Rattle.ipc_laws.specs.CallsKeep.{first_passes}
+use Rattle.ipc_model.specs.rights.CopyIn.{Taken, copy_in}
+use Rattle.ipc_model.specs.rights.Dispositions.{Disposition}
+use Rattle.ipc_laws.specs.ListLaws.{some_same}
+use Rattle.ipc_model.specs.messages.Sending.{live_port}
 use Rattle.ipc_model.specs.declared.call.Call.TheVariants as call
 use Rattle.ipc_model.specs.declared.message.CarriedRight.{CarriedRight}
 use Rattle.ipc_model.specs.declared.message.PortInMessage.TheVariants.{Live}
 use Rattle.codes.specs.declared.name.TheConstants.{MACH_PORT_NULL}
 use Rattle.rights.specs.Taking.{Takes}
-use Rattle.ipc_model.specs.Effects.{Effect}
-use Rattle.ipc_model.specs.Others.{with_port_spaces}
-use Rattle.ipc_model.specs.PortCalls.{is_full, is_no_name, is_variant, names_in, notify_disposition, target_under, tests_of, tests_of_copy_in, tests_of_request, tests_of_taken, tests_of_variant}
-use Rattle.ipc_model.specs.State.{State, Names, entry_at, received_port, with_entry, with_names}
-use Rattle.ipc_model.specs.Tests.{Tests, first_failing}
+use Rattle.ipc_model.specs.effects.Effects.{Effect}
+use Rattle.ipc_laws.specs.Others.{with_port_spaces}
+use Rattle.ipc_model.specs.calls.PortCalls.{is_full, is_no_name, is_variant, names_in, notify_disposition, target_under, tests_of, tests_of_copy_in, tests_of_request, tests_of_taken, tests_of_variant}
+use Rattle.ipc_model.specs.state.State.{State, Names, entry_at, received_port, with_entry, with_names}
+use Rattle.ipc_model.specs.calls.Tests.{Tests, first_failing}
 use Rattle.ipc_state.specs.Added.{names_added}
 use Rattle.ipc_state.specs.There.{or_empty}
 

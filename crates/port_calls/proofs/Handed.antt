@@ -1,10 +1,10 @@
 -- What copy in took where a right came out.
 use Rattle.std.proofs.Common.{◌≡◌, List, [], ◌++◌, Option, None, Some, sym, ◌∙◌, ap}
 use Rattle.ipc_model.specs.declared.message.CarriedRight.{CarriedRight}
-use Rattle.ipc_model.specs.CopyIn.{Taken}
-use Rattle.ipc_model.specs.Effects.{Effect}
-use Rattle.ipc_model.specs.ListLaws.{some_same}
-use Rattle.ipc_model.specs.State.{State}
+use Rattle.ipc_model.specs.rights.CopyIn.{Taken}
+use Rattle.ipc_model.specs.effects.Effects.{Effect}
+use Rattle.ipc_laws.specs.ListLaws.{some_same}
+use Rattle.ipc_model.specs.state.State.{State}
 use Rattle.rights.specs.Taking.{Takes}
 
 abbrev made : CarriedRight → State → List Effect → Option Taken

@@ -4,9 +4,9 @@ use Rattle.std.specs.FinMap as finmap
 use Rattle.ipc_model.specs.declared.entry.Entry.{Entry}
 use Rattle.ipc_model.specs.declared.entry.Entry.TheVariants.{Set}
 use Rattle.ipc_model.specs.declared.port.PortState.{PortState}
-use Rattle.ipc_model.specs.Actions.{renamed, serials_of_members, with_ports}
-use Rattle.ipc_model.specs.PortCalls.{names_in}
-use Rattle.ipc_model.specs.State.{State, Names, with_changed, with_names, with_port}
+use Rattle.ipc_model.specs.calls.Actions.{renamed, serials_of_members, with_ports}
+use Rattle.ipc_model.specs.calls.PortCalls.{names_in}
+use Rattle.ipc_model.specs.state.State.{State, Names, with_changed, with_names, with_port}
 use Rattle.ipc_state.specs.There.{changed_there}
 use Rattle.port_space.specs.Renaming.{under_other_name}
 

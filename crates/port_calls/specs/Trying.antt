@@ -3,10 +3,10 @@ use Rattle.std.specs.Prelude.{ℕ, Bool, true, false, List, [], MatchBool}
 use Rattle.ipc_model.specs.declared.call.Call.{Call}
 use Rattle.ipc_model.specs.declared.call.Reply.{Reply}
 use Rattle.ipc_model.specs.declared.call.Reply.TheVariants as reply
-use Rattle.ipc_model.specs.Effects.{Effect}
-use Rattle.ipc_model.specs.PortCalls.{names_in}
-use Rattle.ipc_model.specs.State.{State}
-use Rattle.ipc_model.specs.Step.{ActsIn}
+use Rattle.ipc_model.specs.effects.Effects.{Effect}
+use Rattle.ipc_model.specs.calls.PortCalls.{names_in}
+use Rattle.ipc_model.specs.state.State.{State}
+use Rattle.ipc_model.specs.calls.Step.{ActsIn}
 
 -- the call was refused
 abbrev pub is_refusal : Reply → Bool

@@ -1,12 +1,12 @@
 ghost use Rattle.std.specs.Prelude.{◌≡◌, ◌&&◌, ◌∷◌, ℕ, List, [], None, Some, IfOk, OnOk, OnErr, IsSome};
 ghost use Rattle.std.specs.FinMap as map;
-ghost use Rattle.ipc_model.specs.Actions.{allocated};
+ghost use Rattle.ipc_model.specs.calls.Actions.{allocated};
 ghost use Rattle.ipc_model.specs.declared.call.Call.TheVariants as call;
-ghost use Rattle.ipc_model.specs.Effects.{Effect};
-ghost use Rattle.ipc_model.specs.PortCalls.{is_full, is_right, names_in, tests_of};
-ghost use Rattle.ipc_model.specs.State.{State, IsUnused, ports_are_used_up};
-ghost use Rattle.ipc_model.specs.Step.{ActsIn};
-ghost use Rattle.ipc_model.specs.Tests.{first_failing};
+ghost use Rattle.ipc_model.specs.effects.Effects.{Effect};
+ghost use Rattle.ipc_model.specs.calls.PortCalls.{is_full, is_right, names_in, tests_of};
+ghost use Rattle.ipc_model.specs.state.State.{State, IsUnused, ports_are_used_up};
+ghost use Rattle.ipc_model.specs.calls.Step.{ActsIn};
+ghost use Rattle.ipc_model.specs.calls.Tests.{first_failing};
 
 use crate::ask::is_null_or_dead;
 use crate::entry::{allocated_entry, is_allocatable};
@@ -17,7 +17,7 @@ use std::alloc::AllocError;
 
 /// `mach_port_allocate`: a new name with a new right: the wanted name where it is unused, else the least unused one
 /// from `FIRST_NAME` on. Where memory is wanted nothing changed.
-#[tactic(auto, unfolding(ipc_model::specs::PortCalls::tests_of, ipc_model::specs::Actions::Done))]
+#[tactic(auto, unfolding(ipc_model::specs::calls::PortCalls::tests_of, ipc_model::specs::calls::Actions::Done))]
 pub fn allocate(
     state: &mut IpcState,
     space: u32,
@@ -54,7 +54,7 @@ pub fn chosen_name(state: &IpcState, space: u32, wanted: Option<u32>) -> u32
 }
 
 /// The code that an allocation is refused with, if it is refused.
-#[tactic(auto, unfolding(ipc_model::specs::PortCalls::tests_of))]
+#[tactic(auto, unfolding(ipc_model::specs::calls::PortCalls::tests_of))]
 pub fn refusal_of_allocate(state: &IpcState, space: u32, right: u32) -> Option<KernReturn>
     ensures { result ≡ first_failing (tests_of state.now space (names_in state.now space) (call.Allocate right)) }
 {
@@ -80,7 +80,7 @@ fn refusal_for_want(state: &IpcState, space: u32, right: u32) -> Option<KernRetu
 
 /// `mach_port_allocate_name`: a new right under a name that the task chooses. Where memory is wanted nothing
 /// changed.
-#[tactic(auto, unfolding(ipc_model::specs::PortCalls::tests_of, ipc_model::specs::Actions::Done))]
+#[tactic(auto, unfolding(ipc_model::specs::calls::PortCalls::tests_of, ipc_model::specs::calls::Actions::Done))]
 pub fn allocate_name(
     state: &mut IpcState,
     space: u32,
@@ -101,7 +101,7 @@ pub fn allocate_name(
 }
 
 /// The code that an allocation under a chosen name is refused with, if it is refused.
-#[tactic(auto, unfolding(ipc_model::specs::PortCalls::tests_of))]
+#[tactic(auto, unfolding(ipc_model::specs::calls::PortCalls::tests_of))]
 fn refusal_of_name(state: &IpcState, space: u32, right: u32, name: u32) -> Option<KernReturn>
     ensures { result ≡ first_failing (tests_of state.now space (names_in state.now space) (call.AllocateName right name)) }
 {

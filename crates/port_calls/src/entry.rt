@@ -1,7 +1,7 @@
 ghost use Rattle.std.specs.Prelude.{◌≡◌};
-ghost use Rattle.ipc_model.specs.State as model;
-ghost use Rattle.ipc_model.specs.Actions.{allocated_entry};
-ghost use Rattle.ipc_model.specs.PortCalls.{is_allocatable};
+ghost use Rattle.ipc_model.specs.state.State as model;
+ghost use Rattle.ipc_model.specs.calls.Actions.{allocated_entry};
+ghost use Rattle.ipc_model.specs.calls.PortCalls.{is_allocatable};
 
 use codes::Right;
 use ipc_model::{Entry, PortRights};

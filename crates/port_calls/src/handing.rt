@@ -1,14 +1,14 @@
 ghost use Rattle.std.specs.Prelude.{◌≡◌, ℕ, ◌<◌, ◌&&◌, ◌∷◌, [], not, Some, None, IfOk, IfErr, IfSome, IfNone, OnOk, IsSome, List};
 ghost use Rattle.std.specs.FinMap as map;
-ghost use Rattle.ipc_model.specs.Actions.{taken_by};
-ghost use Rattle.ipc_model.specs.CopyIn.{copy_in};
-ghost use Rattle.ipc_model.specs.CopyOut.{MayArrive, names_after};
+ghost use Rattle.ipc_model.specs.calls.Actions.{taken_by};
+ghost use Rattle.ipc_model.specs.rights.CopyIn.{copy_in};
+ghost use Rattle.ipc_model.specs.rights.CopyOut.{MayArrive, names_after};
 ghost use Rattle.ipc_model.specs.declared.call.Call.TheVariants as call;
-ghost use Rattle.ipc_model.specs.Effects.{Effect};
-ghost use Rattle.ipc_model.specs.PortCalls.{is_in_use, is_full, is_send_once_kind, is_taken_otherwise, names_in, passes_bound, stands_elsewhere, tests_of};
-ghost use Rattle.ipc_model.specs.State.{State, entry_at, with_names};
-ghost use Rattle.ipc_model.specs.Step.{ActsIn};
-ghost use Rattle.ipc_model.specs.Tests.{first_failing};
+ghost use Rattle.ipc_model.specs.effects.Effects.{Effect};
+ghost use Rattle.ipc_model.specs.calls.PortCalls.{is_in_use, is_full, is_send_once_kind, is_taken_otherwise, names_in, passes_bound, stands_elsewhere, tests_of};
+ghost use Rattle.ipc_model.specs.state.State.{State, entry_at, with_names};
+ghost use Rattle.ipc_model.specs.calls.Step.{ActsIn};
+ghost use Rattle.ipc_model.specs.calls.Tests.{first_failing};
 ghost use Rattle.port_calls.specs.Trying.{Tries};
 ghost use Rattle.rights.specs.Meaning.{disposition_meant};
 
@@ -22,7 +22,7 @@ use std::alloc::AllocError;
 
 /// `mach_port_insert_right`: a right that a name hands over comes to stand under a name that the task chooses. The
 /// space is there, and no effect waits. Where the call is refused, or memory is wanted, the state has to be given up.
-#[tactic(auto, unfolding(ipc_model::specs::PortCalls::tests_of, ipc_model::specs::Actions::Done))]
+#[tactic(auto, unfolding(ipc_model::specs::calls::PortCalls::tests_of, ipc_model::specs::calls::Actions::Done))]
 pub fn insert_right(
     state: &mut IpcState,
     space: u32,
@@ -159,7 +159,7 @@ fn passes_bound(kind: RightKind, entry: Option<Entry>) -> bool
 /// `mach_port_extract_right`: a right that a name hands over comes out under its port's name, or a new one: the wanted
 /// one where it may. The space is there, and no effect waits. Where the call is refused, or memory is wanted, the
 /// state has to be given up.
-#[tactic(auto, unfolding(ipc_model::specs::PortCalls::tests_of, ipc_model::specs::Actions::Done))]
+#[tactic(auto, unfolding(ipc_model::specs::calls::PortCalls::tests_of, ipc_model::specs::calls::Actions::Done))]
 pub fn extract_right(
     state: &mut IpcState,
     space: u32,
@@ -187,7 +187,7 @@ pub fn extract_right(
 }
 
 /// Takes the right that is to be extracted, or gives the code with which that is refused.
-#[tactic(auto, unfolding(ipc_model::specs::PortCalls::tests_of), using(rights::specs::Room::room_to_come))]
+#[tactic(auto, unfolding(ipc_model::specs::calls::PortCalls::tests_of), using(rights::specs::Room::room_to_come))]
 fn take_extracted(
     state: &mut IpcState,
     space: u32,

@@ -1,11 +1,11 @@
 ghost use Rattle.std.specs.Prelude.{◌≡◌, ◌++◌, ◌∷◌, [], Some, false, IfOk, OnOk};
 ghost use Rattle.std.specs.FinMap as map;
 ghost use Rattle.ipc_model.specs.declared.call.Call.TheVariants as call;
-ghost use Rattle.ipc_model.specs.CopyIn.{with_left, notices_of_left};
-ghost use Rattle.ipc_model.specs.Effects.{release};
-ghost use Rattle.ipc_model.specs.PortCalls.{names_in, is_no_name, sum_is_negative, sum_of, falls_by};
-ghost use Rattle.ipc_model.specs.State.{entry_at};
-ghost use Rattle.ipc_model.specs.Step.{ActsIn};
+ghost use Rattle.ipc_model.specs.rights.CopyIn.{with_left, notices_of_left};
+ghost use Rattle.ipc_model.specs.effects.Effects.{release};
+ghost use Rattle.ipc_model.specs.calls.PortCalls.{names_in, is_no_name, sum_is_negative, sum_of, falls_by};
+ghost use Rattle.ipc_model.specs.state.State.{entry_at};
+ghost use Rattle.ipc_model.specs.calls.Step.{ActsIn};
 ghost use Rattle.port_space.specs.References.{AreFewReferences};
 
 use crate::ask::named;
@@ -35,7 +35,7 @@ fn refused(code: KernReturn) -> Reply
 
 /// `mach_port_mod_refs`: so many references of a right more or less, in two's complement. Where memory is wanted
 /// the state has to be given up.
-#[tactic(auto, unfolding(ipc_model::specs::PortCalls::tests_of, ipc_model::specs::Actions::Done))]
+#[tactic(auto, unfolding(ipc_model::specs::calls::PortCalls::tests_of, ipc_model::specs::calls::Actions::Done))]
 pub fn mod_refs(
     alloc: Global,
     state: &mut IpcState,
@@ -70,7 +70,7 @@ pub fn mod_refs(
     }
 }
 
-#[tactic(auto, unfolding(ipc_model::specs::PortCalls::tests_of, ipc_model::specs::Actions::Done))]
+#[tactic(auto, unfolding(ipc_model::specs::calls::PortCalls::tests_of, ipc_model::specs::calls::Actions::Done))]
 fn mod_send(
     state: &mut IpcState,
     space: u32,
@@ -99,7 +99,7 @@ fn mod_send(
     Ok(Reply::Done { number: NUMBER })
 }
 
-#[tactic(auto, unfolding(ipc_model::specs::PortCalls::tests_of, ipc_model::specs::Actions::Done))]
+#[tactic(auto, unfolding(ipc_model::specs::calls::PortCalls::tests_of, ipc_model::specs::calls::Actions::Done))]
 fn mod_receive(
     state: &mut IpcState,
     space: u32,
@@ -149,7 +149,7 @@ fn receive_gone(
     Ok(())
 }
 
-#[tactic(auto, unfolding(ipc_model::specs::PortCalls::tests_of, ipc_model::specs::Actions::Done))]
+#[tactic(auto, unfolding(ipc_model::specs::calls::PortCalls::tests_of, ipc_model::specs::calls::Actions::Done))]
 fn mod_send_once(
     state: &mut IpcState,
     space: u32,
@@ -172,7 +172,7 @@ fn mod_send_once(
     Ok(Reply::Done { number: NUMBER })
 }
 
-#[tactic(auto, unfolding(ipc_model::specs::PortCalls::tests_of, ipc_model::specs::Actions::Done))]
+#[tactic(auto, unfolding(ipc_model::specs::calls::PortCalls::tests_of, ipc_model::specs::calls::Actions::Done))]
 fn mod_dead(
     state: &mut IpcState,
     space: u32,
@@ -209,7 +209,7 @@ fn mod_dead(
     Ok(Reply::Done { number: NUMBER })
 }
 
-#[tactic(auto, unfolding(ipc_model::specs::PortCalls::tests_of, ipc_model::specs::Actions::Done))]
+#[tactic(auto, unfolding(ipc_model::specs::calls::PortCalls::tests_of, ipc_model::specs::calls::Actions::Done))]
 fn mod_set(
     alloc: Global,
     state: &mut IpcState,

@@ -1,7 +1,7 @@
 ghost use Rattle.std.specs.Prelude.{◌≡◌, []};
 ghost use Rattle.ipc_model.specs.declared.call.Call.TheVariants as call;
-ghost use Rattle.ipc_model.specs.PortCalls.{names_in, is_in_some_set};
-ghost use Rattle.ipc_model.specs.Step.{ActsIn};
+ghost use Rattle.ipc_model.specs.calls.PortCalls.{names_in, is_in_some_set};
+ghost use Rattle.ipc_model.specs.calls.Step.{ActsIn};
 
 use crate::ask::named;
 use codes::{KernReturn, MACH_PORT_NULL};
@@ -11,7 +11,7 @@ use port_set::received_port;
 
 /// `mach_port_move_member`: a port becomes a member of the set `after`, or of none where that is
 /// `MACH_PORT_NULL`.
-#[tactic(auto, unfolding(ipc_model::specs::PortCalls::tests_of, ipc_model::specs::Actions::Done))]
+#[tactic(auto, unfolding(ipc_model::specs::calls::PortCalls::tests_of, ipc_model::specs::calls::Actions::Done))]
 pub fn move_member(state: &mut IpcState, space: u32, member: u32, after: u32) -> Reply
     ensures { ActsIn state.old space (names_in state.old space) (call.MoveMember member after) result state.new [] }
 {

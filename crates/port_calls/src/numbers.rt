@@ -1,7 +1,7 @@
 ghost use Rattle.std.specs.Prelude.{◌≡◌, []};
 ghost use Rattle.ipc_model.specs.declared.call.Call.TheVariants as call;
-ghost use Rattle.ipc_model.specs.PortCalls.{names_in};
-ghost use Rattle.ipc_model.specs.Step.{ActsIn};
+ghost use Rattle.ipc_model.specs.calls.PortCalls.{names_in};
+ghost use Rattle.ipc_model.specs.calls.Step.{ActsIn};
 
 use crate::ask::named;
 use codes::{KernReturn, MAX_QUEUE_LIMIT};
@@ -11,7 +11,7 @@ use port_set::received_port;
 use ports::PortNumbers;
 
 /// `mach_port_set_qlimit`: how many messages the queue of a port holds at most.
-#[tactic(auto, unfolding(ipc_model::specs::PortCalls::tests_of, ipc_model::specs::Actions::Done))]
+#[tactic(auto, unfolding(ipc_model::specs::calls::PortCalls::tests_of, ipc_model::specs::calls::Actions::Done))]
 pub fn set_qlimit(state: &mut IpcState, space: u32, name: u32, limit: u32) -> Reply
     ensures { ActsIn state.old space (names_in state.old space) (call.SetQlimit name limit) result state.new [] }
 {
@@ -41,7 +41,7 @@ pub fn set_qlimit(state: &mut IpcState, space: u32, name: u32, limit: u32) -> Re
 }
 
 /// `mach_port_set_mscount`: the make-send count of a port.
-#[tactic(auto, unfolding(ipc_model::specs::PortCalls::tests_of, ipc_model::specs::Actions::Done))]
+#[tactic(auto, unfolding(ipc_model::specs::calls::PortCalls::tests_of, ipc_model::specs::calls::Actions::Done))]
 pub fn set_mscount(state: &mut IpcState, space: u32, name: u32, count: u32) -> Reply
     ensures { ActsIn state.old space (names_in state.old space) (call.SetMscount name count) result state.new [] }
 {
@@ -72,7 +72,7 @@ pub fn set_mscount(state: &mut IpcState, space: u32, name: u32, count: u32) -> R
 }
 
 /// `mach_port_set_seqno`: the sequence number of the next message from a port.
-#[tactic(auto, unfolding(ipc_model::specs::PortCalls::tests_of, ipc_model::specs::Actions::Done))]
+#[tactic(auto, unfolding(ipc_model::specs::calls::PortCalls::tests_of, ipc_model::specs::calls::Actions::Done))]
 pub fn set_seqno(state: &mut IpcState, space: u32, name: u32, seqno: u32) -> Reply
     ensures { ActsIn state.old space (names_in state.old space) (call.SetSeqno name seqno) result state.new [] }
 {

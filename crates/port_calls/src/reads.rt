@@ -1,10 +1,10 @@
 ghost use Rattle.std.specs.Prelude.{◌≡◌, [], IfOk, map, option_map};
 ghost use Rattle.std.specs.FinMap as finmap;
-ghost use Rattle.ipc_model.specs.Actions.{status_of};
-ghost use Rattle.ipc_model.specs.State.{type_of};
+ghost use Rattle.ipc_model.specs.calls.Actions.{status_of};
+ghost use Rattle.ipc_model.specs.state.State.{type_of};
 ghost use Rattle.ipc_model.specs.declared.call.Call.TheVariants as call;
-ghost use Rattle.ipc_model.specs.PortCalls.{names_in, references_of};
-ghost use Rattle.ipc_model.specs.Step.{ActsIn};
+ghost use Rattle.ipc_model.specs.calls.PortCalls.{names_in, references_of};
+ghost use Rattle.ipc_model.specs.calls.Step.{ActsIn};
 
 use crate::ask::named;
 use crate::entry::type_of;
@@ -15,7 +15,7 @@ use port_set::received_port;
 use std::alloc::{AllocError, Global};
 
 /// `mach_port_type`: the type bits of a name.
-#[tactic(auto, unfolding(ipc_model::specs::PortCalls::tests_of, ipc_model::specs::Actions::Done))]
+#[tactic(auto, unfolding(ipc_model::specs::calls::PortCalls::tests_of, ipc_model::specs::calls::Actions::Done))]
 pub fn port_type(state: &IpcState, space: u32, name: u32) -> Reply
     ensures { ActsIn state.now space (names_in state.now space) (call.Type name) result state.now [] }
 {
@@ -31,7 +31,7 @@ pub fn port_type(state: &IpcState, space: u32, name: u32) -> Reply
 }
 
 /// `mach_port_get_refs`: user references of a right under a name.
-#[tactic(auto, unfolding(ipc_model::specs::PortCalls::tests_of, ipc_model::specs::Actions::Done))]
+#[tactic(auto, unfolding(ipc_model::specs::calls::PortCalls::tests_of, ipc_model::specs::calls::Actions::Done))]
 pub fn get_refs(state: &IpcState, space: u32, name: u32, right: u32) -> Reply
     ensures { ActsIn state.now space (names_in state.now space) (call.GetRefs name right) result state.now [] }
 {
@@ -54,7 +54,7 @@ pub fn get_refs(state: &IpcState, space: u32, name: u32, right: u32) -> Reply
 }
 
 /// `mach_port_names`: the names in use, rising, with their type bits.
-#[tactic(auto, unfolding(ipc_model::specs::PortCalls::tests_of, ipc_model::specs::Actions::Done))]
+#[tactic(auto, unfolding(ipc_model::specs::calls::PortCalls::tests_of, ipc_model::specs::calls::Actions::Done))]
 pub fn names(alloc: Global, state: &IpcState, space: u32) -> Result<Reply, AllocError>
     ensures { IfOk result (λ reply. ActsIn state.now space (names_in state.now space) call.Names reply state.now []) }
 {
@@ -81,7 +81,7 @@ fn named_types(alloc: Global, state: &IpcState, space: u32) -> Result<Vec<NamedT
 }
 
 /// `mach_port_get_receive_status`: what a port keeps, and whether there are rights and requests.
-#[tactic(auto, unfolding(ipc_model::specs::PortCalls::tests_of, ipc_model::specs::Actions::Done))]
+#[tactic(auto, unfolding(ipc_model::specs::calls::PortCalls::tests_of, ipc_model::specs::calls::Actions::Done))]
 pub fn receive_status(state: &IpcState, space: u32, name: u32) -> Reply
     ensures { ActsIn state.now space (names_in state.now space) (call.GetReceiveStatus name) result state.now [] }
 {
@@ -124,7 +124,7 @@ fn status_of(state: &IpcState, port: u64) -> Option<ReceiveStatus>
 }
 
 /// `mach_port_get_set_status`: the names of a set's members, rising.
-#[tactic(auto, unfolding(ipc_model::specs::PortCalls::tests_of, ipc_model::specs::Actions::Done))]
+#[tactic(auto, unfolding(ipc_model::specs::calls::PortCalls::tests_of, ipc_model::specs::calls::Actions::Done))]
 pub fn get_set_status(
     alloc: Global,
     state: &IpcState,

@@ -1,12 +1,12 @@
 ghost use Rattle.std.specs.Prelude.{◌≡◌, ◌++◌, ◌∷◌, ◌==◌, ◌≤◌, ◌||◌, ◌&&◌, [], IfOk, OnOk, IsSome, Some};
 ghost use Rattle.codes.specs.declared.limits.TheConstants.{MAX_SEND_REFERENCES, MAX_DEAD_REFERENCES};
-ghost use Rattle.ipc_model.specs.Actions.{release_if, effects_of_name};
-ghost use Rattle.ipc_model.specs.CopyIn.{with_left, notices_of_left};
+ghost use Rattle.ipc_model.specs.calls.Actions.{release_if, effects_of_name};
+ghost use Rattle.ipc_model.specs.rights.CopyIn.{with_left, notices_of_left};
 ghost use Rattle.ipc_model.specs.declared.call.Call.TheVariants as call;
-ghost use Rattle.ipc_model.specs.Effects.{release, port_deleted};
-ghost use Rattle.ipc_model.specs.PortCalls.{names_in, is_set, has_receive, send_references};
-ghost use Rattle.ipc_model.specs.State.{entry_at, without_name};
-ghost use Rattle.ipc_model.specs.Step.{ActsIn};
+ghost use Rattle.ipc_model.specs.effects.Effects.{release, port_deleted};
+ghost use Rattle.ipc_model.specs.calls.PortCalls.{names_in, is_set, has_receive, send_references};
+ghost use Rattle.ipc_model.specs.state.State.{entry_at, without_name};
+ghost use Rattle.ipc_model.specs.calls.Step.{ActsIn};
 ghost use Rattle.ipc_model.specs.declared.entry.Entry.{Entry};
 ghost use Rattle.port_index.specs.Indexed.{MentionsNoOther};
 ghost use Rattle.port_space.specs.Mentions.{entry_mentions};
@@ -20,7 +20,7 @@ use rights::{announce_left, set_left};
 use std::alloc::AllocError;
 
 /// `mach_port_deallocate`: one reference less of a send right, a send-once right or a dead name.
-#[tactic(auto, unfolding(ipc_model::specs::PortCalls::tests_of, ipc_model::specs::Actions::Done))]
+#[tactic(auto, unfolding(ipc_model::specs::calls::PortCalls::tests_of, ipc_model::specs::calls::Actions::Done))]
 pub fn deallocate(
     state: &mut IpcState,
     space: u32,

@@ -1,8 +1,8 @@
 ghost use Rattle.std.specs.Prelude.{◌≡◌, [], IfOk, OnOk};
-ghost use Rattle.ipc_model.specs.Actions.{members_moved};
+ghost use Rattle.ipc_model.specs.calls.Actions.{members_moved};
 ghost use Rattle.ipc_model.specs.declared.call.Call.TheVariants as call;
-ghost use Rattle.ipc_model.specs.PortCalls.{names_in};
-ghost use Rattle.ipc_model.specs.Step.{ActsIn};
+ghost use Rattle.ipc_model.specs.calls.PortCalls.{names_in};
+ghost use Rattle.ipc_model.specs.calls.Step.{ActsIn};
 
 use crate::ask::named;
 use crate::references::release_name;
@@ -14,7 +14,7 @@ use port_set::{member_ports, move_ports};
 use std::alloc::{AllocError, Global};
 
 /// `mach_port_destroy`: a name goes with all that it stands for.
-#[tactic(auto, unfolding(ipc_model::specs::PortCalls::tests_of, ipc_model::specs::Actions::Done))]
+#[tactic(auto, unfolding(ipc_model::specs::calls::PortCalls::tests_of, ipc_model::specs::calls::Actions::Done))]
 pub fn destroy(
     alloc: Global,
     state: &mut IpcState,

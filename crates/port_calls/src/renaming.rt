@@ -1,10 +1,10 @@
 ghost use Rattle.std.specs.Prelude.{◌≡◌, [], Some, None, IfOk, OnOk, OnErr, IsSome};
 ghost use Rattle.std.specs.FinMap as map;
-ghost use Rattle.ipc_model.specs.Actions.{renamed};
+ghost use Rattle.ipc_model.specs.calls.Actions.{renamed};
 ghost use Rattle.ipc_model.specs.declared.call.Call.TheVariants as call;
-ghost use Rattle.ipc_model.specs.PortCalls.{names_in};
-ghost use Rattle.ipc_model.specs.State.{entry_at};
-ghost use Rattle.ipc_model.specs.Step.{ActsIn};
+ghost use Rattle.ipc_model.specs.calls.PortCalls.{names_in};
+ghost use Rattle.ipc_model.specs.state.State.{entry_at};
+ghost use Rattle.ipc_model.specs.calls.Step.{ActsIn};
 
 use crate::ask::{is_null_or_dead, named};
 use codes::KernReturn;
@@ -15,7 +15,7 @@ use std::alloc::{AllocError, Global};
 
 /// `mach_port_rename`: what a name stands for comes to stand under another one. The space is there. Where memory is
 /// wanted nothing changed.
-#[tactic(auto, unfolding(ipc_model::specs::PortCalls::tests_of, ipc_model::specs::Actions::Done))]
+#[tactic(auto, unfolding(ipc_model::specs::calls::PortCalls::tests_of, ipc_model::specs::calls::Actions::Done))]
 pub fn rename(
     alloc: Global,
     state: &mut IpcState,

@@ -1,12 +1,12 @@
 ghost use Rattle.std.specs.Prelude.{◌≡◌, ◌<◌, ◌++◌, ℕ, List, [], Some, None, IfOk, IfErr, OnOk, IsSome, is_none, option_map};
 ghost use Rattle.std.specs.FinMap as map;
-ghost use Rattle.ipc_model.specs.Actions.{GivesBack, dead_name_request_set, lacks_senders, make_send_count_of, port_request_set, request_set_under, target_for};
+ghost use Rattle.ipc_model.specs.calls.Actions.{GivesBack, dead_name_request_set, lacks_senders, make_send_count_of, port_request_set, request_set_under, target_for};
 ghost use Rattle.ipc_model.specs.declared.call.Call.TheVariants as call;
-ghost use Rattle.ipc_model.specs.Effects as machine;
-ghost use Rattle.ipc_model.specs.PortCalls.{dead_references, is_variant, names_in, notify_disposition, target_under, tests_of, tests_of_request, tests_of_variant};
-ghost use Rattle.ipc_model.specs.State.{State, entry_at};
-ghost use Rattle.ipc_model.specs.Step.{ActsIn};
-ghost use Rattle.ipc_model.specs.Tests.{first_failing};
+ghost use Rattle.ipc_model.specs.effects.Effects as machine;
+ghost use Rattle.ipc_model.specs.calls.PortCalls.{dead_references, is_variant, names_in, notify_disposition, target_under, tests_of, tests_of_request, tests_of_variant};
+ghost use Rattle.ipc_model.specs.state.State.{State, entry_at};
+ghost use Rattle.ipc_model.specs.calls.Step.{ActsIn};
+ghost use Rattle.ipc_model.specs.calls.Tests.{first_failing};
 ghost use Rattle.port_calls.specs.Trying.{Tries};
 ghost use Rattle.port_space.specs.References.{AreFewReferences};
 ghost use Rattle.rights.specs.Meaning.{disposition_meant};
@@ -34,7 +34,7 @@ const DEAD_NAME: u32 = 72;
 /// `MACH_PORT_NULL`. The former target comes back as a send-once right, under the wanted name where that is unused, and
 /// else under the least unused one. The call is tried on a copy of the state, which is to be given up where it is
 /// refused, and on Err.
-#[tactic(auto, unfolding(ipc_model::specs::Actions::Done))]
+#[tactic(auto, unfolding(ipc_model::specs::calls::Actions::Done))]
 pub fn request_notification(
     state: &mut IpcState,
     space: u32,
@@ -71,7 +71,7 @@ pub fn request_notification(
 
 /// The target of a request, copied in, none where the request is to be cancelled; or the code that the call is refused
 /// with.
-#[tactic(auto, unfolding(ipc_model::specs::PortCalls::tests_of))]
+#[tactic(auto, unfolding(ipc_model::specs::calls::PortCalls::tests_of))]
 fn take_target(
     state: &mut IpcState,
     space: u32,

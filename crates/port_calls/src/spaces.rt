@@ -1,13 +1,13 @@
 ghost use Rattle.std.specs.Prelude.{◌≡◌, ◌<◌, ℕ, ◌++◌, List, [], flat_map, Some, None, IfOk, IfErr, OnOk, OnErr};
 ghost use Rattle.std.specs.FinMap as map;
-ghost use Rattle.ipc_model.specs.Actions.{IsUnusedSpace, effects_of_name, received_serials, taken_by, with_ports};
-ghost use Rattle.ipc_model.specs.CopyOut.{MayArrive, names_after};
+ghost use Rattle.ipc_model.specs.calls.Actions.{IsUnusedSpace, effects_of_name, received_serials, taken_by, with_ports};
+ghost use Rattle.ipc_model.specs.rights.CopyOut.{MayArrive, names_after};
 ghost use Rattle.ipc_model.specs.declared.call.Call.TheVariants as call;
-ghost use Rattle.ipc_model.specs.Effects.{Effect};
-ghost use Rattle.ipc_model.specs.PortCalls.{names_in, tests_of};
-ghost use Rattle.ipc_model.specs.State.{State, with_names};
-ghost use Rattle.ipc_model.specs.Step.{ActsIn};
-ghost use Rattle.ipc_model.specs.Tests.{first_failing};
+ghost use Rattle.ipc_model.specs.effects.Effects.{Effect};
+ghost use Rattle.ipc_model.specs.calls.PortCalls.{names_in, tests_of};
+ghost use Rattle.ipc_model.specs.state.State.{State, with_names};
+ghost use Rattle.ipc_model.specs.calls.Step.{ActsIn};
+ghost use Rattle.ipc_model.specs.calls.Tests.{first_failing};
 ghost use Rattle.port_calls.specs.Trying.{Tries};
 ghost use Rattle.rights.specs.Taking.{Takes};
 
@@ -26,7 +26,7 @@ use std::alloc::{AllocError, Global};
 const FIRST_SPACE: u32 = 1;
 
 /// Attaches a task to another space, which has to be there.
-#[tactic(auto, unfolding(ipc_model::specs::PortCalls::tests_of, ipc_model::specs::Actions::Done))]
+#[tactic(auto, unfolding(ipc_model::specs::calls::PortCalls::tests_of, ipc_model::specs::calls::Actions::Done))]
 pub fn attach(state: &IpcState, space: u32, other: u32) -> Reply
     ensures { ActsIn state.now space (names_in state.now space) (call.Attach other) result state.now [] }
 {
@@ -43,7 +43,7 @@ pub fn attach(state: &IpcState, space: u32, other: u32) -> Reply
 /// Makes a space whose one name holds a right that is copied in from a name of the caller's. Its number and its name
 /// are the wanted ones, each where it may be used, and else the least that are unused. The call is tried on a copy of
 /// the state, which is to be given up where the call is refused, and on Err.
-#[tactic(auto, unfolding(ipc_model::specs::Actions::Done))]
+#[tactic(auto, unfolding(ipc_model::specs::calls::Actions::Done))]
 pub fn space_create(
     alloc: Global,
     state: &mut IpcState,
@@ -69,7 +69,7 @@ pub fn space_create(
 
 /// The caller's space goes, with all its names and its sets; space 1 doesn't. Where memory is wanted the state is as
 /// before, and the effects are to be given up.
-#[tactic(auto, unfolding(ipc_model::specs::PortCalls::tests_of, ipc_model::specs::Actions::Done))]
+#[tactic(auto, unfolding(ipc_model::specs::calls::PortCalls::tests_of, ipc_model::specs::calls::Actions::Done))]
 pub fn space_destroy(
     alloc: Global,
     state: &mut IpcState,
@@ -124,7 +124,7 @@ fn release_each(names: &PortSpace, effects: &mut Effects) -> Result<(), AllocErr
 }
 
 /// The right that the one name of a new space is to hold, copied in, or the code that the call is refused with.
-#[tactic(auto, unfolding(ipc_model::specs::PortCalls::tests_of))]
+#[tactic(auto, unfolding(ipc_model::specs::calls::PortCalls::tests_of))]
 fn take_for_space(
     state: &mut IpcState,
     space: u32,

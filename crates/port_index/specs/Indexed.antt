@@ -7,9 +7,9 @@ use Rattle.std.specs.Cmp.{nat_cmp_total}
 use Rattle.std.specs.Ordering.{nat_cmp, eq_by_cmp}
 use Rattle.std.specs.FinMap as finmap
 use Rattle.std.specs.FinMap.{get-empty, get-insert, get-remove, contains_key-keys, same_map, nat_cmp-IsAntisymmetric}
-use Rattle.ipc_model.specs.Effects.{map_values}
-use Rattle.ipc_model.specs.MapLaws.{get-map_values}
-use Rattle.ipc_model.specs.MapSums.{key_is, same_key}
+use Rattle.ipc_model.specs.effects.Effects.{map_values}
+use Rattle.ipc_laws.specs.MapLaws.{get-map_values}
+use Rattle.ipc_laws.specs.MapSums.{key_is, same_key}
 use Rattle.port_index.specs.Places.{Places, PlaceSet, has_place, is_place}
 use Rattle.port_index.specs.PlaceLaws.{one_number, place_gone, same_number}
 use Rattle.port_index.specs.Standing.{Map, mentioned_in, is_mentioned}

@@ -5,7 +5,7 @@ use Rattle.std.specs.Cmp.{nat_cmp_total, unsigned_tied}
 use Rattle.std.specs.Ordering.{nat_cmp, eq_by_cmp}
 use Rattle.std.specs.FinMap as finmap
 use Rattle.std.specs.FinMap.{get-insert, get-remove, get-empty, empty_of_len}
-use Rattle.ipc_model.specs.MapSums.{key_is, same_key, insert-same}
+use Rattle.ipc_laws.specs.MapSums.{key_is, same_key, insert-same}
 use Rattle.port_index.specs.Places.{PlaceSet, Places, has_place, is_place}
 
 pub same_number : (q k : ℕ) → (q == k) ≡ true → q ≡ k

@@ -7,9 +7,9 @@ use Rattle.std.specs.declared.cmp.Ordering.TheVariants.{Equal}
 use Rattle.std.specs.FinMap as finmap
 use Rattle.std.specs.FinMap.{FinMap, find, entries, entries_sorted, entries-from_sorted, get-entries, get-from_sorted, is_sorted, same_map, nat_cmp-IsAntisymmetric}
 use Rattle.std.specs.FinMap.Entries.{below_all, where_key, is_sorted-where_key, find-where_key}
-use Rattle.ipc_model.specs.Dangling.{later_found, front_of, back_of}
-use Rattle.ipc_model.specs.MapSums.{key_is, same_key}
-use Rattle.ipc_model.specs.RowRules.{entries_none}
+use Rattle.ipc_laws.specs.Dangling.{later_found, front_of, back_of}
+use Rattle.ipc_laws.specs.MapSums.{key_is, same_key}
+use Rattle.ipc_laws.specs.MapLaws.{entries_none}
 use Rattle.port_index.specs.Places.{PlaceSet}
 
 abbrev pub Map : Type 0 → Type 0

@@ -6,10 +6,10 @@ use Rattle.std.specs.FinMap.{FinMap, get, insert, remove, len, empty, get-empty,
 use Rattle.codes.specs.declared.limits.TheConstants.{MAX_NAMES}
 use Rattle.ipc_model.specs.declared.entry.Entry.{Entry}
 use Rattle.ipc_model.specs.declared.entry.Entry.TheVariants.{Port, SendOnce, Set, Dead}
-use Rattle.ipc_model.specs.Effects.{entry_after_death, map_values, one_more_if, without_target}
-use Rattle.ipc_model.specs.ListLaws.{some_same}
-use Rattle.ipc_model.specs.MapLaws.{get-map_values, len-map_values}
-use Rattle.ipc_model.specs.MapSums.{key_is}
+use Rattle.ipc_model.specs.effects.Effects.{entry_after_death, map_values, one_more_if, without_target}
+use Rattle.ipc_laws.specs.ListLaws.{some_same}
+use Rattle.ipc_laws.specs.MapLaws.{get-map_values, len-map_values}
+use Rattle.ipc_laws.specs.MapSums.{key_is}
 use Rattle.port_space.specs.Deaths.{entry_without}
 use Rattle.port_space.specs.References.{AreBounded, AreFewReferences}
 use Rattle.port_space.specs.Crowded.{within_after_insert, within_after_remove}

@@ -6,8 +6,8 @@ use Rattle.std.specs.FinMap as map
 use Rattle.std.specs.FinMap.{get-insert, get-remove, len-remove, same_map, nat_cmp-IsAntisymmetric}
 use Rattle.codes.specs.declared.limits.TheConstants.{MAX_NAMES}
 use Rattle.ipc_model.specs.declared.entry.Entry.{Entry}
-use Rattle.ipc_model.specs.MapSums.{key_is}
-use Rattle.ipc_model.specs.State.{Names}
+use Rattle.ipc_laws.specs.MapSums.{key_is}
+use Rattle.ipc_model.specs.state.State.{Names}
 use Rattle.port_space.specs.References.{AreBounded}
 use Rattle.port_space.specs.Renaming.{under_other_name}
 use Rattle.port_space.proofs.Bounds.{bounded_insert, bounded_remove}

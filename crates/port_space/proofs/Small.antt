@@ -4,7 +4,7 @@ use Rattle.std.specs.List.{AllByRecursion, list_any}
 use Rattle.std.specs.Ordering.{nat_cmp, eq_by_cmp}
 use Rattle.std.specs.FinMap.{FinMap, get, entries, contains_key-keys}
 use Rattle.ipc_model.specs.declared.entry.Entry.{Entry}
-use Rattle.ipc_model.specs.MapSums.{same_key}
+use Rattle.ipc_laws.specs.MapSums.{same_key}
 use Rattle.port_space.specs.References.{AreBounded}
 
 either_true : (b c : Bool) → c ≡ true → (b || c) ≡ true

@@ -6,9 +6,9 @@ use Rattle.ipc_model.specs.declared.entry.Entry.{Entry}
 use Rattle.ipc_model.specs.declared.entry.Entry.TheVariants.{Port, SendOnce, Set, Dead}
 use Rattle.ipc_model.specs.declared.message.RightKind.{RightKind}
 use Rattle.ipc_model.specs.declared.message.RightKind.TheVariants as kinds
-use Rattle.ipc_model.specs.Placed as place
-use Rattle.ipc_model.specs.Placed.{Right, rights_of_entry, same_kind}
-use Rattle.ipc_model.specs.State.{is_number, port_held}
+use Rattle.ipc_model.specs.state.Placed as place
+use Rattle.ipc_model.specs.state.Placed.{Right, rights_of_entry, same_kind}
+use Rattle.ipc_model.specs.state.State.{is_number, port_held}
 use Rattle.port_index.specs.Standing.{next_standing, mentioned_in}
 use Rattle.port_space.specs.Mentions.{entry_mentions}
 use Rattle.port_space.specs.Unmentioned.{count-append, left_off, no_rights}

@@ -2,7 +2,7 @@
 use Rattle.std.specs.Prelude.{ℕ, ◌+◌, ◌-◌, ◌^◌, ◌==◌, min, Option, if◌then◌else◌}
 use Rattle.ipc_model.specs.declared.entry.Entry.{Entry}
 use Rattle.ipc_model.specs.declared.entry.Entry.TheVariants.{Port, SendOnce, Set, Dead}
-use Rattle.ipc_model.specs.Effects.{one_more_if, without_target}
+use Rattle.ipc_model.specs.effects.Effects.{one_more_if, without_target}
 
 abbrev pub dead_name : ℕ → Option ℕ → Entry
 dead_name references target = Dead (min (references + one_more_if target) (2 ^ 32 - 1))

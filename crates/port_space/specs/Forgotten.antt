@@ -3,8 +3,8 @@ use Rattle.std.specs.Prelude.{◌≡◌, ℕ, ◌+◌, ◌-◌, ◌^◌, min, Bo
 use Rattle.std.proofs.Common.{sym, ◌∙◌, ap}
 use Rattle.ipc_model.specs.declared.entry.Entry.{Entry}
 use Rattle.ipc_model.specs.declared.entry.Entry.TheVariants.{Port, SendOnce, Set, Dead}
-use Rattle.ipc_model.specs.Effects.{entry_after_death, one_more_if, without_target}
-use Rattle.ipc_model.specs.State.{is_number}
+use Rattle.ipc_model.specs.effects.Effects.{entry_after_death, one_more_if, without_target}
+use Rattle.ipc_model.specs.state.State.{is_number}
 use Rattle.port_index.specs.Indexed.{Forgets}
 use Rattle.port_space.specs.Deaths.{entry_without}
 use Rattle.port_space.specs.Mentions.{entry_mentions}

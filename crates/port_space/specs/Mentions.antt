@@ -4,7 +4,7 @@ use Rattle.std.specs.List.{list_any}
 use Rattle.std.specs.FinMap as finmap
 use Rattle.ipc_model.specs.declared.entry.Entry.{Entry}
 use Rattle.ipc_model.specs.declared.entry.Entry.TheVariants.{Port, SendOnce, Set, Dead}
-use Rattle.ipc_model.specs.State.{Names, is_number, request_of}
+use Rattle.ipc_model.specs.state.State.{Names, is_number, request_of}
 
 -- the port of the right that a name stands for
 abbrev pub right_port : Entry → Option ℕ

@@ -6,9 +6,9 @@ use Rattle.ipc_model.specs.declared.entry.Entry.{Entry}
 use Rattle.ipc_model.specs.declared.entry.Entry.TheVariants.{Port, SendOnce, Set, Dead}
 use Rattle.ipc_model.specs.declared.message.RightKind.{RightKind}
 use Rattle.ipc_model.specs.declared.message.RightKind.TheVariants as kinds
-use Rattle.ipc_model.specs.Placed as place
-use Rattle.ipc_model.specs.Placed.{Right, held, rights_of_entry, right_of_target, same_kind}
-use Rattle.ipc_model.specs.State.{is_number}
+use Rattle.ipc_model.specs.state.Placed as place
+use Rattle.ipc_model.specs.state.Placed.{Right, held, rights_of_entry, right_of_target, same_kind}
+use Rattle.ipc_model.specs.state.State.{is_number}
 use Rattle.port_space.specs.Mentions.{entry_mentions}
 
 pub left_off : (b c : Bool) → (b || c) ≡ false → b ≡ false

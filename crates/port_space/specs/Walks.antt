@@ -2,8 +2,8 @@
 use Rattle.std.specs.Prelude.{ℕ, Bool, ◌&&◌, ◌==◌, not, List, find, flat_map, count_by, Option, option_map}
 use Rattle.std.specs.List.{list_any}
 use Rattle.ipc_model.specs.declared.entry.Entry.{Entry}
-use Rattle.ipc_model.specs.Placed.{Right, rights_of_entry}
-use Rattle.ipc_model.specs.State.{is_number, port_held}
+use Rattle.ipc_model.specs.state.Placed.{Right, rights_of_entry}
+use Rattle.ipc_model.specs.state.State.{is_number, port_held}
 
 -- the first of these names that holds a send or receive right of the port
 abbrev pub first_name : ℕ → List (ℕ × Entry) → Option ℕ

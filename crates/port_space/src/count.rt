@@ -1,5 +1,5 @@
 ghost use Rattle.std.specs.Prelude.{◌≡◌, ◌&&◌, ◌==◌, ℕ, count_by, if◌then◌else◌};
-ghost use Rattle.ipc_model.specs.Placed.{same_kind, rights_of_entry, right_of_target};
+ghost use Rattle.ipc_model.specs.state.Placed.{same_kind, rights_of_entry, right_of_target};
 
 use ipc_model::{Entry, PortRights, RightKind};
 

@@ -1,5 +1,5 @@
 ghost use Rattle.std.specs.Prelude.{◌≡◌};
-ghost use Rattle.ipc_model.specs.Effects.{one_more_if, without_target};
+ghost use Rattle.ipc_model.specs.effects.Effects.{one_more_if, without_target};
 ghost use Rattle.port_space.specs.Deaths.{dead_name, entry_without};
 
 use ipc_model::{Entry, PortRights};

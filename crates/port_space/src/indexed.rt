@@ -1,7 +1,7 @@
 // The names of a space, and for each port those that mention it.
 ghost use Rattle.std.specs.Prelude.{◌≡◌, ℕ, Some, None, true, is_some, IsSome, IfOk, OnOk, OnErr, MatchOption, option_copied};
 ghost use Rattle.std.specs.FinMap as map;
-ghost use Rattle.ipc_model.specs.Effects.{map_values};
+ghost use Rattle.ipc_model.specs.effects.Effects.{map_values};
 ghost use Rattle.port_index.specs.Indexed.{MentionsNoOther, changed_here};
 ghost use Rattle.port_index.specs.Standing.{is_mentioned};
 ghost use Rattle.port_space.specs.Deaths.{entry_without};

@@ -2,10 +2,10 @@ ghost use Rattle.std.specs.Prelude.{◌≡◌, ℕ, ◌+◌, ◌≤◌, ◌<◌,
 ghost use Rattle.std.specs.FinMap as map;
 ghost use Rattle.std.specs.List.{AllByRecursion};
 ghost use Rattle.std.specs.Map.Iter.{ShowsInOrder, ShowsValuesInOrder, deref_pair};
-ghost use Rattle.ipc_model.specs.Effects.{entry_after_death, map_values};
-ghost use Rattle.ipc_model.specs.Placed.{rights_of_space, same_kind};
-ghost use Rattle.ipc_model.specs.State.{IsUnused, is_number, name_of_port, port_held};
-ghost use Rattle.ipc_model.specs.PortCalls.{stands_elsewhere};
+ghost use Rattle.ipc_model.specs.effects.Effects.{entry_after_death, map_values};
+ghost use Rattle.ipc_model.specs.state.Placed.{rights_of_space, same_kind};
+ghost use Rattle.ipc_model.specs.state.State.{IsUnused, is_number, name_of_port, port_held};
+ghost use Rattle.ipc_model.specs.calls.PortCalls.{stands_elsewhere};
 ghost use Rattle.port_space.specs.References.{AreFewReferences};
 ghost use Rattle.port_index.specs.Indexed.{MentionsNoOther};
 ghost use Rattle.port_index.specs.Standing.{is_mentioned, next_standing};

@@ -5,7 +5,7 @@ use Rattle.std.specs.Option.{option_copied_mut}
 use Rattle.std.specs.FinMap as finmap
 use Rattle.ipc_model.specs.declared.message.Message.{Message}
 use Rattle.ipc_model.specs.declared.port.PortState.{PortState}
-use Rattle.ipc_model.specs.MapSums.{insert-same}
+use Rattle.ipc_laws.specs.MapSums.{insert-same}
 use Rattle.port_index.specs.Standing.{Map}
 
 -- the port that was lent is the one of the serial

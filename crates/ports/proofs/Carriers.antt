@@ -7,9 +7,9 @@ use Rattle.ipc_model.specs.declared.message.CarriedRight.{CarriedRight}
 use Rattle.ipc_model.specs.declared.message.Message.{Message}
 use Rattle.ipc_model.specs.declared.message.RightKind.TheVariants as kind
 use Rattle.ipc_model.specs.declared.port.PortState.{PortState}
-use Rattle.ipc_model.specs.Circular.{carries, is_receive_right}
-use Rattle.ipc_model.specs.Placed.{same_kind}
-use Rattle.ipc_model.specs.State.{is_number}
+use Rattle.ipc_model.specs.state.Circular.{carries, is_receive_right}
+use Rattle.ipc_model.specs.state.Placed.{same_kind}
+use Rattle.ipc_model.specs.state.State.{is_number}
 use Rattle.port_index.specs.Places.{Places, PlaceSet}
 use Rattle.port_index.specs.Standing.{Map, standing, walk_is, walk_none}
 use Rattle.port_index.specs.Indexed.{IsIndexed, inside, nowhere}

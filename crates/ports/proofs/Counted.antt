@@ -5,8 +5,8 @@ use Rattle.std.proofs.lemmas.List.{length-map}
 use Rattle.std.specs.Cmp.{nat_cmp_total}
 use Rattle.std.specs.Ordering.{nat_cmp}
 use Rattle.std.specs.FinMap.{FinMap, get, insert, remove, len, entries, len-entries, len-insert, len-remove}
-use Rattle.ipc_model.specs.Effects.{map_values}
-use Rattle.ipc_model.specs.MapSums.{entries-map_values}
+use Rattle.ipc_model.specs.effects.Effects.{map_values}
+use Rattle.ipc_laws.specs.MapSums.{entries-map_values}
 
 module _ {X : Type 0} where
   -- another value under a key that has one

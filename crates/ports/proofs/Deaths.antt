@@ -4,8 +4,8 @@ use Rattle.std.proofs.Common.{sym, ◌∙◌, ap, subst}
 use Rattle.std.specs.FinMap as finmap
 use Rattle.codes.specs.declared.limits.TheConstants.{MAX_PORTS}
 use Rattle.ipc_model.specs.declared.port.PortState.{PortState}
-use Rattle.ipc_model.specs.Effects.{map_values, port_after_death}
-use Rattle.ipc_model.specs.MapLaws.{get-map_values}
+use Rattle.ipc_model.specs.effects.Effects.{map_values, port_after_death}
+use Rattle.ipc_laws.specs.MapLaws.{get-map_values}
 use Rattle.port_index.specs.Places.{Places, PlaceSet}
 use Rattle.port_index.specs.Standing.{Map, mentioned_in}
 use Rattle.port_index.specs.Indexed.{IsIndexed, IsIndexedBut, all_changed, changed_each, inside, none_changed, nowhere, taken_out, whole_again}

@@ -7,9 +7,9 @@ use Rattle.ipc_model.specs.declared.message.Message.{Message}
 use Rattle.ipc_model.specs.declared.message.PortInMessage.{PortInMessage}
 use Rattle.ipc_model.specs.declared.message.PortInMessage.TheVariants.{Null, Dead, Live}
 use Rattle.ipc_model.specs.declared.port.PortState.{PortState}
-use Rattle.ipc_model.specs.Circular.{is_port}
-use Rattle.ipc_model.specs.Effects.{carried_after_death, message_after_death, port_after_death, right_after_death, without_target}
-use Rattle.ipc_model.specs.State.{is_number}
+use Rattle.ipc_model.specs.state.Circular.{is_port}
+use Rattle.ipc_model.specs.effects.Effects.{carried_after_death, message_after_death, port_after_death, right_after_death, without_target}
+use Rattle.ipc_model.specs.state.State.{is_number}
 use Rattle.port_index.specs.PlaceLaws.{one_number, same_number}
 use Rattle.port_index.specs.Indexed.{Forgets}
 use Rattle.queue.specs.Mentions.{message_mentions, reply_mentions, right_mentions}

@@ -7,8 +7,8 @@ use Rattle.std.specs.FinMap as finmap
 use Rattle.codes.specs.declared.limits.TheConstants.{MAX_PORTS}
 use Rattle.ipc_model.specs.declared.message.Message.{Message}
 use Rattle.ipc_model.specs.declared.port.PortState.{PortState}
-use Rattle.ipc_model.specs.MapLaws.{get-gone, get-here}
-use Rattle.ipc_model.specs.State.{is_number, new_port}
+use Rattle.ipc_laws.specs.MapLaws.{get-gone, get-here}
+use Rattle.ipc_model.specs.state.State.{is_number, new_port}
 use Rattle.port_index.specs.Places.{Places, is_place}
 use Rattle.port_index.specs.PlaceLaws.{one_number, same_number}
 use Rattle.port_index.specs.Standing.{Map, is_mentioned, mentioned_in}

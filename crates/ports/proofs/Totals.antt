@@ -12,12 +12,12 @@ use Rattle.ipc_model.specs.declared.message.PortInMessage.TheVariants.{Null, Dea
 use Rattle.ipc_model.specs.declared.message.RightKind.{RightKind}
 use Rattle.ipc_model.specs.declared.message.RightKind.TheVariants as kinds
 use Rattle.ipc_model.specs.declared.port.PortState.{PortState}
-use Rattle.ipc_model.specs.Circular.{is_port}
-use Rattle.ipc_model.specs.MapLaws.{get-gone}
-use Rattle.ipc_model.specs.MapSums.{same_key, total-remove, weigh, weight}
-use Rattle.ipc_model.specs.Placed.{Place, Right, right_of_carried, right_of_reply, right_of_target, right_to, rights_of_message, rights_of_port, same_kind}
-use Rattle.ipc_model.specs.Placed as place
-use Rattle.ipc_model.specs.State.{is_number}
+use Rattle.ipc_model.specs.state.Circular.{is_port}
+use Rattle.ipc_laws.specs.MapLaws.{get-gone}
+use Rattle.ipc_laws.specs.MapSums.{same_key, total-remove, weigh, weight}
+use Rattle.ipc_model.specs.state.Placed.{Place, Right, right_of_carried, right_of_reply, right_of_target, right_to, rights_of_message, rights_of_port, same_kind}
+use Rattle.ipc_model.specs.state.Placed as place
+use Rattle.ipc_model.specs.state.State.{is_number}
 use Rattle.port_index.specs.Places.{Places, PlaceSet}
 use Rattle.port_index.specs.PlaceLaws.{one_number, same_number}
 use Rattle.port_index.specs.Standing.{Map, next_stands, none_stands, standing, walk_is, walk_none}

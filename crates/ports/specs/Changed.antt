@@ -4,7 +4,7 @@ use Rattle.std.specs.Ordering.{nat_cmp}
 use Rattle.std.specs.FinMap as finmap
 use Rattle.ipc_model.specs.declared.message.Message.{Message}
 use Rattle.ipc_model.specs.declared.port.PortState.{PortState}
-use Rattle.ipc_model.specs.State.{is_number}
+use Rattle.ipc_model.specs.state.State.{is_number}
 use Rattle.ports.specs.declared.port.PortNumbers.{PortNumbers}
 
 abbrev pub numbers_of : PortState → PortNumbers

@@ -3,8 +3,8 @@ use Rattle.std.specs.Prelude.{ℕ, Bool, false, ◌==◌, List, [], None, Some, 
 use Rattle.std.specs.Ordering.{nat_cmp}
 use Rattle.std.specs.FinMap as finmap
 use Rattle.ipc_model.specs.declared.port.PortState.{PortState}
-use Rattle.ipc_model.specs.Circular.{carries}
-use Rattle.ipc_model.specs.Placed.{Right, rights_of_port}
+use Rattle.ipc_model.specs.state.Circular.{carries}
+use Rattle.ipc_model.specs.state.Placed.{Right, rights_of_port}
 
 abbrev pub rights_at : finmap.FinMap nat_cmp PortState → ℕ → List Right
 rights_at ports owner = elim (finmap.get ports owner) as (λ _. List Right) [ None ↦ [] | Some port ↦ rights_of_port owner port ]

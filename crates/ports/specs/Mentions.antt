@@ -2,7 +2,7 @@
 use Rattle.std.specs.Prelude.{ℕ, Bool, ◌||◌}
 use Rattle.std.specs.List.{list_any}
 use Rattle.ipc_model.specs.declared.port.PortState.{PortState}
-use Rattle.ipc_model.specs.State.{is_number}
+use Rattle.ipc_model.specs.state.State.{is_number}
 use Rattle.queue.specs.Mentions.{message_mentions}
 
 -- whether a message of the port has a right to the port of this serial, or a request of it has that port as target

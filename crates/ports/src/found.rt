@@ -1,8 +1,8 @@
 // What is done to a port, or asked of it, where it lives, or to the ports at some places.
 ghost use Rattle.std.specs.Prelude.{◌≡◌, ◌∷◌, ◌++◌, [], drop, find, flat_map, OnOk, OnErr, MatchOption, option_map};
 ghost use Rattle.std.specs.FinMap as map;
-ghost use Rattle.ipc_model.specs.Circular.{carries};
-ghost use Rattle.ipc_model.specs.Effects.{port_after_death};
+ghost use Rattle.ipc_model.specs.state.Circular.{carries};
+ghost use Rattle.ipc_model.specs.effects.Effects.{port_after_death};
 ghost use Rattle.queue.specs.Counts.{capped_count};
 ghost use Rattle.port_index.specs.Indexed.{changed_each, IsIndexed};
 ghost use Rattle.port_index.specs.Standing.{standing};

@@ -1,7 +1,7 @@
 // The places of an index, which are the serials of the ports that mention a port.
 ghost use Rattle.std.specs.Prelude.{◌≡◌, ◌==◌, OnOk, OnErr};
 ghost use Rattle.std.specs.List.{list_any};
-ghost use Rattle.ipc_model.specs.State.{is_number};
+ghost use Rattle.ipc_model.specs.state.State.{is_number};
 ghost use Rattle.queue.specs.Mentions.{message_mentions, reply_mentions, right_mentions};
 ghost use Rattle.ports.specs.Changed.{numbers_mention};
 ghost use Rattle.ports.specs.Mentions.{port_mentions};

@@ -1,8 +1,8 @@
 ghost use Rattle.std.specs.Prelude.{◌≡◌, ◌≤◌, ◌↔◌, ◌∷◌, ◌++◌, [], length, drop, IfOk, OnOk, OnErr, IsTrue, MatchOption};
-ghost use Rattle.ipc_model.specs.Circular.{carries};
-ghost use Rattle.ipc_model.specs.Effects.{port_after_death, without_target};
-ghost use Rattle.ipc_model.specs.Placed.{rights_of_port, right_of_target};
-ghost use Rattle.ipc_model.specs.State.{is_number, new_port};
+ghost use Rattle.ipc_model.specs.state.Circular.{carries};
+ghost use Rattle.ipc_model.specs.effects.Effects.{port_after_death, without_target};
+ghost use Rattle.ipc_model.specs.state.Placed.{rights_of_port, right_of_target};
+ghost use Rattle.ipc_model.specs.state.State.{is_number, new_port};
 ghost use Rattle.queue.specs.Counts.{capped_count};
 ghost use Rattle.ports.specs.Changed.{numbers_mention, numbers_of, with_numbers};
 ghost use Rattle.ports.specs.Mentions.{port_mentions};

@@ -1,9 +1,9 @@
 ghost use Rattle.std.specs.Prelude.{◌≡◌, ◌<◌, ◌≤◌, ◌↔◌, ◌∷◌, ◌++◌, ◌==◌, [], length, drop, IsSomeAnd, nat_le, flat_map, find, None, IfOk, OnOk, OnErr, IsErrOf, MatchOption, is_some, option_map, option_copied, IsTrue, Some};
 ghost use Rattle.std.specs.FinMap as map;
-ghost use Rattle.ipc_model.specs.Circular.{carries};
-ghost use Rattle.ipc_model.specs.Effects.{map_values, port_after_death};
-ghost use Rattle.ipc_model.specs.Placed.{rights_of_port};
-ghost use Rattle.ipc_model.specs.State.{new_port};
+ghost use Rattle.ipc_model.specs.state.Circular.{carries};
+ghost use Rattle.ipc_model.specs.effects.Effects.{map_values, port_after_death};
+ghost use Rattle.ipc_model.specs.state.Placed.{rights_of_port};
+ghost use Rattle.ipc_model.specs.state.State.{new_port};
 ghost use Rattle.ipc_model.specs.declared.port.PortState.{PortState};
 ghost use Rattle.queue.specs.Counts.{capped_count};
 ghost use Rattle.ports.specs.Changed.{changed, messages_at, numbers_of, with_numbers, KeepsTargets};

@@ -5,7 +5,7 @@ use Rattle.std.proofs.lemmas.List.{take_more, append-nil}
 use Rattle.std.proofs.lemmas.List.Concat.{flat_map-append}
 use Rattle.std.proofs.lemmas.List.Sums.{sum_by-append}
 use Rattle.ipc_model.specs.declared.message.RightKind.{RightKind}
-use Rattle.ipc_model.specs.Placed.{Right}
+use Rattle.ipc_model.specs.state.Placed.{Right}
 use Rattle.queue.specs.Counts.{is_right_to, capped_count}
 
 pub count-append : (kind : RightKind) (serial : ℕ) (xs ys : List Right)

@@ -1,7 +1,7 @@
 -- How many rights of a list are of a kind and to a port.
 use Rattle.std.specs.Prelude.{ℕ, ◌-◌, ◌^◌, Bool, ◌&&◌, ◌==◌, List, count_by, min}
 use Rattle.ipc_model.specs.declared.message.RightKind.{RightKind}
-use Rattle.ipc_model.specs.Placed.{Right, same_kind}
+use Rattle.ipc_model.specs.state.Placed.{Right, same_kind}
 
 -- whether a right is of this kind and to the port of this serial
 abbrev pub is_right_to : RightKind → ℕ → Right → Bool

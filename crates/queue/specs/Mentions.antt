@@ -3,7 +3,7 @@ use Rattle.std.specs.Prelude.{ℕ, Bool, false, ◌||◌, Option, None, Some}
 use Rattle.std.specs.List.{list_any}
 use Rattle.ipc_model.specs.declared.message.CarriedRight.{CarriedRight}
 use Rattle.ipc_model.specs.declared.message.Message.{Message}
-use Rattle.ipc_model.specs.Circular.{is_port}
+use Rattle.ipc_model.specs.state.Circular.{is_port}
 
 -- whether a carried right is to the live port of this serial
 abbrev pub right_mentions : ℕ → CarriedRight → Bool

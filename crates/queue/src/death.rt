@@ -1,6 +1,6 @@
 // What a message's rights become when a port dies.
 ghost use Rattle.std.specs.Prelude.{◌≡◌, map, option_map};
-ghost use Rattle.ipc_model.specs.Effects.{message_after_death, right_after_death};
+ghost use Rattle.ipc_model.specs.effects.Effects.{message_after_death, right_after_death};
 
 use ipc_model::{CarriedRight, Message, PortInMessage, Sequence};
 use std::alloc::Global;

@@ -1,8 +1,8 @@
 ghost use Rattle.std.specs.Prelude.{◌≡◌, ◌<◌, ◌≤◌, ◌↔◌, ◌==◌, ◌∷◌, ◌++◌, [], length, drop, map, flat_map, option_copied, IfOk, OnOk, OnErr, IsErrOf, MatchOption, slice_index_or};
 ghost use Rattle.std.specs.List.{list_any};
-ghost use Rattle.ipc_model.specs.Circular.{is_receive_right};
-ghost use Rattle.ipc_model.specs.Effects.{message_after_death};
-ghost use Rattle.ipc_model.specs.Placed.{rights_of_message};
+ghost use Rattle.ipc_model.specs.state.Circular.{is_receive_right};
+ghost use Rattle.ipc_model.specs.effects.Effects.{message_after_death};
+ghost use Rattle.ipc_model.specs.state.Placed.{rights_of_message};
 ghost use Rattle.queue.specs.Counts.{capped_count};
 ghost use Rattle.queue.specs.Mentions.{message_mentions};
 

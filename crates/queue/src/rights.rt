@@ -1,8 +1,8 @@
 // The rights that a message carries.
 ghost use Rattle.std.specs.Prelude.{◌≡◌, ℕ, ◌&&◌, flat_map};
 ghost use Rattle.std.specs.List.{list_any};
-ghost use Rattle.ipc_model.specs.Circular.{is_port, is_receive_right};
-ghost use Rattle.ipc_model.specs.Placed.{Place, same_kind, right_of_carried, right_of_reply, rights_of_message};
+ghost use Rattle.ipc_model.specs.state.Circular.{is_port, is_receive_right};
+ghost use Rattle.ipc_model.specs.state.Placed.{Place, same_kind, right_of_carried, right_of_reply, rights_of_message};
 ghost use Rattle.queue.specs.Counts.{capped_count};
 ghost use Rattle.queue.specs.Mentions.{message_mentions, reply_mentions, right_mentions};
 

@@ -1,7 +1,7 @@
 ghost use Rattle.std.specs.Prelude.{◌≡◌, ◌<◌, ◌^◌, All, IsTrue, length};
-ghost use Rattle.ipc_model.specs.Step.{number_of_call, has_record};
-ghost use Rattle.ipc_model.specs.Texts.{call_text, reply_text, number_of_reply, FitsCall, FitsReply, IsRecord};
-ghost use Rattle.words.specs.WordLaws.{AreBytes};
+ghost use Rattle.ipc_model.specs.calls.Step.{number_of_call, has_record};
+ghost use Rattle.ipc_model.specs.texts.Texts.{call_text, reply_text, number_of_reply, FitsCall, FitsReply, IsRecord};
+ghost use Rattle.words.specs.Words.{AreBytes};
 ghost use Rattle.record.specs.Ranges.{IsKeptCall};
 
 use ipc_model::{Call, Record, Reply};

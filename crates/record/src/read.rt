@@ -1,6 +1,6 @@
 ghost use Rattle.std.specs.Prelude.{◌≡◌, ◌<◌, ◌^◌, ◌++◌, ℕ, List, Some, IfOk, IfSome, IsSomeAnd, length};
 ghost use Rattle.ipc_model.specs.declared.record.Record.{Record};
-ghost use Rattle.ipc_model.specs.Texts.{call_text, reply_text, record_text, IsRecord};
+ghost use Rattle.ipc_model.specs.texts.Texts.{call_text, reply_text, record_text, IsRecord};
 ghost use Rattle.words.specs.Words.{word, long_word, frame_text};
 
 use crate::frame::take_frame;
@@ -50,7 +50,7 @@ fn read_record(
     Ok(Some(Record { space, call, reply }))
 }
 
-#[tactic(auto, unfolding(ipc_model::specs::Texts::record_text))]
+#[tactic(auto, unfolding(ipc_model::specs::texts::Texts::record_text))]
 /// The record that stands in front, with its number, and the bytes behind it. Memory is wanted for messages alone.
 pub fn take_record(alloc: Global, bytes: &[u8]) -> Result<Option<(u64, Record, &[u8])>, AllocError>
     ensures found { IfOk result (λ found. IfSome found (λ r.

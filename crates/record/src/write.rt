@@ -1,5 +1,5 @@
 ghost use Rattle.std.specs.Prelude.{◌≡◌, ◌<◌, ◌^◌, ◌++◌, OnOk, length};
-ghost use Rattle.ipc_model.specs.Texts.{call_text, reply_text, record_text};
+ghost use Rattle.ipc_model.specs.texts.Texts.{call_text, reply_text, record_text};
 
 use crate::frame::push_frame;
 use calls::{push_call, push_reply};
@@ -7,7 +7,7 @@ use ipc_model::Record;
 use std::alloc::{AllocError, Global};
 use words::{push_long_word, push_word};
 
-#[tactic(auto, unfolding(ipc_model::specs::Texts::record_text))]
+#[tactic(auto, unfolding(ipc_model::specs::texts::Texts::record_text))]
 /// Adds a record with its number. Where memory is wanted some of its bytes may have been added.
 pub fn push_record(
     alloc: Global,

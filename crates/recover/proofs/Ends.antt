@@ -2,8 +2,8 @@
 use Rattle.std.proofs.Common.{◌≡◌, inl, ℕ, ◌+◌, List, [], ◌∷◌, ◌++◌, length, take, refl, sym, ap, subst, ◌∙◌, arith, append_assoc, length-append}
 use Rattle.std.proofs.Math.Seq.{take-append-add}
 use Rattle.ipc_model.specs.declared.record.Record.{Record}
-use Rattle.ipc_model.specs.State.{State, opening_state}
-use Rattle.ipc_model.specs.Store.{SpellsBatches, IsInUse, IsClosed, open_gate, closed_gate, segment_header, image_content, batches_text}
+use Rattle.ipc_model.specs.state.State.{State, opening_state}
+use Rattle.ipc_model.specs.store.Store.{SpellsBatches, IsInUse, IsClosed, open_gate, closed_gate, segment_header, image_content, batches_text}
 use Rattle.disk.specs.Slots.{Slots, with_slot}
 use Rattle.disk.specs.declared.slot.Slot.TheVariants.{Image0, Segment0}
 use Rattle.recover.specs.Recovered.{IsOpen, HoldsOpeningImage, Recovers, Follows, IsReady, opening_text}

@@ -1,7 +1,7 @@
 -- Where a record is no step, no run has it.
 use Rattle.std.proofs.Common.{◌≡◌, ℕ, ◌<◌, List, length, take, drop, get_or, sym, subst, take-append-drop, drop-cons}
 use Rattle.ipc_model.specs.declared.record.Record.{Record}
-use Rattle.ipc_model.specs.State.{State}
+use Rattle.ipc_model.specs.state.State.{State}
 use Rattle.kernel.specs.Served.{ServedStep, ServedRun}
 use Rattle.kernel.specs.ServedLaws.{one_run, run_split}
 

@@ -6,9 +6,9 @@ use Rattle.std.proofs.lemmas.List.{take-take, get_or-take}
 use Rattle.std.proofs.lemmas.Slice.Eq.{slice_eq-Decides}
 use Rattle.std.proofs.lemmas.Bool.Decides.{Decides-eqb}
 use Rattle.ipc_model.specs.declared.record.Record.{Record}
-use Rattle.ipc_model.specs.State.{State, opening_state}
+use Rattle.ipc_model.specs.state.State.{State, opening_state}
 use Rattle.words.specs.Words.{long_word}
-use Rattle.ipc_model.specs.Store.{SpellsSegment, IsClosed, NoneEmpty, open_gate, segment_header, image_content, batches_text, all_records}
+use Rattle.ipc_model.specs.store.Store.{SpellsSegment, IsClosed, NoneEmpty, open_gate, segment_header, image_content, batches_text, all_records}
 use Rattle.recover.specs.Recovered.{IsOpen, HoldsOpeningImage, WasNeverUsed, Recovers, Follows, IsOtherVersion, HasOtherVersion, IsDamaged, opening_text}
 use Rattle.recover.specs.Fronts.{four_slots, fronts_of}
 use Rattle.disk.specs.Slots.{Slots}

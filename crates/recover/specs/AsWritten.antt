@@ -4,14 +4,13 @@ use Rattle.std.proofs.Common.{sym, ◌∙◌, ap, subst, inl, inr, arith, length
 use Rattle.std.proofs.lemmas.List.{append-nil}
 use Rattle.disk.specs.Slots.{Slots}
 use Rattle.ipc_model.specs.declared.record.Record.{Record}
-use Rattle.ipc_model.specs.OpeningLaws.{opening_is_lawful, none_in_empty}
+use Rattle.ipc_laws.specs.OpeningLaws.{opening_is_lawful, none_in_empty, opening-image}
 use Rattle.ipc_model.specs.declared.port.PortState.{PortState}
-use Rattle.ipc_model.specs.Recovery as written
-use Rattle.ipc_model.specs.RecoveryLaws.{one_epoch}
-use Rattle.ipc_model.specs.RowsTexts.{opening-image}
-use Rattle.ipc_model.specs.State.{State, opening_state}
-use Rattle.ipc_model.specs.Step.{Run}
-use Rattle.ipc_model.specs.Store.{SpellsBatches, SpellsSegment, AreRecords, NoneEmpty, IsClosed, all_records, batches_text, open_gate, image_content}
+use Rattle.ipc_model.specs.store.Recovery as written
+use Rattle.ipc_laws.specs.RecoveryLaws.{one_epoch}
+use Rattle.ipc_model.specs.state.State.{State, opening_state}
+use Rattle.ipc_model.specs.calls.Step.{Run}
+use Rattle.ipc_model.specs.store.Store.{SpellsBatches, SpellsSegment, AreRecords, NoneEmpty, IsClosed, all_records, batches_text, open_gate, image_content}
 use Rattle.kernel.specs.Served.{ServedRun}
 use Rattle.kernel.specs.ServedLaws.{recorded_step}
 use Rattle.recover.specs.Recovered.{Recovers, IsStored, IsNew, HoldsOpeningImage, IsOpen, opening_text}

@@ -1,7 +1,7 @@
 -- What an open store is between calls.
 use Rattle.std.specs.Prelude.{ℕ}
 use Rattle.disk.specs.Moments.{View}
-use Rattle.ipc_model.specs.State.{State}
+use Rattle.ipc_model.specs.state.State.{State}
 use Rattle.recover.specs.AtRest.{IsAtRest}
 use Rattle.recover.specs.Recovered.{IsOpen, HoldsOpeningImage, IsReady}
 

@@ -1,8 +1,8 @@
 -- What a clause sees of an opened store.
 use Rattle.std.specs.Prelude.{refl}
 use Rattle.std.specs.Coded.{Coded, code_by, coded×}
-use Rattle.ipc_model.specs.State.{State}
-use Rattle.ipc_model.specs.StateCode.{state_code}
+use Rattle.ipc_model.specs.state.State.{State}
+use Rattle.ipc_model.specs.state.StateCode.{state_code}
 use Rattle.journal.specs.Journal.{JournalValue, journal_code}
 
 -- the state that it stands for, and the journal that goes on from there

@@ -1,9 +1,9 @@
 -- What a store stands for.
 use Rattle.std.specs.Prelude.{◌≡◌, ◌≢◌, ◌⊎◌, ℕ, ◌≤◌, ◌∷◌, [], ◌++◌, List, length, take, slice_index}
 use Rattle.ipc_model.specs.declared.record.Record.{Record}
-use Rattle.ipc_model.specs.State.{State, opening_state}
+use Rattle.ipc_model.specs.state.State.{State, opening_state}
 use Rattle.kernel.specs.Served.{ServedRun}
-use Rattle.ipc_model.specs.Store.{SpellsSegment, IsInUse, open_gate, image_content}
+use Rattle.ipc_model.specs.store.Store.{SpellsSegment, IsInUse, open_gate, image_content}
 use Rattle.words.specs.Words.{word, long_word}
 use Rattle.disk.specs.Slots.{Slots}
 

@@ -2,11 +2,11 @@
 use Rattle.std.specs.Prelude.{◌≡◌, ℕ, ◌++◌, List, length, drop, slice_index}
 use Rattle.std.proofs.Common.{inl, inr, sym, ap, subst, ◌∙◌, refl, arith}
 use Rattle.ipc_model.specs.declared.record.Record.{Record}
-use Rattle.ipc_model.specs.BatchLaws.{one_reading}
-use Rattle.ipc_model.specs.State.{State, opening_state}
+use Rattle.ipc_laws.specs.BatchLaws.{one_reading}
+use Rattle.ipc_model.specs.state.State.{State, opening_state}
 use Rattle.kernel.specs.Served.{ServedRun}
 use Rattle.kernel.specs.ServedLaws.{one_run}
-use Rattle.ipc_model.specs.Store.{SpellsBatches, SpellsSegment, open_gate, segment_header}
+use Rattle.ipc_model.specs.store.Store.{SpellsBatches, SpellsSegment, open_gate, segment_header}
 use Rattle.disk.specs.Slots.{Slots}
 use Rattle.recover.specs.Recovered.{IsOpen, HasOtherVersion, IsOtherVersion, HoldsOpeningImage, Follows, Recovers}
 

@@ -1,7 +1,7 @@
 ghost use Rattle.std.specs.Prelude.{◌≡◌, ◌+◌, ◌≤◌, ◌<◌, ◌++◌, ◌∷◌, [], length, take, drop, false, OnOk, IfOk};
 ghost use Rattle.disk.specs.Slots.{slot_of, with_slot};
 ghost use Rattle.disk.specs.Moments.{CountsFailure};
-ghost use Rattle.ipc_model.specs.Store.{segment_header, epoch_text, image_content, open_gate, closed_gate};
+ghost use Rattle.ipc_model.specs.store.Store.{segment_header, epoch_text, image_content, open_gate, closed_gate};
 ghost use Rattle.recover.specs.AtRest.{IsAtRest, IsAtRestBut};
 ghost use Rattle.recover.specs.Recovered.{opening_text};
 

@@ -2,9 +2,9 @@ ghost use Rattle.std.specs.Prelude.{◌≡◌, ◌≢◌, ◌<◌, ◌≤◌, �
 ghost use Rattle.disk.specs.Slots.{Slots, slot_of, with_slot};
 ghost use Rattle.disk.specs.Moments.{Grew, MayLeave};
 ghost use Rattle.ipc_model.specs.declared.record.Record.{Record};
-ghost use Rattle.ipc_model.specs.State.{State, opening_state};
+ghost use Rattle.ipc_model.specs.state.State.{State, opening_state};
 ghost use Rattle.kernel.specs.Served.{ServedRun};
-ghost use Rattle.ipc_model.specs.Store.{segment_header, open_gate, SpellsBatches, IsInUse};
+ghost use Rattle.ipc_model.specs.store.Store.{segment_header, open_gate, SpellsBatches, IsInUse};
 ghost use Rattle.recover.specs.AtRest.{IsAtRest};
 ghost use Rattle.recover.specs.Fronts.{four_slots, fronts_of};
 ghost use Rattle.recover.specs.Kept.{IsKept};

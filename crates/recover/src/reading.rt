@@ -1,6 +1,6 @@
 ghost use Rattle.std.specs.Prelude.{◌≡◌, ◌≢◌, ◌↔◌, ◌⊎◌, ℕ, ◌++◌, List, IsTrue, IfOk, IfSome, IfNone, OnOk, OnErr, IsErrOf};
-ghost use Rattle.ipc_model.specs.State.{State};
-ghost use Rattle.ipc_model.specs.Store.{segment_header, open_gate};
+ghost use Rattle.ipc_model.specs.state.State.{State};
+ghost use Rattle.ipc_model.specs.store.Store.{segment_header, open_gate};
 ghost use Rattle.kernel.specs.Served.{ServedRun};
 ghost use Rattle.recover.specs.Recovered.{IsOpen, HasOtherVersion, IsOtherVersion, HoldsOpeningImage, WasNeverUsed, IsDamaged};
 ghost use Rattle.recover.specs.Fronts.{four_slots};

@@ -6,9 +6,9 @@ use Rattle.std.specs.FinMap.{FinMap}
 use Rattle.ipc_model.specs.declared.message.PortInMessage.{PortInMessage}
 use Rattle.ipc_model.specs.declared.message.PortInMessage.TheVariants as in_message
 use Rattle.ipc_model.specs.declared.message.RightKind.{RightKind}
-use Rattle.ipc_model.specs.CopyOut.{names_after}
-use Rattle.ipc_model.specs.MapSums.{insert-same}
-use Rattle.ipc_model.specs.State.{State, Names, with_names}
+use Rattle.ipc_model.specs.rights.CopyOut.{names_after}
+use Rattle.ipc_laws.specs.MapSums.{insert-same}
+use Rattle.ipc_model.specs.state.State.{State, Names, with_names}
 
 no_names_after : (names : Names) (kind : RightKind) (port : PortInMessage) (name : ℕ) → ((serial : ℕ) → port ≡ in_message.Live serial → ⊥) → names_after names kind port name ≡ names
 no_names_after names kind in_message.Null name none = refl

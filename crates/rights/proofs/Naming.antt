@@ -9,8 +9,8 @@ use Rattle.ipc_model.specs.declared.message.PortInMessage.{PortInMessage}
 use Rattle.ipc_model.specs.declared.message.PortInMessage.TheVariants as in_message
 use Rattle.ipc_model.specs.declared.message.RightKind.{RightKind}
 use Rattle.ipc_model.specs.declared.message.RightKind.TheVariants as kind
-use Rattle.ipc_model.specs.CopyOut.{named_with, names_wanted, wants_name}
-use Rattle.ipc_model.specs.State.{Names}
+use Rattle.ipc_model.specs.rights.CopyOut.{named_with, names_wanted, wants_name}
+use Rattle.ipc_model.specs.state.State.{Names}
 use Rattle.rights.specs.Wanting.{named_after, names_port}
 
 after_more : (named : List ℕ) (xs ys : List CarriedRight) → named_after named (xs ++ ys) ≡ named_after (named_after named xs) ys

@@ -9,14 +9,14 @@ use Rattle.ipc_model.specs.declared.entry.Entry.{Entry}
 use Rattle.ipc_model.specs.declared.entry.Entry.TheVariants.{Port, SendOnce, Set, Dead}
 use Rattle.ipc_model.specs.declared.entry.PortRights.{PortRights}
 use Rattle.ipc_model.specs.declared.port.PortState.{PortState}
-use Rattle.ipc_model.specs.CopyIn.{Taken, copy_in, taken_of_entry, taken_of_port, taken_of_send_once, taken_of_dead, with_left, moved_port}
+use Rattle.ipc_model.specs.rights.CopyIn.{Taken, copy_in, taken_of_entry, taken_of_port, taken_of_send_once, taken_of_dead, with_left, moved_port}
 use Rattle.ipc_model.specs.declared.message.CarriedRight.{CarriedRight}
-use Rattle.ipc_model.specs.Effects.{Effect}
+use Rattle.ipc_model.specs.effects.Effects.{Effect}
 use Rattle.rights.specs.Taking.{Takes}
-use Rattle.ipc_model.specs.Dispositions.{Disposition, MoveReceive, MoveSend, MoveSendOnce, CopySend, MakeSend, MakeSendOnce}
-use Rattle.ipc_model.specs.MapSums.{key_is}
-use Rattle.ipc_model.specs.Others.{with_port_spaces}
-use Rattle.ipc_model.specs.State.{State, Names, with_names, with_changed, with_entry, without_name, with_port, entry_at, is_empty_entry}
+use Rattle.ipc_model.specs.rights.Dispositions.{Disposition, MoveReceive, MoveSend, MoveSendOnce, CopySend, MakeSend, MakeSendOnce}
+use Rattle.ipc_laws.specs.MapSums.{key_is}
+use Rattle.ipc_laws.specs.Others.{with_port_spaces}
+use Rattle.ipc_model.specs.state.State.{State, Names, with_names, with_changed, with_entry, without_name, with_port, entry_at, is_empty_entry}
 
 abbrev Spaces : Type 0
 Spaces = FinMap nat_cmp Names

@@ -1,7 +1,7 @@
 -- The dispositions of the program as those of the written machine.
 use Rattle.rights.specs.declared.disposition.Disposition.{Disposition}
 use Rattle.rights.specs.declared.disposition.Disposition.TheVariants as this
-use Rattle.ipc_model.specs.Dispositions as machine
+use Rattle.ipc_model.specs.rights.Dispositions as machine
 
 abbrev pub disposition_meant : Disposition → machine.Disposition
 disposition_meant this.MoveReceive = machine.MoveReceive

@@ -8,9 +8,9 @@ use Rattle.ipc_model.specs.declared.message.PortInMessage.{PortInMessage}
 use Rattle.ipc_model.specs.declared.message.PortInMessage.TheVariants as in_message
 use Rattle.ipc_model.specs.declared.message.RightKind.{RightKind}
 use Rattle.ipc_model.specs.declared.message.RightKind.TheVariants as kind
-use Rattle.ipc_model.specs.Arrivals.{named_there}
-use Rattle.ipc_model.specs.CopyOut.{MayArrive, MayBeNamed, names_wanted, wants_name}
-use Rattle.ipc_model.specs.State.{Names, IsUnused, name_of_port}
+use Rattle.ipc_laws.specs.Arrivals.{named_there}
+use Rattle.ipc_model.specs.rights.CopyOut.{MayArrive, MayBeNamed, names_wanted, wants_name}
+use Rattle.ipc_model.specs.state.State.{Names, IsUnused, name_of_port}
 
 -- how many names one right wants
 abbrev count_of : Bool → ℕ

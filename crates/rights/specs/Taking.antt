@@ -1,9 +1,9 @@
 -- What copy in does to a state and to the effects that wait.
 use Rattle.std.specs.Prelude.{◌≡◌, List, ◌++◌, Option, None, Some}
 use Rattle.ipc_model.specs.declared.message.CarriedRight.{CarriedRight}
-use Rattle.ipc_model.specs.CopyIn.{Taken}
-use Rattle.ipc_model.specs.Effects.{Effect}
-use Rattle.ipc_model.specs.State.{State}
+use Rattle.ipc_model.specs.rights.CopyIn.{Taken}
+use Rattle.ipc_model.specs.effects.Effects.{Effect}
+use Rattle.ipc_model.specs.state.State.{State}
 
 -- What was to be taken was taken: the right comes out, and notices wait at the end of the list. Where nothing
 -- was to be taken all is as before.

@@ -4,8 +4,8 @@ use Rattle.ipc_model.specs.declared.message.CarriedRight.{CarriedRight}
 use Rattle.ipc_model.specs.declared.message.PortInMessage.{PortInMessage}
 use Rattle.ipc_model.specs.declared.message.RightKind.{RightKind}
 use Rattle.ipc_model.specs.declared.message.RightKind.TheVariants as kind
-use Rattle.ipc_model.specs.Circular.{is_port}
-use Rattle.ipc_model.specs.CopyOut.{named_with}
+use Rattle.ipc_model.specs.state.Circular.{is_port}
+use Rattle.ipc_model.specs.rights.CopyOut.{named_with}
 
 -- the ports that have names once these rights have arrived, one after another
 abbrev pub named_after : List ℕ → List CarriedRight → List ℕ

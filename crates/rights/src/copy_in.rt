@@ -1,6 +1,6 @@
 ghost use Rattle.std.specs.Prelude.{◌≡◌, Some, true, false, IfOk, OnErr, IfSome, IfNone, IsSome};
-ghost use Rattle.ipc_model.specs.CopyIn.{copy_in, taken_of_port, taken_of_send_once, taken_of_dead, taken_leaving, moved_port};
-ghost use Rattle.ipc_model.specs.State.{entry_at, with_port, next_count};
+ghost use Rattle.ipc_model.specs.rights.CopyIn.{copy_in, taken_of_port, taken_of_send_once, taken_of_dead, taken_leaving, moved_port};
+ghost use Rattle.ipc_model.specs.state.State.{entry_at, with_port, next_count};
 ghost use Rattle.ipc_model.specs.declared.port.PortState.{PortState};
 ghost use Rattle.ipc_model.specs.declared.entry.Entry.{Entry};
 ghost use Rattle.port_index.specs.Indexed.{MentionsNoOther};
@@ -20,7 +20,7 @@ use std::alloc::AllocError;
 /// Copy in: takes a right from a name of a space by a disposition, or nothing where that is refused, and then
 /// all is as before. The port-deleted notice of a name that ceases to be goes to the end of the effects. Where memory is
 /// wanted nothing changed.
-#[tactic(auto, unfolding(ipc_model::specs::CopyIn::copy_in))]
+#[tactic(auto, unfolding(ipc_model::specs::rights::CopyIn::copy_in))]
 pub fn take_right(
     state: &mut IpcState,
     space: u32,

@@ -1,8 +1,8 @@
 ghost use Rattle.std.specs.Prelude.{◌≡◌, ◌<◌, ◌↔◌, ◌≤◌, None, Some, IsTrue, IfSome, OnOk, OnErr};
 ghost use Rattle.std.specs.FinMap as map;
-ghost use Rattle.ipc_model.specs.CopyOut.{MayArrive, MayBeNamed, merged_entry, merged_rights, names_after, new_entry};
-ghost use Rattle.ipc_model.specs.PortCalls.{names_in};
-ghost use Rattle.ipc_model.specs.State.{Names, entry_at, with_names};
+ghost use Rattle.ipc_model.specs.rights.CopyOut.{MayArrive, MayBeNamed, merged_entry, merged_rights, names_after, new_entry};
+ghost use Rattle.ipc_model.specs.calls.PortCalls.{names_in};
+ghost use Rattle.ipc_model.specs.state.State.{Names, entry_at, with_names};
 ghost use Rattle.port_space.specs.References.{AreFewReferences};
 
 use codes::{MACH_PORT_DEAD, MACH_PORT_NULL, MAX_NAMES, MAX_SEND_REFERENCES};

@@ -1,5 +1,5 @@
 ghost use Rattle.std.specs.Prelude.{◌≡◌, option_map};
-ghost use Rattle.ipc_model.specs.Dispositions.{disposition_of};
+ghost use Rattle.ipc_model.specs.rights.Dispositions.{disposition_of};
 ghost use Rattle.rights.specs.Meaning.{disposition_meant};
 
 /// How a task hands a right over (`mach_msg_type_name_t`).

@@ -1,6 +1,6 @@
 ghost use Rattle.std.specs.Prelude.{◌≡◌, ◌++◌, OnOk, OnErr, IsSome, Some};
-ghost use Rattle.ipc_model.specs.CopyIn.{with_left, notices_of_left};
-ghost use Rattle.ipc_model.specs.State.{entry_at, is_empty_entry};
+ghost use Rattle.ipc_model.specs.rights.CopyIn.{with_left, notices_of_left};
+ghost use Rattle.ipc_model.specs.state.State.{entry_at, is_empty_entry};
 ghost use Rattle.ipc_model.specs.declared.entry.Entry.{Entry};
 ghost use Rattle.port_index.specs.Indexed.{MentionsNoOther};
 ghost use Rattle.port_space.specs.Mentions.{entry_mentions};

@@ -1,7 +1,7 @@
 ghost use Rattle.std.specs.Prelude.{◌≡◌, ◌≤◌, ◌==◌, [], length};
 ghost use Rattle.std.specs.List.{list_any};
-ghost use Rattle.ipc_model.specs.CopyOut.{names_wanted, wants_name};
-ghost use Rattle.ipc_model.specs.PortCalls.{names_in};
+ghost use Rattle.ipc_model.specs.rights.CopyOut.{names_wanted, wants_name};
+ghost use Rattle.ipc_model.specs.calls.PortCalls.{names_in};
 ghost use Rattle.rights.specs.Wanting.{named_after, names_port};
 
 use ipc_model::{CarriedRight, PortInMessage, RightKind};

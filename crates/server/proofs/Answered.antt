@@ -8,11 +8,11 @@ use Rattle.ipc_model.specs.declared.call.Call.{Call}
 use Rattle.ipc_model.specs.declared.call.Call.TheVariants as call
 use Rattle.ipc_model.specs.declared.call.Reply.{Reply}
 use Rattle.ipc_model.specs.declared.call.Reply.TheVariants as reply
-use Rattle.ipc_model.specs.Receiving.{without_message}
-use Rattle.ipc_model.specs.Refusals.{refused_of}
-use Rattle.ipc_model.specs.State.{State}
-use Rattle.ipc_model.specs.Step.{number_of_call, has_record}
-use Rattle.ipc_model.specs.Texts.{call_text, reply_text, FitsCall}
+use Rattle.ipc_model.specs.messages.Receiving.{without_message}
+use Rattle.ipc_model.specs.calls.Refusals.{refused_of}
+use Rattle.ipc_model.specs.state.State.{State}
+use Rattle.ipc_model.specs.calls.Step.{number_of_call, has_record}
+use Rattle.ipc_model.specs.texts.Texts.{call_text, reply_text, FitsCall}
 use Rattle.kernel.specs.Served.{is_served, ServedStep}
 use Rattle.kernel.specs.ServedLaws.{recorded_step}
 use Rattle.record.specs.Ranges.{IsKeptCall}

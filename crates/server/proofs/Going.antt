@@ -5,7 +5,7 @@ use Rattle.std.proofs.Math.Dec.{eqb-suc-zero}
 use Rattle.std.specs.Io.KnownBytes.{Appends, Keeps}
 use Rattle.ipc_model.specs.declared.call.Call.{Call}
 use Rattle.ipc_model.specs.declared.call.Reply.{Reply}
-use Rattle.ipc_model.specs.Texts.{reply_text}
+use Rattle.ipc_model.specs.texts.Texts.{reply_text}
 use Rattle.words.specs.Words.{frame_text}
 use Rattle.byteorder.specs.Endian.{little_number}
 use Rattle.wire.specs.declared.fault.WireFault.TheVariants.{Short, TooLong}

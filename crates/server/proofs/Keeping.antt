@@ -9,12 +9,12 @@ use Rattle.ipc_model.specs.declared.call.Call.{Call}
 use Rattle.ipc_model.specs.declared.call.Reply.{Reply}
 use Rattle.ipc_model.specs.declared.record.Record.{Record}
 use Rattle.kernel.specs.ServedLaws.{run-push}
-use Rattle.ipc_model.specs.State.{State, opening_state}
-use Rattle.ipc_model.specs.Step.{has_record}
+use Rattle.ipc_model.specs.state.State.{State, opening_state}
+use Rattle.ipc_model.specs.calls.Step.{has_record}
 use Rattle.kernel.specs.Served.{ServedStep, ServedRun}
-use Rattle.ipc_model.specs.Store.{IsInUse, IsMidAppend, SpellsSegment, batch_text, with_batch}
-use Rattle.ipc_model.specs.StoreLaws.{appended_in_use, in_use_spells, mid_append_spells}
-use Rattle.ipc_model.specs.Texts.{IsRecord}
+use Rattle.ipc_model.specs.store.Store.{IsInUse, IsMidAppend, SpellsSegment, batch_text, with_batch}
+use Rattle.ipc_laws.specs.StoreLaws.{appended_in_use, in_use_spells, mid_append_spells}
+use Rattle.ipc_model.specs.texts.Texts.{IsRecord}
 use Rattle.recover.specs.Kept.{IsKept}
 use Rattle.recover.specs.Recovered.{IsOpen, HoldsOpeningImage, Recovers}
 use Rattle.server.specs.Keeping.{IsBeforeOrAfter}

@@ -5,9 +5,9 @@ use Rattle.disk.specs.Slots.{Slots}
 use Rattle.ipc_model.specs.declared.call.Call.{Call}
 use Rattle.ipc_model.specs.declared.call.Call.TheVariants as call
 use Rattle.ipc_model.specs.declared.call.Reply.{Reply}
-use Rattle.ipc_model.specs.State.{State}
-use Rattle.ipc_model.specs.StateCode.{state_code}
-use Rattle.ipc_model.specs.Step.{has_record, succeeded}
+use Rattle.ipc_model.specs.state.State.{State}
+use Rattle.ipc_model.specs.state.StateCode.{state_code}
+use Rattle.ipc_model.specs.calls.Step.{has_record, succeeded}
 use Rattle.kernel.specs.Served.{ServedStep}
 use Rattle.recover.specs.Recovered.{Recovers}
 use Rattle.server.specs.Serving.{StepOrShortage}

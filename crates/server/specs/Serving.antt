@@ -10,11 +10,11 @@ use Rattle.ipc_model.specs.declared.call.Call.{Call}
 use Rattle.ipc_model.specs.declared.call.Call.TheVariants as call
 use Rattle.ipc_model.specs.declared.call.Reply.{Reply}
 use Rattle.ipc_model.specs.declared.call.Reply.TheVariants as reply
-use Rattle.ipc_model.specs.Receiving.{without_message}
-use Rattle.ipc_model.specs.Refusals.{refused_of}
-use Rattle.ipc_model.specs.State.{State}
-use Rattle.ipc_model.specs.Step.{number_of_call, succeeded}
-use Rattle.ipc_model.specs.Texts.{reply_text}
+use Rattle.ipc_model.specs.messages.Receiving.{without_message}
+use Rattle.ipc_model.specs.calls.Refusals.{refused_of}
+use Rattle.ipc_model.specs.state.State.{State}
+use Rattle.ipc_model.specs.calls.Step.{number_of_call, succeeded}
+use Rattle.ipc_model.specs.texts.Texts.{reply_text}
 use Rattle.kernel.specs.Served.{ServedStep}
 use Rattle.words.specs.Words.{word, frame_text}
 

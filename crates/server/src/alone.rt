@@ -5,8 +5,8 @@ ghost use Rattle.recover.specs.Kept.{IsKept};
 ghost use Rattle.recover.specs.Recovered.{Recovers};
 ghost use Rattle.server.specs.Keeping.{AnswersStored, IsBeforeOrAfter, IsMoved, attached_by, records_of};
 ghost use Rattle.server.specs.Serving.{StepOrShortage, shortage_of};
-ghost use Rattle.ipc_model.specs.Step.{has_record, succeeded};
-ghost use Rattle.ipc_model.specs.Texts.{reply_text, FitsCall};
+ghost use Rattle.ipc_model.specs.calls.Step.{has_record, succeeded};
+ghost use Rattle.ipc_model.specs.texts.Texts.{reply_text, FitsCall};
 ghost use Rattle.ipc_model.specs.declared.call.Call.{Call};
 ghost use Rattle.ipc_model.specs.declared.call.Reply.{Reply};
 

@@ -1,8 +1,8 @@
 ghost use Rattle.std.specs.Prelude.{◌≡◌, ◌≤◌, ◌<◌, length, IfOk, IfSome, OnOk};
 ghost use Rattle.calls.specs.Requests.{FitsRequest};
-ghost use Rattle.ipc_model.specs.Receiving as receiving;
-ghost use Rattle.ipc_model.specs.Refusals.{refused_of};
-ghost use Rattle.ipc_model.specs.Texts.{reply_text, FitsCall};
+ghost use Rattle.ipc_model.specs.messages.Receiving as receiving;
+ghost use Rattle.ipc_model.specs.calls.Refusals.{refused_of};
+ghost use Rattle.ipc_model.specs.texts.Texts.{reply_text, FitsCall};
 ghost use Rattle.server.specs.Serving.{AnswersBoth, AnswersMessage, AnswersRequest, IsAnswered, ServesAll};
 
 use crate::Caller;

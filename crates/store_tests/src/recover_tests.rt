@@ -1,5 +1,5 @@
 ghost use Rattle.std.specs.Prelude.{◌<◌, ◌^◌, length};
-ghost use Rattle.ipc_model.specs.Texts.{call_text, reply_text};
+ghost use Rattle.ipc_model.specs.texts.Texts.{call_text, reply_text};
 
 use disk::{MemDisk, Slot, Torn};
 use ipc_model::{Call, Record, Reply};
@@ -24,7 +24,7 @@ const SEGMENT: [u8; 70] = [
 // A segment of epoch 0 with no batch.
 const NEW_SEGMENT: [u8; 17] = [0x5a, 1, 0, 0, 0, 0, 0, 0, 0, 0, 0, 0, 0, 0, 0, 0, 0];
 
-#[tactic(auto, unfolding(ipc_model::specs::Texts::call_text, ipc_model::specs::Texts::reply_text))]
+#[tactic(auto, unfolding(ipc_model::specs::texts::Texts::call_text, ipc_model::specs::texts::Texts::reply_text))]
 fn allocation() -> Record
     ensures call { length (call_text result.call) < 2 ^ 32 }
     ensures reply { length (reply_text result.reply) < 2 ^ 32 }

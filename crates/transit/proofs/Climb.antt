@@ -5,9 +5,9 @@ use Rattle.std.specs.Ordering.{nat_cmp}
 use Rattle.std.specs.FinMap as finmap
 use Rattle.std.specs.FinMap.{FinMap}
 use Rattle.ipc_model.specs.declared.port.PortState.{PortState}
-use Rattle.ipc_model.specs.Circular.{carrier_of, carries, meets, is_circular}
-use Rattle.ipc_model.specs.Ranks.{meets_itself}
-use Rattle.ipc_model.specs.State.{State}
+use Rattle.ipc_model.specs.state.Circular.{carrier_of, carries, meets, is_circular}
+use Rattle.ipc_laws.specs.Ranks.{meets_itself}
+use Rattle.ipc_model.specs.state.State.{State}
 use Rattle.transit.specs.Climbing.{with_ports}
 
 module _ (state : State) (port : ℕ) where

@@ -3,8 +3,8 @@
 
 ghost use Rattle.std.specs.Prelude.{◌≡◌};
 ghost use Rattle.std.specs.FinMap as map;
-ghost use Rattle.ipc_model.specs.Circular.{is_circular, meets};
-ghost use Rattle.ipc_model.specs.State.{State};
+ghost use Rattle.ipc_model.specs.state.Circular.{is_circular, meets};
+ghost use Rattle.ipc_model.specs.state.State.{State};
 ghost use Rattle.transit.specs.Climbing.{with_ports};
 
 use ports::Ports;

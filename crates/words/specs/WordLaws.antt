@@ -5,11 +5,7 @@ use Rattle.std.proofs.Common.{sym, ◌∙◌, ap, arith}
 use Rattle.std.proofs.lemmas.Nat.{le_bytes_4, le_bytes_8}
 use Rattle.byteorder.specs.Endian.{little_number}
 use Rattle.byteorder.specs.Numbers.{length-bytes_low_first, little_number-reads_back}
-use Rattle.words.specs.Words.{word, long_word}
-
--- each is a byte
-abbrev pub AreBytes : List ℕ → Type 0
-AreBytes bytes = (i : ℕ) → slice_index bytes i < 256
+use Rattle.words.specs.Words.{AreBytes, word, long_word}
 
 pub length-word : (n : ℕ) → length (word n) ≡ 4
 length-word n = length-bytes_low_first 0 4 n

@@ -1,6 +1,10 @@
 -- Numbers and frames in bytes. Every number is stored with its lowest byte first.
-use Rattle.std.specs.Prelude.{ℕ, List, ◌++◌, length}
+use Rattle.std.specs.Prelude.{ℕ, ◌<◌, List, ◌++◌, length, slice_index}
 use Rattle.byteorder.specs.Endian.{little_bytes}
+
+-- each is a byte
+abbrev pub AreBytes : List ℕ → Type 0
+AreBytes bytes = (i : ℕ) → slice_index bytes i < 256
 
 -- a number below 2 ^ 32 in four bytes
 abbrev pub word : ℕ → List ℕ

@@ -1,6 +1,6 @@
 use Rattle.std.proofs.Common.{◌≡◌, ℕ, ◌+◌}
 use Rattle.std.specs.FinMap as map
-use Rattle.ipc_model.specs.Circular.{meets}
+use Rattle.ipc_model.specs.state.Circular.{meets}
 use Rattle.transit.specs.Climbing.{with_ports}
 use Rattle.transit.proofs.climbs_to.Given as goal
 

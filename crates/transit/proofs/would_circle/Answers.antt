@@ -1,5 +1,5 @@
 use Rattle.std.proofs.Common.{◌∙◌}
-use Rattle.ipc_model.specs.State.{State}
+use Rattle.ipc_model.specs.state.State.{State}
 use Rattle.transit.proofs.Climb.{same_ports}
 use Rattle.transit.proofs.would_circle.Goals as goal
 

@@ -1,5 +1,5 @@
 use Rattle.std.proofs.Common.{◌≡◌, ℕ, List, ◌++◌, drop, sym, ap, subst, ◌∙◌, refl, arith}
-use Rattle.ipc_model.specs.Texts.{IsKeptMessage}
+use Rattle.ipc_model.specs.texts.Texts.{IsKeptMessage}
 use Rattle.words.specs.Words.{word}
 use Rattle.calls.proofs.Masks.{kept-same, kept-is_kept}
 use Rattle.calls.proofs.Messages.{bytes_behind, same_bytes, other_bytes}

@@ -1,9 +1,8 @@
 use Rattle.std.proofs.Common.{◌≡◌, ℕ, List, ◌++◌, drop, ◌||◌, sym, ap, subst, ◌∙◌, arith}
 use Rattle.codes.specs.KernReturn.{number_of}
-use Rattle.ipc_model.specs.Step.{is_recorded, is_success, has_destroyed}
-use Rattle.ipc_model.specs.Texts.{reply_text}
-use Rattle.words.specs.WordLaws.{AreBytes}
-use Rattle.words.specs.Words.{word}
+use Rattle.ipc_model.specs.calls.Step.{is_recorded, is_success, has_destroyed}
+use Rattle.ipc_model.specs.texts.Texts.{reply_text}
+use Rattle.words.specs.Words.{AreBytes, word}
 use Rattle.calls.proofs.Messages.{bytes_behind}
 use Rattle.calls.proofs.Replies.{and_true, one_reply}
 use Rattle.calls.proofs.results.read_message_reply.Goals as goal

@@ -1,7 +1,7 @@
 use Rattle.std.proofs.Common.{◌≡◌, ℕ, List, ◌++◌, refl, sym, ap, ◌∙◌}
 use Rattle.ipc_model.specs.declared.call.Reply.TheVariants as reply
-use Rattle.ipc_model.specs.Dispositions.{number_of_kind}
-use Rattle.ipc_model.specs.Texts.{reply_text, done_text}
+use Rattle.ipc_model.specs.rights.Dispositions.{number_of_kind}
+use Rattle.ipc_model.specs.texts.Texts.{reply_text, done_text}
 use Rattle.words.specs.Words.{word}
 use Rattle.calls.proofs.Replies.{one_done}
 use Rattle.calls.proofs.results.read_plain_reply.Goals as goal

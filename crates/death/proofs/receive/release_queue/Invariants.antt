@@ -1,5 +1,5 @@
 use Rattle.std.proofs.Common.{◌≡◌, ◌++◌, flat_map, length}
-use Rattle.ipc_model.specs.Effects.{releases_of}
+use Rattle.ipc_model.specs.effects.Effects.{releases_of}
 use Rattle.death.proofs.receive.release_queue.Given as goal
 
 abbrev pub invariant-loop-message : goal.invariant-loop-message

@@ -1,5 +1,5 @@
 use Rattle.effects.specs.Meaning.{effect_meant}
-use Rattle.ipc_model.specs.State.{State}
+use Rattle.ipc_model.specs.state.State.{State}
 use Rattle.death.proofs.Working.{less_is_left, one_more, all_done}
 use Rattle.death.proofs.settling.settle.Goals as goal
 

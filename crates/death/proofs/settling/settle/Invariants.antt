@@ -1,6 +1,6 @@
-use Rattle.ipc_model.specs.Effects.{Settles}
-use Rattle.ipc_model.specs.Settling.{measure}
-use Rattle.ipc_model.specs.State.{State}
+use Rattle.ipc_model.specs.effects.Effects.{Settles}
+use Rattle.ipc_laws.specs.Settling.{measure}
+use Rattle.ipc_model.specs.state.State.{State}
 use Rattle.death.proofs.settling.settle.Given as goal
 
 abbrev pub invariant-loop-first : goal.invariant-loop-first

@@ -1,6 +1,6 @@
 use Rattle.std.proofs.Common.{◌++◌, ℕ, List, sym, ◌∙◌, ap}
 use Rattle.std.proofs.lemmas.List.{append-nil}
-use Rattle.ipc_model.specs.Effects.{Effect}
+use Rattle.ipc_model.specs.effects.Effects.{Effect}
 use Rattle.port_index.specs.Standing.{standing, walk_is, walk_none}
 use Rattle.port_space.specs.Mentions.{entry_mentions}
 use Rattle.ipc_state.specs.Walked.{name_goes_on, notices_of, passes_name}

@@ -1,7 +1,7 @@
 use Rattle.std.proofs.Common.{◌≡◌, Some, sym, ◌∙◌, ap}
 use Rattle.std.specs.FinMap as map
 use Rattle.std.specs.Option.{option_copied_mut}
-use Rattle.ipc_model.specs.MapSums.{insert-same}
+use Rattle.ipc_laws.specs.MapSums.{insert-same}
 use Rattle.ipc_state.proofs.Failing.{where_it_failed}
 use Rattle.ipc_state.proofs.one_space.rename_at.Goals as goal
 

@@ -1,5 +1,5 @@
 use Rattle.std.proofs.Common.{Err, length, drop, ap, arith}
-use Rattle.ipc_model.specs.BatchLaws.{length-batch}
+use Rattle.ipc_laws.specs.BatchLaws.{length-batch}
 use Rattle.journal.proofs.Reading.{not_a_batch, has_content, same_fault}
 use Rattle.journal.proofs.Batches.{batch_whole}
 use Rattle.journal.proofs.read.take_batch.Goals as goal

@@ -1,5 +1,5 @@
 use Rattle.std.proofs.Common.{◌≡◌, sym, ◌∙◌, ap}
-use Rattle.ipc_model.specs.State.{State, without_name}
+use Rattle.ipc_model.specs.state.State.{State, without_name}
 use Rattle.ipc_state.specs.There.{put_and_gone}
 use Rattle.port_calls.proofs.allocation.add_right.Goals as goal
 

@@ -1,7 +1,7 @@
 use Rattle.std.proofs.Common.{subst}
 use Rattle.std.specs.Prelude.{Option}
 use Rattle.ipc_model.specs.declared.message.CarriedRight.{CarriedRight}
-use Rattle.ipc_model.specs.CopyIn.{copy_in}
+use Rattle.ipc_model.specs.rights.CopyIn.{copy_in}
 use Rattle.rights.specs.Keeping.{copy_in_keeps}
 use Rattle.rights.specs.Meaning.{disposition_meant}
 use Rattle.rights.specs.Taking.{Takes}

@@ -1,7 +1,7 @@
 use Rattle.std.proofs.Common.{◌≡◌, ℕ, List, map, sym, ◌∙◌, ap}
 use Rattle.ipc_model.specs.declared.entry.Entry.{Entry}
 use Rattle.ipc_model.specs.declared.call.NamedType.{NamedType}
-use Rattle.ipc_model.specs.State.{type_of}
+use Rattle.ipc_model.specs.state.State.{type_of}
 use Rattle.ipc_state.specs.Absent.{no_entries}
 use Rattle.port_calls.proofs.reads.named_types.Goals as goal
 

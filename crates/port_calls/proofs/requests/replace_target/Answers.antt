@@ -1,7 +1,7 @@
 use Rattle.std.proofs.Common.{◌≡◌, ℕ, Option, is_some, is_none, sym, ◌∙◌, ap, arith}
 use Rattle.std.specs.FinMap as finmap
-use Rattle.ipc_model.specs.PortCalls.{names_in}
-use Rattle.ipc_model.specs.State.{State}
+use Rattle.ipc_model.specs.calls.PortCalls.{names_in}
+use Rattle.ipc_model.specs.state.State.{State}
 use Rattle.port_calls.proofs.Asking.{as_many_names, room_left}
 use Rattle.port_calls.proofs.requests.replace_target.Goals as goal
 

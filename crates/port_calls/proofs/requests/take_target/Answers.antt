@@ -1,8 +1,8 @@
 use Rattle.std.proofs.Common.{◌≡◌, true, Option, option_map, sym, ◌∙◌, ap, subst}
 use Rattle.std.proofs.lemmas.Bool.{ne_eqb}
-use Rattle.ipc_model.specs.CopyIn.{copy_in}
+use Rattle.ipc_model.specs.rights.CopyIn.{copy_in}
 use Rattle.ipc_model.specs.declared.message.CarriedRight.{CarriedRight}
-use Rattle.ipc_model.specs.PortCalls.{is_variant}
+use Rattle.ipc_model.specs.calls.PortCalls.{is_variant}
 use Rattle.rights.specs.Meaning.{disposition_meant}
 use Rattle.rights.specs.Taking.{Takes}
 use Rattle.port_calls.proofs.Asking.{copied_tests}

@@ -3,9 +3,9 @@ use Rattle.std.specs.Ordering.{nat_cmp}
 use Rattle.std.specs.FinMap as finmap
 use Rattle.std.specs.FinMap.{len-empty}
 use Rattle.ipc_model.specs.declared.entry.Entry.{Entry}
-use Rattle.ipc_model.specs.CopyOut.{MayArrive, names_after}
-use Rattle.ipc_model.specs.PortCalls.{names_in}
-use Rattle.ipc_model.specs.State.{State, Names, with_names}
+use Rattle.ipc_model.specs.rights.CopyOut.{MayArrive, names_after}
+use Rattle.ipc_model.specs.calls.PortCalls.{names_in}
+use Rattle.ipc_model.specs.state.State.{State, Names, with_names}
 use Rattle.ipc_state.specs.Added.{added_there, names_added, added_again}
 use Rattle.port_calls.proofs.spaces.add_child.Goals as goal
 

@@ -1,6 +1,6 @@
 use Rattle.std.proofs.Common.{◌∙◌, ap}
-use Rattle.ipc_model.specs.SetsKeep.{all_out_spaces}
-use Rattle.ipc_model.specs.State.{State}
+use Rattle.ipc_laws.specs.SetsKeep.{all_out_spaces}
+use Rattle.ipc_model.specs.state.State.{State}
 use Rattle.port_calls.proofs.spaces.leave_sets.Goals as goal
 
 pub returns-clause-spaces : goal.returns-clause-spaces

@@ -2,7 +2,7 @@ use Rattle.std.proofs.Common.{◌≡◌, ◌++◌, ◌<◌, ◌^◌}
 use Rattle.std.specs.Prelude.{flat_map}
 use Rattle.std.specs.FinMap as finmap
 use Rattle.std.specs.List.{AllByRecursion}
-use Rattle.ipc_model.specs.Actions.{effects_of_name}
+use Rattle.ipc_model.specs.calls.Actions.{effects_of_name}
 use Rattle.port_calls.proofs.spaces.release_each.Given as goal
 
 -- the effects so far with those of the names that are left, each of which fits a u32

@@ -1,8 +1,8 @@
 use Rattle.std.proofs.Common.{ℕ, List, ◌++◌, sym, ◌∙◌, ap, append-nil}
 use Rattle.std.specs.Prelude.{flat_map}
 use Rattle.ipc_model.specs.declared.entry.Entry.{Entry}
-use Rattle.ipc_model.specs.Actions.{effects_of_name}
-use Rattle.ipc_model.specs.Effects.{Effect}
+use Rattle.ipc_model.specs.calls.Actions.{effects_of_name}
+use Rattle.ipc_model.specs.effects.Effects.{Effect}
 use Rattle.ipc_state.specs.Absent.{no_entries}
 use Rattle.port_calls.proofs.spaces.release_names.Goals as goal
 

@@ -1,8 +1,8 @@
 use Rattle.std.proofs.Common.{◌≡◌, ◌++◌, filter}
 use Rattle.std.specs.Prelude.{filter_map}
-use Rattle.ipc_model.specs.Actions.{serials_of_members}
-use Rattle.ipc_model.specs.PortCalls.{names_in}
-use Rattle.ipc_model.specs.State.{is_member, received_port}
+use Rattle.ipc_model.specs.calls.Actions.{serials_of_members}
+use Rattle.ipc_model.specs.calls.PortCalls.{names_in}
+use Rattle.ipc_model.specs.state.State.{is_member, received_port}
 use Rattle.port_set.proofs.member.member_ports.Given as goal
 
 -- the ports so far with those of the names that are left

@@ -1,6 +1,6 @@
 use Rattle.std.proofs.Common.{ℕ, List, map, filter, sym, ◌∙◌, ap}
 use Rattle.ipc_model.specs.declared.entry.Entry.{Entry}
-use Rattle.ipc_model.specs.State.{is_member}
+use Rattle.ipc_model.specs.state.State.{is_member}
 use Rattle.ipc_state.specs.Absent.{no_entries}
 use Rattle.port_set.proofs.member.members.Goals as goal
 

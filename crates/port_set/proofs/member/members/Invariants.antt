@@ -1,7 +1,7 @@
 use Rattle.std.proofs.Common.{◌≡◌, ◌++◌, ◌<◌, ◌^◌, map, filter}
 use Rattle.std.specs.List.{AllByRecursion}
-use Rattle.ipc_model.specs.PortCalls.{names_in}
-use Rattle.ipc_model.specs.State.{is_member, members_of}
+use Rattle.ipc_model.specs.calls.PortCalls.{names_in}
+use Rattle.ipc_model.specs.state.State.{is_member, members_of}
 use Rattle.port_set.proofs.member.members.Given as goal
 
 -- the members so far with those among the names that are left, each of which fits a u32

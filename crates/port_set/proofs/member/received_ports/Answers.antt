@@ -1,7 +1,7 @@
 use Rattle.std.proofs.Common.{ℕ, List, sym, ◌∙◌, ap}
 use Rattle.std.specs.Prelude.{filter_map}
 use Rattle.ipc_model.specs.declared.entry.Entry.{Entry}
-use Rattle.ipc_model.specs.State.{received_port}
+use Rattle.ipc_model.specs.state.State.{received_port}
 use Rattle.ipc_state.specs.Absent.{no_entries}
 use Rattle.port_set.proofs.member.received_ports.Goals as goal
 

@@ -1,5 +1,5 @@
 use Rattle.std.proofs.Common.{◌≡◌, drop}
-use Rattle.ipc_model.specs.Actions.{with_ports}
+use Rattle.ipc_model.specs.calls.Actions.{with_ports}
 use Rattle.port_set.proofs.moves.move_ports.Given as goal
 
 abbrev pub invariant-loop-port : goal.invariant-loop-port

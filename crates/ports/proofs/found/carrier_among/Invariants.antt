@@ -1,6 +1,6 @@
 use Rattle.std.proofs.Common.{◌≡◌, find}
 use Rattle.std.specs.FinMap as map
-use Rattle.ipc_model.specs.Circular.{carries}
+use Rattle.ipc_model.specs.state.Circular.{carries}
 use Rattle.port_index.specs.Standing.{standing}
 use Rattle.ports.proofs.found.carrier_among.Given as goal
 

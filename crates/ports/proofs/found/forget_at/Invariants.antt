@@ -1,6 +1,6 @@
 use Rattle.std.proofs.Common.{◌≡◌}
 use Rattle.std.specs.FinMap as map
-use Rattle.ipc_model.specs.Effects.{port_after_death}
+use Rattle.ipc_model.specs.effects.Effects.{port_after_death}
 use Rattle.port_index.specs.Indexed.{changed_each}
 use Rattle.ports.proofs.found.forget_at.Given as goal
 

@@ -1,5 +1,5 @@
 use Rattle.std.proofs.Common.{refl}
-use Rattle.ipc_model.specs.State.{is_number}
+use Rattle.ipc_model.specs.state.State.{is_number}
 use Rattle.ports.specs.Changed.{numbers_mention}
 use Rattle.ports.specs.Mentions.{port_mentions}
 use Rattle.ports.proofs.Steps.{dropped_both}

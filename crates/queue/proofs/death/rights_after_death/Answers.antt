@@ -1,7 +1,7 @@
 use Rattle.std.proofs.Common.{◌<◌, length, arith, ◌∙◌, ap, set}
 use Rattle.std.proofs.lemmas.List.{get_or_default}
 use Rattle.std.proofs.lemmas.List.Edits.{map_over_more}
-use Rattle.ipc_model.specs.Effects.{right_after_death}
+use Rattle.ipc_model.specs.effects.Effects.{right_after_death}
 use Rattle.queue.proofs.death.rights_after_death.Goals as goal
 
 pub loop-right-preserved : goal.loop-right-preserved

@@ -1,5 +1,5 @@
 use Rattle.std.proofs.Common.{◌≡◌, ◌++◌, map, take, drop}
-use Rattle.ipc_model.specs.Effects.{right_after_death}
+use Rattle.ipc_model.specs.effects.Effects.{right_after_death}
 use Rattle.queue.proofs.death.rights_after_death.Given as goal
 
 abbrev pub invariant-loop-right : goal.invariant-loop-right

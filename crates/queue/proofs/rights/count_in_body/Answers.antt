@@ -1,5 +1,5 @@
 use Rattle.std.proofs.Common.{◌<◌, length, arith, ◌∙◌}
-use Rattle.ipc_model.specs.Placed.{right_of_carried}
+use Rattle.ipc_model.specs.state.Placed.{right_of_carried}
 use Rattle.queue.specs.CountLaws.{capped-more}
 use Rattle.queue.proofs.rights.count_in_body.Goals as goal
 

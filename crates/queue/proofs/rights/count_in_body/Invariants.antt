@@ -1,5 +1,5 @@
 use Rattle.std.proofs.Common.{◌≡◌, flat_map, take}
-use Rattle.ipc_model.specs.Placed.{Place, right_of_carried}
+use Rattle.ipc_model.specs.state.Placed.{Place, right_of_carried}
 use Rattle.queue.specs.Counts.{capped_count}
 use Rattle.queue.proofs.rights.count_in_body.Given as goal
 

@@ -1,5 +1,5 @@
 use Rattle.std.proofs.Common.{◌++◌, sym, ◌∙◌}
-use Rattle.ipc_model.specs.TextLaws.{long_word_once, word_once, frame_once}
+use Rattle.ipc_laws.specs.TextLaws.{long_word_once, word_once, frame_once}
 use Rattle.words.specs.Words.{word, frame_text}
 use Rattle.record.proofs.read.take_parts.Goals as goal
 

@@ -1,6 +1,6 @@
 use Rattle.std.proofs.Common.{sym, ◌∙◌}
-use Rattle.ipc_model.specs.TextLaws.{record_apart}
-use Rattle.ipc_model.specs.Texts.{call_text, reply_text}
+use Rattle.ipc_laws.specs.TextLaws.{record_apart}
+use Rattle.ipc_model.specs.texts.Texts.{call_text, reply_text}
 use Rattle.record.proofs.read.take_record.Goals as goal
 
 pub returns-in_default-clause-only : goal.returns-in_default-clause-only

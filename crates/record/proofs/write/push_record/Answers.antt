@@ -1,6 +1,6 @@
 use Rattle.std.proofs.Common.{◌≡◌, ◌++◌, ap, ◌∙◌}
 use Rattle.words.specs.Words.{word, long_word, frame_text}
-use Rattle.ipc_model.specs.Texts.{call_text, reply_text, record_text}
+use Rattle.ipc_model.specs.texts.Texts.{call_text, reply_text, record_text}
 use Rattle.record.proofs.Joined.{joined, on_ok}
 use Rattle.record.proofs.write.push_record.Goals as goal
 

@@ -1,7 +1,7 @@
 use Rattle.std.proofs.Common.{◌≡◌, sym, ◌∙◌, ap, subst, refl, drop}
 use Rattle.std.proofs.lemmas.Result.{err_from_is_err_and}
 use Rattle.disk.specs.Slots.{Slots}
-use Rattle.ipc_model.specs.Store.{SpellsBatches}
+use Rattle.ipc_model.specs.store.Store.{SpellsBatches}
 use Rattle.recover.proofs.Ends.{ended_in_use}
 use Rattle.recover.proofs.opening.load_stored.Goals as goal
 

@@ -1,7 +1,7 @@
 use Rattle.std.proofs.Common.{◌≡◌, sym, ◌∙◌, subst}
 use Rattle.std.proofs.lemmas.Result.{err_from_is_err_and}
 use Rattle.kernel.specs.Served.{ServedRun}
-use Rattle.ipc_model.specs.BatchLaws.{one_reading}
+use Rattle.ipc_laws.specs.BatchLaws.{one_reading}
 use Rattle.recover.proofs.opening.replay_batches.Goals as goal
 
 pub returns-in_err-records-clause-damaged : goal.returns-in_err-records-clause-damaged

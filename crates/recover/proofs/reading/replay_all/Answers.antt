@@ -1,6 +1,6 @@
 use Rattle.std.proofs.Common.{take, get_or, subst, sym}
 use Rattle.std.proofs.lemmas.List.{take_more}
-use Rattle.ipc_model.specs.State.{State}
+use Rattle.ipc_model.specs.state.State.{State}
 use Rattle.ipc_model.specs.declared.record.Record.{Record}
 use Rattle.kernel.specs.Served.{ServedStep, ServedRun}
 use Rattle.kernel.specs.ServedLaws.{run-push}

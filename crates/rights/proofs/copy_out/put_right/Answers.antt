@@ -1,4 +1,4 @@
-use Rattle.ipc_model.specs.State.{Names}
+use Rattle.ipc_model.specs.state.State.{Names}
 use Rattle.rights.proofs.Arriving.{unmoved}
 use Rattle.rights.proofs.copy_out.put_right.Goals as goal
 

@@ -1,6 +1,6 @@
 use Rattle.std.proofs.Common.{◌≡◌, ℕ, [], take, get_or, cond, Bool, sym, ◌∙◌, ap, arith}
-use Rattle.ipc_model.specs.CopyOut.{wants_name}
-use Rattle.ipc_model.specs.PortCalls.{names_in}
+use Rattle.ipc_model.specs.rights.CopyOut.{wants_name}
+use Rattle.ipc_model.specs.calls.PortCalls.{names_in}
 use Rattle.rights.specs.Wanting.{named_after}
 use Rattle.rights.proofs.Naming.{blank, one_wants}
 use Rattle.rights.proofs.wanted.names_wanted.Goals as goal

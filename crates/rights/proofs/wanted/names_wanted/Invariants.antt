@@ -1,6 +1,6 @@
 use Rattle.std.proofs.Common.{◌≡◌, ◌+◌, ◌≤◌, [], take, drop}
-use Rattle.ipc_model.specs.CopyOut.{names_wanted}
-use Rattle.ipc_model.specs.PortCalls.{names_in}
+use Rattle.ipc_model.specs.rights.CopyOut.{names_wanted}
+use Rattle.ipc_model.specs.calls.PortCalls.{names_in}
 use Rattle.rights.specs.Wanting.{named_after}
 use Rattle.rights.proofs.wanted.names_wanted.Given as goal
 

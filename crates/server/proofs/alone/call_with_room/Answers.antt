@@ -1,7 +1,7 @@
 use Rattle.std.proofs.Common.{◌≡◌, true, ℕ, refl, sym, ap, subst, ◌∙◌}
 use Rattle.disk.specs.Slots.{Slots}
-use Rattle.ipc_model.specs.State.{State}
-use Rattle.ipc_model.specs.Step.{has_record}
+use Rattle.ipc_model.specs.state.State.{State}
+use Rattle.ipc_model.specs.calls.Step.{has_record}
 use Rattle.recover.specs.Kept.{IsKept}
 use Rattle.kernel.specs.ServedLaws.{unrecorded_step}
 use Rattle.server.proofs.Answered.{frames_fit, kept_call, shortage_fits}

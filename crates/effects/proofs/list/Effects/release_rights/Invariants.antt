@@ -1,5 +1,5 @@
 use Rattle.std.proofs.Common.{◌≡◌, ◌++◌, flat_map, take}
-use Rattle.ipc_model.specs.Effects as machine
+use Rattle.ipc_model.specs.effects.Effects as machine
 use Rattle.effects.proofs.list.Effects.release_rights.Given as goal
 
 abbrev pub invariant-loop-right : goal.invariant-loop-right

@@ -1,8 +1,8 @@
 use Rattle.std.proofs.Common.{◌++◌, ℕ, List, option_copied, sym, ◌∙◌, ap}
 use Rattle.std.proofs.lemmas.List.{append-nil}
 use Rattle.std.specs.FinMap as map
-use Rattle.ipc_model.specs.Effects.{Effect}
-use Rattle.ipc_model.specs.State.{Names}
+use Rattle.ipc_model.specs.effects.Effects.{Effect}
+use Rattle.ipc_model.specs.state.State.{Names}
 use Rattle.port_index.specs.Indexed.{inside, nowhere}
 use Rattle.port_index.specs.Standing.{Map, standing, walk_is, walk_none}
 use Rattle.port_space.specs.Mentions.{names_mention}

@@ -1,6 +1,6 @@
 use Rattle.std.proofs.Common.{◌≡◌, ℕ, List, subst, sym, ◌∙◌, ap}
-use Rattle.ipc_model.specs.Effects.{entry_after_death, map_values}
-use Rattle.ipc_model.specs.State.{Names}
+use Rattle.ipc_model.specs.effects.Effects.{entry_after_death, map_values}
+use Rattle.ipc_model.specs.state.State.{Names}
 use Rattle.port_index.specs.Indexed.{IsIndexed, IsIndexedBut, all_changed, changed_each, forgotten_here, inside, none_changed, nowhere, taken_out, whole_again}
 use Rattle.port_index.specs.Places.{Places}
 use Rattle.port_index.specs.Standing.{Map}

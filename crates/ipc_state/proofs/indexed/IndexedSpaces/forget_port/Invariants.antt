@@ -1,5 +1,5 @@
 use Rattle.std.proofs.Common.{◌≡◌}
-use Rattle.ipc_model.specs.Effects.{entry_after_death, map_values}
+use Rattle.ipc_model.specs.effects.Effects.{entry_after_death, map_values}
 use Rattle.port_index.specs.Indexed.{IsIndexedBut, changed_each}
 use Rattle.port_space.specs.Mentions.{names_mention}
 use Rattle.ipc_state.proofs.indexed.IndexedSpaces.forget_port.Given as goal

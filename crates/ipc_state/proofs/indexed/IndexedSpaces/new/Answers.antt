@@ -1,5 +1,5 @@
 use Rattle.std.proofs.Common.{subst, sym}
-use Rattle.ipc_model.specs.State.{Names}
+use Rattle.ipc_model.specs.state.State.{Names}
 use Rattle.port_index.specs.Indexed.{IsIndexed, none_indexed}
 use Rattle.port_index.specs.Standing.{Map}
 use Rattle.port_space.specs.Mentions.{names_mention}

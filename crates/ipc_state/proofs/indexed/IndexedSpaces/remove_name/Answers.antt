@@ -1,6 +1,6 @@
 use Rattle.std.proofs.Common.{subst, sym}
 use Rattle.std.specs.FinMap as map
-use Rattle.ipc_model.specs.State.{Names}
+use Rattle.ipc_model.specs.state.State.{Names}
 use Rattle.port_index.specs.Indexed.{IsIndexed}
 use Rattle.port_index.specs.Standing.{Map}
 use Rattle.port_space.specs.Mentions.{names_mention}

@@ -1,4 +1,4 @@
-use Rattle.ipc_model.specs.State.{Names}
+use Rattle.ipc_model.specs.state.State.{Names}
 use Rattle.port_index.specs.Indexed.{IsIndexed, changed_here}
 use Rattle.port_index.specs.Standing.{Map}
 use Rattle.port_space.specs.Mentions.{names_mention}

@@ -1,6 +1,6 @@
 use Rattle.std.proofs.Common.{◌≡◌, ℕ, ◌+◌, ◌-◌, ◌^◌, List, min, option_copied, sym, ◌∙◌, ap, arith}
 use Rattle.std.specs.FinMap as map
-use Rattle.ipc_model.specs.State.{Names}
+use Rattle.ipc_model.specs.state.State.{Names}
 use Rattle.port_index.specs.Indexed.{inside, nowhere}
 use Rattle.port_index.specs.Standing.{Map, standing, walk_is, walk_none}
 use Rattle.port_space.specs.Mentions.{names_mention}

@@ -1,6 +1,6 @@
 use Rattle.std.proofs.Common.{◌≡◌, ◌+◌, ◌-◌, ◌^◌, ◌≤◌, flat_map, min}
 use Rattle.std.specs.FinMap as map
-use Rattle.ipc_model.specs.Placed.{rights_of_space}
+use Rattle.ipc_model.specs.state.Placed.{rights_of_space}
 use Rattle.port_index.specs.Standing.{standing}
 use Rattle.queue.specs.Counts.{capped_count}
 use Rattle.ipc_state.specs.Walked.{rights_among}

@@ -1,5 +1,5 @@
 use Rattle.std.proofs.Common.{sym, subst, ◌∙◌, arith}
-use Rattle.ipc_model.specs.State.{State}
+use Rattle.ipc_model.specs.state.State.{State}
 use Rattle.kernel.specs.Fitting.{step_within}
 use Rattle.kernel.specs.Served.{ServedStep}
 use Rattle.kernel.specs.ServedLaws.{unrecorded_step}

@@ -1,8 +1,8 @@
 use Rattle.std.proofs.Common.{sym, subst}
-use Rattle.ipc_model.specs.Circular.{Grounded}
-use Rattle.ipc_model.specs.Lawful.{Lawful}
-use Rattle.ipc_model.specs.OpeningLaws.{opening_is_lawful}
-use Rattle.ipc_model.specs.State.{State}
+use Rattle.ipc_model.specs.state.Circular.{Grounded}
+use Rattle.ipc_model.specs.state.Lawful.{Lawful}
+use Rattle.ipc_laws.specs.OpeningLaws.{opening_is_lawful}
+use Rattle.ipc_model.specs.state.State.{State}
 use Rattle.kernel.proofs.kernel.Kernel.opening.Goals as goal
 
 pub invariant_of-result : goal.invariant_of-result

@@ -1,7 +1,7 @@
 use Rattle.std.proofs.Common.{refl, sym, subst, ◌∙◌}
 use Rattle.ipc_model.specs.declared.call.Call.TheVariants as call
-use Rattle.ipc_model.specs.State.{State}
-use Rattle.ipc_model.specs.Step.{Step}
+use Rattle.ipc_model.specs.state.State.{State}
+use Rattle.ipc_model.specs.calls.Step.{Step}
 use Rattle.kernel.specs.Keeping.{read_step, gone_step}
 use Rattle.kernel.proofs.kernel.Kernel.port_type.Goals as goal
 

@@ -1,5 +1,5 @@
 use Rattle.std.proofs.Common.{◌≡◌}
-use Rattle.ipc_model.specs.Effects.{map_values}
+use Rattle.ipc_model.specs.effects.Effects.{map_values}
 use Rattle.port_index.specs.Indexed.{IsIndexedBut, changed_each}
 use Rattle.port_space.specs.Deaths.{entry_without}
 use Rattle.port_space.specs.Mentions.{entry_mentions}

@@ -1,6 +1,6 @@
 use Rattle.std.proofs.Common.{ℕ, subst, sym, ◌∙◌, ap}
 use Rattle.std.specs.FinMap as map
-use Rattle.ipc_model.specs.State.{Names}
+use Rattle.ipc_model.specs.state.State.{Names}
 use Rattle.port_index.specs.Indexed.{IsIndexed, put_indexed, grown_indexed}
 use Rattle.port_space.specs.Mentions.{entry_mentions}
 use Rattle.port_space.proofs.indexed.IndexedNames.put.Goals as goal

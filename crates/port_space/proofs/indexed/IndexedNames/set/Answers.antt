@@ -1,7 +1,7 @@
 use Rattle.std.proofs.Common.{◌≡◌, Some, sym, ◌∙◌, ap}
 use Rattle.std.specs.FinMap as map
 use Rattle.std.specs.Option.{option_copied_mut}
-use Rattle.ipc_model.specs.State.{Names}
+use Rattle.ipc_model.specs.state.State.{Names}
 use Rattle.port_index.specs.Indexed.{replaced_indexed}
 use Rattle.port_space.specs.Mentions.{entry_mentions}
 use Rattle.port_space.proofs.indexed.IndexedNames.set.Goals as goal

@@ -1,5 +1,5 @@
 use Rattle.std.proofs.Common.{subst, sym, ◌∙◌, ap}
-use Rattle.ipc_model.specs.Effects.{entry_after_death, map_values}
+use Rattle.ipc_model.specs.effects.Effects.{entry_after_death, map_values}
 use Rattle.port_space.specs.References.{AreBounded}
 use Rattle.port_space.proofs.Bounds.{bounded_death, forgets}
 use Rattle.port_space.proofs.space.PortSpace.forget_port.Goals as goal

@@ -1,6 +1,6 @@
 use Rattle.std.proofs.Common.{◌≡◌}
 use Rattle.port_index.specs.Standing.{standing}
-use Rattle.ipc_model.specs.State.{name_of_port}
+use Rattle.ipc_model.specs.state.State.{name_of_port}
 use Rattle.port_space.specs.Walks.{first_name}
 use Rattle.port_space.proofs.space.PortSpace.name_of_port.Given as goal
 

@@ -1,6 +1,6 @@
 use Rattle.std.proofs.Common.{◌≡◌, ◌^◌, ◌<◌, Some, ap, sym, ◌∙◌, option_copied, rules}
 use Rattle.std.specs.FinMap as map
-use Rattle.ipc_model.specs.State.{Names}
+use Rattle.ipc_model.specs.state.State.{Names}
 use Rattle.port_space.proofs.space.PortSpace.named.Goals as goal
 
 pub overflow_cast-result : goal.overflow_cast-result

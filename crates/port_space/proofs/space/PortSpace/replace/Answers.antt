@@ -1,7 +1,7 @@
 use Rattle.std.proofs.Common.{◌≡◌, ◌<◌, ◌^◌, arith, None, IsSome, subst, sym}
 use Rattle.std.specs.FinMap.{get, len}
 use Rattle.codes.specs.declared.limits.TheConstants.{MAX_NAMES}
-use Rattle.ipc_model.specs.State.{Names}
+use Rattle.ipc_model.specs.state.State.{Names}
 use Rattle.port_space.specs.References.{AreBounded}
 use Rattle.port_space.proofs.Bounds.{bounded_insert}
 use Rattle.port_space.proofs.space.PortSpace.replace.Goals as goal

@@ -1,7 +1,7 @@
 use Rattle.std.proofs.Common.{◌≡◌, ℕ, ◌+◌, ◌-◌, ◌^◌, ◌&&◌, ◌==◌, Bool, List, min, ◌∙◌, ap, arith}
 use Rattle.std.specs.FinMap as map
-use Rattle.ipc_model.specs.Placed.{Right, same_kind}
-use Rattle.ipc_model.specs.State.{Names}
+use Rattle.ipc_model.specs.state.Placed.{Right, same_kind}
+use Rattle.ipc_model.specs.state.State.{Names}
 use Rattle.port_index.specs.Standing.{standing, walk_is, walk_none}
 use Rattle.port_space.specs.Mentions.{entry_mentions}
 use Rattle.port_space.specs.Walks.{rights_in}

@@ -1,5 +1,5 @@
 use Rattle.std.proofs.Common.{◌≡◌, ℕ, ◌+◌, ◌-◌, ◌^◌, ◌≤◌, ◌&&◌, ◌==◌, min}
-use Rattle.ipc_model.specs.Placed.{same_kind}
+use Rattle.ipc_model.specs.state.Placed.{same_kind}
 use Rattle.std.specs.FinMap as map
 use Rattle.port_index.specs.Standing.{standing}
 use Rattle.port_space.specs.Walks.{rights_in}

@@ -1,6 +1,6 @@
 use Rattle.std.proofs.Common.{◌≡◌}
 use Rattle.port_index.specs.Standing.{standing}
-use Rattle.ipc_model.specs.PortCalls.{stands_elsewhere}
+use Rattle.ipc_model.specs.calls.PortCalls.{stands_elsewhere}
 use Rattle.port_space.specs.Walks.{any_elsewhere}
 use Rattle.port_space.proofs.space.PortSpace.stands_elsewhere.Given as goal
 

@@ -1,5 +1,5 @@
 use Rattle.std.proofs.Common.{sym, ◌∙◌, ap}
-use Rattle.ipc_model.specs.Effects.{map_values, port_after_death}
+use Rattle.ipc_model.specs.effects.Effects.{map_values, port_after_death}
 use Rattle.ports.proofs.Deaths.{all_forgot, as_many_left, forgotten_indexed, none_forgot}
 use Rattle.ports.proofs.ports.Ports.forget_port.Goals as goal
 

@@ -1,5 +1,5 @@
 use Rattle.ports.specs.Changed.{with_numbers}
-use Rattle.ipc_model.specs.State.{is_number}
+use Rattle.ipc_model.specs.state.State.{is_number}
 use Rattle.ports.proofs.Kept.{indexed_changed, len_changed, more_kept, none_gone, numbers_covered}
 use Rattle.ports.proofs.ports.Ports.replace_numbers.Goals as goal
 

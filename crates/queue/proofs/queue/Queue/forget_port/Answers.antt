@@ -1,6 +1,6 @@
 use Rattle.std.proofs.Common.{◌<◌, length, arith, ◌∙◌, ap, set}
 use Rattle.std.proofs.lemmas.List.Edits.{map_over_more}
-use Rattle.ipc_model.specs.Effects.{message_after_death}
+use Rattle.ipc_model.specs.effects.Effects.{message_after_death}
 use Rattle.queue.proofs.queue.Queue.forget_port.Goals as goal
 
 pub loop-index-preserved : goal.loop-index-preserved

@@ -1,5 +1,5 @@
 use Rattle.std.proofs.Common.{◌≡◌, ◌++◌, map, take, drop}
-use Rattle.ipc_model.specs.Effects.{message_after_death}
+use Rattle.ipc_model.specs.effects.Effects.{message_after_death}
 use Rattle.queue.proofs.queue.Queue.forget_port.Given as goal
 
 abbrev pub invariant-loop-index : goal.invariant-loop-index

@@ -1,5 +1,5 @@
 use Rattle.std.proofs.Common.{◌≡◌, flat_map, take}
-use Rattle.ipc_model.specs.Placed.{rights_of_message}
+use Rattle.ipc_model.specs.state.Placed.{rights_of_message}
 use Rattle.queue.specs.Counts.{capped_count}
 use Rattle.queue.proofs.queue.Queue.rights_to.Given as goal
 

@@ -1,6 +1,6 @@
 use Rattle.std.specs.Prelude.{ℕ, if◌then◌else◌}
 use Rattle.std.proofs.Common.{ap, ◌∙◌}
-use Rattle.ipc_model.specs.Step.{succeeded}
+use Rattle.ipc_model.specs.calls.Step.{succeeded}
 use Rattle.server.proofs.Keeping.{kept_recovers, since_kept}
 use Rattle.server.proofs.alone.AloneCaller.call.Goals as goal
 

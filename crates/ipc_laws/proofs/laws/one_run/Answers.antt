@@ -1,0 +1,5 @@
+use Rattle.ipc_laws.specs.StepsKeep.{one_run}
+use Rattle.ipc_laws.proofs.laws.one_run.Goals as goal
+
+pub returns : goal.returns
+returns c = one_run

@@ -1,0 +1,5 @@
+use Rattle.ipc_laws.specs.OtherSpaces.{others_fade}
+use Rattle.ipc_laws.proofs.laws.others_fade.Goals as goal
+
+pub returns : goal.returns
+returns c = others_fade

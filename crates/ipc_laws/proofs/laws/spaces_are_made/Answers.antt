@@ -1,0 +1,5 @@
+use Rattle.ipc_laws.specs.OtherSpaces.{spaces_are_made}
+use Rattle.ipc_laws.proofs.laws.spaces_are_made.Goals as goal
+
+pub returns : goal.returns
+returns c = spaces_are_made

@@ -1,0 +1,317 @@
+-- Items that are read from a body fit their descriptors, keep its length as they are stored, and are read back.
+use Rattle.std.specs.Prelude.{◌≡◌, ℕ, zero, suc, ◌+◌, ◌*◌, ◌/◌, ◌%◌, ◌^◌, ◌<◌, ◌≤◌, Bool, true, false, ◌==◌, ◌&&◌, ◌||◌, not, nat_lt, List, [], ◌∷◌, ◌++◌, length, take, drop, None, Some, Result, Ok, Err, if◌then◌else◌, refl}
+use Rattle.std.proofs.Common.{sym, ◌∙◌, ap, subst, arith, append_assoc, length-append, length-take, length-drop, take_at, drop_at}
+use Rattle.std.proofs.lemmas.Bool.{ltb-false, ltb-true as ltb-is, eqb-true, eq-eqb}
+use Rattle.byteorder.specs.Endian.{little_number, little_bytes}
+use Rattle.byteorder.specs.Numbers.{little_from-lt, little_number-reads_back}
+use Rattle.codes.specs.declared.kern_return.KernReturn.{KernReturn}
+use Rattle.codes.specs.declared.kern_return.KernReturn.TheVariants.{SendMsgTooSmall, SendInvalidMemory, SendInvalidType}
+use Rattle.ipc_laws.specs.CallsKeep.{first_passes}
+use Rattle.ipc_model.specs.messages.Items.{Item, items_of, items_within, item_of, item_text, items_text, after_item, is_long_form, is_inline, has_other_bit, type_name_in, bits_in, number_in, descriptor_length, descriptor_text, data_length, padded, is_port_type, is_port_item}
+use Rattle.ipc_model.specs.calls.Tests.{Tests, first_failing, and_then, unless_failing}
+use Rattle.words.specs.WordLaws.{little_number-word, length-word}
+use Rattle.words.specs.Words.{AreBytes, word}
+
+-- bytes of a front and of a back
+
+front_bytes : (n : ℕ) (bytes : List ℕ) → AreBytes bytes → AreBytes (take n bytes)
+front_bytes zero bytes fits i = omega arith
+front_bytes (suc n) [] fits i = omega arith
+front_bytes (suc n) (a ∷ bytes) fits zero = fits 0
+front_bytes (suc n) (a ∷ bytes) fits (suc i) = front_bytes n bytes (λ k. fits (suc k)) i
+
+pub back_bytes : (n : ℕ) (bytes : List ℕ) → AreBytes bytes → AreBytes (drop n bytes)
+back_bytes zero bytes fits = fits
+back_bytes (suc n) [] fits = fits
+back_bytes (suc n) (a ∷ bytes) fits = back_bytes n bytes (λ k. fits (suc k))
+
+-- the greatest numbers in a descriptor's fields
+abbrev pub name_bound : Bool → ℕ
+name_bound false = 2 ^ 8
+name_bound true = 2 ^ 16
+
+abbrev number_bound : Bool → ℕ
+number_bound false = 2 ^ 12
+number_bound true = 2 ^ 32
+
+-- An item fits its descriptor: its fields have room there, a port has 32 bits, and its data is as long as they say.
+pub record ItemFits (item : Item) : Type 0 where
+  pub type_name : item.type_name < name_bound item.is_long
+  pub bits : item.bits < name_bound item.is_long
+  pub number : item.number < number_bound item.is_long
+  pub ports : is_port_item item ≡ true → item.bits ≡ 32
+  pub long : length item.content ≡ padded (item.number * item.bits)
+  pub bytes : AreBytes item.content
+
+abbrev pub AllFit : List Item → Type 0
+AllFit [] = Unit {0}
+AllFit (item ∷ items) = ItemFits item × AllFit items
+
+-- tests that pass
+
+pass_on : {X : Type 0} (tests : Tests) (r : Result X KernReturn) → first_failing tests ≡ None → unless_failing tests r ≡ r
+pass_on [] r passes = refl
+pass_on (test ∷ tests) r passes =
+    let first = first_passes test tests passes in
+    ap (λ (b : Bool). if b then Err test.1 else unless_failing tests r) first.0 ∙ pass_on tests r first.1
+
+pub passed_tests : {X : Type 0} (tests : Tests) (r : Result X KernReturn) (x : X) → unless_failing tests r ≡ Ok x → (first_failing tests ≡ None) × (r ≡ Ok x)
+passed_tests [] r x is = (refl, is)
+passed_tests {X} (test ∷ tests) r x is = elim test.0 as (λ (b : Bool). (if b then Err test.1 else unless_failing tests r) ≡ Ok x → ((if b then Some test.1 else first_failing tests) ≡ None) × (r ≡ Ok x)) [
+  | true ↦ λ (e : _). absurd (cc e)
+  | false ↦ λ (e : _). passed_tests tests r x e
+] is
+
+all_pass : (a b c d e : Bool) (f g h i j : KernReturn) → a ≡ false → b ≡ false → c ≡ false → d ≡ false → e ≡ false → first_failing ((a, f) ∷ (b, g) ∷ (c, h) ∷ (d, i) ∷ (e, j) ∷ []) ≡ None
+all_pass a b c d e f g h i j one two three four five =
+    ap (λ (a : Bool). if a then Some f else first_failing ((b, g) ∷ (c, h) ∷ (d, i) ∷ (e, j) ∷ [])) one ∙ ap (λ (b : Bool). if b then Some g else first_failing ((c, h) ∷ (d, i) ∷ (e, j) ∷ [])) two
+    ∙ ap (λ (c : Bool). if c then Some h else first_failing ((d, i) ∷ (e, j) ∷ [])) three ∙ ap (λ (d : Bool). if d then Some i else first_failing ((e, j) ∷ [])) four ∙ ap (λ (e : Bool). if e then Some j else None) five
+
+-- The tests and the step of a descriptor whose word and form are known.
+abbrev tests_with : ℕ → Bool → List ℕ → Tests
+tests_with w long bytes =
+    (nat_lt (length bytes) 4, SendMsgTooSmall)
+    ∷ (long && nat_lt (length bytes) 12, SendMsgTooSmall)
+    ∷ (not (is_inline w), SendInvalidMemory)
+    ∷ (has_other_bit w || (long && not (w % 2 ^ 28 == 0)) || (is_port_type (type_name_in bytes long) && not (bits_in bytes long == 32)), SendInvalidType)
+    ∷ (nat_lt (length bytes) (descriptor_length long + data_length bytes long), SendMsgTooSmall)
+    ∷ []
+
+-- What a reader finds in front of bytes: a word, its form, an item, and what follows.
+record Finds (w : ℕ) (bytes : List ℕ) (item : Item) (rest : List ℕ) : Type 0 where
+  reads : little_number 4 bytes ≡ w
+  form : is_long_form w ≡ item.is_long
+  passes : first_failing (tests_with w item.is_long bytes) ≡ None
+  is : item_of bytes item.is_long ≡ item
+  after : after_item bytes item.is_long ≡ rest
+
+step_on : (n w b : ℕ) (bytes rest : List ℕ) (item : Item) → Finds w (b ∷ bytes) item rest → items_within (suc n) (b ∷ bytes) ≡ and_then (items_within n rest) (λ items. Ok (item ∷ items))
+step_on n w b bytes rest item finds =
+    let text : List ℕ = b ∷ bytes in
+    let with_form : items_within (suc n) text ≡ unless_failing (tests_with w item.is_long text) (and_then (items_within n (after_item text item.is_long)) (λ items. Ok (item_of text item.is_long ∷ items))) =
+    (λ i. unless_failing (tests_with (finds.reads i) (is_long_form (finds.reads i)) text) (and_then (items_within n (after_item text (is_long_form (finds.reads i)))) (λ items. Ok (item_of text (is_long_form (finds.reads i)) ∷ items))))
+    ∙ (λ i. unless_failing (tests_with w (finds.form i) text) (and_then (items_within n (after_item text (finds.form i))) (λ items. Ok (item_of text (finds.form i) ∷ items)))) in
+    with_form ∙ pass_on (tests_with w item.is_long text) _ finds.passes ∙ (λ i. and_then (items_within n (finds.after i)) (λ items. Ok (finds.is i ∷ items)))
+
+-- a bit is set, or isn't
+bit_is : (n : ℕ) → n ≡ 1 → (n == 1) ≡ true
+bit_is n e = eq-eqb n 1 e
+
+bit_isnt : (n : ℕ) → n ≡ 0 → (n == 1) ≡ false
+bit_isnt n e = ap (λ (k : ℕ). k == 1) e
+
+not_less : (m n : ℕ) → n ≤ m → nat_lt m n ≡ false
+not_less m n le = elim (nat_lt m n) as (λ (b : Bool). nat_lt m n ≡ b → b ≡ false) [
+  | true ↦ λ (e : _). absurd (omega (arith, le, ltb-is m n e))
+  | false ↦ λ (e : _). refl
+] refl
+
+-- a port item has 32 bits, so the test of it passes
+port_passes : (port : Bool) (bits : ℕ) → (port ≡ true → bits ≡ 32) → (port && not (bits == 32)) ≡ false
+port_passes true bits is = ap (λ (b : Bool). not b) (eq-eqb bits 32 (is refl))
+port_passes false bits is = refl
+
+-- what follows a descriptor and its data
+append_back : (front content rest : List ℕ) (n : ℕ) → n ≡ length front + length content → drop n (front ++ (content ++ rest)) ≡ rest
+append_back front content rest n is = ap (drop n) (sym (append_assoc front content rest)) ∙ drop_at (front ++ content) rest n (length-append front content ∙ sym is)
+
+-- A short descriptor is read back.
+
+abbrev short_word : ℕ → ℕ → ℕ → ℕ
+short_word type_name bits number = type_name + bits * 2 ^ 8 + number * 2 ^ 16 + 2 ^ 28
+
+finds_short : (type_name bits number : ℕ) (content rest : List ℕ) → ItemFits (record { type_name = type_name; bits = bits; number = number; is_long = false; content = content })
+    → Finds (short_word type_name bits number) (word (short_word type_name bits number) ++ (content ++ rest)) (record { type_name = type_name; bits = bits; number = number; is_long = false; content = content }) rest
+finds_short type_name bits number content rest fits =
+    let w : ℕ = short_word type_name bits number in
+    let text : List ℕ = word w ++ (content ++ rest) in
+    let reads : little_number 4 text ≡ w = little_number-word w (content ++ rest) (omega (arith, fits.type_name, fits.bits, fits.number)) in
+    let type_is : type_name_in text false ≡ type_name = ap (λ (n : ℕ). n % 2 ^ 8) reads ∙ omega (arith, fits.type_name) in
+    let bits_is : bits_in text false ≡ bits = ap (λ (n : ℕ). (n / 2 ^ 8) % 2 ^ 8) reads ∙ omega (arith, fits.type_name, fits.bits) in
+    let number_is : number_in text false ≡ number = ap (λ (n : ℕ). (n / 2 ^ 16) % 2 ^ 12) reads ∙ omega (arith, fits.type_name, fits.bits, fits.number) in
+    let long_is : data_length text false ≡ length content = (λ i. padded (number_is i * bits_is i)) ∙ sym fits.long in
+    let whole : length text ≡ 4 + (length content + length rest) = length-append (word w) (content ++ rest) ∙ omega (arith, length-word w, length-append content rest) in
+    record {
+      reads = reads;
+      form = bit_isnt ((w / 2 ^ 29) % 2) (omega (arith, fits.type_name, fits.bits, fits.number));
+      passes = all_pass (nat_lt (length text) 4) false (not (is_inline w)) (has_other_bit w || false || (is_port_type (type_name_in text false) && not (bits_in text false == 32))) (nat_lt (length text) (4 + data_length text false))
+          SendMsgTooSmall SendMsgTooSmall SendInvalidMemory SendInvalidType SendMsgTooSmall
+          (not_less (length text) 4 (omega (arith, whole))) refl (ap (λ (b : Bool). not b) (bit_is ((w / 2 ^ 28) % 2) (omega (arith, fits.type_name, fits.bits, fits.number))))
+          (ap (λ (b : Bool). b || ((w / 2 ^ 31) % 2 == 1) || false || (is_port_type (type_name_in text false) && not (bits_in text false == 32))) (bit_isnt ((w / 2 ^ 30) % 2) (omega (arith, fits.type_name, fits.bits, fits.number)))
+          ∙ ap (λ (b : Bool). b || false || (is_port_type (type_name_in text false) && not (bits_in text false == 32))) (bit_isnt ((w / 2 ^ 31) % 2) (omega (arith, fits.type_name, fits.bits, fits.number)))
+          ∙ (λ i. is_port_type (type_is i) && not (bits_is i == 32)) ∙ port_passes (is_port_type type_name) bits fits.ports)
+          (not_less (length text) (4 + data_length text false) (omega (arith, whole, long_is)));
+      is = λ i. record {
+        type_name = type_is i;
+        bits = bits_is i;
+        number = number_is i;
+        is_long = false;
+        content = (ap (λ (n : ℕ). take n (content ++ rest)) long_is ∙ take_at content rest (length content) refl) i;
+      };
+      after = ap (λ (n : ℕ). drop (4 + n) text) long_is ∙ (append_back (word w) content rest (4 + length content) (omega (arith, length-word w)));
+    }
+
+-- A long descriptor is read back.
+
+abbrev long_text : ℕ → ℕ → ℕ → List ℕ → List ℕ
+long_text type_name bits number behind = word (2 ^ 28 + 2 ^ 29) ++ (little_bytes 2 type_name ++ (little_bytes 2 bits ++ (word number ++ behind)))
+
+long_length : (type_name bits number : ℕ) (behind : List ℕ) → length (long_text type_name bits number behind) ≡ 12 + length behind
+long_length type_name bits number behind = omega arith
+
+finds_long : (type_name bits number : ℕ) (content rest : List ℕ) → ItemFits (record { type_name = type_name; bits = bits; number = number; is_long = true; content = content })
+    → Finds (2 ^ 28 + 2 ^ 29) (long_text type_name bits number (content ++ rest)) (record { type_name = type_name; bits = bits; number = number; is_long = true; content = content }) rest
+finds_long type_name bits number content rest fits =
+    let text : List ℕ = long_text type_name bits number (content ++ rest) in
+    let type_is : type_name_in text true ≡ type_name = little_number-reads_back 2 type_name (little_bytes 2 bits ++ (word number ++ (content ++ rest))) fits.type_name in
+    let bits_is : bits_in text true ≡ bits = little_number-reads_back 2 bits (word number ++ (content ++ rest)) fits.bits in
+    let number_is : number_in text true ≡ number = little_number-reads_back 4 number (content ++ rest) fits.number in
+    let long_is : data_length text true ≡ length content = (λ i. padded (number_is i * bits_is i)) ∙ sym fits.long in
+    let whole : length text ≡ 12 + (length content + length rest) = long_length type_name bits number (content ++ rest) ∙ omega (arith, length-append content rest) in
+    record {
+      reads = refl;
+      form = refl;
+      passes = all_pass (nat_lt (length text) 4) (nat_lt (length text) 12) false (is_port_type (type_name_in text true) && not (bits_in text true == 32)) (nat_lt (length text) (12 + data_length text true))
+          SendMsgTooSmall SendMsgTooSmall SendInvalidMemory SendInvalidType SendMsgTooSmall
+          (not_less (length text) 4 (omega (arith, whole))) (not_less (length text) 12 (omega (arith, whole))) refl
+          ((λ i. is_port_type (type_is i) && not (bits_is i == 32)) ∙ port_passes (is_port_type type_name) bits fits.ports)
+          (not_less (length text) (12 + data_length text true) (omega (arith, whole, long_is)));
+      is = λ i. record {
+        type_name = type_is i;
+        bits = bits_is i;
+        number = number_is i;
+        is_long = true;
+        content = (ap (λ (n : ℕ). take n (content ++ rest)) long_is ∙ take_at content rest (length content) refl) i;
+      };
+      after = ap (λ (n : ℕ). drop (12 + n) text) long_is
+          ∙ append_back (word (2 ^ 28 + 2 ^ 29) ++ (little_bytes 2 type_name ++ (little_bytes 2 bits ++ word number))) content rest (12 + length content) (omega arith);
+    }
+
+-- An item that fits is read back, whatever follows it.
+item_back : (n : ℕ) (item : Item) (rest : List ℕ) → ItemFits item → items_within (suc n) (item_text item ++ rest) ≡ and_then (items_within n rest) (λ items. Ok (item ∷ items))
+item_back n item rest fits =
+    elim item.is_long as (λ (b : Bool). ItemFits (record { type_name = item.type_name; bits = item.bits; number = item.number; is_long = b; content = item.content })
+    → items_within (suc n) ((descriptor_text item b ++ item.content) ++ rest) ≡ and_then (items_within n rest) (λ items. Ok ((record { type_name = item.type_name; bits = item.bits; number = item.number; is_long = b; content = item.content }) ∷ items))) [
+      | true ↦ λ (f : _). step_on n (2 ^ 28 + 2 ^ 29) _ _ rest _ (finds_long item.type_name item.bits item.number item.content rest f)
+      | false ↦ λ (f : _). step_on n (short_word item.type_name item.bits item.number) _ _ rest _ (finds_short item.type_name item.bits item.number item.content rest f)
+    ] fits
+
+pub item_length : (item : Item) → length (item_text item) ≡ descriptor_length item.is_long + length item.content
+item_length item = elim item.is_long as (λ (b : Bool). length (descriptor_text item b ++ item.content) ≡ descriptor_length b + length item.content) [ true ↦ omega arith | false ↦ omega arith ]
+
+at_least_four : (b : Bool) → 4 ≤ descriptor_length b
+at_least_four true = omega arith
+at_least_four false = omega arith
+
+pub all_back : (n : ℕ) (items : List Item) → AllFit items → length (items_text items) ≤ n → items_within n (items_text items) ≡ Ok items
+all_back zero [] fits few = refl
+all_back (suc n) [] fits few = refl
+all_back zero (item ∷ items) fits few = absurd (omega (arith, few, length-append (item_text item) (items_text items), item_length item, at_least_four item.is_long))
+all_back (suc n) (item ∷ items) fits few =
+    item_back n item (items_text items) fits.0
+    ∙ ap (λ (r : Result (List Item) KernReturn). and_then r (λ items. Ok (item ∷ items)))
+    (all_back n items fits.1 (omega (arith, few, length-append (item_text item) (items_text items), item_length item, at_least_four item.is_long)))
+
+pub items_back : (items : List Item) → AllFit items → items_of (items_text items) ≡ Ok items
+unfolding items_of
+items_back items fits = all_back (length (items_text items)) items fits (omega arith)
+
+-- What is read fits.
+
+name_fits : (bytes : List ℕ) (b : Bool) → AreBytes bytes → type_name_in bytes b < name_bound b
+name_fits bytes false fits = omega arith
+name_fits bytes true fits = little_from-lt 0 2 (drop 4 bytes) (back_bytes 4 bytes fits)
+
+bits_fit : (bytes : List ℕ) (b : Bool) → AreBytes bytes → bits_in bytes b < name_bound b
+bits_fit bytes false fits = omega arith
+bits_fit bytes true fits = little_from-lt 0 2 (drop 6 bytes) (back_bytes 6 bytes fits)
+
+number_fits : (bytes : List ℕ) (b : Bool) → AreBytes bytes → number_in bytes b < number_bound b
+number_fits bytes false fits = omega arith
+number_fits bytes true fits = little_from-lt 0 4 (drop 8 bytes) (back_bytes 8 bytes fits)
+
+either_false : (a b : Bool) → (a || b) ≡ false → b ≡ false
+either_false true b e = absurd (cc e)
+either_false false b e = e
+
+bits_of_port : (port is : Bool) → (port && not is) ≡ false → port ≡ true → is ≡ true
+bits_of_port true true e p = refl
+bits_of_port true false e p = absurd (cc e)
+bits_of_port false is e p = absurd (cc p)
+
+-- the five tests, one by one
+record Passed (bytes : List ℕ) (long : Bool) : Type 0 where
+  ports : is_port_type (type_name_in bytes long) ≡ true → bits_in bytes long ≡ 32
+  enough : descriptor_length long + data_length bytes long ≤ length bytes
+
+passed : (w : ℕ) (long : Bool) (bytes : List ℕ) → first_failing (tests_with w long bytes) ≡ None → Passed bytes long
+passed w long bytes passes =
+    let last : Tests = (nat_lt (length bytes) (descriptor_length long + data_length bytes long), SendMsgTooSmall) ∷ [] in
+    let fourth : Bool = has_other_bit w || (long && not (w % 2 ^ 28 == 0)) || (is_port_type (type_name_in bytes long) && not (bits_in bytes long == 32)) in
+    let one = first_passes (nat_lt (length bytes) 4, SendMsgTooSmall) ((long && nat_lt (length bytes) 12, SendMsgTooSmall) ∷ (not (is_inline w), SendInvalidMemory) ∷ (fourth, SendInvalidType) ∷ last) passes in
+    let two = first_passes (long && nat_lt (length bytes) 12, SendMsgTooSmall) ((not (is_inline w), SendInvalidMemory) ∷ (fourth, SendInvalidType) ∷ last) one.1 in
+    let three = first_passes (not (is_inline w), SendInvalidMemory) ((fourth, SendInvalidType) ∷ last) two.1 in
+    let four = first_passes (fourth, SendInvalidType) last three.1 in
+    let five = first_passes (nat_lt (length bytes) (descriptor_length long + data_length bytes long), SendMsgTooSmall) [] four.1 in
+    record {
+      ports = λ (is : _). eqb-true (bits_in bytes long) 32 (bits_of_port (is_port_type (type_name_in bytes long)) (bits_in bytes long == 32)
+          (either_false (has_other_bit w || (long && not (w % 2 ^ 28 == 0))) (is_port_type (type_name_in bytes long) && not (bits_in bytes long == 32)) four.0) is);
+      enough = ltb-false (length bytes) (descriptor_length long + data_length bytes long) five.0;
+    }
+
+read_long : (bytes : List ℕ) (long : Bool) → Passed bytes long → length (item_of bytes long).content ≡ data_length bytes long
+read_long bytes long tests =
+    length-take (data_length bytes long) (drop (descriptor_length long) bytes) ∙ omega (arith, length-drop (descriptor_length long) bytes, tests.enough)
+
+read_fits : (bytes : List ℕ) (long : Bool) → AreBytes bytes → Passed bytes long → ItemFits (item_of bytes long)
+read_fits bytes long fits tests = record {
+  type_name = name_fits bytes long fits;
+  bits = bits_fit bytes long fits;
+  number = number_fits bytes long fits;
+  ports = tests.ports;
+  long = read_long bytes long tests;
+  bytes = front_bytes (data_length bytes long) (drop (descriptor_length long) bytes) (back_bytes (descriptor_length long) bytes fits);
+}
+
+-- items that are read fit, and are as long as the body
+pub record ItemsRead (body : List ℕ) (items : List Item) : Type 0 where
+  pub fit : AllFit items
+  pub long : length (items_text items) ≡ length body
+
+one_more_read : (bytes : List ℕ) (long : Bool) (items : List Item) → AreBytes bytes → Passed bytes long → ItemsRead (after_item bytes long) items → ItemsRead bytes (item_of bytes long ∷ items)
+one_more_read bytes long items fits tests rest = record {
+  fit = (read_fits bytes long fits tests, rest.fit);
+  long = length-append (item_text (item_of bytes long)) (items_text items)
+      ∙ omega (arith, item_length (item_of bytes long), read_long bytes long tests, rest.long, length-drop (descriptor_length long + data_length bytes long) bytes, tests.enough);
+}
+
+ok_of : {X Y : Type 0} (r : Result X KernReturn) (next : X → Result Y KernReturn) (y : Y) → and_then r next ≡ Ok y → (x : X) × (r ≡ Ok x) × (next x ≡ Ok y)
+ok_of (Ok x) next y is = (x, refl, is)
+ok_of (Err code) next y is = absurd (cc is)
+
+items_in : Result (List Item) KernReturn → List Item
+items_in (Ok items) = items
+items_in (Err code) = []
+
+pub same_items : (one other : List Item) → ◌≡◌ {A = Result (List Item) KernReturn} (Ok one) (Ok other) → one ≡ other
+unfolding items_in
+same_items one other e = ap items_in e
+
+within_read : (n : ℕ) (bytes : List ℕ) (items : List Item) → length bytes ≤ n → AreBytes bytes → items_within n bytes ≡ Ok items → ItemsRead bytes items
+within_read zero [] items few fits is = subst (ItemsRead []) (same_items [] items is) (record { fit = tt; long = refl })
+within_read zero (b ∷ bytes) items few fits is = absurd (omega (arith, few))
+within_read (suc n) [] items few fits is = subst (ItemsRead []) (same_items [] items is) (record { fit = tt; long = refl })
+within_read (suc n) (b ∷ bytes) items few fits is =
+    let text : List ℕ = b ∷ bytes in
+    let w : ℕ = little_number 4 text in
+    let long : Bool = is_long_form w in
+    let tests = passed_tests (tests_with w long text) (and_then (items_within n (after_item text long)) (λ items. Ok (item_of text long ∷ items))) items is in
+    let rest = ok_of (items_within n (after_item text long)) (λ items. Ok (item_of text long ∷ items)) items tests.1 in
+    let pass : Passed text long = passed w long text tests.0 in
+    let shorter : length (after_item text long) ≤ n = omega (arith, few, length-drop (descriptor_length long + data_length text long) text, at_least_four long) in
+    subst (ItemsRead text) (same_items (item_of text long ∷ rest.0) items rest.2)
+    (one_more_read text long rest.0 fits pass (within_read n (after_item text long) rest.0 shorter (back_bytes (descriptor_length long + data_length text long) text fits) rest.1))
+
+pub items_read : (body : List ℕ) (items : List Item) → AreBytes body → items_of body ≡ Ok items → ItemsRead body items
+unfolding items_of
+items_read body items fits is = within_read (length body) body items (omega arith) fits is

@@ -1,0 +1,135 @@
+// Laws over the definitions. Each is the contract of a function that does nothing, so that the check proves it.
+ghost use Rattle.ipc_laws.specs.StepsKeep.{OneRun, RunsKeepLawful, StepsKeepLawful};
+ghost use Rattle.ipc_laws.specs.EffectRanks.{EffectsKeepGrounded, SettledIsLawful};
+ghost use Rattle.ipc_laws.specs.EffectsKeep.{EffectsKeepLawful};
+ghost use Rattle.ipc_laws.specs.ImageLaws.{ImagesHaveOneText};
+ghost use Rattle.ipc_laws.specs.NameChanges.{NamesMoveLawfully};
+ghost use Rattle.ipc_laws.specs.OpeningLaws.{OpeningIsLawful};
+ghost use Rattle.ipc_laws.specs.OtherSpaces.{OthersFade, SpacesAreMade};
+ghost use Rattle.ipc_laws.specs.PortChanges.{PortMovesLawfully};
+ghost use Rattle.ipc_laws.specs.RecoveryLaws.{RecoversLawful, RecoversOnce, RecoversVersionOne, SpellsOnce};
+ghost use Rattle.ipc_laws.specs.Spelling.{LawfulIsSpellable};
+ghost use Rattle.ipc_laws.specs.Settling.{AlwaysSettles, EffectsLower};
+ghost use Rattle.ipc_laws.specs.TextLaws.{RecordsHaveOneText};
+ghost use Rattle.ipc_laws.specs.StepLaws.{OneEnd, OneNewState};
+ghost use Rattle.ipc_laws.specs.WorldLaws.{ToldWithinApplied};
+
+/// A reply shows each choice that the machine made: from a lawful state, a call of a task that is answered so
+/// leaves one state, sends and receipts too.
+pub fn one_new_state()
+    ensures { OneNewState }
+{}
+
+/// Each effect lowers the measure: carried reply and body rights, requests, live ports, and effects left.
+pub fn effects_lower()
+    ensures { EffectsLower }
+{}
+
+/// So every list of effects settles.
+pub fn always_settles()
+    ensures { AlwaysSettles }
+{}
+
+/// Effects settle in one state.
+pub fn one_end()
+    ensures { OneEnd }
+{}
+
+/// A step changes no name of a space that its caller isn't in, save that names of ports that die become dead
+/// names, and requests whose target's port dies go.
+pub fn others_fade()
+    ensures { OthersFade }
+{}
+
+/// A space comes by number 20 alone, and its reply names the one.
+pub fn spaces_are_made()
+    ensures { SpacesAreMade }
+{}
+
+/// The opening state is lawful and grounded.
+pub fn opening_is_lawful()
+    ensures { OpeningIsLawful }
+{}
+
+/// Each effect keeps a state lawful, where the rights that wait among the effects count as placed: each live port
+/// keeps its one receive right, and no right is left to a dead one.
+pub fn effects_keep_lawful()
+    ensures { EffectsKeepLawful }
+{}
+
+/// Each effect keeps a lawful state grounded: no ports come to carry one another in a circle.
+pub fn effects_keep_grounded()
+    ensures { EffectsKeepGrounded }
+{}
+
+/// So what effects settle in is lawful and grounded.
+pub fn settled_is_lawful()
+    ensures { SettledIsLawful }
+{}
+
+/// A change of a space's names keeps a state lawful with its effects, where rights only move between names and
+/// effects.
+pub fn names_move_lawfully()
+    ensures { NamesMoveLawfully }
+{}
+
+/// A change of what a live port keeps beside its rights keeps a state lawful with its effects, and grounded.
+pub fn port_moves_lawfully()
+    ensures { PortMovesLawfully }
+{}
+
+/// Every step keeps a state lawful and grounded, sends and receipts too.
+pub fn steps_keep_lawful()
+    ensures { StepsKeepLawful }
+{}
+
+/// So every run of records from a lawful and grounded state ends in one.
+pub fn runs_keep_lawful()
+    ensures { RunsKeepLawful }
+{}
+
+/// And it ends in one state: records determine the state that they lead to.
+pub fn one_run()
+    ensures { OneRun }
+{}
+
+/// A record has one text: what begins with the texts of two records begins with one record, of one number.
+pub fn record_once()
+    ensures { RecordsHaveOneText }
+{}
+
+/// An image has one text, of states whose numbers fit it: what begins with the texts of two states begins with one
+/// state.
+pub fn image_once()
+    ensures { ImagesHaveOneText }
+{}
+
+/// An image can spell every lawful state whose queues hold fewer than 2^32 messages.
+pub fn lawful_is_spellable()
+    ensures { LawfulIsSpellable }
+{}
+
+/// The slots of a store spell at most one base with one list of records.
+pub fn spells_once()
+    ensures { SpellsOnce }
+{}
+
+/// So one state at most is recovered from them,
+pub fn recovers_once()
+    ensures { RecoversOnce }
+{}
+
+/// it is lawful and grounded,
+pub fn recovers_lawful()
+    ensures { RecoversLawful }
+{}
+
+/// and no slot is of another version then.
+pub fn recovers_version_one()
+    ensures { RecoversVersionOne }
+{}
+
+/// Whatever events come after an opening, no more is told than was applied, and no more is stored.
+pub fn told_within_applied()
+    ensures { ToldWithinApplied }
+{}

@@ -1,5 +1,0 @@
-use Rattle.ipc_model.specs.NameChanges.{names_move_lawfully}
-use Rattle.ipc_model.proofs.laws.names_move_lawfully.Goals as goal
-
-pub returns : goal.returns
-returns c = names_move_lawfully

@@ -1,5 +1,0 @@
-use Rattle.ipc_model.specs.OpeningLaws.{opening_is_lawful}
-use Rattle.ipc_model.proofs.laws.opening_is_lawful.Goals as goal
-
-pub returns : goal.returns
-returns c = opening_is_lawful

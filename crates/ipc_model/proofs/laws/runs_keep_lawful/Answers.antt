@@ -1,5 +1,0 @@
-use Rattle.ipc_model.specs.StepsKeep.{runs_keep_lawful}
-use Rattle.ipc_model.proofs.laws.runs_keep_lawful.Goals as goal
-
-pub returns : goal.returns
-returns c = runs_keep_lawful

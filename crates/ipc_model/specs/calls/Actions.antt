@@ -1,0 +1,309 @@
+-- What each call on names and ports does that passes its tests: its answer, the state, and the effects that it sets off.
+-- (Kernel Interfaces, "Port Manipulation"; the calls on spaces are this server's.)
+use Rattle.std.specs.Prelude.{◌≡◌, ℕ, ◌+◌, ◌-◌, ◌^◌, ◌<◌, ◌≤◌, min, Bool, true, false, ◌==◌, ◌&&◌, not, nat_le, List, [], ◌∷◌, ◌++◌, length, map, filter, filter_map, flat_map, Option, None, Some, is_some, option_and_then, if◌then◌else◌}
+use Rattle.std.specs.FinMap as finmap
+use Rattle.codes.specs.declared.limits.TheConstants.{MAX_SPACES}
+use Rattle.codes.specs.declared.name.TheConstants.{MACH_PORT_NULL}
+use Rattle.codes.specs.declared.right.Right.TheVariants as right
+use Rattle.ipc_model.specs.declared.call.Call.{Call}
+use Rattle.ipc_model.specs.declared.call.Call.TheVariants as call
+use Rattle.ipc_model.specs.declared.call.Reply.{Reply}
+use Rattle.ipc_model.specs.declared.call.Reply.TheVariants as reply
+use Rattle.ipc_model.specs.declared.call.ReceiveStatus.{ReceiveStatus}
+use Rattle.ipc_model.specs.declared.entry.Entry.{Entry}
+use Rattle.ipc_model.specs.declared.entry.Entry.TheVariants.{Port, SendOnce, Set, Dead}
+use Rattle.ipc_model.specs.declared.entry.PortRights.{PortRights}
+use Rattle.ipc_model.specs.declared.message.RightKind.TheVariants as kind
+use Rattle.ipc_model.specs.declared.port.PortState.{PortState}
+use Rattle.ipc_model.specs.rights.CopyIn.{Taken, copy_in, with_left, notices_of_left}
+use Rattle.ipc_model.specs.rights.CopyOut.{MayArrive, names_after}
+use Rattle.ipc_model.specs.rights.Dispositions.{disposition_of}
+use Rattle.ipc_model.specs.effects.Effects.{Effect, release, notify, port_deleted}
+use Rattle.ipc_model.specs.messages.Notices as notice
+use Rattle.ipc_model.specs.state.Placed.{send_count, send_once_count}
+use Rattle.ipc_model.specs.calls.PortCalls.{is_right, references_of, sum_of, minus_one, notify_disposition, target_under, names_in}
+use Rattle.ipc_model.specs.messages.Sending.{live_port}
+use Rattle.ipc_model.specs.state.State.{State, Names, IsUnused, type_of, new_port, with_names, with_entry, without_name, with_port, received_port, is_member, members_of, entry_at}
+
+-- an answer, the state after the call itself, and the effects that it sets off, in their order
+pub record Action : Type 0 where
+  pub answer : Reply
+  pub state : State
+  pub effects : List Effect
+
+-- nothing changes
+abbrev pub only : State → Reply → Action
+only state answer = record { answer = answer; state = state; effects = [] }
+
+-- the call of this number is done, and has no results
+abbrev pub done : ℕ → State → List Effect → Action
+done number state effects = record { answer = reply.Done number; state = state; effects = effects }
+
+-- every member of a set in a space gets this set's name, or none
+abbrev pub serials_of_members : State → Names → ℕ → List ℕ
+serials_of_members state names set = filter_map (λ e. received_port e.1) (filter (λ e. is_member state set e.1) (finmap.entries names))
+
+abbrev pub with_ports : State → List ℕ → (PortState → PortState) → State
+with_ports state [] change = state
+with_ports state (serial ∷ serials) change = with_ports (with_port state serial change) serials change
+
+abbrev pub members_in : State → Names → ℕ → Option ℕ → State
+members_in state names set other = with_ports state (serials_of_members state names set) (λ port. record port { set = other })
+
+-- a set that goes, or gets another name, takes its members out, or along
+abbrev pub members_moved : State → Names → ℕ → Option ℕ → Entry → State
+members_moved state names set other (Port rights) = state
+members_moved state names set other (SendOnce port target) = state
+members_moved state names set other Set = members_in state names set other
+members_moved state names set other (Dead references) = state
+
+abbrev pub renamed : State → ℕ → Names → ℕ → ℕ → Entry → State
+renamed state space names from to entry = with_names (members_moved state names from (Some to) entry) space (finmap.insert (finmap.remove names from) to entry)
+
+-- what a new name of a right's number stands for; a new port gets the next serial
+abbrev pub allocated_entry : ℕ → ℕ → Entry
+allocated_entry serial kind =
+    if is_right kind right.Receive then Port (record { port = serial; receive = true; send = 0; dead_name_target = None })
+    else if is_right kind right.PortSet then Set
+    else Dead 1
+
+abbrev pub allocated : State → ℕ → Names → ℕ → ℕ → State
+allocated state space names kind name =
+    let named : State = with_names state space (finmap.insert names name (allocated_entry state.next kind)) in
+    if is_right kind right.Receive then record named { ports = finmap.insert state.ports state.next new_port; next = state.next + 1 } else named
+
+-- the releases of all that a name stands for, and its port-deleted notice
+abbrev pub release_if : Bool → Effect → List Effect
+release_if b effect = if b then effect ∷ [] else []
+
+abbrev pub effects_of_name : ℕ → Entry → List Effect
+effects_of_name name (Port rights) =
+    release_if (not (rights.send == 0)) (release kind.Send rights.port) ++ (release_if rights.receive (release kind.Receive rights.port) ++ port_deleted name rights.dead_name_target)
+effects_of_name name (SendOnce port target) = release kind.SendOnce port ∷ port_deleted name target
+effects_of_name name Set = []
+effects_of_name name (Dead references) = []
+
+abbrev pub destroyed : State → ℕ → Names → ℕ → Entry → Action
+destroyed state space names name entry =
+    done 6 (with_names (members_moved state names name None entry) space (finmap.remove names name)) (effects_of_name name entry)
+
+-- A right's references under a name become this many; where none are left the right goes.
+abbrev pub send_left : State → ℕ → ℕ → PortRights → ℕ → ℕ → Action
+send_left state space name rights left number =
+    let entry : Entry = Port (record rights { send = left }) in
+    done number (with_left state space name entry) (release_if (left == 0) (release kind.Send rights.port) ++ notices_of_left name entry)
+
+abbrev pub dead_left : State → ℕ → ℕ → ℕ → ℕ → Action
+dead_left state space name left number = done number (with_left state space name (Dead left)) []
+
+abbrev pub receive_gone : State → ℕ → ℕ → PortRights → Action
+receive_gone state space name rights =
+    let entry : Entry = Port (record rights { receive = false }) in
+    done 9 (with_left state space name entry) (release kind.Receive rights.port ∷ notices_of_left name entry)
+
+abbrev pub send_once_gone : State → ℕ → ℕ → ℕ → Option ℕ → ℕ → Action
+send_once_gone state space name port target number = done number (without_name state space name) (release kind.SendOnce port ∷ port_deleted name target)
+
+-- mach_port_deallocate: one reference less of a send right, a send-once right or a dead name
+abbrev pub deallocated : State → ℕ → Names → ℕ → Entry → Action
+deallocated state space names name (Port rights) = send_left state space name rights (rights.send - 1) 7
+deallocated state space names name (SendOnce port target) = send_once_gone state space name port target 7
+deallocated state space names name Set = done 7 state []
+deallocated state space names name (Dead references) = dead_left state space name (references - 1) 7
+
+-- mach_port_mod_refs. With a delta of 0 nothing changes.
+abbrev pub modified_port : State → ℕ → ℕ → PortRights → ℕ → ℕ → Action
+modified_port state space name rights kind delta =
+    if is_right kind right.Send then send_left state space name rights (sum_of rights.send delta) 9
+    else if delta == minus_one then receive_gone state space name rights
+    else done 9 state []
+
+abbrev pub modified : State → ℕ → Names → ℕ → Entry → ℕ → ℕ → Action
+modified state space names name (Port rights) kind delta = modified_port state space name rights kind delta
+modified state space names name (SendOnce port target) kind delta = if delta == minus_one then send_once_gone state space name port target 9 else done 9 state []
+modified state space names name Set kind delta =
+    if delta == minus_one then done 9 (with_names (members_in state names name None) space (finmap.remove names name)) [] else done 9 state []
+modified state space names name (Dead references) kind delta = dead_left state space name (sum_of references delta) 9
+
+-- a change of what the port keeps whose receive right a name holds
+abbrev pub with_received : State → Entry → (PortState → PortState) → State
+with_received state entry change = elim (received_port entry) as (λ _. State) [ None ↦ state | Some serial ↦ with_port state serial change ]
+
+-- mach_port_get_receive_status
+abbrev pub name_or_null : Option ℕ → ℕ
+name_or_null None = MACH_PORT_NULL
+name_or_null (Some name) = name
+
+abbrev pub status_of : State → ℕ → PortState → ReceiveStatus
+status_of state serial port = record {
+  set = name_or_null port.set;
+  sequence_number = port.sequence_number;
+  make_send_count = port.make_send_count;
+  limit = port.limit;
+  messages = length port.messages;
+  send_once_count = min (2 ^ 32 - 1) (send_once_count state serial);
+  has_senders = not (send_count state serial == 0);
+  has_port_destroyed_request = is_some port.port_destroyed_target;
+  has_no_senders_request = is_some port.no_senders_target;
+}
+
+-- mach_port_move_member: into another set, or out of the one that it is in
+abbrev pub set_named : ℕ → Option ℕ
+set_named name = if name == MACH_PORT_NULL then None else Some name
+
+-- Requests for notifications. The target is a send-once right that was copied in, or none where the request is cancelled.
+
+-- the port has no send right, and as many were made as the task knows of, or more
+abbrev pub lacks_senders : State → ℕ → ℕ → Bool
+lacks_senders state sync serial =
+    elim (finmap.get state.ports serial) as (λ _. Bool) [ None ↦ false | Some port ↦ send_count state serial == 0 && nat_le sync port.make_send_count ]
+
+abbrev pub make_send_count_of : State → ℕ → ℕ
+make_send_count_of state serial = elim (finmap.get state.ports serial) as (λ _. ℕ) [ None ↦ 0 | Some port ↦ port.make_send_count ]
+
+-- A request on a port: it is kept, or answered at once and not kept.
+abbrev pub port_request_set : State → ℕ → ℕ → ℕ → Option ℕ → State × List Effect
+port_request_set state variant sync serial None =
+    (with_port state serial (λ port. if variant == 69 then record port { port_destroyed_target = None } else record port { no_senders_target = None }), [])
+port_request_set state variant sync serial (Some target) =
+    if variant == 69 then (with_port state serial (λ port. record port { port_destroyed_target = Some target }), [])
+    else if lacks_senders state sync serial
+    then (with_port state serial (λ port. record port { no_senders_target = None }), notify target (notice.NoSenders (make_send_count_of state serial)) ∷ [])
+    else (with_port state serial (λ port. record port { no_senders_target = Some target }), [])
+
+-- A dead-name request: kept with the name; of a dead name the notice goes out at once, and the name has a reference more.
+abbrev pub dead_name_request_set : State → ℕ → ℕ → Option ℕ → Entry → State × List Effect
+dead_name_request_set state space name target (Port rights) = (with_entry state space name (Port (record rights { dead_name_target = target })), [])
+dead_name_request_set state space name target (SendOnce port former) = (with_entry state space name (SendOnce port target), [])
+dead_name_request_set state space name target Set = (state, [])
+dead_name_request_set state space name None (Dead references) = (state, [])
+dead_name_request_set state space name (Some target) (Dead references) = (with_entry state space name (Dead (references + 1)), notify target (notice.DeadName name) ∷ [])
+
+abbrev pub request_set : State → ℕ → ℕ → ℕ → ℕ → Option ℕ → Entry → State × List Effect
+request_set state space name variant sync target entry =
+    if variant == 72 then dead_name_request_set state space name target entry
+    else elim (received_port entry) as (λ _. State × List Effect) [ None ↦ (state, []) | Some serial ↦ port_request_set state variant sync serial target ]
+
+abbrev pub request_set_under : State → ℕ → ℕ → ℕ → ℕ → Option ℕ → State × List Effect
+request_set_under state space name variant sync target =
+    elim (entry_at state space name) as (λ _. State × List Effect) [ None ↦ (state, []) | Some entry ↦ request_set state space name variant sync target entry ]
+
+-- The former target comes back as a send-once right under a new name, which the answer shows; 0 where there was none.
+abbrev pub GivesBack : State → ℕ → Option ℕ → ℕ → State → Type 0
+GivesBack state space None name new = (name ≡ MACH_PORT_NULL) × (new ≡ state)
+GivesBack state space (Some former) name new = IsUnused (names_in state space) name × (new ≡ with_entry state space name (SendOnce former None))
+
+-- what was copied in for a request: the target's port, the state after it, and notices
+pub record TakenTarget : Type 0 where
+  pub target : Option ℕ
+  pub state : State
+  pub notices : List Effect
+
+abbrev pub taken_target : State → Option Taken → TakenTarget
+taken_target state None = record { target = None; state = state; notices = [] }
+taken_target state (Some taken) = record { target = live_port taken.right.port; state = taken.state; notices = taken.notices }
+
+abbrev pub target_for : State → ℕ → ℕ → ℕ → TakenTarget
+target_for state space notify_name disposition =
+    if notify_name == MACH_PORT_NULL then taken_target state None
+    else taken_target state (option_and_then (copy_in state space notify_name) (notify_disposition disposition))
+
+abbrev pub Requested : State → ℕ → ℕ → ℕ → ℕ → TakenTarget → Reply → State → List Effect → Type 0
+Requested old space name variant sync taken answer new effects =
+    let former : Option ℕ = target_under taken.state (names_in taken.state space) variant name in
+    let after : State × List Effect = request_set_under taken.state space name variant sync taken.target in
+    (given : ℕ) × (answer ≡ reply.PreviousTarget given) × GivesBack after.0 space former given new × (effects ≡ taken.notices ++ after.1)
+
+-- A right that was copied in comes out in a space under a name.
+abbrev pub ComesOut : Option Taken → ℕ → ℕ → State → List Effect → Type 0
+ComesOut None space name new effects = ⊥
+ComesOut (Some taken) space name new effects =
+    MayArrive (names_in taken.state space) taken.right.kind taken.right.port name
+    × (new ≡ with_names taken.state space (names_after (names_in taken.state space) taken.right.kind taken.right.port name)) × (effects ≡ taken.notices)
+
+abbrev pub taken_by : State → ℕ → ℕ → ℕ → Option Taken
+taken_by state space name disposition = option_and_then (copy_in state space name) (disposition_of disposition)
+
+-- mach_port_insert_right: the task chooses the name
+abbrev pub Inserted : Option Taken → ℕ → ℕ → State → List Effect → Type 0
+Inserted None space name new effects = ⊥
+Inserted (Some taken) space name new effects =
+    (new ≡ with_names taken.state space (names_after (names_in taken.state space) taken.right.kind taken.right.port name)) × (effects ≡ taken.notices)
+
+-- mach_port_extract_right: the right comes out under its port's name, or a new one
+abbrev pub Extracted : Option Taken → ℕ → Reply → State → List Effect → Type 0
+Extracted None space answer new effects = ⊥
+Extracted (Some taken) space answer new effects = (name : ℕ) × (answer ≡ reply.Extracted name taken.right.kind) × ComesOut (Some taken) space name new effects
+
+-- a space's number: from 1 to the greatest number of spaces, and not in use
+pub record IsUnusedSpace (state : State) (space : ℕ) : Type 0 where
+  pub least : 0 < space
+  pub greatest : space ≤ MAX_SPACES
+  pub free : finmap.get state.spaces space ≡ None
+
+-- A new space, whose one name holds the right.
+abbrev pub Created : Option Taken → Reply → State → List Effect → Type 0
+Created None answer new effects = ⊥
+Created (Some taken) answer new effects =
+    (number : ℕ) × (name : ℕ) × IsUnusedSpace taken.state number × (answer ≡ reply.SpaceCreated number name)
+    × MayArrive finmap.empty taken.right.kind taken.right.port name
+    × (new ≡ with_names taken.state number (names_after finmap.empty taken.right.kind taken.right.port name)) × (effects ≡ taken.notices)
+
+-- A space goes with all its names, rising, and its sets with it.
+abbrev pub received_serials : Names → List ℕ
+received_serials names = filter_map (λ e. received_port e.1) (finmap.entries names)
+
+abbrev pub space_destroyed : State → ℕ → Names → Action
+space_destroyed state space names =
+    let outside : State = with_ports state (received_serials names) (λ port. record port { set = None }) in
+    done 21 (record outside { spaces = finmap.remove state.spaces space }) (flat_map (λ e. effects_of_name e.0 e.1) (finmap.entries names))
+
+-- an action, where the name is in use
+abbrev pub Acts : Action → Reply → State → List Effect → Type 0
+Acts action answer new effects = (answer ≡ action.answer) × (new ≡ action.state) × (effects ≡ action.effects)
+
+abbrev pub ActsOn : Option Entry → (Entry → Action) → Reply → State → List Effect → Type 0
+ActsOn None action answer new effects = ⊥
+ActsOn (Some entry) action answer new effects = Acts (action entry) answer new effects
+
+abbrev pub status_action : State → Option PortState → ℕ → Action
+status_action state None serial = done 13 state []
+status_action state (Some port) serial = only state (reply.ReceiveStatus (status_of state serial port))
+
+abbrev pub status_action_of : State → Option ℕ → Action
+status_action_of state None = done 13 state []
+status_action_of state (Some serial) = status_action state (finmap.get state.ports serial) serial
+
+-- What a call on names and ports may answer that passes its tests, the state after it, and the effects that it sets off.
+unfoldable pub Done : State → ℕ → Names → Call → Reply → State → List Effect → Type 0
+Done old space names (call.Attach other) answer new effects = Acts (done 0 old []) answer new effects
+Done old space names call.Names answer new effects =
+    Acts (only old (reply.Names (map (λ e. record { name = e.0; bits = type_of e.1 }) (finmap.entries names)))) answer new effects
+Done old space names (call.Type name) answer new effects = ActsOn (finmap.get names name) (λ entry. only old (reply.Type (type_of entry))) answer new effects
+Done old space names (call.Rename from to) answer new effects = ActsOn (finmap.get names from) (λ entry. done 3 (renamed old space names from to entry) []) answer new effects
+Done old space names (call.AllocateName kind name) answer new effects = Acts (done 4 (allocated old space names kind name) []) answer new effects
+Done old space names (call.Allocate kind) answer new effects =
+    (name : ℕ) × IsUnused names name × (answer ≡ reply.Allocate name) × (new ≡ allocated old space names kind name) × (effects ≡ [])
+Done old space names (call.Destroy name) answer new effects = ActsOn (finmap.get names name) (destroyed old space names name) answer new effects
+Done old space names (call.Deallocate name) answer new effects = ActsOn (finmap.get names name) (deallocated old space names name) answer new effects
+Done old space names (call.GetRefs name kind) answer new effects = ActsOn (finmap.get names name) (λ entry. only old (reply.References (references_of kind entry))) answer new effects
+Done old space names (call.ModRefs name kind delta) answer new effects = ActsOn (finmap.get names name) (λ entry. modified old space names name entry kind delta) answer new effects
+Done old space names (call.SetQlimit name limit) answer new effects =
+    ActsOn (finmap.get names name) (λ entry. done 10 (with_received old entry (λ port. record port { limit = limit })) []) answer new effects
+Done old space names (call.SetMscount name count) answer new effects =
+    ActsOn (finmap.get names name) (λ entry. done 11 (with_received old entry (λ port. record port { make_send_count = count })) []) answer new effects
+Done old space names (call.SetSeqno name seqno) answer new effects =
+    ActsOn (finmap.get names name) (λ entry. done 12 (with_received old entry (λ port. record port { sequence_number = seqno })) []) answer new effects
+Done old space names (call.GetReceiveStatus name) answer new effects = ActsOn (finmap.get names name) (λ entry. status_action_of old (received_port entry)) answer new effects
+Done old space names (call.GetSetStatus name) answer new effects = Acts (only old (reply.SetStatus (members_of old names name))) answer new effects
+Done old space names (call.MoveMember member after) answer new effects =
+    ActsOn (finmap.get names member) (λ entry. done 15 (with_received old entry (λ port. record port { set = set_named after })) []) answer new effects
+Done old space names (call.RequestNotification name variant sync notify_name disposition) answer new effects =
+    Requested old space name variant sync (target_for old space notify_name disposition) answer new effects
+Done old space names (call.InsertRight name right_name disposition) answer new effects =
+    (answer ≡ reply.Done 17) × Inserted (taken_by old space right_name disposition) space name new effects
+Done old space names (call.ExtractRight name disposition) answer new effects = Extracted (taken_by old space name disposition) space answer new effects
+Done old space names (call.Send message) answer new effects = ⊥
+Done old space names (call.Receive limit large name waited) answer new effects = ⊥
+Done old space names (call.SpaceCreate name disposition) answer new effects = Created (taken_by old space name disposition) answer new effects
+Done old space names call.SpaceDestroy answer new effects = Acts (space_destroyed old space names) answer new effects

@@ -1,0 +1,114 @@
+-- The machine: what each call may answer, and the state that it leaves.
+-- (Kernel Interfaces, mach_msg and "Port Manipulation".)
+use Rattle.std.specs.Prelude.{◌≡◌, ℕ, Bool, true, false, ◌&&◌, ◌||◌, List, [], ◌∷◌, Option, None, Some, MatchOption, MatchResult}
+use Rattle.std.specs.FinMap as finmap
+use Rattle.codes.specs.declared.kern_return.KernReturn.{KernReturn}
+use Rattle.codes.specs.declared.kern_return.KernReturn.TheVariants.{Success, InvalidTask, RcvTooLarge}
+use Rattle.codes.specs.declared.name.TheConstants.{MACH_PORT_NULL}
+use Rattle.ipc_model.specs.declared.call.Call.{Call}
+use Rattle.ipc_model.specs.declared.call.Call.TheVariants as call
+use Rattle.ipc_model.specs.declared.call.Reply.{Reply}
+use Rattle.ipc_model.specs.declared.call.Reply.TheVariants as reply
+use Rattle.ipc_model.specs.declared.record.Record.{Record}
+use Rattle.ipc_model.specs.calls.Actions.{Done}
+use Rattle.ipc_model.specs.effects.Effects.{Effect, Settles}
+use Rattle.ipc_model.specs.calls.PortCalls.{tests_of}
+use Rattle.ipc_model.specs.messages.Receiving.{Receives, without_message}
+use Rattle.ipc_model.specs.messages.Sending.{Ready, ready_to_send, sent}
+use Rattle.ipc_model.specs.state.State.{State, Names}
+use Rattle.ipc_model.specs.calls.Tests.{first_failing}
+
+-- the number of a call in its frame
+abbrev pub number_of_call : Call → ℕ
+number_of_call (call.Attach space) = 0
+number_of_call call.Names = 1
+number_of_call (call.Type name) = 2
+number_of_call (call.Rename from to) = 3
+number_of_call (call.AllocateName kind name) = 4
+number_of_call (call.Allocate kind) = 5
+number_of_call (call.Destroy name) = 6
+number_of_call (call.Deallocate name) = 7
+number_of_call (call.GetRefs name kind) = 8
+number_of_call (call.ModRefs name kind delta) = 9
+number_of_call (call.SetQlimit name limit) = 10
+number_of_call (call.SetMscount name count) = 11
+number_of_call (call.SetSeqno name seqno) = 12
+number_of_call (call.GetReceiveStatus name) = 13
+number_of_call (call.GetSetStatus name) = 14
+number_of_call (call.MoveMember member after) = 15
+number_of_call (call.RequestNotification name variant sync notify_name disposition) = 16
+number_of_call (call.InsertRight name right_name disposition) = 17
+number_of_call (call.ExtractRight name disposition) = 18
+number_of_call (call.Send message) = 19
+number_of_call (call.Receive limit large name waited) = 19
+number_of_call (call.SpaceCreate name disposition) = 20
+number_of_call call.SpaceDestroy = 21
+
+-- how a call is refused; mach_msg shows its results in any case
+abbrev pub refused : Call → KernReturn → Reply
+refused (call.Send message) code = without_message code 0 MACH_PORT_NULL
+refused (call.Receive limit large name waited) code = without_message code 0 MACH_PORT_NULL
+refused c code = reply.Refused (number_of_call c) code
+
+-- A call's own action, without the effects that it sets off: refused, it answers the code and changes nothing.
+abbrev pub ActsIn : State → ℕ → Names → Call → Reply → State → List Effect → Type 0
+ActsIn old space names (call.Send message) answer new effects =
+    MatchResult (ready_to_send old space message)
+    (λ (ready : Ready). (answer ≡ without_message Success 0 MACH_PORT_NULL) × (new ≡ (sent ready).0) × (effects ≡ (sent ready).1))
+    (λ code. (answer ≡ without_message code 0 MACH_PORT_NULL) × (new ≡ old) × (effects ≡ []))
+ActsIn old space names (call.Receive limit large name waited) answer new effects =
+    Receives old space names (record { limit = limit; large = large; name = name; waited = waited }) answer new effects
+ActsIn old space names c answer new effects =
+    MatchOption (first_failing (tests_of old space names c)) (Done old space names c answer new effects)
+    (λ code. (answer ≡ reply.Refused (number_of_call c) code) × (new ≡ old) × (effects ≡ []))
+
+-- A caller whose space is gone is refused before all else.
+abbrev pub ActsFrom : State → ℕ → Option Names → Call → Reply → State → List Effect → Type 0
+ActsFrom old space None c answer new effects = (answer ≡ refused c InvalidTask) × (new ≡ old) × (effects ≡ [])
+ActsFrom old space (Some names) c answer new effects = ActsIn old space names c answer new effects
+
+-- A step of the machine: this call of a task of this space may answer so, and leaves this state once its effects have settled.
+unfoldable pub Step : State → ℕ → Call → Reply → State → Type 0
+Step old space c answer new =
+    (acted : State) × (effects : List Effect) × ActsFrom old space (finmap.get old.spaces space) c answer acted effects × Settles acted effects new
+
+-- a step that leaves the state as it is
+abbrev pub Answer : State → ℕ → Call → Reply → Type 0
+Answer state space c answer = Step state space c answer state
+
+-- Whether a call of this number can have a record: it may change the state.
+abbrev pub is_recorded : Call → Bool
+is_recorded (call.Attach space) = false
+is_recorded call.Names = false
+is_recorded (call.Type name) = false
+is_recorded (call.GetRefs name kind) = false
+is_recorded (call.GetReceiveStatus name) = false
+is_recorded (call.GetSetStatus name) = false
+is_recorded c = true
+
+abbrev pub is_success : KernReturn → Bool
+is_success Success = true
+is_success _ = false
+
+-- a receipt that didn't ask for the contrary has destroyed a message that was too large
+abbrev pub has_destroyed : Call → KernReturn → Bool
+has_destroyed (call.Receive limit false name waited) RcvTooLarge = true
+has_destroyed _ _ = false
+
+abbrev pub succeeded : Call → Reply → Bool
+succeeded c (reply.Refused number code) = false
+succeeded c (reply.Message code size member message) = is_success code
+succeeded c answer = true
+
+abbrev pub destroyed_message : Call → Reply → Bool
+destroyed_message c (reply.Message code size member message) = has_destroyed c code
+destroyed_message c answer = false
+
+-- Whether an answered call has a record: it may change the state and has code 0, or it is a receipt that destroyed a message.
+abbrev pub has_record : Call → Reply → Bool
+has_record c answer = is_recorded c && (succeeded c answer || destroyed_message c answer)
+
+-- the machine goes from old to new by these records, each a step
+abbrev pub Run : State → List Record → State → Type 0
+Run old [] new = new ≡ old
+Run old (first ∷ records) new = (mid : State) × Step old first.space first.call first.reply mid × Run mid records new

@@ -1,0 +1,2 @@
+-- What rights that go set off.
+pub mod Effects

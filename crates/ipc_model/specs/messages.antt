@@ -1,0 +1,6 @@
+-- Messages and their items in bytes, notices, sends and receipts.
+pub mod Items
+pub mod Messages
+pub mod Notices
+pub mod Receiving
+pub mod Sending

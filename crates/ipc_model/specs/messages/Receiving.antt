@@ -1,0 +1,176 @@
+-- Receiving a message. (Kernel Interfaces, mach_msg, MACH_RCV_MSG.)
+use Rattle.std.specs.Prelude.{◌≡◌, ℕ, ◌+◌, ◌*◌, ◌^◌, Bool, true, false, nat_lt, List, [], ◌∷◌, ◌++◌, length, drop, Contains, Option, None, Some, is_some, MatchOption, MatchBool, if◌then◌else◌}
+use Rattle.std.specs.FinMap as finmap
+use Rattle.codes.specs.declared.kern_return.KernReturn.{KernReturn}
+use Rattle.codes.specs.declared.kern_return.KernReturn.TheVariants.{Success, RcvInvalidName, RcvTimedOut, RcvTooLarge, RcvPortChanged, RcvPortDied, RcvInSet, RcvHeaderErrorSpace}
+use Rattle.codes.specs.declared.limits.TheConstants.{MAX_NAMES}
+use Rattle.codes.specs.declared.name.TheConstants.{MACH_PORT_NULL}
+use Rattle.ipc_model.specs.declared.call.Reply.{Reply}
+use Rattle.ipc_model.specs.declared.call.Reply.TheVariants as reply
+use Rattle.ipc_model.specs.declared.entry.Entry.{Entry}
+use Rattle.ipc_model.specs.declared.entry.Entry.TheVariants.{Port, SendOnce, Set, Dead}
+use Rattle.ipc_model.specs.declared.message.CarriedRight.{CarriedRight}
+use Rattle.ipc_model.specs.declared.message.Message.{Message}
+use Rattle.ipc_model.specs.declared.message.RightKind.{RightKind}
+use Rattle.ipc_model.specs.declared.message.RightKind.TheVariants as kind
+use Rattle.ipc_model.specs.declared.port.PortState.{PortState}
+use Rattle.ipc_model.specs.rights.CopyOut.{Arrives, names_wanted}
+use Rattle.ipc_model.specs.rights.Dispositions.{number_of_kind}
+use Rattle.ipc_model.specs.effects.Effects.{Effect, release, releases_of}
+use Rattle.ipc_model.specs.messages.Items.{items_of, body_filled}
+use Rattle.ipc_model.specs.messages.Messages.{header_length, complex_bit, message_text}
+use Rattle.ipc_model.specs.state.State.{State, Names, next_count, members_of, received_port, with_port, with_names}
+
+-- the arguments of a receipt
+pub record Receipt : Type 0 where
+  pub limit : ℕ
+  pub large : Bool
+  pub name : ℕ
+  pub waited : Bool
+
+abbrev pub message_size : Message → ℕ
+message_size message = header_length + length message.body
+
+-- the names of the ports from which a name may receive: itself where it holds a receive right, or the members of a set
+abbrev pub sources_of_port : ℕ → Bool → Option (List ℕ)
+sources_of_port name receive = if receive then Some (name ∷ []) else None
+
+abbrev pub sources : State → Names → ℕ → Option Entry → Option (List ℕ)
+sources state names name None = None
+sources state names name (Some (Port rights)) = sources_of_port name rights.receive
+sources state names name (Some (SendOnce port target)) = None
+sources state names name (Some Set) = Some (members_of state names name)
+sources state names name (Some (Dead references)) = None
+
+-- the port whose receive right a name holds
+abbrev pub port_under : State → Names → ℕ → Option PortState
+port_under state names name = elim (finmap.get names name) as (λ _. Option PortState) [
+  | None ↦ None
+  | Some entry ↦ elim (received_port entry) as (λ _. Option PortState) [ None ↦ None | Some serial ↦ finmap.get state.ports serial ]
+]
+
+-- the message that the port under a name would give next
+abbrev pub oldest : List Message → Option Message
+oldest [] = None
+oldest (message ∷ messages) = Some message
+
+abbrev pub oldest_under : State → Names → ℕ → Option Message
+oldest_under state names name = elim (port_under state names name) as (λ _. Option Message) [ None ↦ None | Some port ↦ oldest port.messages ]
+
+-- a port that is in a set gives messages through the set alone
+abbrev pub is_in_set : State → Names → ℕ → Bool
+is_in_set state names name = elim (port_under state names name) as (λ _. Bool) [ None ↦ false | Some port ↦ is_some port.set ]
+
+-- no port among these has a message
+abbrev pub all_empty : State → Names → List ℕ → Bool
+all_empty state names [] = true
+all_empty state names (name ∷ others) = if is_some (oldest_under state names name) then false else all_empty state names others
+
+-- The code that an attempt is refused with before a message is looked at; after a wait the name or the set may have changed.
+abbrev pub refusal_of_sources : State → Names → Receipt → Option (List ℕ) → Option KernReturn
+refusal_of_sources state names receipt None = Some (if receipt.waited then RcvPortDied else RcvInvalidName)
+refusal_of_sources state names receipt (Some among) =
+    if is_in_set state names receipt.name then Some (if receipt.waited then RcvPortChanged else RcvInSet)
+    else if all_empty state names among then Some RcvTimedOut
+    else None
+
+abbrev pub receive_refusal : State → Names → Receipt → Option KernReturn
+receive_refusal state names receipt = refusal_of_sources state names receipt (sources state names receipt.name (finmap.get names receipt.name))
+
+-- the state without a port's oldest message, and its next sequence number
+abbrev pub without_oldest : State → ℕ → State
+without_oldest state serial = with_port state serial (λ port. record port { messages = drop 1 port.messages; sequence_number = next_count port.sequence_number })
+
+-- The destination right of a message that was taken out is consumed: a send right is released, a send-once right vanishes.
+abbrev pub destination_consumed : RightKind → ℕ → List Effect
+destination_consumed kind.Receive serial = []
+destination_consumed kind.Send serial = release kind.Send serial ∷ []
+destination_consumed kind.SendOnce serial = []
+
+-- the rights that arrive: the reply right first, and then those of the body
+abbrev pub reply_right : Option CarriedRight → List CarriedRight
+reply_right None = []
+reply_right (Some right) = right ∷ []
+
+abbrev pub arriving : Message → List CarriedRight
+arriving message = reply_right message.reply ++ message.rights
+
+-- the bits as received: the kind of the reply right, that of the destination, and whether the body has ports
+abbrev pub reply_kind_number : Option CarriedRight → ℕ
+reply_kind_number None = 0
+reply_kind_number (Some right) = number_of_kind right.kind
+
+abbrev pub received_bits : Message → ℕ
+received_bits message = reply_kind_number message.reply + number_of_kind message.destination * 2 ^ 8 + complex_bit message.complex
+
+-- the reply right's name among the given ones, and those of the body
+abbrev pub first_name : List ℕ → ℕ
+first_name [] = MACH_PORT_NULL
+first_name (name ∷ names) = name
+
+abbrev pub reply_name : Option CarriedRight → List ℕ → ℕ
+reply_name None given = MACH_PORT_NULL
+reply_name (Some right) given = first_name given
+
+abbrev pub body_names : Option CarriedRight → List ℕ → List ℕ
+body_names None given = given
+body_names (Some right) given = drop 1 given
+
+-- a body's bytes as received: names stand in the places of its ports
+abbrev pub received_body : Message → List ℕ → List ℕ
+received_body message names = if message.complex then body_filled (items_of message.body) message.body names else message.body
+
+-- A message as received under the name `member` of its port, where its rights got these names.
+abbrev pub received_text : Message → ℕ → ℕ → List ℕ → List ℕ
+received_text message member sequence_number given =
+    message_text (received_bits message) (reply_name message.reply given) member sequence_number message.id (received_body message (body_names message.reply given))
+
+-- the reply where no message is received: a code, and the size and port's name of a message that is told of
+abbrev pub without_message : KernReturn → ℕ → ℕ → Reply
+without_message code size member = reply.Message code size member []
+
+-- A message that is larger than the limit: it stays, where the receiver asked for that; else it is taken out and
+-- destroyed, which releases its destination, its reply right and the rights of its body, in this order.
+abbrev pub TooLarge : State → ℕ → ℕ → Message → Bool → Reply → State → List Effect → Type 0
+TooLarge old member serial message large answer new effects =
+    (answer ≡ without_message RcvTooLarge (message_size message) member)
+    × (new ≡ (if large then old else without_oldest old serial))
+    × (effects ≡ (if large then [] else destination_consumed message.destination serial ++ releases_of message))
+
+-- A message is received: its rights get names in the receiver's space, and its destination right is consumed.
+abbrev pub Received : State → ℕ → Names → ℕ → ℕ → PortState → Message → Reply → State → List Effect → Type 0
+Received old space names member serial port message answer new effects =
+    (given : List ℕ) × (after : Names) × Arrives names (arriving message) given after
+    × (answer ≡ reply.Message Success (message_size message) member (received_text message member port.sequence_number given))
+    × (new ≡ with_names (without_oldest old serial) space after)
+    × (effects ≡ destination_consumed message.destination serial)
+
+-- more new names are wanted than the space has left
+abbrev pub lacks_names : Names → Message → Bool
+lacks_names names message = nat_lt MAX_NAMES (finmap.len names + names_wanted names [] (arriving message))
+
+abbrev pub TakesOut : State → ℕ → Names → Receipt → ℕ → ℕ → PortState → Message → Reply → State → List Effect → Type 0
+TakesOut old space names receipt member serial port message answer new effects =
+    MatchBool (nat_lt receipt.limit (message_size message))
+    (TooLarge old member serial message receipt.large answer new effects)
+    (MatchBool (lacks_names names message)
+    ((answer ≡ without_message RcvHeaderErrorSpace 0 MACH_PORT_NULL) × (new ≡ old) × (effects ≡ []))
+    (Received old space names member serial port message answer new effects))
+
+abbrev pub source_names : Option (List ℕ) → List ℕ
+source_names None = []
+source_names (Some among) = among
+
+-- a name holds the receive right of a port
+abbrev pub HoldsReceiveRight : Names → ℕ → ℕ → Type 0
+HoldsReceiveRight names name serial = (entry : Entry) × (finmap.get names name ≡ Some entry) × (received_port entry ≡ Some serial)
+
+-- A receipt takes the oldest message of one of its sources; the reply names the one.
+abbrev pub Receives : State → ℕ → Names → Receipt → Reply → State → List Effect → Type 0
+Receives old space names receipt answer new effects =
+    MatchOption (receive_refusal old names receipt)
+    ((member : ℕ) × (serial : ℕ) × (port : PortState) × (message : Message) × (later : List Message)
+    × Contains (source_names (sources old names receipt.name (finmap.get names receipt.name))) member
+    × HoldsReceiveRight names member serial × (finmap.get old.ports serial ≡ Some port) × (port.messages ≡ message ∷ later)
+    × TakesOut old space names receipt member serial port message answer new effects)
+    (λ code. (answer ≡ without_message code 0 MACH_PORT_NULL) × (new ≡ old) × (effects ≡ []))

@@ -1,0 +1,6 @@
+-- The states of the machine, every right with its place, circles of ports, and which states are lawful.
+pub mod Circular
+pub mod Lawful
+pub mod Placed
+pub mod State
+pub mod StateCode

@@ -1,0 +1,101 @@
+-- What the four slots of a store spell, and what is recovered from it: one static reading, for every epoch.
+use Rattle.std.specs.Prelude.{◌≡◌, ◌≢◌, ◌⊎◌, ℕ, suc, ◌+◌, ◌%◌, ◌^◌, ◌<◌, ◌≤◌, ◌∷◌, [], ◌++◌, List, length, take, drop, slice_index}
+use Rattle.ipc_model.specs.declared.record.Record.{Record}
+use Rattle.ipc_model.specs.state.Circular.{Grounded}
+use Rattle.ipc_model.specs.texts.Images.{image_text}
+use Rattle.ipc_model.specs.state.Lawful.{Lawful, ShortQueues}
+use Rattle.ipc_model.specs.state.State.{State, opening_state}
+use Rattle.ipc_model.specs.calls.Step.{Run}
+use Rattle.ipc_model.specs.store.Store.{SpellsSegment, IsClosed, open_gate, segment_header, image_content}
+
+-- The bytes of a store's slots: two for images and two for segments, each by its number, 0 or 1. Epoch e uses the
+-- slots of number e % 2.
+pub record Slots : Type 0 where
+  pub image : ℕ → List ℕ
+  pub segment : ℕ → List ℕ
+
+-- how many bytes the headers of an image slot and of a segment slot have
+abbrev pub image_header : ℕ
+image_header = 24
+
+abbrev pub segment_header_length : ℕ
+segment_header_length = 16
+
+-- A slot with a header of so many bytes is open: it holds the whole header, which begins with an open gate.
+abbrev pub IsOpen : ℕ → List ℕ → Type 0
+IsOpen header slot = (header ≤ length slot) × (take 1 slot ≡ open_gate ∷ [])
+
+-- an open slot's header is of version 1 and of this epoch, which is one of the slot's number
+pub record IsOfEpoch (number epoch : ℕ) (slot : List ℕ) : Type 0 where
+  pub rest : List ℕ
+  pub text : slot ≡ segment_header open_gate epoch ++ rest
+  pub fits : epoch < 2 ^ 64
+  pub of_number : epoch % 2 ≡ number
+
+-- an open slot has such a header
+abbrev pub HasHeader : ℕ → ℕ → List ℕ → Type 0
+HasHeader header number slot = IsOpen header slot → (epoch : ℕ) × IsOfEpoch number epoch slot
+
+-- each of the four slots has, if it is open
+abbrev pub HeadersFit : Slots → Type 0
+HeadersFit slots = (number : ℕ) → number < 2 → HasHeader image_header number (slots.image number) × HasHeader segment_header_length number (slots.segment number)
+
+-- The store is new: no image is open, and a segment that is open is of epoch 0 and has no open batch.
+pub record IsNew (slots : Slots) : Type 0 where
+  pub no_image : (number : ℕ) → number < 2 → IsOpen image_header (slots.image number) → ⊥
+  pub unused : (number epoch : ℕ) → number < 2 → IsOpen segment_header_length (slots.segment number) → IsOfEpoch number epoch (slots.segment number)
+      → (epoch ≡ 0) × IsClosed (drop segment_header_length (slots.segment number))
+
+-- An open image of this epoch holds the text of this state, which is lawful and grounded. What lies past it isn't read.
+pub record HoldsImage (epoch : ℕ) (slot : List ℕ) (state : State) : Type 0 where
+  pub rest : List ℕ
+  pub text : slot ≡ (open_gate ∷ image_content epoch (image_text state)) ++ rest
+  pub fits : length (image_text state) < 2 ^ 64
+  pub lawful : Lawful state
+  pub grounded : Grounded state
+  pub short : ShortQueues state
+
+-- What the other segment slot adds to the records of an epoch: nothing where it is closed or of the epoch before, and
+-- the records of the next epoch where it is of that.
+abbrev pub Continues : ℕ → List ℕ → List Record → Type 0
+Continues epoch slot next =
+    ((IsOpen segment_header_length slot → ⊥) × (next ≡ []))
+    ⊎ (((before : ℕ) × (suc before ≡ epoch) × IsOfEpoch (before % 2) before slot × (next ≡ []))
+    ⊎ ((epoch + 1 < 2 ^ 64) × SpellsSegment (epoch + 1) slot next))
+
+-- A store in use: the open image of the greatest epoch, and the records of that epoch's segment, and then of the next
+-- epoch's where that follows.
+pub record IsStored (slots : Slots) (base : State) (records : List Record) : Type 0 where
+  pub epoch : ℕ
+  pub fits : epoch < 2 ^ 64
+  pub image : HoldsImage epoch (slots.image (epoch % 2)) base
+  pub latest : (number other : ℕ) → number < 2 → IsOpen image_header (slots.image number) → IsOfEpoch number other (slots.image number) → other ≤ epoch
+  pub first : List Record
+  pub next : List Record
+  pub segment : SpellsSegment epoch (slots.segment (epoch % 2)) first
+  pub other : Continues epoch (slots.segment ((epoch + 1) % 2)) next
+  pub joined : records ≡ first ++ next
+
+-- What a disk spells: the state that the records begin from, and the records.
+pub record Spells (slots : Slots) (base : State) (records : List Record) : Type 0 where
+  pub headers : HeadersFit slots
+  pub reading : (IsNew slots × (base ≡ opening_state) × (records ≡ [])) ⊎ IsStored slots base records
+
+-- What is recovered: the end of the run that the disk spells. There is one exactly where the records are steps.
+pub record Recovered (slots : Slots) (state : State) : Type 0 where
+  pub base : State
+  pub records : List Record
+  pub spelled : Spells slots base records
+  pub run : Run base records state
+
+-- a slot is open, and its version, the byte behind the gate, isn't 1
+abbrev pub HasOtherVersion : ℕ → List ℕ → Type 0
+HasOtherVersion header slot = IsOpen header slot × (slice_index slot 1 ≢ 1)
+
+-- Why nothing is recovered: some open slot is of another version than 1,
+abbrev pub IsOtherVersion : Slots → Type 0
+IsOtherVersion slots = (number : ℕ) × (number < 2) × (HasOtherVersion image_header (slots.image number) ⊎ HasOtherVersion segment_header_length (slots.segment number))
+
+-- or none is, and the disk spells no run.
+abbrev pub IsDamaged : Slots → Type 0
+IsDamaged slots = (IsOtherVersion slots → ⊥) × ((state : State) → Recovered slots state → ⊥)

@@ -1,0 +1,91 @@
+-- The texts of the store's slots, version 1.
+use Rattle.std.specs.Prelude.{◌≡◌, ◌≢◌, ◌⊎◌, ℕ, ◌+◌, ◌-◌, ◌<◌, ◌≤◌, List, [], ◌∷◌, ◌++◌, length, take}
+use Rattle.codes.specs.declared.limits.TheConstants.{MAX_RECORDS}
+use Rattle.ipc_model.specs.declared.record.Record.{Record}
+use Rattle.words.specs.Words.{word, long_word}
+use Rattle.ipc_model.specs.texts.Texts.{records_text, IsRecord}
+
+-- A gate with this byte is open; with any other it is closed. A closed gate is written as 0.
+abbrev pub open_gate : ℕ
+open_gate = 90
+
+abbrev pub closed_gate : ℕ
+closed_gate = 0
+
+-- behind a slot's gate: the version and six zero bytes, and then the epoch
+abbrev pub epoch_text : ℕ → List ℕ
+epoch_text epoch = 1 ∷ 0 ∷ 0 ∷ 0 ∷ 0 ∷ 0 ∷ 0 ∷ long_word epoch
+
+-- a segment slot's header
+abbrev pub segment_header : ℕ → ℕ → List ℕ
+segment_header gate epoch = gate ∷ epoch_text epoch
+
+-- behind an image slot's gate: the version, the epoch, the length of the image's text, and the text
+abbrev pub image_content : ℕ → List ℕ → List ℕ
+image_content epoch text = epoch_text epoch ++ (long_word (length text) ++ text)
+
+-- behind a batch's gate: how many records, how many bytes they have, and the records, numbered from n
+unfoldable pub batch_text : ℕ → List Record → List ℕ
+batch_text n records = word (length records) ++ (long_word (length (records_text n records)) ++ records_text n records)
+
+-- open batches, one after another
+abbrev pub batches_text : ℕ → List (List Record) → List ℕ
+batches_text n [] = []
+batches_text n (batch ∷ batches) = open_gate ∷ (batch_text n batch ++ batches_text (n + length batch) batches)
+
+-- what stands in a gate's place is no open gate, or nothing stands there
+abbrev pub IsClosed : List ℕ → Type 0
+IsClosed [] = Unit {0}
+IsClosed (gate ∷ rest) = gate ≢ open_gate
+
+-- no batch is empty
+abbrev pub NoneEmpty : List (List Record) → Type 0
+NoneEmpty [] = Unit {0}
+NoneEmpty (batch ∷ batches) = (0 < length batch) × NoneEmpty batches
+
+abbrev pub all_records : List (List Record) → List Record
+all_records [] = []
+all_records (batch ∷ batches) = batch ++ all_records batches
+
+-- records that a segment may hold
+abbrev pub AreRecords : List Record → Type 0
+AreRecords [] = Unit {0}
+AreRecords (first ∷ records) = IsRecord first × AreRecords records
+
+-- Bytes behind a segment's header spell these records: in open batches, whole and numbered from 0, of `size`
+-- bytes in all, and then comes a gate that isn't open, or nothing.
+pub record SpellsBatches (bytes : List ℕ) (records : List Record) (size : ℕ) : Type 0 where
+  pub batches : List (List Record)
+  pub rest : List ℕ
+  pub text : bytes ≡ batches_text 0 batches ++ rest
+  pub closed : IsClosed rest
+  pub none_empty : NoneEmpty batches
+  pub flat : records ≡ all_records batches
+  pub canonical : AreRecords records
+  pub bounded : length records ≤ MAX_RECORDS
+  pub sized : size + length rest ≡ length bytes
+
+-- An open segment of this epoch spells these records: those of its batches up to the first gate that isn't open.
+pub record SpellsSegment (epoch : ℕ) (bytes : List ℕ) (records : List Record) : Type 0 where
+  pub content : List ℕ
+  pub size : ℕ
+  pub text : bytes ≡ segment_header open_gate epoch ++ content
+  pub spelled : SpellsBatches content records size
+
+-- A segment in use: behind its batches stands one closed gate and nothing else.
+pub record IsInUse (epoch : ℕ) (bytes : List ℕ) (records : List Record) : Type 0 where
+  pub content : List ℕ
+  pub size : ℕ
+  pub text : bytes ≡ segment_header open_gate epoch ++ content
+  pub spelled : SpellsBatches content records size
+  pub ended : length content ≡ size + 1
+
+-- a segment that ends in a closed gate, with one batch more in that gate's place, and a closed gate behind it
+abbrev pub with_batch : List ℕ → List ℕ → List ℕ
+with_batch segment text = take (length segment - 1) segment ++ (open_gate ∷ (text ++ closed_gate ∷ []))
+
+-- What a stop while a batch is appended may leave of a segment: the segment as it was, with any bytes behind
+-- it; or any byte in the place of its last gate, and behind that the batch's text and a closed gate.
+abbrev pub IsMidAppend : List ℕ → List ℕ → List ℕ → Type 0
+IsMidAppend old text new =
+    ((tail : List ℕ) × (new ≡ old ++ tail)) ⊎ ((gate : ℕ) × (new ≡ take (length old - 1) old ++ (gate ∷ (text ++ closed_gate ∷ []))))

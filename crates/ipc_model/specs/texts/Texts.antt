@@ -1,0 +1,163 @@
+-- Calls, replies and records in bytes, one spelling each.
+use Rattle.std.specs.Prelude.{◌≡◌, ℕ, ◌+◌, ◌%◌, ◌^◌, ◌<◌, Bool, IsTrue, List, [], ◌∷◌, ◌++◌, length, drop, All, flat_map, if◌then◌else◌}
+use Rattle.byteorder.specs.Endian.{little_number}
+use Rattle.codes.specs.KernReturn.{number_of}
+use Rattle.ipc_model.specs.declared.call.Call.{Call}
+use Rattle.ipc_model.specs.declared.call.Call.TheVariants as call
+use Rattle.ipc_model.specs.declared.call.NamedType.{NamedType}
+use Rattle.ipc_model.specs.declared.call.ReceiveStatus.{ReceiveStatus}
+use Rattle.ipc_model.specs.declared.call.Reply.{Reply}
+use Rattle.ipc_model.specs.declared.call.Reply.TheVariants as reply
+use Rattle.ipc_model.specs.declared.record.Record.{Record}
+use Rattle.ipc_model.specs.rights.Dispositions.{number_of_kind}
+use Rattle.ipc_model.specs.messages.Messages.{bits_of, is_complex, complex_bit}
+use Rattle.ipc_model.specs.calls.Step.{number_of_call, has_record}
+use Rattle.words.specs.Words.{AreBytes, word, long_word, frame_text}
+
+-- the options of mach_msg: MACH_SEND_MSG, MACH_RCV_MSG, and MACH_RCV_LARGE beside the latter
+abbrev pub send_option : ℕ
+send_option = 1
+
+abbrev pub receive_option : Bool → ℕ
+receive_option large = if large then 0x802 else 2
+
+abbrev pub number_of_bool : Bool → ℕ
+number_of_bool b = if b then 1 else 0
+
+-- The arguments of a call, each a word. mach_msg has its option, the greatest size, the name and a timeout, and behind
+-- them the message: what a send or a receipt alone has no use for is 0, and a receipt that followed a wait has 1 for its timeout.
+abbrev pub arguments_text : Call → List ℕ
+arguments_text (call.Attach space) = word space
+arguments_text call.Names = []
+arguments_text (call.Type name) = word name
+arguments_text (call.Rename from to) = word from ++ word to
+arguments_text (call.AllocateName kind name) = word kind ++ word name
+arguments_text (call.Allocate kind) = word kind
+arguments_text (call.Destroy name) = word name
+arguments_text (call.Deallocate name) = word name
+arguments_text (call.GetRefs name kind) = word name ++ word kind
+arguments_text (call.ModRefs name kind delta) = word name ++ (word kind ++ word delta)
+arguments_text (call.SetQlimit name limit) = word name ++ word limit
+arguments_text (call.SetMscount name count) = word name ++ word count
+arguments_text (call.SetSeqno name seqno) = word name ++ word seqno
+arguments_text (call.GetReceiveStatus name) = word name
+arguments_text (call.GetSetStatus name) = word name
+arguments_text (call.MoveMember member after) = word member ++ word after
+arguments_text (call.RequestNotification name variant sync notify_name disposition) = word name ++ (word variant ++ (word sync ++ (word notify_name ++ word disposition)))
+arguments_text (call.InsertRight name right_name disposition) = word name ++ (word right_name ++ word disposition)
+arguments_text (call.ExtractRight name disposition) = word name ++ word disposition
+arguments_text (call.Send message) = word send_option ++ (word 0 ++ (word 0 ++ (word 0 ++ message)))
+arguments_text (call.Receive limit large name waited) = word (receive_option large) ++ (word limit ++ (word name ++ word (number_of_bool waited)))
+arguments_text (call.SpaceCreate name disposition) = word name ++ word disposition
+arguments_text call.SpaceDestroy = []
+
+-- the content of a call's frame: its number and its arguments
+unfoldable pub call_text : Call → List ℕ
+call_text c = word (number_of_call c) ++ arguments_text c
+
+abbrev pub status_text : ReceiveStatus → List ℕ
+status_text status =
+    word status.set ++ (word status.sequence_number ++ (word status.make_send_count ++ (word status.limit ++ (word status.messages
+    ++ (word status.send_once_count ++ (word (number_of_bool status.has_senders) ++ (word (number_of_bool status.has_port_destroyed_request) ++ word (number_of_bool status.has_no_senders_request))))))))
+
+-- the call's number, the code 0, and the results
+abbrev pub done_text : ℕ → List ℕ → List ℕ
+done_text number results = word number ++ (word 0 ++ results)
+
+-- The content of a reply's frame: the call's number, the code, and where the code is 0 the results. mach_msg has its results in any case.
+unfoldable pub reply_text : Reply → List ℕ
+reply_text (reply.Refused number code) = word number ++ word (number_of code)
+reply_text (reply.Done number) = done_text number []
+reply_text (reply.Names names) = done_text 1 (word (length names) ++ flat_map (λ (n : NamedType). word n.name ++ word n.bits) names)
+reply_text (reply.Type bits) = done_text 2 (word bits)
+reply_text (reply.Allocate name) = done_text 5 (word name)
+reply_text (reply.References count) = done_text 8 (word count)
+reply_text (reply.ReceiveStatus status) = done_text 13 (status_text status)
+reply_text (reply.SetStatus members) = done_text 14 (word (length members) ++ flat_map word members)
+reply_text (reply.PreviousTarget name) = done_text 16 (word name)
+reply_text (reply.Extracted name kind) = done_text 18 (word name ++ word (number_of_kind kind))
+reply_text (reply.Message code size member message) = word 19 ++ (word (number_of code) ++ (word size ++ (word member ++ message)))
+reply_text (reply.SpaceCreated space name) = done_text 20 (word space ++ word name)
+
+-- the number of the call that a reply is one of
+abbrev pub number_of_reply : Reply → ℕ
+number_of_reply (reply.Refused number code) = number
+number_of_reply (reply.Done number) = number
+number_of_reply (reply.Names names) = 1
+number_of_reply (reply.Type bits) = 2
+number_of_reply (reply.Allocate name) = 5
+number_of_reply (reply.References count) = 8
+number_of_reply (reply.ReceiveStatus status) = 13
+number_of_reply (reply.SetStatus members) = 14
+number_of_reply (reply.PreviousTarget name) = 16
+number_of_reply (reply.Extracted name kind) = 18
+number_of_reply (reply.Message code size member message) = 19
+number_of_reply (reply.SpaceCreated space name) = 20
+
+-- a record with its number in its epoch: who called, the call's frame and the reply's
+unfoldable pub record_text : ℕ → Record → List ℕ
+record_text number entry = long_word number ++ (word entry.space ++ (frame_text (call_text entry.call) ++ frame_text (reply_text entry.reply)))
+
+-- records that follow one another, numbered from n
+abbrev pub records_text : ℕ → List Record → List ℕ
+records_text n [] = []
+records_text n (first ∷ records) = record_text n first ++ records_text (n + 1) records
+
+-- A message as it is kept in a record: the words that a send ignores are 0, and so are the unused bits.
+pub record IsKeptMessage (message : List ℕ) : Type 0 where
+  pub bytes : AreBytes message
+  pub size : little_number 4 (drop 4 message) ≡ 0
+  pub sequence_number : little_number 4 (drop 16 message) ≡ 0
+  pub bits : bits_of message ≡ bits_of message % 2 ^ 16 + complex_bit (is_complex (bits_of message))
+
+-- the arguments are numbers of four bytes
+abbrev pub FitsCall : Call → Type 0
+FitsCall (call.Attach space) = space < 2 ^ 32
+FitsCall call.Names = Unit {0}
+FitsCall (call.Type name) = name < 2 ^ 32
+FitsCall (call.Rename from to) = (from < 2 ^ 32) × (to < 2 ^ 32)
+FitsCall (call.AllocateName kind name) = (kind < 2 ^ 32) × (name < 2 ^ 32)
+FitsCall (call.Allocate kind) = kind < 2 ^ 32
+FitsCall (call.Destroy name) = name < 2 ^ 32
+FitsCall (call.Deallocate name) = name < 2 ^ 32
+FitsCall (call.GetRefs name kind) = (name < 2 ^ 32) × (kind < 2 ^ 32)
+FitsCall (call.ModRefs name kind delta) = (name < 2 ^ 32) × (kind < 2 ^ 32) × (delta < 2 ^ 32)
+FitsCall (call.SetQlimit name limit) = (name < 2 ^ 32) × (limit < 2 ^ 32)
+FitsCall (call.SetMscount name count) = (name < 2 ^ 32) × (count < 2 ^ 32)
+FitsCall (call.SetSeqno name seqno) = (name < 2 ^ 32) × (seqno < 2 ^ 32)
+FitsCall (call.GetReceiveStatus name) = name < 2 ^ 32
+FitsCall (call.GetSetStatus name) = name < 2 ^ 32
+FitsCall (call.MoveMember member after) = (member < 2 ^ 32) × (after < 2 ^ 32)
+FitsCall (call.RequestNotification name variant sync notify_name disposition) =
+    (name < 2 ^ 32) × (variant < 2 ^ 32) × (sync < 2 ^ 32) × (notify_name < 2 ^ 32) × (disposition < 2 ^ 32)
+FitsCall (call.InsertRight name right_name disposition) = (name < 2 ^ 32) × (right_name < 2 ^ 32) × (disposition < 2 ^ 32)
+FitsCall (call.ExtractRight name disposition) = (name < 2 ^ 32) × (disposition < 2 ^ 32)
+FitsCall (call.Send message) = IsKeptMessage message
+FitsCall (call.Receive limit large name waited) = (limit < 2 ^ 32) × (name < 2 ^ 32)
+FitsCall (call.SpaceCreate name disposition) = (name < 2 ^ 32) × (disposition < 2 ^ 32)
+FitsCall call.SpaceDestroy = Unit {0}
+
+-- the results are numbers of four bytes, and a message is bytes
+abbrev pub FitsReply : Reply → Type 0
+FitsReply (reply.Refused number code) = number < 2 ^ 32
+FitsReply (reply.Done number) = number < 2 ^ 32
+FitsReply (reply.Names names) = (length names < 2 ^ 32) × All (λ (n : NamedType). (n.name < 2 ^ 32) × (n.bits < 2 ^ 32)) names
+FitsReply (reply.Type bits) = bits < 2 ^ 32
+FitsReply (reply.Allocate name) = name < 2 ^ 32
+FitsReply (reply.References count) = count < 2 ^ 32
+FitsReply (reply.ReceiveStatus status) =
+    (status.set < 2 ^ 32) × (status.sequence_number < 2 ^ 32) × (status.make_send_count < 2 ^ 32) × (status.limit < 2 ^ 32) × (status.messages < 2 ^ 32) × (status.send_once_count < 2 ^ 32)
+FitsReply (reply.SetStatus members) = (length members < 2 ^ 32) × All (λ name. name < 2 ^ 32) members
+FitsReply (reply.PreviousTarget name) = name < 2 ^ 32
+FitsReply (reply.Extracted name kind) = name < 2 ^ 32
+FitsReply (reply.Message code size member message) = (size < 2 ^ 32) × (member < 2 ^ 32) × AreBytes message
+FitsReply (reply.SpaceCreated space name) = (space < 2 ^ 32) × (name < 2 ^ 32)
+
+-- A record that a segment may hold: numbers in range, a reply of the call's number, and a call that has a record where it is answered so.
+pub record IsRecord (entry : Record) : Type 0 where
+  pub space : entry.space < 2 ^ 32
+  pub call : FitsCall entry.call
+  pub reply : FitsReply entry.reply
+  pub of_one_call : number_of_reply entry.reply ≡ number_of_call entry.call
+  pub recorded : IsTrue (has_record entry.call entry.reply)
+  pub frames : (length (call_text entry.call) < 2 ^ 32) × (length (reply_text entry.reply) < 2 ^ 32)

@@ -1,0 +1,2 @@
+-- Lists of events, and what was told, stored and applied.
+pub mod World

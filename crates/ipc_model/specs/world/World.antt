@@ -1,0 +1,236 @@
+-- The core as a list of events with their outcomes: which calls were applied, stored and told, and which event is possible.
+use Rattle.std.specs.Prelude.{◌≡◌, ◌⊎◌, ℕ, zero, suc, ◌+◌, ◌-◌, ◌/◌, ◌^◌, ◌<◌, ◌≤◌, max, Bool, true, false, nat_lt, List, [], ◌∷◌, ◌++◌, length, Option, None, Some, slice_get, if◌then◌else◌}
+use Rattle.ipc_model.specs.declared.call.Call.{Call}
+use Rattle.ipc_model.specs.declared.call.Reply.{Reply}
+use Rattle.ipc_model.specs.declared.record.Record.{Record}
+use Rattle.ipc_model.specs.texts.Images.{image_text}
+use Rattle.ipc_model.specs.state.State.{State}
+use Rattle.ipc_model.specs.calls.Step.{Run, has_record}
+
+-- What can happen: a call is submitted; records are taken as a batch, appended, and their receipt is handed in; a ticket's
+-- reply is asked for; and the steps of a checkpoint, by which the core goes over to the next epoch.
+pub data Event : Type 0 where
+  submit : (space : ℕ) → Call → Event
+  take_batch : Event
+  append : Event
+  durable : Event
+  ask_reply : (ticket : ℕ) → Event
+  cut : Event
+  roll_close : Event
+  roll_head : Event
+  roll_open : Event
+  image_close : Event
+  piece : Event
+  finish : Event
+
+-- What an event answered: a ticket, which keeps the call's reply; a reply; done; or nothing happened, whatever the reason
+-- (not now, the row is full, a fault of the store, no memory).
+pub data Outcome : Type 0 where
+  given : Reply → Outcome
+  replied : Reply → Outcome
+  done : Outcome
+  nothing : Outcome
+
+-- a ticket: the reply that it keeps, how many records it saw, and whether its reply was given
+pub record Ticket : Type 0 where
+  pub answer : Reply
+  pub seen : ℕ
+  pub answered : Bool
+
+-- a batch that is out: its epoch, how many records it has, and whether it was appended
+pub record Batch : Type 0 where
+  pub epoch : ℕ
+  pub size : ℕ
+  pub appended : Bool
+
+-- a receipt that is out: of an append of so many records, or of a finished image
+pub data Receipt : Type 0 where
+  of_append : ℕ → Receipt
+  of_finish : Receipt
+
+-- A checkpoint under way: how many of the three steps of rolling are done, how many steps of the image (its closing, and
+-- then its pieces), how many pieces its text has, and whether it is finished.
+pub record Checkpoint : Type 0 where
+  pub rolled : ℕ
+  pub imaged : ℕ
+  pub pieces : ℕ
+  pub finished : Bool
+
+-- What has come of the events so far. Records are counted from the opening of the store on.
+pub record World : Type 0 where
+  pub epoch : ℕ
+  pub applied : List Record
+  -- how many records were applied in epochs before this one
+  pub earlier : ℕ
+  pub tickets : List Ticket
+  pub taken : ℕ
+  pub batch : Option Batch
+  pub stored : ℕ
+  pub receipts : List Receipt
+  -- how many records are stored whose receipt was handed in
+  pub handed : ℕ
+  pub checkpoint : Option Checkpoint
+
+-- at first nothing was applied
+abbrev pub first_world : ℕ → World
+first_world epoch = record {
+  epoch = epoch;
+  applied = [];
+  earlier = 0;
+  tickets = [];
+  taken = 0;
+  batch = None;
+  stored = 0;
+  receipts = [];
+  handed = 0;
+  checkpoint = None;
+}
+
+-- What a task was told of: the records that are stored, and those that a ticket saw whose reply was given.
+abbrev pub greatest_seen : List Ticket → ℕ
+greatest_seen [] = 0
+greatest_seen (ticket ∷ tickets) = if ticket.answered then max ticket.seen (greatest_seen tickets) else greatest_seen tickets
+
+abbrev pub told : World → ℕ
+told world = max world.stored (greatest_seen world.tickets)
+
+-- the bytes of an image's piece
+abbrev pub piece_length : ℕ
+piece_length = 4096
+
+-- how many pieces a text has
+abbrev pub pieces_of : List ℕ → ℕ
+pieces_of text = (length text + (piece_length - 1)) / piece_length
+
+-- the next batch takes the records of one epoch that are not yet taken, the older epoch's first
+abbrev pub is_behind : World → Bool
+is_behind world = nat_lt world.taken world.earlier
+
+abbrev pub next_batch : World → Batch
+next_batch world =
+    if is_behind world then record { epoch = world.epoch - 1; size = world.earlier - world.taken; appended = false }
+    else record { epoch = world.epoch; size = length world.applied - world.taken; appended = false }
+
+-- a segment takes batches: that of an older epoch, and that of this one once it is rolled
+abbrev pub IsSegmentOpen : World → ℕ → Option Checkpoint → Type 0
+IsSegmentOpen world epoch None = Unit {0}
+IsSegmentOpen world epoch (Some checkpoint) = (epoch < world.epoch) ⊎ (checkpoint.rolled ≡ 3)
+
+-- the steps of a checkpoint come in their order
+
+abbrev pub IsRolled : Option Checkpoint → ℕ → Type 0
+IsRolled None steps = ⊥
+IsRolled (Some checkpoint) steps = checkpoint.rolled ≡ steps
+
+abbrev pub HasImaged : Option Checkpoint → ℕ → Type 0
+HasImaged None steps = ⊥
+HasImaged (Some checkpoint) steps = checkpoint.imaged ≡ steps
+
+-- the image was closed, and its text isn't wholly written
+abbrev pub HasPieceLeft : Option Checkpoint → Type 0
+HasPieceLeft None = ⊥
+HasPieceLeft (Some checkpoint) = (0 < checkpoint.imaged) × (checkpoint.imaged < checkpoint.pieces + 1)
+
+-- the image's text is written and isn't finished, and the next segment is open
+abbrev pub CanFinish : Option Checkpoint → Type 0
+CanFinish None = ⊥
+CanFinish (Some checkpoint) = (checkpoint.imaged ≡ checkpoint.pieces + 1) × (checkpoint.rolled ≡ 3) × (checkpoint.finished ≡ false)
+
+abbrev pub CanAppend : World → Option Batch → Type 0
+CanAppend world None = ⊥
+CanAppend world (Some batch) = (batch.appended ≡ false) × IsSegmentOpen world batch.epoch world.checkpoint
+
+abbrev pub CanReply : World → Option Ticket → Type 0
+CanReply world None = ⊥
+CanReply world (Some ticket) = (ticket.answered ≡ false) × (ticket.seen ≤ world.handed)
+
+-- Which events are possible; every other answers that it isn't now.
+abbrev pub IsPossible : World → Event → Type 0
+IsPossible world (submit space call) = Unit {0}
+IsPossible world take_batch = (world.taken < length world.applied) × (world.batch ≡ None)
+IsPossible world append = CanAppend world world.batch
+IsPossible world durable = 0 < length world.receipts
+IsPossible world (ask_reply ticket) = CanReply world (slice_get world.tickets ticket)
+IsPossible world cut = (world.epoch < 2 ^ 64 - 1) × (world.checkpoint ≡ None)
+IsPossible world roll_close = IsRolled world.checkpoint 0
+IsPossible world roll_head = IsRolled world.checkpoint 1
+IsPossible world roll_open = IsRolled world.checkpoint 2 × (world.earlier ≤ world.stored)
+IsPossible world image_close = HasImaged world.checkpoint 0
+IsPossible world piece = HasPieceLeft world.checkpoint
+IsPossible world finish = CanFinish world.checkpoint
+
+-- What an event changes that answered so.
+
+-- the record of an answered call, if it has one
+abbrev pub record_of : ℕ → Call → Reply → List Record
+record_of space call answer = if has_record call answer then record { space = space; call = call; reply = answer } ∷ [] else []
+
+abbrev pub after_submit : World → ℕ → Call → Reply → World
+after_submit world space call answer =
+    let applied : List Record = world.applied ++ record_of space call answer in
+    record world { applied = applied; tickets = world.tickets ++ (record { answer = answer; seen = length applied; answered = false }) ∷ [] }
+
+abbrev pub after_take : World → World
+after_take world = record world { batch = Some (next_batch world); taken = world.taken + (next_batch world).size }
+
+abbrev pub after_append : World → Option Batch → World
+after_append world None = world
+after_append world (Some batch) = record world { batch = Some (record batch { appended = true }); stored = world.stored + batch.size; receipts = world.receipts ++ of_append batch.size ∷ [] }
+
+-- the oldest receipt is handed in: of an append, and the batch is no more out; or of a finish, and the checkpoint is over
+abbrev pub after_durable : World → List Receipt → World
+after_durable world [] = world
+after_durable world (of_append size ∷ receipts) = record world { batch = None; handed = world.handed + size; receipts = receipts }
+after_durable world (of_finish ∷ receipts) = record world { checkpoint = None; receipts = receipts }
+
+abbrev pub with_answered : List Ticket → ℕ → List Ticket
+with_answered [] n = []
+with_answered (ticket ∷ tickets) zero = record ticket { answered = true } ∷ tickets
+with_answered (ticket ∷ tickets) (suc n) = ticket ∷ with_answered tickets n
+
+-- a cut goes over to the next epoch, with an image of the state after all records
+abbrev pub after_cut : World → State → World
+after_cut world state = record world {
+  epoch = world.epoch + 1;
+  earlier = length world.applied;
+  checkpoint = Some (record { rolled = 0; imaged = 0; pieces = pieces_of (image_text state); finished = false });
+}
+
+abbrev pub with_checkpoint : World → (Checkpoint → Checkpoint) → Option Checkpoint → World
+with_checkpoint world change None = world
+with_checkpoint world change (Some checkpoint) = record world { checkpoint = Some (change checkpoint) }
+
+abbrev pub one_rolled : World → World
+one_rolled world = with_checkpoint world (λ checkpoint. record checkpoint { rolled = checkpoint.rolled + 1 }) world.checkpoint
+
+abbrev pub one_imaged : World → World
+one_imaged world = with_checkpoint world (λ checkpoint. record checkpoint { imaged = checkpoint.imaged + 1 }) world.checkpoint
+
+-- The world after an event that was done, where the store's records began from this base.
+abbrev pub AfterDone : State → World → Event → World → Type 0
+AfterDone base world (submit space call) new = ⊥
+AfterDone base world take_batch new = new ≡ after_take world
+AfterDone base world append new = new ≡ after_append world world.batch
+AfterDone base world durable new = new ≡ after_durable world world.receipts
+AfterDone base world (ask_reply ticket) new = ⊥
+AfterDone base world cut new = (state : State) × Run base world.applied state × (new ≡ after_cut world state)
+AfterDone base world roll_close new = new ≡ one_rolled world
+AfterDone base world roll_head new = new ≡ one_rolled world
+AfterDone base world roll_open new = new ≡ one_rolled world
+AfterDone base world image_close new = new ≡ one_imaged world
+AfterDone base world piece new = new ≡ one_imaged world
+AfterDone base world finish new = new ≡ record (with_checkpoint world (λ checkpoint. record checkpoint { finished = true }) world.checkpoint) { receipts = world.receipts ++ of_finish ∷ [] }
+
+-- The world after an event with its outcome. A ticket comes of a submit alone, and a reply of a ticket's that was asked for.
+abbrev pub After : State → World → Event → Outcome → World → Type 0
+After base world (submit space call) (given answer) new = new ≡ after_submit world space call answer
+After base world (ask_reply ticket) (replied answer) new =
+    (kept : Ticket) × (slice_get world.tickets ticket ≡ Some kept) × (kept.answer ≡ answer) × (new ≡ record world { tickets = with_answered world.tickets ticket })
+After base world event done new = IsPossible world event × AfterDone base world event new
+After base world event nothing new = new ≡ world
+After base world _ _ new = ⊥
+
+-- The world that a list of events leaves.
+abbrev pub Worlds : State → World → List (Event × Outcome) → World → Type 0
+Worlds base world [] new = new ≡ world
+Worlds base world (first ∷ events) new = (mid : World) × After base world first.0 first.1 mid × Worlds base mid events new

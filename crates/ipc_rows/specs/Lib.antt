@@ -1,0 +1,14 @@
+pub mod RowRules
+pub mod RowStates
+pub mod RowsCalls
+pub mod RowsDeaths
+pub mod RowsMessages
+pub mod RowsNames
+pub mod RowsReceipts
+pub mod RowsRecovery
+pub mod RowsRights
+pub mod RowsRules
+pub mod RowsSteps
+pub mod RowsStore
+pub mod RowsTexts
+pub mod RowsWorld

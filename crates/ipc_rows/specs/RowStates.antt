@@ -1,0 +1,41 @@
+-- The parts of which the states of worked examples are written.
+use Rattle.std.specs.Prelude.{ℕ, Bool, false, List, [], length, Option, None, option_map}
+use Rattle.std.specs.FinMap as finmap
+use Rattle.ipc_model.specs.declared.entry.Entry.{Entry}
+use Rattle.ipc_model.specs.declared.entry.Entry.TheVariants.{Port}
+use Rattle.ipc_model.specs.declared.message.CarriedRight.{CarriedRight}
+use Rattle.ipc_model.specs.declared.message.Message.{Message}
+use Rattle.ipc_model.specs.declared.message.PortInMessage.TheVariants.{Live}
+use Rattle.ipc_model.specs.declared.message.RightKind.{RightKind}
+use Rattle.ipc_model.specs.declared.port.PortState.{PortState}
+use Rattle.ipc_model.specs.state.State.{State, Names, new_port}
+
+-- a name's send and receive rights of a port, without a dead-name request
+abbrev pub rights_to : ℕ → Bool → ℕ → Entry
+rights_to serial receive send = Port (record { port = serial; receive = receive; send = send; dead_name_target = None })
+
+-- the names of a space
+abbrev pub names_of : List (ℕ × Entry) → Names
+names_of entries = finmap.from_entries entries
+
+-- a state of space 1 alone, in which the next port gets serial 10
+abbrev pub in_space_1 : List (ℕ × Entry) → List (ℕ × PortState) → State
+in_space_1 entries ports = record { spaces = finmap.insert finmap.empty 1 (names_of entries); ports = finmap.from_entries ports; next = 10 }
+
+-- a port with these messages in its queue, else as new
+abbrev pub with_queue : List Message → PortState
+with_queue messages = record new_port { messages = messages }
+
+-- a message by a right of this kind, without ports
+abbrev pub plain : RightKind → ℕ → List ℕ → Message
+plain destination id body = record { destination = destination; reply = None; id = id; complex = false; rights = []; body = body }
+
+abbrev pub live : RightKind → ℕ → CarriedRight
+live of_kind serial = record { kind = of_kind; port = Live serial }
+
+-- what waits in a port's queue
+abbrev pub queue_of : State → ℕ → Option (List Message)
+queue_of state serial = option_map (λ (port : PortState). port.messages) (finmap.get state.ports serial)
+
+abbrev pub message_count : State → ℕ → Option ℕ
+message_count state serial = option_map (λ (messages : List Message). length messages) (queue_of state serial)

@@ -1,0 +1,458 @@
+-- Worked examples of what the four slots of a store spell, and of slots that spell nothing.
+use Rattle.std.specs.Prelude.{◌≡◌, ◌⊎◌, ℕ, zero, suc, ◌+◌, ◌%◌, ◌^◌, ◌<◌, ◌≤◌, ◌==◌, List, [], ◌∷◌, ◌++◌, length, take, drop, slice_index, flat_map, None, if◌then◌else◌, refl}
+use Rattle.std.proofs.Common.{sym, ◌∙◌, ap, subst, inl, inr, arith, append_assoc, length-append, drop_at}
+use Rattle.std.proofs.lemmas.List.{append-nil}
+use Rattle.ipc_model.specs.declared.port.PortState.{PortState}
+use Rattle.ipc_model.specs.declared.call.Call.{Call}
+use Rattle.ipc_model.specs.declared.call.Reply.{Reply}
+use Rattle.ipc_model.specs.declared.call.Reply.TheVariants as reply
+use Rattle.ipc_model.specs.declared.record.Record.{Record}
+use Rattle.ipc_laws.specs.BatchLaws.{are_records-front, batch_apart, length-batch, length-record_text, records_are_short, same_heads}
+use Rattle.ipc_model.specs.calls.Step.{number_of_call}
+use Rattle.ipc_model.specs.declared.entry.Entry.{Entry}
+use Rattle.std.specs.FinMap as finmap
+use Rattle.std.specs.FinMap.{get-entries}
+use Rattle.std.specs.Ordering.{nat_cmp}
+use Rattle.ipc_model.specs.texts.Images.{image_text, names_text, entry_text, port_text}
+use Rattle.ipc_laws.specs.OpeningLaws.{opening_is_lawful, none_in_empty}
+use Rattle.ipc_model.specs.store.Recovery.{Slots, IsOpen, IsOfEpoch, HasHeader, HoldsImage, IsStored, Spells, IsOtherVersion, image_header, segment_header_length}
+use Rattle.ipc_laws.specs.RecoveryLaws.{one_epoch, image_header_is, image_is_open, segment_epoch, segment_is_open}
+use Rattle.ipc_rows.specs.RowsStore.{first_allocation, first_segment, segment-bytes}
+use Rattle.ipc_laws.specs.OpeningLaws.{opening-image}
+use Rattle.ipc_model.specs.state.State.{State, Names, opening_state}
+use Rattle.ipc_model.specs.store.Store.{SpellsBatches, SpellsSegment, batch_text, all_records, AreRecords, IsClosed, open_gate, closed_gate, epoch_text, segment_header, image_content, batches_text}
+use Rattle.ipc_model.specs.texts.Texts.{IsRecord, arguments_text, call_text, reply_text, record_text, records_text}
+use Rattle.words.specs.WordLaws.{length-word, same_long_word}
+use Rattle.words.specs.Words.{word, long_word}
+use Rattle.codes.specs.KernReturn.{number_of}
+use Rattle.codes.specs.declared.limits.TheConstants.{MAX_RECORDS}
+
+abbrev pub four : List ℕ → List ℕ → List ℕ → List ℕ → Slots
+four image0 image1 segment0 segment1 = record { image = λ n. if n == 0 then image0 else image1; segment = λ n. if n == 0 then segment0 else segment1 }
+
+-- (a slot that is empty isn't open)
+empty_closed : (header : ℕ) → 0 < header → IsOpen header [] → ⊥
+empty_closed header some is_open = absurd (omega (arith, some, is_open.0))
+
+no_header : (header number : ℕ) → 0 < header → HasHeader header number []
+no_header header number some is_open = absurd (empty_closed header some is_open)
+
+-- for each of the two numbers
+each_number : (P : ℕ → Type 0) → P 0 → P 1 → (number : ℕ) → number < 2 → P number
+each_number P first second zero small = first
+each_number P first second (suc zero) small = second
+each_number P first second (suc (suc n)) small = absurd (omega (arith, small))
+
+-- a slot with the opening state's image, of this epoch
+abbrev pub opening_slot : ℕ → List ℕ
+opening_slot epoch = open_gate ∷ image_content epoch (image_text opening_state)
+
+pub opening_slot-holds : (epoch : ℕ) → HoldsImage epoch (opening_slot epoch) opening_state
+opening_slot-holds epoch = record {
+  rest = [];
+  text = sym (append-nil (opening_slot epoch));
+  fits = omega (arith, ap length opening-image);
+  lawful = opening_is_lawful.0;
+  grounded = opening_is_lawful.1;
+  short = λ (serial : ℕ) (port : PortState) (there : _). absurd (none_in_empty serial port there);
+}
+
+image_epoch : (number epoch : ℕ) → epoch < 2 ^ 64 → epoch % 2 ≡ number → IsOfEpoch number epoch (opening_slot epoch)
+image_epoch number epoch fits is = record { rest = long_word (length (image_text opening_state)) ++ image_text opening_state; text = refl; fits = fits; of_number = is }
+
+-- the record of the first allocation, and the segment that spells it
+
+pub first_allocation-is : IsRecord first_allocation
+unfolding call_text reply_text
+first_allocation-is = record {
+  space = omega arith;
+  call = omega arith;
+  reply = omega arith;
+  of_one_call = refl;
+  recorded = refl;
+  frames = (omega arith, omega arith);
+}
+
+pub first_segment-spells : SpellsSegment 0 first_segment (first_allocation ∷ [])
+first_segment-spells = record {
+  content = drop 16 first_segment;
+  size = 53;
+  text = refl;
+  spelled = record {
+    batches = (first_allocation ∷ []) ∷ [];
+    rest = closed_gate ∷ [];
+    text = ap (λ (l : List ℕ). drop 16 l) (sym segment-bytes);
+    closed = λ (e : _). absurd (omega (arith, e));
+    none_empty = (omega arith, tt);
+    flat = refl;
+    canonical = (first_allocation-is, tt);
+    bounded = omega arith;
+    sized = refl;
+  };
+}
+
+-- The store of a first allocation: image 0 of the opening state, and segment 0 with one batch. It spells that record.
+abbrev pub first_store : Slots
+first_store = four (opening_slot 0) [] first_segment []
+
+segment_of_0 : (rest : List ℕ) → IsOfEpoch 0 0 (segment_header open_gate 0 ++ rest)
+segment_of_0 rest = record { rest = rest; text = refl; fits = omega arith; of_number = refl }
+
+pub first_store-spells : Spells first_store opening_state (first_allocation ∷ [])
+first_store-spells = record {
+  headers = each_number (λ n. HasHeader image_header n (first_store.image n) × HasHeader segment_header_length n (first_store.segment n))
+      ((λ (_ : _). (0, image_epoch 0 0 (omega arith) refl)), (λ (_ : _). (0, segment_of_0 (drop 16 first_segment)))) (no_header image_header 1 (omega arith), no_header segment_header_length 1 (omega arith));
+  reading = inr (record {
+    epoch = 0;
+    fits = omega arith;
+    image = opening_slot-holds 0;
+    latest = λ (number other : ℕ) (small : _). each_number (λ n. IsOpen image_header (first_store.image n) → IsOfEpoch n other (first_store.image n) → other ≤ 0)
+        (λ (_ : _) (is : _). omega (arith, one_epoch 0 other (long_word (length (image_text opening_state)) ++ image_text opening_state) is.rest (omega arith) is.fits is.text))
+        (λ (is_open : _) (_ : _). absurd (empty_closed image_header (omega arith) is_open)) number small;
+    first = first_allocation ∷ [];
+    next = [];
+    segment = first_segment-spells;
+    other = inl (empty_closed segment_header_length (omega arith), refl);
+    joined = refl;
+  });
+}
+
+-- The image of epoch 5 beside that of epoch 4, and segments 4 and 5 without batches: what stands is image 5 alone.
+abbrev pub empty_segment : ℕ → List ℕ
+empty_segment epoch = segment_header open_gate epoch ++ (closed_gate ∷ [])
+
+pub empty_segment-spells : (epoch : ℕ) → SpellsSegment epoch (empty_segment epoch) []
+empty_segment-spells epoch = record {
+  content = closed_gate ∷ [];
+  size = 0;
+  text = refl;
+  spelled = record { batches = []; rest = closed_gate ∷ []; text = refl; closed = λ (e : _). absurd (omega (arith, e)); none_empty = tt; flat = refl; canonical = tt; bounded = omega arith; sized = refl };
+}
+
+abbrev pub two_images : Slots
+two_images = four (opening_slot 4) (opening_slot 5) (empty_segment 4) (empty_segment 5)
+
+segment_of : (number epoch : ℕ) → epoch < 2 ^ 64 → epoch % 2 ≡ number → IsOfEpoch number epoch (empty_segment epoch)
+segment_of number epoch fits is = record { rest = closed_gate ∷ []; text = refl; fits = fits; of_number = is }
+
+pub two_images-spell : Spells two_images opening_state []
+two_images-spell = record {
+  headers = each_number (λ n. HasHeader image_header n (two_images.image n) × HasHeader segment_header_length n (two_images.segment n))
+      ((λ (_ : _). (4, image_epoch 0 4 (omega arith) refl)), (λ (_ : _). (4, segment_of 0 4 (omega arith) refl)))
+      ((λ (_ : _). (5, image_epoch 1 5 (omega arith) refl)), (λ (_ : _). (5, segment_of 1 5 (omega arith) refl)));
+  reading = inr (record {
+    epoch = 5;
+    fits = omega arith;
+    image = opening_slot-holds 5;
+    latest = λ (number other : ℕ) (small : _). each_number (λ n. IsOpen image_header (two_images.image n) → IsOfEpoch n other (two_images.image n) → other ≤ 5)
+        (λ (_ : _) (is : _). omega (arith, one_epoch 4 other (long_word (length (image_text opening_state)) ++ image_text opening_state) is.rest (omega arith) is.fits is.text))
+        (λ (_ : _) (is : _). omega (arith, one_epoch 5 other (long_word (length (image_text opening_state)) ++ image_text opening_state) is.rest (omega arith) is.fits is.text)) number small;
+    first = [];
+    next = [];
+    segment = empty_segment-spells 5;
+    other = inr (inl (4, refl, segment_of 0 4 (omega arith) refl, refl));
+    joined = refl;
+  });
+}
+
+-- The store of the first allocation, with one byte changed or one slot cut.
+
+abbrev pub with_segment : List ℕ → Slots
+with_segment segment = four (opening_slot 0) [] segment []
+
+abbrev pub with_image : List ℕ → Slots
+with_image image = four image [] first_segment []
+
+-- where image 0 of epoch 0 stands and the segment spells records, these are what the store spells
+spells_by_segment : (rest : List ℕ) (records : List Record) → SpellsSegment 0 (segment_header open_gate 0 ++ rest) records → Spells (with_segment (segment_header open_gate 0 ++ rest)) opening_state records
+spells_by_segment rest records spelled =
+    let slots : Slots = with_segment (segment_header open_gate 0 ++ rest) in
+    record {
+      headers = each_number (λ n. HasHeader image_header n (slots.image n) × HasHeader segment_header_length n (slots.segment n))
+          ((λ (_ : _). (0, image_epoch 0 0 (omega arith) refl)), (λ (_ : _). (0, segment_of_0 rest))) (no_header image_header 1 (omega arith), no_header segment_header_length 1 (omega arith));
+      reading = inr (record {
+        epoch = 0;
+        fits = omega arith;
+        image = opening_slot-holds 0;
+        latest = λ (number other : ℕ) (small : _). each_number (λ n. IsOpen image_header (slots.image n) → IsOfEpoch n other (slots.image n) → other ≤ 0)
+            (λ (_ : _) (is : _). omega (arith, one_epoch 0 other (long_word (length (image_text opening_state)) ++ image_text opening_state) is.rest (omega arith) is.fits is.text))
+            (λ (is_open : _) (_ : _). absurd (empty_closed image_header (omega arith) is_open)) number small;
+        first = records;
+        next = [];
+        segment = spelled;
+        other = inl (empty_closed segment_header_length (omega arith), refl);
+        joined = sym (append-nil records);
+      });
+    }
+
+-- the batch's gate closed: no record
+pub closed_batch-spells : Spells (with_segment (segment_header open_gate 0 ++ (0 ∷ drop 17 first_segment))) opening_state []
+closed_batch-spells = spells_by_segment (0 ∷ drop 17 first_segment) [] (record {
+  content = 0 ∷ drop 17 first_segment;
+  size = 0;
+  text = refl;
+  spelled = record { batches = []; rest = 0 ∷ drop 17 first_segment; text = refl; closed = λ (e : _). absurd (omega (arith, e)); none_empty = tt; flat = refl; canonical = tt; bounded = omega arith; sized = refl };
+})
+
+-- cut behind the header: no record
+pub cut_to_16-spells : Spells (with_segment (take 16 first_segment)) opening_state []
+cut_to_16-spells = spells_by_segment [] [] (record {
+  content = [];
+  size = 0;
+  text = refl;
+  spelled = record { batches = []; rest = []; text = refl; closed = tt; none_empty = tt; flat = refl; canonical = tt; bounded = omega arith; sized = refl };
+})
+
+-- cut behind the batch, so that its closed gate is missing: the record all the same
+pub cut_to_69-spells : Spells (with_segment (take 69 first_segment)) opening_state (first_allocation ∷ [])
+unfolding batch_text record_text call_text reply_text
+cut_to_69-spells = spells_by_segment (take 53 (drop 16 first_segment)) (first_allocation ∷ []) (record {
+  content = take 53 (drop 16 first_segment);
+  size = 53;
+  text = refl;
+  spelled = record {
+    batches = (first_allocation ∷ []) ∷ [];
+    rest = [];
+    text = ap (λ (l : List ℕ). take 53 (drop 16 l)) (sym segment-bytes);
+    closed = tt;
+    none_empty = (omega arith, tt);
+    flat = refl;
+    canonical = (first_allocation-is, tt);
+    bounded = omega arith;
+    sized = refl;
+  };
+})
+
+-- What spells nothing.
+
+-- no image is open: then the segment may have no open batch
+no_image_damaged : (image : List ℕ) → (IsOpen image_header image → ⊥) → (base : State) (records : List Record) → Spells (with_image image) base records → ⊥
+no_image_damaged image closed base records spelled = elim spelled.reading as (λ _. ⊥) [
+  | inl new ↦ ((new.0.unused 0 0 (omega arith) (omega arith, refl) (segment_of_0 (drop 16 first_segment))).1) refl
+  | inr stored ↦ each_number (λ n. IsOpen image_header ((with_image image).image n) → ⊥) closed (empty_closed image_header (omega arith)) (stored.epoch % 2) (omega arith)
+      (image_is_open stored.epoch ((with_image image).image (stored.epoch % 2)) base stored.image)
+]
+
+pub gate_of_image-damaged : (base : State) (records : List Record) → Spells (with_image (0 ∷ drop 1 (opening_slot 0))) base records → ⊥
+gate_of_image-damaged = no_image_damaged (0 ∷ drop 1 (opening_slot 0)) (λ (is_open : _). absurd (omega (arith, ap (λ (l : List ℕ). slice_index l 0) is_open.1)))
+
+pub version_of_image-other : IsOtherVersion (with_image (open_gate ∷ 9 ∷ drop 2 (opening_slot 0)))
+version_of_image-other = (0, omega arith, inl ((omega arith, refl), (λ (e : _). absurd (omega (arith, e)))))
+
+-- a byte of the six that are zero
+pub zeros_of_image-damaged : (base : State) (records : List Record) → Spells (with_image (open_gate ∷ 1 ∷ 1 ∷ drop 3 (opening_slot 0))) base records → ⊥
+zeros_of_image-damaged base records spelled =
+    let header = (spelled.headers 0 (omega arith)).0 (omega arith, refl) in
+    absurd (omega (arith, ap (λ (l : List ℕ). slice_index l 2) header.1.text))
+
+-- an odd epoch in image 0
+pub odd_epoch-damaged : (base : State) (records : List Record) → Spells (with_image (opening_slot 1)) base records → ⊥
+odd_epoch-damaged base records spelled =
+    let header = (spelled.headers 0 (omega arith)).0 (omega arith, refl) in
+    absurd (omega (arith, one_epoch 1 header.0 (long_word (length (image_text opening_state)) ++ image_text opening_state) header.1.rest (omega arith) header.1.fits header.1.text, header.1.of_number))
+
+-- image 0 of epoch 2 over segment 0 of epoch 0
+pub later_image-damaged : (base : State) (records : List Record) → Spells (with_image (opening_slot 2)) base records → ⊥
+later_image-damaged base records spelled = elim spelled.reading as (λ _. ⊥) [
+  | inl new ↦ new.0.no_image 0 (omega arith) (omega arith, refl)
+  | inr stored ↦
+      let later : 2 ≤ stored.epoch = stored.latest 0 2 (omega arith) (omega arith, refl) (image_epoch 0 2 (omega arith) refl) in
+      let at_zero : (n : ℕ) → n < 2 → SpellsSegment stored.epoch ((with_image (opening_slot 2)).segment n) stored.first → ⊥ =
+      each_number (λ n. SpellsSegment stored.epoch ((with_image (opening_slot 2)).segment n) stored.first → ⊥)
+      (λ (s : _). absurd (omega (arith, later, segment_epoch 0 stored.epoch 0 first_segment stored.first s stored.fits (segment_of_0 (drop 16 first_segment)))))
+      (λ (s : _). empty_closed segment_header_length (omega arith) (segment_is_open stored.epoch [] stored.first s)) in
+      at_zero (stored.epoch % 2) (omega arith) stored.segment
+]
+
+-- a segment that spells no records leaves nothing, where an image is open
+no_segment_damaged : (segment : List ℕ) → ((epoch : ℕ) (records : List Record) → epoch < 2 ^ 64 → SpellsSegment epoch segment records → ⊥) → (base : State) (records : List Record) → Spells (with_segment segment) base records → ⊥
+no_segment_damaged segment none base records spelled = elim spelled.reading as (λ _. ⊥) [
+  | inl new ↦ new.0.no_image 0 (omega arith) (omega arith, refl)
+  | inr stored ↦ each_number (λ n. SpellsSegment stored.epoch ((with_segment segment).segment n) stored.first → ⊥) (none stored.epoch stored.first stored.fits)
+      (λ (s : _). empty_closed segment_header_length (omega arith) (segment_is_open stored.epoch [] stored.first s)) (stored.epoch % 2) (omega arith) stored.segment
+]
+
+pub cut_to_15-damaged : (base : State) (records : List Record) → Spells (with_segment (take 15 first_segment)) base records → ⊥
+cut_to_15-damaged = no_segment_damaged (take 15 first_segment) (λ (epoch : ℕ) (records : List Record) (_ : _) (s : _). absurd (omega (arith, (segment_is_open epoch (take 15 first_segment) records s).0)))
+
+-- An open gate has a whole batch behind it.
+
+-- how many records a batch's text says, how many bytes they have, and that these bytes are there
+record Batch (bytes : List ℕ) : Type 0 where
+  batch : List Record
+  rest : List ℕ
+  text : bytes ≡ batch_text 0 batch ++ rest
+  canonical : AreRecords batch
+  few : length batch ≤ MAX_RECORDS
+  later : List (List Record)
+  left : List ℕ
+  behind : rest ≡ batches_text (0 + length batch) later ++ left
+  closed : IsClosed left
+
+of_batches : (bytes : List ℕ) (batches : List (List Record)) (rest : List ℕ) → open_gate ∷ bytes ≡ batches_text 0 batches ++ rest → IsClosed rest → AreRecords (all_records batches) → length (all_records batches) ≤ MAX_RECORDS → Batch bytes
+of_batches bytes [] rest text closed canonical few = absurd (subst IsClosed (sym text) closed refl)
+of_batches bytes (batch ∷ batches) rest text closed canonical few = record {
+  batch = batch;
+  rest = batches_text (0 + length batch) batches ++ rest;
+  text = ap (λ (l : List ℕ). drop 1 l) text ∙ append_assoc (batch_text 0 batch) (batches_text (0 + length batch) batches) rest;
+  canonical = are_records-front batch (all_records batches) canonical;
+  few = omega (arith, few, length-append batch (all_records batches));
+  later = batches;
+  left = rest;
+  behind = refl;
+  closed = closed;
+}
+
+first_batch : (bytes : List ℕ) (records : List Record) (size : ℕ) → SpellsBatches (open_gate ∷ bytes) records size → Batch bytes
+first_batch bytes records size spelled = of_batches bytes spelled.batches spelled.rest spelled.text spelled.closed (subst AreRecords spelled.flat spelled.canonical) (omega (arith, spelled.bounded, ap length spelled.flat))
+
+-- as many bytes as the count and the size say
+batch_long : (bytes : List ℕ) (b : Batch bytes) → 12 + length (records_text 0 b.batch) ≤ length bytes
+batch_long bytes b = omega (arith, ap length b.text, length-batch 0 b.batch b.rest)
+
+-- the text's count and size
+batch_counts : (bytes tail : List ℕ) (b : Batch bytes) (count size : ℕ) → bytes ≡ word count ++ (long_word size ++ tail) → count < 2 ^ 32 → size < 2 ^ 64 → (length b.batch ≡ count) × (length (records_text 0 b.batch) ≡ size)
+batch_counts bytes tail b count size is fits fits_too =
+    let heads = same_heads (length b.batch) count (length (records_text 0 b.batch)) size (records_text 0 b.batch ++ b.rest) tail (omega (arith, b.few)) fits (records_are_short 0 b.batch b.canonical b.few) fits_too
+    (sym (batch_apart 0 b.batch b.rest) ∙ sym b.text ∙ is) in
+    (heads.0, heads.1)
+
+header_16 : (epoch : ℕ) (records : List Record) (rest : List ℕ) → epoch < 2 ^ 64 → (s : SpellsSegment epoch (segment_header open_gate 0 ++ rest) records) → s.content ≡ rest
+header_16 epoch records rest fits s = sym (ap (λ (l : List ℕ). drop 16 l) s.text)
+
+-- an open gate alone is no beginning of batches
+lone_gate : (n : ℕ) (batches : List (List Record)) (rest : List ℕ) → IsClosed rest → open_gate ∷ [] ≡ batches_text n batches ++ rest → ⊥
+lone_gate n [] rest closed is = absurd (subst IsClosed (sym is) closed refl)
+lone_gate n (batch ∷ batches) rest closed is =
+    absurd (omega (arith, ap length is, length-append (batch_text n batch) (batches_text (n + length batch) batches), length-append (batch_text n batch ++ batches_text (n + length batch) batches) rest, length-batch n batch [], length-append (batch_text n batch) []))
+
+-- a segment behind whose open gate there is no whole batch spells nothing
+no_batch_damaged : (bytes : List ℕ) → (Batch bytes → ⊥) → (base : State) (records : List Record) → Spells (with_segment (segment_header open_gate 0 ++ (open_gate ∷ bytes))) base records → ⊥
+no_batch_damaged bytes none = no_segment_damaged (segment_header open_gate 0 ++ (open_gate ∷ bytes)) (λ (epoch : ℕ) (records : List Record) (fits : _) (s : _).
+    none (first_batch bytes records s.size (subst (λ (l : List ℕ). SpellsBatches l records s.size) (header_16 epoch records (open_gate ∷ bytes) fits s) s.spelled)))
+
+pub cut_to_17-damaged : (base : State) (records : List Record) → Spells (with_segment (take 17 first_segment)) base records → ⊥
+cut_to_17-damaged = no_batch_damaged [] (λ (b : _). absurd (omega (arith, batch_long [] b)))
+
+pub cut_to_68-damaged : (base : State) (records : List Record) → Spells (with_segment (take 68 first_segment)) base records → ⊥
+cut_to_68-damaged = no_batch_damaged (take 51 (drop 17 first_segment)) (λ (b : _).
+    let counts = batch_counts (take 51 (drop 17 first_segment)) (take 39 (drop 29 first_segment)) b 1 40 refl (omega arith) (omega arith) in
+    absurd (omega (arith, batch_long (take 51 (drop 17 first_segment)) b, counts.1)))
+
+call_long : (c : Call) → 4 ≤ length (call_text c)
+unfolding call_text
+call_long c = omega (arith, length-append (word (number_of_call c)) (arguments_text c), length-word (number_of_call c))
+
+reply_long : (r : Reply) → 4 ≤ length (reply_text r)
+unfolding reply_text
+reply_long (reply.Refused number code) = omega (arith, length-append (word number) (word (number_of code)), length-word number)
+reply_long (reply.Done number) = omega (arith, length-append (word number) (word 0 ++ []), length-word number)
+reply_long r = omega arith
+
+-- a batch that says of its one record that they are two
+two_are_longer : (batch : List Record) → length batch ≡ 2 → 56 ≤ length (records_text 0 batch)
+two_are_longer [] is = absurd (omega (arith, is))
+two_are_longer (a ∷ []) is = absurd (omega (arith, is))
+two_are_longer (a ∷ b ∷ []) is =
+    omega (
+      arith,
+      length-append (record_text 0 a) (records_text 1 (b ∷ [])),
+      length-append (record_text 1 b) (records_text 2 []),
+      length-record_text 0 a,
+      length-record_text 1 b,
+      call_long a.call,
+      call_long b.call,
+      reply_long a.reply,
+      reply_long b.reply,
+    )
+two_are_longer (a ∷ b ∷ c ∷ more) is = absurd (omega (arith, is))
+
+pub count_of_batch-damaged : (base : State) (records : List Record) → Spells (with_segment (take 17 first_segment ++ (2 ∷ drop 18 first_segment))) base records → ⊥
+count_of_batch-damaged = no_batch_damaged (2 ∷ drop 18 first_segment) (λ (b : _).
+    let counts = batch_counts (2 ∷ drop 18 first_segment) (drop 29 first_segment) b 2 40 refl (omega arith) (omega arith) in
+    absurd (omega (arith, two_are_longer b.batch counts.0, counts.1)))
+
+-- an open gate behind the batch, and nothing behind that
+pub open_end-damaged : (base : State) (records : List Record) → Spells (with_segment (take 69 first_segment ++ (open_gate ∷ []))) base records → ⊥
+open_end-damaged = no_batch_damaged (take 52 (drop 17 first_segment) ++ (open_gate ∷ [])) (λ (b : _).
+    let bytes : List ℕ = take 52 (drop 17 first_segment) ++ (open_gate ∷ []) in
+    let counts = batch_counts bytes (take 40 (drop 29 first_segment) ++ (open_gate ∷ [])) b 1 40 refl (omega arith) (omega arith) in
+    let left : b.rest ≡ open_gate ∷ [] = sym (drop_at (batch_text 0 b.batch) b.rest 52 (omega (arith, length-batch 0 b.batch [], length-append (batch_text 0 b.batch) [], counts.1))) ∙ sym (ap (λ (l : List ℕ). drop 52 l) b.text) in
+    lone_gate (0 + length b.batch) b.later b.left b.closed (sym left ∙ b.behind))
+
+-- Image 5 is the latest, but segment 1 is of epoch 3.
+abbrev pub old_segment : Slots
+old_segment = four (opening_slot 4) (opening_slot 5) (empty_segment 4) (empty_segment 3)
+
+-- an image of epoch 5 stands, so that the store's epoch is 5
+epoch_5 : (slots : Slots) (base : State) (records : List Record) (stored : IsStored slots base records) → slots.image 1 ≡ opening_slot 5 → ((other : ℕ) → other < 2 ^ 64 → IsOfEpoch 0 other (slots.image 0) → other ≤ 4) → stored.epoch ≡ 5
+epoch_5 slots base records stored is_five no_later =
+    let later : 5 ≤ stored.epoch = stored.latest 1 5 (omega arith) (subst (IsOpen image_header) (sym is_five) (omega arith, refl)) (subst (IsOfEpoch 1 5) (sym is_five) (image_epoch 1 5 (omega arith) refl)) in
+    let bound : (n : ℕ) → n < 2 → stored.epoch % 2 ≡ n → HoldsImage stored.epoch (slots.image n) base → stored.epoch ≤ 5 =
+    each_number (λ n. stored.epoch % 2 ≡ n → HoldsImage stored.epoch (slots.image n) base → stored.epoch ≤ 5)
+    (λ (even : _) (holds : _). omega (arith, no_later stored.epoch stored.fits (subst (λ (k : ℕ). IsOfEpoch k stored.epoch (slots.image 0)) even (image_header_is stored.epoch (slots.image 0) base stored.fits holds))))
+    (λ (odd : _) (holds : _). omega (arith, one_epoch 5 stored.epoch (long_word (length (image_text opening_state)) ++ image_text opening_state) (image_header_is stored.epoch (slots.image 1) base stored.fits holds).rest (omega arith) stored.fits (sym is_five ∙ (image_header_is stored.epoch (slots.image 1) base stored.fits holds).text))) in
+    omega (arith, later, bound (stored.epoch % 2) (omega arith) refl stored.image)
+
+four_at_most : (other : ℕ) → other < 2 ^ 64 → IsOfEpoch 0 other (opening_slot 4) → other ≤ 4
+four_at_most other fits is = omega (arith, one_epoch 4 other (long_word (length (image_text opening_state)) ++ image_text opening_state) is.rest (omega arith) is.fits is.text)
+
+pub old_segment-damaged : (base : State) (records : List Record) → Spells old_segment base records → ⊥
+old_segment-damaged base records spelled = elim spelled.reading as (λ _. ⊥) [
+  | inl new ↦ new.0.no_image 0 (omega arith) (omega arith, refl)
+  | inr stored ↦
+      let is_five : stored.epoch ≡ 5 = epoch_5 old_segment base records stored refl four_at_most in
+      let spells_five : SpellsSegment stored.epoch (empty_segment 3) stored.first = subst (λ (e : ℕ). SpellsSegment stored.epoch (old_segment.segment (e % 2)) stored.first) is_five stored.segment in
+      absurd (omega (arith, is_five, segment_epoch 1 stored.epoch 3 (empty_segment 3) stored.first spells_five stored.fits (segment_of 1 3 (omega arith) refl)))
+]
+
+-- Image 5 is the latest, and its text is bent: it says that it has 20 bytes, which no image has.
+abbrev pub bent_slot : List ℕ
+bent_slot = open_gate ∷ (epoch_text 5 ++ (long_word 20 ++ take 20 (image_text opening_state)))
+
+abbrev pub bent_image : Slots
+bent_image = four (opening_slot 4) bent_slot (empty_segment 4) (empty_segment 5)
+
+-- every image of a lawful state has more
+image_long : (state : State) → 24 ≤ length (image_text state) ⊎ (finmap.get state.spaces 1 ≡ None)
+unfolding image_text
+image_long state =
+    elim (finmap.entries state.spaces) as (λ (es : List (ℕ × Names)). finmap.entries state.spaces ≡ es → (24 ≤ length (image_text state)) ⊎ (finmap.get state.spaces 1 ≡ None)) [
+      | [] ↦ λ (is : _). inr (get-entries state.spaces 1 ∙ ap (finmap.find nat_cmp 1) is)
+      | e ∷ es ↦ λ (is : _).
+          let spaces : List ℕ = flat_map (λ (s : ℕ × Names). word s.0 ++ names_text s.1) (finmap.entries state.spaces) in
+          let ports : List ℕ = flat_map (λ (p : ℕ × PortState). long_word p.0 ++ port_text p.1) (finmap.entries state.ports) in
+          let names : List ℕ = flat_map (λ (n : ℕ × Entry). word n.0 ++ entry_text n.1) (finmap.entries e.1) in
+          let others : List ℕ = flat_map (λ (s : ℕ × Names). word s.0 ++ names_text s.1) es in
+          inl (omega (
+            arith,
+            length-append (long_word state.next) (word (finmap.len state.spaces) ++ (spaces ++ (word (finmap.len state.ports) ++ ports))),
+            length-append (word (finmap.len state.spaces)) (spaces ++ (word (finmap.len state.ports) ++ ports)),
+            length-append spaces (word (finmap.len state.ports) ++ ports),
+            length-append (word (finmap.len state.ports)) ports,
+            ap (λ (l : List (ℕ × Names)). length (flat_map (λ (s : ℕ × Names). word s.0 ++ names_text s.1) l)) is,
+            length-append (word e.0 ++ names_text e.1) others,
+            length-append (word e.0) (names_text e.1),
+            length-append (word (finmap.len e.1)) names,
+          ))
+    ] refl
+
+bent_holds_none : (epoch : ℕ) (base : State) → HoldsImage epoch bent_slot base → ⊥
+bent_holds_none epoch base holds =
+    let says : length (image_text base) ≡ 20 = same_long_word (length (image_text base)) 20 (image_text base ++ holds.rest) (take 20 (image_text opening_state)) holds.fits (omega arith) (sym (ap (λ (l : List ℕ). drop 16 l) holds.text)) in
+    elim (image_long base) as (λ _. ⊥) [
+      | inl long ↦ absurd (omega (arith, says, long))
+      | inr none ↦ cc (sym none ∙ holds.lawful.first_space.1)
+    ]
+
+pub bent_image-damaged : (base : State) (records : List Record) → Spells bent_image base records → ⊥
+bent_image-damaged base records spelled = elim spelled.reading as (λ _. ⊥) [
+  | inl new ↦ new.0.no_image 0 (omega arith) (omega arith, refl)
+  | inr stored ↦
+      let later : 5 ≤ stored.epoch = stored.latest 1 5 (omega arith) (omega arith, refl) (record { rest = long_word 20 ++ take 20 (image_text opening_state); text = refl; fits = omega arith; of_number = refl }) in
+      let holds_none : (n : ℕ) → n < 2 → stored.epoch % 2 ≡ n → HoldsImage stored.epoch (bent_image.image n) base → ⊥ =
+      each_number (λ n. stored.epoch % 2 ≡ n → HoldsImage stored.epoch (bent_image.image n) base → ⊥)
+      (λ (even : _) (holds : _). absurd (omega (arith, later, four_at_most stored.epoch stored.fits (subst (λ (k : ℕ). IsOfEpoch k stored.epoch (opening_slot 4)) even (image_header_is stored.epoch (opening_slot 4) base stored.fits holds)))))
+      (λ (odd : _) (holds : _). bent_holds_none stored.epoch base holds) in
+      holds_none (stored.epoch % 2) (omega arith) refl stored.image
+]
