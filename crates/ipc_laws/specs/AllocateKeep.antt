@@ -16,14 +16,15 @@ use Rattle.ipc_model.specs.declared.port.PortState.{PortState}
 use Rattle.codes.specs.declared.right.Right.TheVariants as right
 use Rattle.ipc_model.specs.calls.Actions as actions
 use Rattle.ipc_laws.specs.CallsKeep.{Kept}
-use Rattle.ipc_model.specs.calls.PortCalls.{is_right, is_full, is_in_use}
+use Rattle.ipc_model.specs.calls.PortCalls.{is_right, names_are_used_up, is_in_use}
 use Rattle.ipc_model.specs.state.Circular.{Grounded, Carries, carries}
 use Rattle.ipc_laws.specs.Dangling.{not_equal}
 use Rattle.ipc_laws.specs.EffectRanks.{fewer_edges, state_less, receive_is_any}
 use Rattle.ipc_model.specs.effects.Effects.{Effect, release}
 use Rattle.ipc_laws.specs.EffectsKeep.{dangles_none, entry_part, serial_of}
 use Rattle.ipc_laws.specs.EntryChanges.{EntryMove, entry_moves}
-use Rattle.ipc_model.specs.state.Lawful.{rights_count, LawfulBut, Lawful, LawfulNames, LawfulEntry, LawfulPort, IsHeldBesideSet, IsReleased}
+use Rattle.ipc_model.specs.state.Lawful.{rights_count, LawfulBut, LawfulNames, LawfulEntry, LawfulPort, IsHeldBesideSet, IsReleased}
+use Rattle.ipc_laws.specs.LawfulLaws.{LawfulAtRest}
 use Rattle.ipc_laws.specs.ListLaws.{some_same}
 use Rattle.ipc_laws.specs.MapLaws.{get-here, get-there}
 use Rattle.ipc_laws.specs.MapSums.{total-new}
@@ -59,7 +60,7 @@ none_released : (serial : ℕ) → IsReleased [] serial → ⊥
 none_released serial (k, less, is) = absurd (omega (arith, less))
 
 -- A port is there before its receive right has a name: the right waits.
-pub new_port_kept : (old : State) → Lawful old → Grounded old → finmap.len old.ports < MAX_PORTS → old.next < 2 ^ 64 - 1 → Kept (with_new_port old) (release kind.Receive old.next ∷ [])
+pub new_port_kept : (old : State) → LawfulAtRest old → Grounded old → finmap.len old.ports < MAX_PORTS → old.next < 2 ^ 64 - 1 → Kept (with_new_port old) (release kind.Receive old.next ∷ [])
 new_port_kept old lawful grounded few next =
     let fresh : finmap.get old.ports old.next ≡ None = new_serial old [] lawful in
     let not_live : lives old old.next ≡ false = ap is_some fresh in
@@ -118,7 +119,7 @@ unnamed_lawful names name entry lawful unused few fits alone =
     insert_lawful names name entry lawful unused.least unused.below_dead fits (λ (_ : _). few) (λ (other serial : ℕ) (e : Entry) (_ : _) (there : _) (held : _) (held_too : _). alone other serial e there held held_too)
 
 -- a set or a dead name
-plain_kept : (old : State) (space name : ℕ) (names : Names) (entry : Entry) → Lawful old → Grounded old → finmap.get old.spaces space ≡ Some names → IsUnused names name → finmap.len names < MAX_NAMES
+plain_kept : (old : State) (space name : ℕ) (names : Names) (entry : Entry) → LawfulAtRest old → Grounded old → finmap.get old.spaces space ≡ Some names → IsUnused names name → finmap.len names < MAX_NAMES
     → LawfulEntry entry → port_held entry ≡ None → ((w : Weight) → entry_weigh w entry ≡ 0) → Kept (with_names old space (finmap.insert names name entry)) []
 plain_kept old space name names entry lawful grounded there unused few fits none weightless =
     let move : EntryMove old space name names None (Some entry) [] [] = record {
@@ -170,13 +171,13 @@ new_in_no_set old serial set port at is (zero, less, same) =
     cc (ap (λ (p : PortState). p.set) new ∙ is)
 new_in_no_set old serial set port at is (suc k, less, same) = absurd (omega (arith, less))
 
-held_live : (old : State) (space other serial : ℕ) (names : Names) (e : Entry) → Lawful old → finmap.get old.spaces space ≡ Some names → finmap.get names other ≡ Some e → port_held e ≡ Some serial → lives old serial ≡ true
+held_live : (old : State) (space other serial : ℕ) (names : Names) (e : Entry) → LawfulAtRest old → finmap.get old.spaces space ≡ Some names → finmap.get names other ≡ Some e → port_held e ≡ Some serial → lives old serial ≡ true
 held_live old space other serial names e lawful there at held = elim (lives old serial) as (λ (b : Bool). lives old serial ≡ b → b ≡ true) [
   | true ↦ λ (_ : _). refl
   | false ↦ λ (dead : _). absurd (omega (arith, dangles_none old [] lawful serial dead, entry_part (any_of serial) old space other names e there at, held_weighs serial e ((lawful.spaces space names there).2.named other e at).2 held))
 ] refl
 
-receive_kept : (old : State) (space name : ℕ) (names : Names) → Lawful old → Grounded old → finmap.get old.spaces space ≡ Some names → IsUnused names name → finmap.len names < MAX_NAMES → finmap.len old.ports < MAX_PORTS → old.next < 2 ^ 64 - 1
+receive_kept : (old : State) (space name : ℕ) (names : Names) → LawfulAtRest old → Grounded old → finmap.get old.spaces space ≡ Some names → IsUnused names name → finmap.len names < MAX_NAMES → finmap.len old.ports < MAX_PORTS → old.next < 2 ^ 64 - 1
     → Kept (with_names (with_new_port old) space (finmap.insert names name (receive_entry old.next))) []
 receive_kept old space name names lawful grounded there unused few few_ports next =
     let with_port = new_port_kept old lawful grounded few_ports next in
@@ -207,7 +208,7 @@ abbrev other_entry : ℕ → Entry
 other_entry which = if is_right which right.PortSet then Set else Dead 1
 
 -- whichever right is allocated
-pub allocated_kept : (old : State) (space : ℕ) (names : Names) (which name : ℕ) → Lawful old → Grounded old → finmap.get old.spaces space ≡ Some names → IsUnused names name → is_full names ≡ false → (is_right which right.Receive && ports_are_used_up old) ≡ false
+pub allocated_kept : (old : State) (space : ℕ) (names : Names) (which name : ℕ) → LawfulAtRest old → Grounded old → finmap.get old.spaces space ≡ Some names → IsUnused names name → names_are_used_up names ≡ false → (is_right which right.Receive && ports_are_used_up old) ≡ false
     → Kept (actions.allocated old space names which name) []
 allocated_kept old space names which name lawful grounded there unused room ports =
     let few : finmap.len names < MAX_NAMES = leb-false MAX_NAMES (finmap.len names) room in

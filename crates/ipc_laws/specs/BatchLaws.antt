@@ -100,15 +100,15 @@ same_spelling n (a ∷ more) (b ∷ more_too) x y closed closed_too are are_too 
     ((λ i. first.0 i ++ others.0 i), others.1)
 
 -- Bytes behind a segment's header spell at most one list of records.
-pub one_reading : (bytes : List ℕ) (r1 r2 : List Record) (s1 s2 : ℕ) → SpellsBatches bytes r1 s1 → SpellsBatches bytes r2 s2 → (r1 ≡ r2) × (s1 ≡ s2)
-one_reading bytes r1 r2 s1 s2 is is_too =
+pub one_reading : (bytes : List ℕ) (r1 r2 : List Record) → SpellsBatches bytes r1 → SpellsBatches bytes r2 → r1 ≡ r2
+one_reading bytes r1 r2 is is_too =
     let same = same_spelling 0 is.batches is_too.batches is.rest is_too.rest is.closed is_too.closed (subst AreRecords is.flat is.canonical) (subst AreRecords is_too.flat is_too.canonical)
     (omega (arith, is.bounded, ap length is.flat)) (omega (arith, is_too.bounded, ap length is_too.flat)) (sym is.text ∙ is_too.text) in
-    (is.flat ∙ same.0 ∙ sym is_too.flat, omega (arith, is.sized, is_too.sized, ap length same.1))
+    is.flat ∙ same.0 ∙ sym is_too.flat
 
 -- A segment spells at most one list of records, under one epoch.
 pub one_segment : (epoch : ℕ) (bytes : List ℕ) (r1 r2 : List Record) → SpellsSegment epoch bytes r1 → SpellsSegment epoch bytes r2 → r1 ≡ r2
 one_segment epoch bytes r1 r2 is is_too =
     let header = segment_header open_gate epoch in
     let same = same_back header header is.content is_too.content refl (sym is.text ∙ is_too.text) in
-    (one_reading is_too.content r1 r2 is.size is_too.size (subst (λ content. SpellsBatches content r1 is.size) same is.spelled) is_too.spelled).0
+    one_reading is_too.content r1 r2 (subst (λ content. SpellsBatches content r1) same is.spelled) is_too.spelled

@@ -19,7 +19,8 @@ use Rattle.ipc_model.specs.calls.Actions.{Action, Acts, ActsOn, Done}
 use Rattle.ipc_model.specs.state.Circular.{Grounded}
 use Rattle.ipc_model.specs.effects.Effects.{Effect}
 use Rattle.ipc_laws.specs.EffectsKeep.{dangles_none, entry_part}
-use Rattle.ipc_model.specs.state.Lawful.{LawfulBut, Lawful, IsHeldBesideSet, IsReleased}
+use Rattle.ipc_model.specs.state.Lawful.{LawfulBut, IsHeldBesideSet, IsReleased}
+use Rattle.ipc_laws.specs.LawfulLaws.{LawfulAtRest}
 use Rattle.ipc_laws.specs.ListLaws.{some_same}
 use Rattle.ipc_model.specs.calls.PortCalls.{tests_of, name_is, entry_is, is_set, is_no_name, has_receive, is_in_some_set}
 use Rattle.ipc_laws.specs.PortChanges.{PortMove, port_moves_lawfully}
@@ -33,7 +34,7 @@ pub record Kept (new : State) (effects : List Effect) : Type 0 where
   pub lawful : LawfulBut new effects
   pub grounded : Grounded new
 
-pub kept_as : (old new : State) (effects : List Effect) → Lawful old → Grounded old → new ≡ old → effects ≡ [] → Kept new effects
+pub kept_as : (old new : State) (effects : List Effect) → LawfulAtRest old → Grounded old → new ≡ old → effects ≡ [] → Kept new effects
 kept_as old new effects lawful grounded same none =
     subst (λ (s : State). Kept s effects) (sym same) (subst (λ (l : List Effect). Kept old l) (sym none) (record { lawful = lawful; grounded = grounded }))
 
@@ -58,7 +59,7 @@ received_lives state effects space name serial names entry lawful there at is =
     ] refl
 
 -- a call that sets what the port keeps whose receive right a name holds
-set_kept : (old new : State) (space name : ℕ) (names : Names) (entry : Entry) (change : PortState → PortState) (effects : List Effect) → Lawful old → Grounded old
+set_kept : (old new : State) (space name : ℕ) (names : Names) (entry : Entry) (change : PortState → PortState) (effects : List Effect) → LawfulAtRest old → Grounded old
     → finmap.get old.spaces space ≡ Some names → finmap.get names name ≡ Some entry
     → ((serial : ℕ) (port : PortState) → received_port entry ≡ Some serial → finmap.get old.ports serial ≡ Some port → PortMove old [] serial change)
     → new ≡ actions.with_received old entry change → effects ≡ [] → Kept new effects
@@ -82,18 +83,18 @@ first_passes test tests none = elim test.0 as (λ (b : Bool). (if b then Some te
 limit_fits : (limit : ℕ) → nat_lt MAX_QUEUE_LIMIT limit ≡ false → limit ≤ MAX_QUEUE_LIMIT
 limit_fits limit passes = ltb-false MAX_QUEUE_LIMIT limit passes
 
-by_entry_kept : (old new : State) (space name : ℕ) (names : Names) (change : PortState → PortState) (number : ℕ) (answer : Reply) (effects : List Effect) → Lawful old → Grounded old → finmap.get old.spaces space ≡ Some names
+by_entry_kept : (old new : State) (space name : ℕ) (names : Names) (change : PortState → PortState) (number : ℕ) (answer : Reply) (effects : List Effect) → LawfulAtRest old → Grounded old → finmap.get old.spaces space ≡ Some names
     → ((entry : Entry) (serial : ℕ) (port : PortState) → finmap.get names name ≡ Some entry → received_port entry ≡ Some serial → finmap.get old.ports serial ≡ Some port → PortMove old [] serial change)
-    → ActsOn (finmap.get names name) (λ entry. actions.done number (actions.with_received old entry change) []) answer new effects → Kept new effects
+    → ActsOn (finmap.get names name) (λ entry. actions.done_with number (actions.with_received old entry change) []) answer new effects → Kept new effects
 by_entry_kept old new space name names change number answer effects lawful grounded there moves acts =
-    elim (finmap.get names name) as (λ (o : Option Entry). finmap.get names name ≡ o → ActsOn o (λ entry. actions.done number (actions.with_received old entry change) []) answer new effects → Kept new effects) [
+    elim (finmap.get names name) as (λ (o : Option Entry). finmap.get names name ≡ o → ActsOn o (λ entry. actions.done_with number (actions.with_received old entry change) []) answer new effects → Kept new effects) [
       | None ↦ λ (none : _) (a : _). absurd a
       | Some entry ↦ λ (at : _) (a : _). set_kept old new space name names entry change effects lawful grounded there at (λ (serial : ℕ) (port : PortState) (held : _) (live : _). moves entry serial port at held live) a.1 a.2
     ] refl acts
 
 -- each of the calls that set what a port keeps
 
-limit_move : (old : State) (serial limit : ℕ) (port : PortState) → Lawful old → finmap.get old.ports serial ≡ Some port → limit ≤ MAX_QUEUE_LIMIT → PortMove old [] serial (λ p. record p { limit = limit })
+limit_move : (old : State) (serial limit : ℕ) (port : PortState) → LawfulAtRest old → finmap.get old.ports serial ≡ Some port → limit ≤ MAX_QUEUE_LIMIT → PortMove old [] serial (λ p. record p { limit = limit })
 limit_move old serial limit port lawful there fits = record {
   port = port;
   there = there;
@@ -103,7 +104,7 @@ limit_move old serial limit port lawful there fits = record {
   member = λ (set : ℕ) (is : _). lawful.sets serial set port there is;
 }
 
-make_send_move : (old : State) (serial count : ℕ) (port : PortState) → Lawful old → finmap.get old.ports serial ≡ Some port → count < 2 ^ 32 → PortMove old [] serial (λ p. record p { make_send_count = count })
+make_send_move : (old : State) (serial count : ℕ) (port : PortState) → LawfulAtRest old → finmap.get old.ports serial ≡ Some port → count < 2 ^ 32 → PortMove old [] serial (λ p. record p { make_send_count = count })
 make_send_move old serial count port lawful there fits = record {
   port = port;
   there = there;
@@ -113,7 +114,7 @@ make_send_move old serial count port lawful there fits = record {
   member = λ (set : ℕ) (is : _). lawful.sets serial set port there is;
 }
 
-sequence_move : (old : State) (serial seqno : ℕ) (port : PortState) → Lawful old → finmap.get old.ports serial ≡ Some port → seqno < 2 ^ 32 → PortMove old [] serial (λ p. record p { sequence_number = seqno })
+sequence_move : (old : State) (serial seqno : ℕ) (port : PortState) → LawfulAtRest old → finmap.get old.ports serial ≡ Some port → seqno < 2 ^ 32 → PortMove old [] serial (λ p. record p { sequence_number = seqno })
 sequence_move old serial seqno port lawful there fits = record {
   port = port;
   there = there;
@@ -124,7 +125,7 @@ sequence_move old serial seqno port lawful there fits = record {
 }
 
 -- the port gets a set that stands in the space which holds its receive right, or none
-set_move : (old : State) (space member serial after : ℕ) (names : Names) (entry : Entry) (port : PortState) → Lawful old → finmap.get old.spaces space ≡ Some names → finmap.get names member ≡ Some entry → received_port entry ≡ Some serial
+set_move : (old : State) (space member serial after : ℕ) (names : Names) (entry : Entry) (port : PortState) → LawfulAtRest old → finmap.get old.spaces space ≡ Some names → finmap.get names member ≡ Some entry → received_port entry ≡ Some serial
     → finmap.get old.ports serial ≡ Some port → ((after == MACH_PORT_NULL) ≡ false → finmap.get names after ≡ Some Set) → PortMove old [] serial (λ p. record p { set = actions.set_named after })
 set_move old space member serial after names entry port lawful there at held live is_set = record {
   port = port;
@@ -163,10 +164,10 @@ is_simple (call.SetSeqno name seqno) = true
 is_simple (call.MoveMember member after) = true
 is_simple c = false
 
-same_kept : (old new : State) (action : Action) (answer : Reply) (effects : List Effect) → Lawful old → Grounded old → action.state ≡ old → action.effects ≡ [] → Acts action answer new effects → Kept new effects
+same_kept : (old new : State) (action : Action) (answer : Reply) (effects : List Effect) → LawfulAtRest old → Grounded old → action.state ≡ old → action.effects ≡ [] → Acts action answer new effects → Kept new effects
 same_kept old new action answer effects lawful grounded same none acts = kept_as old new effects lawful grounded (acts.1 ∙ same) (acts.2 ∙ none)
 
-same_on_kept : (old new : State) (o : Option Entry) (action : Entry → Action) (answer : Reply) (effects : List Effect) → Lawful old → Grounded old → ((e : Entry) → (action e).state ≡ old) → ((e : Entry) → (action e).effects ≡ [])
+same_on_kept : (old new : State) (o : Option Entry) (action : Entry → Action) (answer : Reply) (effects : List Effect) → LawfulAtRest old → Grounded old → ((e : Entry) → (action e).state ≡ old) → ((e : Entry) → (action e).effects ≡ [])
     → ActsOn o action answer new effects → Kept new effects
 same_on_kept old new None action answer effects lawful grounded same none acts = absurd acts
 same_on_kept old new (Some entry) action answer effects lawful grounded same none acts = same_kept old new (action entry) answer effects lawful grounded (same entry) (none entry) acts
@@ -196,7 +197,7 @@ after_is_set old names member after passes named =
     is_set_entry (finmap.get names after) (not_not (name_is is_set names after) (first_passes (not (name_is is_set names after), InvalidRight) [] second).0)
 
 -- Such a call's own action leaves a state that is lawful with its effects, and grounded.
-pub simple_kept : (old : State) (space : ℕ) (names : Names) (c : Call) (answer : Reply) (new : State) (effects : List Effect) → is_simple c ≡ true → FitsCall c → Lawful old → Grounded old → finmap.get old.spaces space ≡ Some names
+pub simple_kept : (old : State) (space : ℕ) (names : Names) (c : Call) (answer : Reply) (new : State) (effects : List Effect) → is_simple c ≡ true → FitsCall c → LawfulAtRest old → Grounded old → finmap.get old.spaces space ≡ Some names
     → first_failing (tests_of old space names c) ≡ None → Done old space names c answer new effects → Kept new effects
 unfolding Done tests_of tests_of_after
 simple_kept old space names (call.Attach other) answer new effects shown fits lawful grounded there passes done = same_kept old new _ answer effects lawful grounded refl refl done

@@ -21,7 +21,8 @@ use Rattle.ipc_model.specs.effects.Effects.{Effect, release, notify, effect, Set
 use Rattle.ipc_laws.specs.EffectParts.{mapped_some}
 use Rattle.ipc_laws.specs.EffectWeights.{moved_out, sent_or_died}
 use Rattle.ipc_laws.specs.EffectsKeep.{dangles_none, effects_keep_lawful}
-use Rattle.ipc_model.specs.state.Lawful.{LawfulBut, Lawful, IsWaiting}
+use Rattle.ipc_model.specs.state.Lawful.{Lawful, LawfulBut, IsWaiting}
+use Rattle.ipc_laws.specs.LawfulLaws.{LawfulAtRest, alone}
 use Rattle.ipc_laws.specs.ListLaws.{some_same}
 use Rattle.ipc_laws.specs.MapLaws.{get-here, get-there, get-left, get-map_values}
 use Rattle.ipc_laws.specs.MapSums.{weigh, total, weigh-le}
@@ -299,6 +300,6 @@ abbrev pub SettledIsLawful : Type 0
 SettledIsLawful = (state : State) (effects : List Effect) (end : State) → LawfulBut state effects → Grounded state → Settles state effects end → Lawful end × Grounded end
 
 pub settled_is_lawful : SettledIsLawful
-settled_is_lawful state [] end lawful grounded settled = (lawful, grounded)
+settled_is_lawful state [] end lawful grounded settled = (alone state lawful, grounded)
 settled_is_lawful state (first ∷ rest) end lawful grounded (next_effect later) =
     settled_is_lawful (effect state first).0 (rest ++ (effect state first).1) end (effects_keep_lawful state first rest lawful) (effects_keep_grounded state first rest lawful grounded) later

@@ -15,7 +15,8 @@ use Rattle.ipc_laws.specs.EffectRanks.{receive_is_any, ports_in_state, ports_les
 use Rattle.ipc_laws.specs.EffectWeights.{with_port_weigh}
 use Rattle.ipc_laws.specs.EffectsKeep.{dangles_none, parts_of}
 use Rattle.ipc_laws.specs.EntryChanges.{changed, under, received_under, changed_weight, changed_here, changed_there, entry_of}
-use Rattle.ipc_model.specs.state.Lawful.{Lawful, LawfulNames, LawfulPort, AllWaiting, IsHeldBesideSet}
+use Rattle.ipc_model.specs.state.Lawful.{LawfulNames, LawfulPort, AllWaiting, IsHeldBesideSet}
+use Rattle.ipc_laws.specs.LawfulLaws.{LawfulAtRest}
 use Rattle.ipc_laws.specs.ListLaws.{some_same}
 use Rattle.ipc_laws.specs.MapLaws.{get-here, get-there}
 use Rattle.ipc_laws.specs.MapSums.{weigh, total, weight, total-remove}
@@ -44,7 +45,7 @@ pub record MidCall (state : State) (hand : Hand) : Type 0 where
   pub grounded : Grounded state
 
 -- a call begins with nothing in hand
-pub mid_of : (state : State) → Lawful state → Grounded state → MidCall state empty_hand
+pub mid_of : (state : State) → LawfulAtRest state → Grounded state → MidCall state empty_hand
 mid_of state lawful grounded = record {
   parts = parts_of state [] lawful;
   one_receive = λ (q : ℕ) (live : _). omega (arith, count-receive state [] q, lawful.one_receive q live);

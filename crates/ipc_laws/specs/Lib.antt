@@ -2,6 +2,7 @@ pub mod AllocateKeep
 pub mod Arrivals
 pub mod BatchLaws
 pub mod CallsKeep
+pub mod Counted
 pub mod Dangling
 pub mod EffectParts
 pub mod EffectRanks
@@ -11,6 +12,7 @@ pub mod EntryChanges
 pub mod Hands
 pub mod ImageLaws
 pub mod ItemLaws
+pub mod LawfulLaws
 pub mod ListLaws
 pub mod MapLaws
 pub mod MapSums

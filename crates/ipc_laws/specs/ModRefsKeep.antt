@@ -17,7 +17,8 @@ use Rattle.ipc_model.specs.state.Circular.{Grounded}
 use Rattle.ipc_model.specs.rights.CopyIn.{notices_of_left}
 use Rattle.ipc_model.specs.effects.Effects.{Effect, release}
 use Rattle.ipc_laws.specs.EntryChanges.{EntryMove, changed, under}
-use Rattle.ipc_model.specs.state.Lawful.{Lawful, LawfulNames, IsReleased}
+use Rattle.ipc_model.specs.state.Lawful.{LawfulNames, IsReleased}
+use Rattle.ipc_laws.specs.LawfulLaws.{LawfulAtRest}
 use Rattle.ipc_laws.specs.ListLaws.{some_same}
 use Rattle.ipc_model.specs.calls.PortCalls.{one_if, has_receive, is_right, is_no_right, references_of, sum_of, sum_is_negative, bound_of, minus_one, tests_of_delta, is_none_or_minus_one}
 use Rattle.ipc_laws.specs.ReferencesKeep.{entry_kept, left_of, left_state, left_receive, left_waits, left_weighs, port_weighs, left_lawful, not_empty, not_set, none_released, first_released, send_left_kept, dead_left_kept, gone_kept, changed_space}
@@ -35,7 +36,7 @@ without_receive w rights =
       | false ↦ omega arith
     ]
 
-pub receive_gone_kept : (old : State) (space name : ℕ) (names : Names) (rights : PortRights) → Lawful old → Grounded old → finmap.get old.spaces space ≡ Some names → finmap.get names name ≡ Some (Port rights) → rights.receive ≡ true
+pub receive_gone_kept : (old : State) (space name : ℕ) (names : Names) (rights : PortRights) → LawfulAtRest old → Grounded old → finmap.get old.spaces space ≡ Some names → finmap.get names name ≡ Some (Port rights) → rights.receive ≡ true
     → Kept (actions.receive_gone old space name rights).state (actions.receive_gone old space name rights).effects
 receive_gone_kept old space name names rights lawful grounded there at holds =
     let entry : Entry = Port (record rights { receive = false }) in
@@ -72,7 +73,7 @@ delta_bound which references delta counted passes =
     let second = (first_passes (sum_is_negative references delta, InvalidValue) ((nat_lt (bound_of which) (sum_of references delta), UrefsOverflow) ∷ []) tests).1 in
     ltb-false (bound_of which) (sum_of references delta) (first_passes (nat_lt (bound_of which) (sum_of references delta), UrefsOverflow) [] second).0
 
-same_kept : (old : State) → Lawful old → Grounded old → Kept old []
+same_kept : (old : State) → LawfulAtRest old → Grounded old → Kept old []
 same_kept old lawful grounded = record { lawful = lawful; grounded = grounded }
 
 if_kept : (b : Bool) (one other : actions.Action) → (b ≡ true → Kept one.state one.effects) → (b ≡ false → Kept other.state other.effects) → Kept (if b then one else other).state (if b then one else other).effects
@@ -111,24 +112,24 @@ either_way : (b c : Bool) → c ≡ true → (b || c) ≡ true
 either_way true c e = refl
 either_way false c e = e
 
-pub modified_kept : (old : State) (space name : ℕ) (names : Names) (entry : Entry) (which delta : ℕ) → Lawful old → Grounded old → finmap.get old.spaces space ≡ Some names → finmap.get names name ≡ Some entry
+pub modified_kept : (old : State) (space name : ℕ) (names : Names) (entry : Entry) (which delta : ℕ) → LawfulAtRest old → Grounded old → finmap.get old.spaces space ≡ Some names → finmap.get names name ≡ Some entry
     → is_no_right which ≡ false → (references_of which entry == 0) ≡ false → first_failing (tests_of_delta which (references_of which entry) delta) ≡ None
     → Kept (actions.modified old space names name entry which delta).state (actions.modified old space names name entry which delta).effects
 modified_kept old space name names (Port rights) which delta lawful grounded there at known some passes =
-    if_kept (is_right which right.Send) (actions.send_left old space name rights (sum_of rights.send delta) 9) (if delta == minus_one then actions.receive_gone old space name rights else actions.done 9 old [])
+    if_kept (is_right which right.Send) (actions.send_left old space name rights (sum_of rights.send delta) 9) (if delta == minus_one then actions.receive_gone old space name rights else actions.done_with 9 old [])
     (λ (send : _).
     let counted : references_of which (Port rights) ≡ rights.send = ap (λ (b : Bool). if b then rights.send else references_unless which rights) send in
     let bound : sum_of (references_of which (Port rights)) delta ≤ bound_of which = delta_bound which (references_of which (Port rights)) delta (ap (λ (b : Bool). b || is_right which right.DeadName) send) passes in
     send_left_kept old space name names rights (sum_of rights.send delta) 9 lawful grounded there at (sym (ap (λ (n : ℕ). n == 0) counted) ∙ some)
     (subst (λ (n : ℕ). sum_of n delta ≤ MAX_SEND_REFERENCES) counted (subst (λ (m : ℕ). sum_of (references_of which (Port rights)) delta ≤ m) (ap (λ (b : Bool). if b then MAX_SEND_REFERENCES else MAX_DEAD_REFERENCES) send) bound)))
-    (λ (other : _). if_kept (delta == minus_one) (actions.receive_gone old space name rights) (actions.done 9 old [])
+    (λ (other : _). if_kept (delta == minus_one) (actions.receive_gone old space name rights) (actions.done_with 9 old [])
     (λ (_ : _). receive_gone_kept old space name names rights lawful grounded there at (port_holds rights which some other)) (λ (_ : _). same_kept old lawful grounded))
 modified_kept old space name names (SendOnce port target) which delta lawful grounded there at known some passes =
-    if_kept (delta == minus_one) (actions.send_once_gone old space name port target 9) (actions.done 9 old [])
+    if_kept (delta == minus_one) (actions.send_once_gone old space name port target 9) (actions.done_with 9 old [])
     (λ (_ : _). subst (λ (s : State). Kept s (actions.effects_of_name name (SendOnce port target))) (sym (changed_space old space names (λ (n : Names). finmap.remove n name) there)) (gone_kept old space name names (SendOnce port target) lawful grounded there at tt))
     (λ (_ : _). same_kept old lawful grounded)
 modified_kept old space name names Set which delta lawful grounded there at known some passes =
-    if_kept (delta == minus_one) (actions.done 9 (with_names (actions.members_in old names name None) space (finmap.remove names name)) []) (actions.done 9 old [])
+    if_kept (delta == minus_one) (actions.done_with 9 (with_names (actions.members_in old names name None) space (finmap.remove names name)) []) (actions.done_with 9 old [])
     (λ (_ : _). set_gone_kept old space name names lawful grounded there at) (λ (_ : _). same_kept old lawful grounded)
 modified_kept old space name names (Dead references) which delta lawful grounded there at known some passes =
     let is = dead_holds references which some known in

@@ -8,6 +8,7 @@ use Rattle.ipc_model.specs.declared.entry.Entry.{Entry}
 use Rattle.ipc_model.specs.declared.port.PortState.{PortState}
 use Rattle.ipc_model.specs.state.Circular.{Grounded, Carries}
 use Rattle.ipc_model.specs.state.Lawful.{Lawful, LawfulNames}
+use Rattle.ipc_laws.specs.LawfulLaws.{alone}
 use Rattle.ipc_model.specs.texts.Images.{image_text}
 use Rattle.ipc_laws.specs.ListLaws.{some_same}
 use Rattle.ipc_laws.specs.MapLaws.{get-here, get-there, map_rules}
@@ -53,7 +54,7 @@ OpeningIsLawful = Lawful opening_state × Grounded opening_state
 
 pub opening_is_lawful : OpeningIsLawful
 opening_is_lawful = (
-  record {
+  alone opening_state (record {
     first_space = (finmap.empty, get-here finmap.empty 1 finmap.empty);
     spaces = λ (space : ℕ) (names : Names) (at : _).
         let only = only_space space names at in
@@ -65,7 +66,7 @@ opening_is_lawful = (
     live = λ (serial : ℕ) (dead : _). count-any opening_state serial ∙ no_weight (any_of serial);
     waits = tt;
     sets = λ (serial set : ℕ) (port : PortState) (at : _) (is : _). absurd (none_in_empty serial port at);
-  },
+  }),
   (λ (serial : ℕ). 0, λ (outer inner : ℕ) (carries : Carries opening_state outer inner). absurd (none_in_empty outer carries.0 carries.1)),
 )
 

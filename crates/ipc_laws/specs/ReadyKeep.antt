@@ -17,7 +17,7 @@ use Rattle.ipc_laws.specs.CallsKeep.{first_passes}
 use Rattle.ipc_model.specs.rights.Dispositions.{Disposition, disposition_of, received_kind}
 use Rattle.ipc_laws.specs.EffectParts.{word_more, byte_more}
 use Rattle.ipc_laws.specs.Hands.{Hand, MidCall, empty_hand, mid_hand}
-use Rattle.ipc_model.specs.messages.Items.{Item, items_of, items_text, item_text, descriptor_text, names_in, words_of, is_port_item, as_stored}
+use Rattle.ipc_model.specs.messages.Items.{Item, items_of, items_text, item_text, descriptor_text, names_of_item, words_of, is_port_item, as_stored}
 use Rattle.ipc_laws.specs.ItemLaws.{ItemFits, AllFit, items_read, items_back, back_bytes}
 use Rattle.ipc_model.specs.state.Lawful.{LawfulMessage, HoldsPorts, kinds_of_item}
 use Rattle.ipc_model.specs.messages.Messages.{bits_of, remote_of, local_of, body_of, remote_disposition, local_disposition, is_complex, header_length}
@@ -120,16 +120,16 @@ no_port_kinds (item ∷ items) none = elim (is_port_item item) as (λ (b : Bool)
 ] refl none
 
 -- as many kinds as names
-as_many : (item : Item) → length (kinds_of_item (as_stored item)) ≡ length (names_in item)
-as_many item = elim (disposition_of item.type_name) as (λ (o : Option Disposition). disposition_of item.type_name ≡ o → length (kinds_of_item (as_stored item)) ≡ length (names_in item)) [
+as_many : (item : Item) → length (kinds_of_item (as_stored item)) ≡ length (names_of_item item)
+as_many item = elim (disposition_of item.type_name) as (λ (o : Option Disposition). disposition_of item.type_name ≡ o → length (kinds_of_item (as_stored item)) ≡ length (names_of_item item)) [
   | None ↦ λ (none : _). ap length (no_kinds item none) ∙ sym (ap (λ (b : Bool). length (if b then words_of item.number item.content else [])) ((kinds_of_type item.type_name).none none))
   | Some by ↦ λ (known : _). ap length (stored_kinds item by known) ∙ length-replicate item.number (received_kind by) ∙ sym (names_long item ((kinds_of_type item.type_name).some by known).0)
 ] refl
 
-all_as_many : (items : List Item) → length (flat_map kinds_of_item (map as_stored items)) ≡ length (flat_map names_in items)
+all_as_many : (items : List Item) → length (flat_map kinds_of_item (map as_stored items)) ≡ length (flat_map names_of_item items)
 all_as_many [] = refl
 all_as_many (item ∷ items) =
-    length-append (kinds_of_item (as_stored item)) (flat_map kinds_of_item (map as_stored items)) ∙ omega (arith, as_many item, all_as_many items, length-append (names_in item) (flat_map names_in items))
+    length-append (kinds_of_item (as_stored item)) (flat_map kinds_of_item (map as_stored items)) ∙ omega (arith, as_many item, all_as_many items, length-append (names_of_item item) (flat_map names_of_item items))
 
 -- A message is ready.
 

@@ -26,7 +26,8 @@ use Rattle.ipc_laws.specs.EffectRanks.{fewer_edges, changed_edges, or_later}
 use Rattle.ipc_laws.specs.EffectWeights.{releases_carry}
 use Rattle.ipc_laws.specs.EffectsKeep.{releases_wait, waiting-append}
 use Rattle.ipc_laws.specs.Hands.{Hand, MidCall, empty_hand, mid_of, mid_hand, mid_port, kept_of_mid}
-use Rattle.ipc_model.specs.state.Lawful.{Lawful, LawfulPort, LawfulMessage}
+use Rattle.ipc_model.specs.state.Lawful.{LawfulPort, LawfulMessage}
+use Rattle.ipc_laws.specs.LawfulLaws.{LawfulAtRest}
 use Rattle.ipc_laws.specs.MapLaws.{get-here}
 use Rattle.ipc_laws.specs.MapSums.{weigh, weigh-append, insert-insert, insert-same}
 use Rattle.ipc_laws.specs.Others.{number_same, with_port_spaces}
@@ -197,7 +198,7 @@ known_first names serial unwanted = elim (name_of_port names serial) as (λ (o :
 ] refl unwanted
 
 -- A message is received.
-received_kept : (old : State) (space member serial : ℕ) (names : Names) (port : PortState) (message : Message) (later : List Message) (answer : Reply) (new : State) (effects : List Effect) → Lawful old → Grounded old → finmap.get old.spaces space ≡ Some names
+received_kept : (old : State) (space member serial : ℕ) (names : Names) (port : PortState) (message : Message) (later : List Message) (answer : Reply) (new : State) (effects : List Effect) → LawfulAtRest old → Grounded old → finmap.get old.spaces space ≡ Some names
     → finmap.get old.ports serial ≡ Some port → port.messages ≡ message ∷ later → lacks_names names message ≡ false → Received old space names member serial port message answer new effects → Kept new effects
 received_kept old space member serial names port message later answer new effects lawful grounded there at is room (given, after, arrives, _, same, are) =
     let out : State = without_oldest old serial in
@@ -214,7 +215,7 @@ received_kept old space member serial names port message later answer new effect
     let consumed = consumed_quiet message.destination serial in
     subst (λ (s : State). Kept s effects) (sym same) (subst (λ (l : List Effect). Kept (with_names out space after) l) (sym are) (kept_of_mid (with_names out space after) empty_hand (destination_consumed message.destination serial) arrived consumed.waits consumed.receives))
 
-too_large_kept : (old : State) (member serial : ℕ) (port : PortState) (message : Message) (later : List Message) (large : Bool) (answer : Reply) (new : State) (effects : List Effect) → Lawful old → Grounded old
+too_large_kept : (old : State) (member serial : ℕ) (port : PortState) (message : Message) (later : List Message) (large : Bool) (answer : Reply) (new : State) (effects : List Effect) → LawfulAtRest old → Grounded old
     → finmap.get old.ports serial ≡ Some port → port.messages ≡ message ∷ later → TooLarge old member serial message large answer new effects → Kept new effects
 too_large_kept old member serial port message later true answer new effects lawful grounded at is (_, same, are) = kept_as old new effects lawful grounded same are
 too_large_kept old member serial port message later false answer new effects lawful grounded at is (_, same, are) =
@@ -224,7 +225,7 @@ too_large_kept old member serial port message later false answer new effects law
 
 -- A receipt.
 
-taken_out_kept : (old : State) (space member serial : ℕ) (names : Names) (receipt : Receipt) (port : PortState) (message : Message) (later : List Message) (answer : Reply) (new : State) (effects : List Effect) → Lawful old → Grounded old → finmap.get old.spaces space ≡ Some names
+taken_out_kept : (old : State) (space member serial : ℕ) (names : Names) (receipt : Receipt) (port : PortState) (message : Message) (later : List Message) (answer : Reply) (new : State) (effects : List Effect) → LawfulAtRest old → Grounded old → finmap.get old.spaces space ≡ Some names
     → finmap.get old.ports serial ≡ Some port → port.messages ≡ message ∷ later → TakesOut old space names receipt member serial port message answer new effects → Kept new effects
 taken_out_kept old space member serial names receipt port message later answer new effects lawful grounded there at is takes =
     elim (nat_lt receipt.limit (message_size message)) as (λ (b : Bool). MatchBool b (TooLarge old member serial message receipt.large answer new effects)
@@ -236,7 +237,7 @@ taken_out_kept old space member serial names receipt port message later answer n
       ] refl
     ] takes
 
-pub receive_kept : (old : State) (space : ℕ) (names : Names) (receipt : Receipt) (answer : Reply) (new : State) (effects : List Effect) → Lawful old → Grounded old → finmap.get old.spaces space ≡ Some names
+pub receive_kept : (old : State) (space : ℕ) (names : Names) (receipt : Receipt) (answer : Reply) (new : State) (effects : List Effect) → LawfulAtRest old → Grounded old → finmap.get old.spaces space ≡ Some names
     → Receives old space names receipt answer new effects → Kept new effects
 receive_kept old space names receipt answer new effects lawful grounded there receives =
     elim (receive_refusal old names receipt) as (λ (o : Option KernReturn). MatchOption o (Takes old space names receipt answer new effects) (λ code. (answer ≡ without_message code 0 0) × (new ≡ old) × (effects ≡ [])) → Kept new effects) [

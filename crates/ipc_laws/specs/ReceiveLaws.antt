@@ -10,7 +10,8 @@ use Rattle.ipc_model.specs.declared.call.Reply.TheVariants as reply
 use Rattle.ipc_model.specs.declared.message.Message.{Message}
 use Rattle.ipc_model.specs.declared.port.PortState.{PortState}
 use Rattle.ipc_model.specs.effects.Effects.{Effect}
-use Rattle.ipc_model.specs.state.Lawful.{Lawful, LawfulMessage}
+use Rattle.ipc_model.specs.state.Lawful.{LawfulMessage}
+use Rattle.ipc_laws.specs.LawfulLaws.{LawfulAtRest}
 use Rattle.ipc_laws.specs.ListLaws.{some_same}
 use Rattle.ipc_laws.specs.ReceiptLaws.{one_arrival, one_choice, as_many_names, text_told}
 use Rattle.ipc_model.specs.messages.Receiving.{Receipt, Receives, TakesOut, TooLarge, Received, HoldsReceiveRight, received_text, receive_refusal, lacks_names, message_size, arriving, source_names, sources, without_message, without_oldest}
@@ -201,7 +202,7 @@ zero_less : (first : Message) (later : List Message) → 0 < length (first ∷ l
 zero_less first later = omega arith
 
 pub same_taking : (old : State) (space : ℕ) (names : Names) (receipt : Receipt) (answer : Reply) (one other : State) (effects others : List Effect)
-    → Lawful old → Taking old space names receipt answer one effects → Taking old space names receipt answer other others → SameLeft one other effects others
+    → LawfulAtRest old → Taking old space names receipt answer one effects → Taking old space names receipt answer other others → SameLeft one other effects others
 same_taking old space names receipt answer one other effects others lawful here there =
     let port_is = (lawful.ports here.serial here.port here.live).2 in
     let first_is : LawfulMessage here.message = (subst (λ (l : List Message). All LawfulMessage l) here.first port_is.messages) 0 here.message (zero_less here.message here.later) in
@@ -210,7 +211,7 @@ same_taking old space names receipt answer one other effects others lawful here 
     (outcome_of old space names receipt there.member there.serial there.port there.message answer other others there.takes)
 
 pub same_receipt : (old : State) (space : ℕ) (names : Names) (receipt : Receipt) (answer : Reply) (one other : State) (effects others : List Effect)
-    → Lawful old → Receives old space names receipt answer one effects → Receives old space names receipt answer other others → SameLeft one other effects others
+    → LawfulAtRest old → Receives old space names receipt answer one effects → Receives old space names receipt answer other others → SameLeft one other effects others
 same_receipt old space names receipt answer one other effects others lawful here there =
     elim (receive_refusal old names receipt) as (λ (r : Option KernReturn). Refuses r old space names receipt answer one effects → Refuses r old space names receipt answer other others → SameLeft one other effects others) [
       | None ↦ λ (first : _) (second : _). same_taking old space names receipt answer one other effects others lawful (taking_of old space names receipt answer one effects first) (taking_of old space names receipt answer other others second)

@@ -14,7 +14,8 @@ use Rattle.ipc_model.specs.state.Circular.{Grounded}
 use Rattle.ipc_model.specs.rights.CopyIn.{with_left, notices_of_left}
 use Rattle.ipc_model.specs.effects.Effects.{Effect, release, port_deleted}
 use Rattle.ipc_laws.specs.EntryChanges.{EntryMove, changed, entry_moves, under, received_under}
-use Rattle.ipc_model.specs.state.Lawful.{Lawful, LawfulNames, LawfulEntry, AllWaiting, IsReleased}
+use Rattle.ipc_model.specs.state.Lawful.{LawfulNames, LawfulEntry, AllWaiting, IsReleased}
+use Rattle.ipc_laws.specs.LawfulLaws.{LawfulAtRest}
 use Rattle.ipc_laws.specs.ListLaws.{some_same}
 use Rattle.ipc_laws.specs.MapSums.{weigh, weigh-append}
 use Rattle.ipc_laws.specs.NameChanges.{names_move_lawfully, insert_lawful, remove_lawful}
@@ -22,7 +23,7 @@ use Rattle.ipc_model.specs.state.State.{State, Names, with_names, with_changed, 
 use Rattle.ipc_laws.specs.Weights.{Weight, target_weigh, entry_weigh, effect_weigh, receive_of, any_of}
 
 -- another entry under a name, or none, keeps the state lawful with the effects
-pub entry_kept : (old : State) (space name : ℕ) (names : Names) (before after : Option Entry) (later : List Effect) → Lawful old → Grounded old → EntryMove old space name names before after [] later → LawfulNames (changed names name after)
+pub entry_kept : (old : State) (space name : ℕ) (names : Names) (before after : Option Entry) (later : List Effect) → LawfulAtRest old → Grounded old → EntryMove old space name names before after [] later → LawfulNames (changed names name after)
     → Kept (with_names old space (changed names name after)) later
 entry_kept old space name names before after later lawful grounded move fits = record {
   lawful = names_move_lawfully old space names (changed names name after) [] later (entry_moves old space name names before after [] later move fits) lawful;
@@ -133,7 +134,7 @@ left_lawful names name rights entry lawful at same fits =
     ] refl
 
 -- Fewer references of a send right, and its release where none are left.
-pub send_left_kept : (old : State) (space name : ℕ) (names : Names) (rights : PortRights) (left number : ℕ) → Lawful old → Grounded old → finmap.get old.spaces space ≡ Some names → finmap.get names name ≡ Some (Port rights)
+pub send_left_kept : (old : State) (space name : ℕ) (names : Names) (rights : PortRights) (left number : ℕ) → LawfulAtRest old → Grounded old → finmap.get old.spaces space ≡ Some names → finmap.get names name ≡ Some (Port rights)
     → (rights.send == 0) ≡ false → left ≤ MAX_SEND_REFERENCES → Kept (actions.send_left old space name rights left number).state (actions.send_left old space name rights left number).effects
 send_left_kept old space name names rights left number lawful grounded there at some fits =
     let entry : Entry = Port (record rights { send = left }) in
@@ -178,7 +179,7 @@ dead_lawful names name references left lawful at fits =
           (λ (other serial : ℕ) (e : Entry) (apart : _) (there : _) (held : _) (held_too : _). absurd (cc held))
     ] refl
 
-pub dead_left_kept : (old : State) (space name : ℕ) (names : Names) (references left number : ℕ) → Lawful old → Grounded old → finmap.get old.spaces space ≡ Some names → finmap.get names name ≡ Some (Dead references)
+pub dead_left_kept : (old : State) (space name : ℕ) (names : Names) (references left number : ℕ) → LawfulAtRest old → Grounded old → finmap.get old.spaces space ≡ Some names → finmap.get names name ≡ Some (Dead references)
     → left ≤ MAX_DEAD_REFERENCES → Kept (actions.dead_left old space name left number).state (actions.dead_left old space name left number).effects
 dead_left_kept old space name names references left number lawful grounded there at fits =
     let move : EntryMove old space name names (Some (Dead references)) (left_of (Dead left)) [] [] = record {
@@ -263,7 +264,7 @@ no_set_is (SendOnce port target) other e = cc e
 no_set_is Set other e = absurd other
 no_set_is (Dead references) other e = cc e
 
-pub gone_kept : (old : State) (space name : ℕ) (names : Names) (entry : Entry) → Lawful old → Grounded old → finmap.get old.spaces space ≡ Some names → finmap.get names name ≡ Some entry → is_no_set entry
+pub gone_kept : (old : State) (space name : ℕ) (names : Names) (entry : Entry) → LawfulAtRest old → Grounded old → finmap.get old.spaces space ≡ Some names → finmap.get names name ≡ Some entry → is_no_set entry
     → Kept (with_names old space (finmap.remove names name)) (actions.effects_of_name name entry)
 gone_kept old space name names entry lawful grounded there at other =
     let later : List Effect = actions.effects_of_name name entry in

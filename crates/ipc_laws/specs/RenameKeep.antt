@@ -26,7 +26,8 @@ use Rattle.ipc_laws.specs.EffectRanks.{fewer_edges, changed_edges}
 use Rattle.ipc_laws.specs.EffectWeights.{with_port_weigh, no_port, still_lives}
 use Rattle.ipc_laws.specs.EntryChanges.{changed_weight}
 use Rattle.ipc_laws.specs.Hands.{MidCall, empty_hand, mid_of, mid_names, named_parts, kept_of_mid}
-use Rattle.ipc_model.specs.state.Lawful.{Lawful, LawfulNames, IsHeldBesideSet}
+use Rattle.ipc_model.specs.state.Lawful.{LawfulNames, IsHeldBesideSet}
+use Rattle.ipc_laws.specs.LawfulLaws.{LawfulAtRest}
 use Rattle.ipc_laws.specs.ListLaws.{some_same}
 use Rattle.ipc_laws.specs.MapLaws.{get-here, get-there, get-left}
 use Rattle.ipc_laws.specs.MapSums.{same_key}
@@ -91,7 +92,7 @@ beside_moved state space from to serial set names entry there at free set_apart 
           ]
     ]
 
-entry_moved : (old : State) (space from to : ℕ) (names : Names) (entry : Entry) → (entry ≡ Set → ⊥) → Lawful old → Grounded old → finmap.get old.spaces space ≡ Some names → finmap.get names from ≡ Some entry → IsUnused names to
+entry_moved : (old : State) (space from to : ℕ) (names : Names) (entry : Entry) → (entry ≡ Set → ⊥) → LawfulAtRest old → Grounded old → finmap.get old.spaces space ≡ Some names → finmap.get names from ≡ Some entry → IsUnused names to
     → Kept (with_names old space (moved_names names from to entry)) []
 entry_moved old space from to names entry no_set lawful grounded there at unused =
     let mid : MidCall old empty_hand = mid_of old lawful grounded in
@@ -234,7 +235,7 @@ not_moved_beside state space from to serial set names there at free apart (other
           beside_moved state space from to serial set names Set there at free (λ (_ : _). apart name e at_here is) (other, held_names, name, e, at_space, at_name, is, beside)
     ]
 
-set_moved : (old : State) (space from to : ℕ) (names : Names) → Lawful old → Grounded old → finmap.get old.spaces space ≡ Some names → finmap.get names from ≡ Some Set → IsUnused names to
+set_moved : (old : State) (space from to : ℕ) (names : Names) → LawfulAtRest old → Grounded old → finmap.get old.spaces space ≡ Some names → finmap.get names from ≡ Some Set → IsUnused names to
     → Kept (with_names (actions.members_in old names from (Some to)) space (moved_names names from to Set)) []
 set_moved old space from to names lawful grounded there at unused =
     let mid : MidCall old empty_hand = mid_of old lawful grounded in
@@ -264,13 +265,13 @@ set_moved old space from to names lawful grounded there at unused =
       grounded = fewer_edges old (with_names along space after) put.edges mid.grounded;
     }) tt (λ (q : ℕ). refl)
 
-renamed_kept : (old : State) (space from to : ℕ) (names : Names) (entry : Entry) → Lawful old → Grounded old → finmap.get old.spaces space ≡ Some names → finmap.get names from ≡ Some entry → IsUnused names to → Kept (actions.renamed old space names from to entry) []
+renamed_kept : (old : State) (space from to : ℕ) (names : Names) (entry : Entry) → LawfulAtRest old → Grounded old → finmap.get old.spaces space ≡ Some names → finmap.get names from ≡ Some entry → IsUnused names to → Kept (actions.renamed old space names from to entry) []
 renamed_kept old space from to names (Port rights) lawful grounded there at unused = entry_moved old space from to names (Port rights) (λ (e : _). cc e) lawful grounded there at unused
 renamed_kept old space from to names (SendOnce port target) lawful grounded there at unused = entry_moved old space from to names (SendOnce port target) (λ (e : _). cc e) lawful grounded there at unused
 renamed_kept old space from to names Set lawful grounded there at unused = set_moved old space from to names lawful grounded there at unused
 renamed_kept old space from to names (Dead references) lawful grounded there at unused = entry_moved old space from to names (Dead references) (λ (e : _). cc e) lawful grounded there at unused
 
-pub rename_kept : (old : State) (space from to : ℕ) (names : Names) (answer : Reply) (new : State) (effects : List Effect) → to < 2 ^ 32 → Lawful old → Grounded old → finmap.get old.spaces space ≡ Some names
+pub rename_kept : (old : State) (space from to : ℕ) (names : Names) (answer : Reply) (new : State) (effects : List Effect) → to < 2 ^ 32 → LawfulAtRest old → Grounded old → finmap.get old.spaces space ≡ Some names
     → first_failing (tests_of old space names (call.Rename from to)) ≡ None → Done old space names (call.Rename from to) answer new effects → Kept new effects
 unfolding Done tests_of
 rename_kept old space from to names answer new effects fits lawful grounded there passes done =
@@ -278,7 +279,7 @@ rename_kept old space from to names answer new effects fits lawful grounded ther
     let named = first_passes (is_no_name names from, InvalidName) ((is_null_or_dead to, InvalidValue) ∷ last) passes in
     let real = first_passes (is_null_or_dead to, InvalidValue) last named.1 in
     let free = first_passes (is_in_use names to, NameExists) [] real.1 in
-    elim (finmap.get names from) as (λ (o : Option Entry). finmap.get names from ≡ o → ActsOn o (λ entry. actions.done 3 (actions.renamed old space names from to entry) []) answer new effects → Kept new effects) [
+    elim (finmap.get names from) as (λ (o : Option Entry). finmap.get names from ≡ o → ActsOn o (λ entry. actions.done_with 3 (actions.renamed old space names from to entry) []) answer new effects → Kept new effects) [
       | None ↦ λ (_ : _) (acts : _). absurd acts
       | Some entry ↦ λ (at : _) (acts : _).
           subst (λ (s : State). Kept s effects) (sym acts.1) (subst (λ (l : List Effect). Kept (actions.renamed old space names from to entry) l) (sym acts.2)

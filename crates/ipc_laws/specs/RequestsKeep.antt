@@ -27,13 +27,14 @@ use Rattle.ipc_model.specs.effects.Effects.{Effect, notify}
 use Rattle.ipc_laws.specs.EffectRanks.{fewer_edges, changed_edges}
 use Rattle.ipc_laws.specs.EffectWeights.{lives_some}
 use Rattle.ipc_laws.specs.Hands.{Hand, MidCall, PortStep, empty_hand, mid_of, mid_hand, mid_entry, mid_port, kept_of_mid}
-use Rattle.ipc_model.specs.state.Lawful.{Lawful, LawfulNames, LawfulEntry, LawfulPort}
+use Rattle.ipc_model.specs.state.Lawful.{LawfulNames, LawfulEntry, LawfulPort}
+use Rattle.ipc_laws.specs.LawfulLaws.{LawfulAtRest}
 use Rattle.ipc_laws.specs.ListLaws.{some_same}
 use Rattle.ipc_laws.specs.MapLaws.{get-here}
 use Rattle.ipc_laws.specs.NameChanges.{insert_lawful}
 use Rattle.ipc_model.specs.messages.Notices as notice
 use Rattle.ipc_laws.specs.Others.{number_same, with_port_spaces}
-use Rattle.ipc_model.specs.calls.PortCalls.{tests_of, tests_of_copy_in, tests_of_notify, tests_of_request, tests_of_variant, names_in, is_no_name, is_full, is_variant, name_is, entry_is, is_set, is_dead, dead_references, notify_disposition, target_under, target_now, target_of_port}
+use Rattle.ipc_model.specs.calls.PortCalls.{tests_of, tests_of_copy_in, tests_of_notify, tests_of_request, tests_of_variant, names_in, is_no_name, names_are_used_up, is_variant, name_is, entry_is, is_set, is_dead, dead_references, notify_disposition, target_under, target_now, target_of_port}
 use Rattle.ipc_laws.specs.ReferencesKeep.{changed_space}
 use Rattle.ipc_laws.specs.RightsKeep.{copied_in, names_are}
 use Rattle.ipc_model.specs.messages.Sending.{live_port}
@@ -195,7 +196,7 @@ set_of_entry state space name variant sync names entry target mid there at room 
 -- The former target comes back under a new name.
 
 given_back : (space : ℕ) (names : Names) (after : State × List Effect) (former : Option ℕ) (given : ℕ) (new : State) (notices effects : List Effect) → MidRequest space names after former → Quiet notices
-    → (is_some former && is_full names) ≡ false → GivesBack after.0 space former given new → effects ≡ notices ++ after.1 → Kept new effects
+    → (is_some former && names_are_used_up names) ≡ false → GivesBack after.0 space former given new → effects ≡ notices ++ after.1 → Kept new effects
 given_back space names after None given new notices effects request quiet room back are =
     subst (λ (s : State). Kept s effects) (sym back.1) (subst (λ (l : List Effect). Kept after.0 l) (sym are)
     (kept_of_mid after.0 (target_hand None) (notices ++ after.1) request.mid (quiet_both notices after.1 quiet request.quiet).waits (λ (q : ℕ). (quiet_both notices after.1 quiet request.quiet).receives q)))
@@ -237,11 +238,11 @@ requested_kept : (space name variant sync : ℕ) (cancels : Bool) (taken : Taken
     → Kept new effects
 requested_kept space name variant sync cancels taken names answer new effects mid quiet there keeps passes (given, _, back, are) =
     let here : names_in taken.state space ≡ names = names_are taken.state space names there in
-    let former_there : Bool = is_some (target_under taken.state (names_in taken.state space) variant name) && is_full (names_in taken.state space) in
+    let former_there : Bool = is_some (target_under taken.state (names_in taken.state space) variant name) && names_are_used_up (names_in taken.state space) in
     let after_name = (both_pass ((is_no_name (names_in taken.state space) name, InvalidName) ∷ []) (tests_of_variant (names_in taken.state space) name variant sync cancels ++ ((former_there, NoSpace) ∷ [])) passes).1 in
     let both = both_pass (tests_of_variant (names_in taken.state space) name variant sync cancels) ((former_there, NoSpace) ∷ []) after_name in
     let room : former_there ≡ false = (first_passes (former_there, NoSpace) [] both.1).0 in
-    let room_here : (is_some (target_under taken.state names variant name) && is_full names) ≡ false = ap (λ (n : Names). is_some (target_under taken.state n variant name) && is_full n) (sym here) ∙ room in
+    let room_here : (is_some (target_under taken.state names variant name) && names_are_used_up names) ≡ false = ap (λ (n : Names). is_some (target_under taken.state n variant name) && names_are_used_up n) (sym here) ∙ room in
     let under_name : entry_at taken.state space name ≡ finmap.get names name = ap (λ (o : Option Names). option_and_then (λ n. finmap.get n name) o) there in
     let request : MidRequest space names (request_set_under taken.state space name variant sync taken.target) (target_under taken.state names variant name) =
     subst (λ (o : Option Entry). MidRequest space names (elim o as (λ _. State × List Effect) [ None ↦ (taken.state, []) | Some entry ↦ request_set taken.state space name variant sync taken.target entry ]) (target_under taken.state names variant name)) (sym under_name)
@@ -272,13 +273,13 @@ target_in_hand space serial taken mid port once =
     λ (w : Weight). omega (arith, ap (λ (p : PortInMessage). with_right empty_hand (record { kind = taken.right.kind; port = p }) w) port, ap (λ (k : RightKind). w k serial) once) in
     mid_hand taken.state (with_right empty_hand taken.right) (target_hand (Some serial)) mid.mid (λ (q : ℕ). sym (weighs (receive_of q))) (λ (q : ℕ) (dead : _). omega (arith, weighs (any_of q)))
 
-by_null : (old : State) (space name variant sync disposition : ℕ) (names : Names) (answer : Reply) (new : State) (effects : List Effect) → Lawful old → Grounded old → finmap.get old.spaces space ≡ Some names
+by_null : (old : State) (space name variant sync disposition : ℕ) (names : Names) (answer : Reply) (new : State) (effects : List Effect) → LawfulAtRest old → Grounded old → finmap.get old.spaces space ≡ Some names
     → first_failing (tests_of_request old space name variant sync true) ≡ None → Requested old space name variant sync (taken_target old None) answer new effects → Kept new effects
 by_null old space name variant sync disposition names answer new effects lawful grounded there passes done =
     let mid : MidCall old (target_hand None) = mid_hand old empty_hand (target_hand None) (mid_of old lawful grounded) (λ (q : ℕ). refl) (λ (q : ℕ) (dead : _). omega arith) in
     requested_kept space name variant sync true (taken_target old None) names answer new effects mid quiet_none there (λ (some : _). absurd (cc some)) passes done
 
-by_name : (old : State) (space name variant sync notify_name disposition : ℕ) (names : Names) (answer : Reply) (new : State) (effects : List Effect) → Lawful old → Grounded old → finmap.get old.spaces space ≡ Some names
+by_name : (old : State) (space name variant sync notify_name disposition : ℕ) (names : Names) (answer : Reply) (new : State) (effects : List Effect) → LawfulAtRest old → Grounded old → finmap.get old.spaces space ≡ Some names
     → first_failing (tests_of_copy_in old space notify_name (notify_disposition disposition) InvalidCapability (λ taken serial. tests_of_request taken.state space name variant sync false)) ≡ None
     → Requested old space name variant sync (taken_target old (option_and_then (copy_in old space notify_name) (notify_disposition disposition))) answer new effects → Kept new effects
 by_name old space name variant sync notify_name disposition names answer new effects lawful grounded there passes done =
@@ -291,7 +292,7 @@ by_name old space name variant sync notify_name disposition names answer new eff
     requested_kept space name variant sync false (taken_target old (Some copied.taken)) mid.names answer new effects in_hand mid.quiet mid.there (λ (_ : _). refl) copied.passes
     (subst (λ (o : Option Taken). Requested old space name variant sync (taken_target old o) answer new effects) taken_is done)
 
-pub request_kept : (old : State) (space name variant sync notify_name disposition : ℕ) (names : Names) (answer : Reply) (new : State) (effects : List Effect) → Lawful old → Grounded old → finmap.get old.spaces space ≡ Some names
+pub request_kept : (old : State) (space name variant sync notify_name disposition : ℕ) (names : Names) (answer : Reply) (new : State) (effects : List Effect) → LawfulAtRest old → Grounded old → finmap.get old.spaces space ≡ Some names
     → first_failing (tests_of old space names (call.RequestNotification name variant sync notify_name disposition)) ≡ None → Done old space names (call.RequestNotification name variant sync notify_name disposition) answer new effects → Kept new effects
 unfolding Done tests_of
 request_kept old space name variant sync notify_name disposition names answer new effects lawful grounded there passes done =

@@ -29,14 +29,15 @@ use Rattle.ipc_laws.specs.Dangling.{not_equal}
 use Rattle.ipc_model.specs.rights.Dispositions.{Disposition, disposition_of}
 use Rattle.ipc_model.specs.effects.Effects.{Effect}
 use Rattle.ipc_laws.specs.Hands.{Hand, MidCall, empty_hand, mid_of, kept_of_mid}
-use Rattle.ipc_model.specs.state.Lawful.{Lawful, LawfulNames, IsHeldBesideSet}
+use Rattle.ipc_model.specs.state.Lawful.{LawfulNames, IsHeldBesideSet}
+use Rattle.ipc_laws.specs.LawfulLaws.{LawfulAtRest}
 use Rattle.ipc_laws.specs.ListLaws.{some_same}
 use Rattle.ipc_laws.specs.MapLaws.{get-here, get-there}
 use Rattle.ipc_laws.specs.MapSums.{total-new, insert-insert, key_is}
 use Rattle.ipc_laws.specs.NameChanges.{first_there, one_space}
 use Rattle.ipc_laws.specs.OpeningLaws.{total-empty, no_names_lawful}
 use Rattle.ipc_laws.specs.Others.{number_same}
-use Rattle.ipc_model.specs.calls.PortCalls.{tests_of, tests_of_copy_in, tests_of_taken, tests_of_insert, tests_of_extract, names_in, is_no_name, is_in_use, is_full, stands_elsewhere, is_taken_otherwise, passes_bound, is_send_once_kind}
+use Rattle.ipc_model.specs.calls.PortCalls.{tests_of, tests_of_copy_in, tests_of_taken, tests_of_insert, tests_of_extract, names_in, is_no_name, is_in_use, names_are_used_up, stands_elsewhere, is_taken_otherwise, passes_bound, is_send_once_kind}
 use Rattle.ipc_model.specs.messages.Sending.{live_port}
 use Rattle.ipc_model.specs.state.State.{State, Names, is_null_or_dead, with_names, port_held, is_number}
 use Rattle.ipc_laws.specs.Takes.{MidTaken, taken_mid, with_right}
@@ -98,7 +99,7 @@ extracted_kept old space taken answer new effects mid fits (name, _, (may, same,
     let arrived = arrived_mid taken.state space (names_in taken.state space) empty_hand taken.right.kind taken.right.port name mid.mid (mid.there ∙ ap (λ n. Some n) (sym here)) may (room_for (names_in taken.state space) taken.right fits) in
     done_with_notices (with_names taken.state space (names_after (names_in taken.state space) taken.right.kind taken.right.port name)) new taken.notices effects space empty_hand taken mid arrived.mid same are
 
-pub extract_kept : (old : State) (space name disposition : ℕ) (names : Names) (answer : Reply) (new : State) (effects : List Effect) → Lawful old → Grounded old → finmap.get old.spaces space ≡ Some names
+pub extract_kept : (old : State) (space name disposition : ℕ) (names : Names) (answer : Reply) (new : State) (effects : List Effect) → LawfulAtRest old → Grounded old → finmap.get old.spaces space ≡ Some names
     → first_failing (tests_of old space names (call.ExtractRight name disposition)) ≡ None → Done old space names (call.ExtractRight name disposition) answer new effects → Kept new effects
 unfolding Done tests_of
 extract_kept old space name disposition names answer new effects lawful grounded there passes done =
@@ -149,10 +150,10 @@ holds_port kind.Send serial entry e = ((λ (is : _). cc is), that_port (port_hel
 holds_port kind.SendOnce serial entry e = absurd (cc e)
 
 inserted_arrives : (state : State) (space name serial : ℕ) (names : Names) (what : RightKind) → name < 2 ^ 32 → is_null_or_dead name ≡ false → MidCall state (with_one empty_hand what serial) → finmap.get state.spaces space ≡ Some names
-    → (not (is_send_once_kind what) && stands_elsewhere names name serial) ≡ false → is_taken_otherwise what serial (finmap.get names name) ≡ false → (not (is_in_use names name) && is_full names) ≡ false
+    → (not (is_send_once_kind what) && stands_elsewhere names name serial) ≡ false → is_taken_otherwise what serial (finmap.get names name) ≡ false → (not (is_in_use names name) && names_are_used_up names) ≡ false
     → MidCall (with_names state space (finmap.insert names name (merged_entry what serial (finmap.get names name)))) empty_hand
 inserted_arrives state space name serial names what fits real mid there elsewhere otherwise full =
-    elim (finmap.get names name) as (λ (o : Option Entry). finmap.get names name ≡ o → is_taken_otherwise what serial o ≡ false → (not (is_some o) && is_full names) ≡ false
+    elim (finmap.get names name) as (λ (o : Option Entry). finmap.get names name ≡ o → is_taken_otherwise what serial o ≡ false → (not (is_some o) && names_are_used_up names) ≡ false
     → MidCall (with_names state space (finmap.insert names name (merged_entry what serial o))) empty_hand) [
       | None ↦ λ (free : _) (_ : _) (room : _).
           (fresh_arrived state space names empty_hand what serial name mid there (chosen_unused names name real (ap is_some free) fits) (leb-false MAX_NAMES (finmap.len names) room)
@@ -169,13 +170,13 @@ inserted_kept : (old : State) (space name serial : ℕ) (taken : Taken) (new : S
 inserted_kept old space name serial taken new effects fits real mid port passes done =
     let names : Names = names_in taken.state space in
     let what : RightKind = taken.right.kind in
-    let last : Tests = (not (is_in_use names name) && is_full names, NoSpace) ∷ [] in
+    let last : Tests = (not (is_in_use names name) && names_are_used_up names, NoSpace) ∷ [] in
     let third : Tests = (passes_bound what (finmap.get names name), UrefsOverflow) ∷ last in
     let second : Tests = (is_taken_otherwise what serial (finmap.get names name), NameExists) ∷ third in
     let one = first_passes (not (is_send_once_kind what) && stands_elsewhere names name serial, RightExists) second passes in
     let two = first_passes (is_taken_otherwise what serial (finmap.get names name), NameExists) third one.1 in
     let three = first_passes (passes_bound what (finmap.get names name), UrefsOverflow) last two.1 in
-    let four = first_passes (not (is_in_use names name) && is_full names, NoSpace) [] three.1 in
+    let four = first_passes (not (is_in_use names name) && names_are_used_up names, NoSpace) [] three.1 in
     let there : finmap.get taken.state.spaces space ≡ Some names = mid.there ∙ ap (λ n. Some n) (sym (names_are taken.state space mid.names mid.there)) in
     let in_hand : MidCall taken.state (with_one empty_hand what serial) = subst (λ (p : PortInMessage). MidCall taken.state (with_right empty_hand (record { kind = what; port = p }))) port mid.mid in
     let after : MidCall (with_names taken.state space (finmap.insert names name (merged_entry what serial (finmap.get names name)))) empty_hand =
@@ -184,7 +185,7 @@ inserted_kept old space name serial taken new effects fits real mid port passes 
     subst (λ (p : PortInMessage). MidCall (with_names taken.state space (names_after names what p name)) empty_hand) (sym port) after in
     done_with_notices (with_names taken.state space (names_after names what taken.right.port name)) new taken.notices effects space empty_hand taken mid as_said done.0 done.1
 
-pub insert_kept : (old : State) (space name right_name disposition : ℕ) (names : Names) (answer : Reply) (new : State) (effects : List Effect) → name < 2 ^ 32 → Lawful old → Grounded old → finmap.get old.spaces space ≡ Some names
+pub insert_kept : (old : State) (space name right_name disposition : ℕ) (names : Names) (answer : Reply) (new : State) (effects : List Effect) → name < 2 ^ 32 → LawfulAtRest old → Grounded old → finmap.get old.spaces space ≡ Some names
     → first_failing (tests_of old space names (call.InsertRight name right_name disposition)) ≡ None → Done old space names (call.InsertRight name right_name disposition) answer new effects → Kept new effects
 unfolding Done tests_of
 insert_kept old space name right_name disposition names answer new effects fits lawful grounded there passes done =
@@ -239,7 +240,7 @@ created_kept space taken answer new effects mid (number, name, unused, _, may, s
     subst (λ (s : finmap.FinMap nat_cmp Names). MidCall (record taken.state { spaces = s }) empty_hand) (insert-insert taken.state.spaces number finmap.empty named) arrived.mid in
     done_with_notices (with_names taken.state number named) new taken.notices effects space empty_hand taken mid one_state same are
 
-pub create_kept : (old : State) (space name disposition : ℕ) (names : Names) (answer : Reply) (new : State) (effects : List Effect) → Lawful old → Grounded old → finmap.get old.spaces space ≡ Some names
+pub create_kept : (old : State) (space name disposition : ℕ) (names : Names) (answer : Reply) (new : State) (effects : List Effect) → LawfulAtRest old → Grounded old → finmap.get old.spaces space ≡ Some names
     → first_failing (tests_of old space names (call.SpaceCreate name disposition)) ≡ None → Done old space names (call.SpaceCreate name disposition) answer new effects → Kept new effects
 unfolding Done tests_of
 create_kept old space name disposition names answer new effects lawful grounded there passes done =

@@ -13,7 +13,7 @@ use Rattle.ipc_model.specs.declared.message.RightKind.TheVariants as kind
 use Rattle.ipc_model.specs.rights.CopyIn.{Taken, copy_in}
 use Rattle.ipc_model.specs.rights.Dispositions.{Disposition, MoveSend, MoveSendOnce, CopySend, MakeSend, MakeSendOnce, disposition_of, received_kind}
 use Rattle.ipc_laws.specs.Hands.{Hand, MidCall, empty_hand, mid_hand}
-use Rattle.ipc_model.specs.messages.Items.{Item, names_in, words_of, is_port_item, as_stored}
+use Rattle.ipc_model.specs.messages.Items.{Item, names_of_item, words_of, is_port_item, as_stored}
 use Rattle.ipc_model.specs.state.Lawful.{LawfulReply, kinds_of_item}
 use Rattle.ipc_laws.specs.ListLaws.{some_same}
 use Rattle.ipc_laws.specs.MapSums.{weigh, weigh-append}
@@ -110,7 +110,7 @@ length-words : (n : ℕ) (bytes : List ℕ) → length (words_of n bytes) ≡ n
 length-words zero bytes = refl
 length-words (suc n) bytes = omega (arith, length-words n (drop 4 bytes))
 
-pub names_long : (item : Item) → is_port_item item ≡ true → length (names_in item) ≡ item.number
+pub names_long : (item : Item) → is_port_item item ≡ true → length (names_of_item item) ≡ item.number
 names_long item port = ap (λ (b : Bool). length (if b then words_of item.number item.content else [])) port ∙ length-words item.number item.content
 
 item_mid : (space : ℕ) (hand : Hand) (wanted : List RightKind) (item : Item) (taken : TakenRights) → MidRights space hand wanted taken
@@ -119,9 +119,9 @@ item_mid space hand wanted item taken mid =
     elim (disposition_of item.type_name) as (λ (o : Option Disposition). disposition_of item.type_name ≡ o → IfSome (take_item space item o taken) (MidRights space hand (wanted ++ kinds_of_item (as_stored item)))) [
       | None ↦ λ (none : _). more_kinds space hand wanted (wanted ++ kinds_of_item (as_stored item)) (sym (ap (λ (l : List RightKind). wanted ++ l) (no_kinds item none) ∙ append-nil wanted)) (Some taken) mid
       | Some by ↦ λ (known : _).
-          more_kinds space hand (wanted ++ replicate (length (names_in item)) (received_kind by)) (wanted ++ kinds_of_item (as_stored item))
+          more_kinds space hand (wanted ++ replicate (length (names_of_item item)) (received_kind by)) (wanted ++ kinds_of_item (as_stored item))
           (ap (λ (l : List RightKind). wanted ++ l) (ap (λ (n : ℕ). replicate n (received_kind by)) (names_long item ((kinds_of_type item.type_name).some by known).0) ∙ sym (stored_kinds item by known)))
-          (take_rights space by (names_in item) taken) (rights_mid space hand wanted by (names_in item) taken mid)
+          (take_rights space by (names_of_item item) taken) (rights_mid space hand wanted by (names_of_item item) taken mid)
     ] refl
 
 pub items_mid : (space : ℕ) (hand : Hand) (wanted : List RightKind) (items : List Item) (taken : TakenRights) → MidRights space hand wanted taken

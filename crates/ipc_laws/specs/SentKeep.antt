@@ -22,7 +22,8 @@ use Rattle.ipc_laws.specs.EffectRanks.{queued_edges}
 use Rattle.ipc_laws.specs.EffectWeights.{releases_carry, lives_some}
 use Rattle.ipc_laws.specs.EffectsKeep.{releases_wait, waiting-append}
 use Rattle.ipc_laws.specs.Hands.{Hand, MidCall, empty_hand, mid_of, mid_port, kept_of_mid, mid_travels_once}
-use Rattle.ipc_model.specs.state.Lawful.{Lawful, LawfulPort, LawfulMessage}
+use Rattle.ipc_model.specs.state.Lawful.{LawfulPort, LawfulMessage}
+use Rattle.ipc_laws.specs.LawfulLaws.{LawfulAtRest}
 use Rattle.ipc_laws.specs.MapSums.{weigh, weigh-append}
 use Rattle.ipc_laws.specs.Others.{number_same}
 use Rattle.ipc_model.specs.state.Placed.{same_kind}
@@ -162,7 +163,7 @@ sent_kept ready is =
       | false ↦ λ (none : _). queued_kept ready is none
     ] refl
 
-pub send_kept : (old : State) (space : ℕ) (names : Names) (message : List ℕ) (answer : Reply) (new : State) (effects : List Effect) → AreBytes message → Lawful old → Grounded old → finmap.get old.spaces space ≡ Some names
+pub send_kept : (old : State) (space : ℕ) (names : Names) (message : List ℕ) (answer : Reply) (new : State) (effects : List Effect) → AreBytes message → LawfulAtRest old → Grounded old → finmap.get old.spaces space ≡ Some names
     → ActsIn old space names (call.Send message) answer new effects → Kept new effects
 send_kept old space names message answer new effects fits lawful grounded there acts =
     elim (ready_to_send old space message) as (λ (r : Result Ready KernReturn). IfOk r MidReady → MatchResult r (λ (ready : Ready). (answer ≡ without_message Success 0 0) × (new ≡ (sent ready).0) × (effects ≡ (sent ready).1))

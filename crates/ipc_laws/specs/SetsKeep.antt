@@ -12,7 +12,8 @@ use Rattle.ipc_model.specs.declared.port.PortState.{PortState}
 use Rattle.ipc_model.specs.calls.Actions as actions
 use Rattle.ipc_laws.specs.CallsKeep.{Kept}
 use Rattle.ipc_model.specs.state.Circular.{Grounded}
-use Rattle.ipc_model.specs.state.Lawful.{Lawful, LawfulNames, IsHeldBesideSet, IsReleased}
+use Rattle.ipc_model.specs.state.Lawful.{LawfulNames, IsHeldBesideSet, IsReleased}
+use Rattle.ipc_laws.specs.LawfulLaws.{LawfulAtRest}
 use Rattle.ipc_laws.specs.ListLaws.{some_same}
 use Rattle.ipc_laws.specs.MapLaws.{get-here, get-there, get-left}
 use Rattle.ipc_laws.specs.MapSums.{weight, total-remove}
@@ -27,7 +28,7 @@ use Rattle.ipc_laws.specs.Weights.{Weight, entry_weigh, receive_of, any_of}
 abbrev pub taken_out : PortState → PortState
 taken_out p = record p { set = None }
 
-out_kept : (state : State) (serial : ℕ) → Lawful state → Grounded state → Kept (with_port state serial taken_out) []
+out_kept : (state : State) (serial : ℕ) → LawfulAtRest state → Grounded state → Kept (with_port state serial taken_out) []
 out_kept state serial lawful grounded =
     elim (finmap.get state.ports serial) as (λ (o : Option PortState). finmap.get state.ports serial ≡ o → Kept (with_port state serial taken_out) []) [
       | None ↦ λ (none : _). subst (λ (s : State). Kept s [])
@@ -45,7 +46,7 @@ out_kept state serial lawful grounded =
           record { lawful = kept.0; grounded = kept.1 }
     ] refl
 
-pub all_out_kept : (state : State) (serials : List ℕ) → Lawful state → Grounded state → Kept (actions.with_ports state serials taken_out) []
+pub all_out_kept : (state : State) (serials : List ℕ) → LawfulAtRest state → Grounded state → Kept (actions.with_ports state serials taken_out) []
 all_out_kept state [] lawful grounded = record { lawful = lawful; grounded = grounded }
 all_out_kept state (serial ∷ serials) lawful grounded =
     let first = out_kept state serial lawful grounded in
@@ -153,7 +154,7 @@ set_move cleared space name names there at lawful empty = record {
   ];
 }
 
-pub set_gone_kept : (old : State) (space name : ℕ) (names : Names) → Lawful old → Grounded old → finmap.get old.spaces space ≡ Some names → finmap.get names name ≡ Some Set
+pub set_gone_kept : (old : State) (space name : ℕ) (names : Names) → LawfulAtRest old → Grounded old → finmap.get old.spaces space ≡ Some names → finmap.get names name ≡ Some Set
     → Kept (with_names (actions.members_in old names name None) space (finmap.remove names name)) []
 set_gone_kept old space name names lawful grounded there at =
     let serials : List ℕ = actions.serials_of_members old names name in
@@ -167,7 +168,7 @@ set_gone_kept old space name names lawful grounded there at =
     }
 
 -- mach_port_destroy: a set, or any other name
-pub destroyed_kept : (old : State) (space name : ℕ) (names : Names) (entry : Entry) → Lawful old → Grounded old → finmap.get old.spaces space ≡ Some names → finmap.get names name ≡ Some entry
+pub destroyed_kept : (old : State) (space name : ℕ) (names : Names) (entry : Entry) → LawfulAtRest old → Grounded old → finmap.get old.spaces space ≡ Some names → finmap.get names name ≡ Some entry
     → Kept (actions.destroyed old space names name entry).state (actions.destroyed old space names name entry).effects
 destroyed_kept old space name names (Port rights) lawful grounded there at = gone_kept old space name names (Port rights) lawful grounded there at tt
 destroyed_kept old space name names (SendOnce port target) lawful grounded there at = gone_kept old space name names (SendOnce port target) lawful grounded there at tt

@@ -19,7 +19,8 @@ use Rattle.ipc_model.specs.effects.Effects.{Effect}
 use Rattle.ipc_laws.specs.EffectsKeep.{waiting-flat_map}
 use Rattle.ipc_laws.specs.Hands.{MidCall, empty_hand, mid_of, kept_of_mid}
 use Rattle.ipc_laws.specs.Dangling.{left_apart}
-use Rattle.ipc_model.specs.state.Lawful.{Lawful, IsHeldBesideSet}
+use Rattle.ipc_model.specs.state.Lawful.{IsHeldBesideSet}
+use Rattle.ipc_laws.specs.LawfulLaws.{LawfulAtRest}
 use Rattle.ipc_laws.specs.ListLaws.{some_same}
 use Rattle.ipc_laws.specs.MapLaws.{get-left}
 use Rattle.ipc_laws.specs.MapSums.{weigh, total, weight, weigh-flat_map, weigh-same, total-remove}
@@ -87,7 +88,7 @@ all_weigh q names =
     weigh-flat_map (effect_weigh (receive_of q)) (λ (e : ℕ × Entry). actions.effects_of_name e.0 e.1) (finmap.entries names)
     ∙ weigh-same (λ (e : ℕ × Entry). weigh (effect_weigh (receive_of q)) (actions.effects_of_name e.0 e.1)) (λ (e : ℕ × Entry). entry_weigh (receive_of q) e.1) (λ (e : ℕ × Entry). name_weighs q e.0 e.1) (finmap.entries names)
 
-pub space_destroy_kept : (old : State) (space : ℕ) (names : Names) (answer : Reply) (new : State) (effects : List Effect) → Lawful old → Grounded old → finmap.get old.spaces space ≡ Some names
+pub space_destroy_kept : (old : State) (space : ℕ) (names : Names) (answer : Reply) (new : State) (effects : List Effect) → LawfulAtRest old → Grounded old → finmap.get old.spaces space ≡ Some names
     → first_failing (tests_of old space names call.SpaceDestroy) ≡ None → Done old space names call.SpaceDestroy answer new effects → Kept new effects
 unfolding Done tests_of
 space_destroy_kept old space names answer new effects lawful grounded there passes done =

@@ -24,6 +24,7 @@ use Rattle.ipc_laws.specs.EffectWeights.{lives_some}
 use Rattle.ipc_laws.specs.EffectsKeep.{dangles_none, entry_part}
 use Rattle.ipc_laws.specs.ImageLaws.{Spellable, SpellableEntry, SpellableLivePort, SpellableMessage, SpellableNamed, SpellableNames, SpellablePlace, SpellablePort, SpellableReplyRight, SpellableRight, SpellableSet, SpellableSpace, SpellableTarget}
 use Rattle.ipc_model.specs.state.Lawful.{Lawful, LawfulEntry, LawfulMessage, LawfulNames, HoldsPorts, ShortQueues}
+use Rattle.ipc_laws.specs.LawfulLaws.{LawfulAtRest, at_rest}
 use Rattle.ipc_laws.specs.MapLaws.{get-left}
 use Rattle.ipc_laws.specs.MapSums.{weigh, same_key}
 use Rattle.ipc_laws.specs.ReferencesKeep.{none_released}
@@ -64,7 +65,7 @@ few_keys {X} (suc n) m below =
 
 -- a right of a lawful state names a port with a serial that a long word holds
 
-serial_fits : (state : State) (q : ℕ) → Lawful state → 1 ≤ state_weigh (any_of q) state → (0 < q) × (q < 2 ^ 64)
+serial_fits : (state : State) (q : ℕ) → LawfulAtRest state → 1 ≤ state_weigh (any_of q) state → (0 < q) × (q < 2 ^ 64)
 serial_fits state q lawful weighs = elim (lives state q) as (λ (b : Bool). lives state q ≡ b → (0 < q) × (q < 2 ^ 64)) [
   | true ↦ λ (live : _).
       let at = lives_some state q live in
@@ -73,11 +74,11 @@ serial_fits state q lawful weighs = elim (lives state q) as (λ (b : Bool). live
   | false ↦ λ (dead : _). absurd (omega (arith, dangles_none state [] lawful q dead, weighs))
 ] refl
 
-target_fits : (state : State) (target : Option ℕ) → Lawful state → ((w : Weight) → target_weigh w target ≤ state_weigh w state) → SpellableTarget target
+target_fits : (state : State) (target : Option ℕ) → LawfulAtRest state → ((w : Weight) → target_weigh w target ≤ state_weigh w state) → SpellableTarget target
 target_fits state None lawful part = tt
 target_fits state (Some serial) lawful part = serial_fits state serial lawful (omega (arith, part (any_of serial), own_weight serial kind.SendOnce))
 
-entry_fits : (state : State) (entry : Entry) → Lawful state → LawfulEntry entry → ((w : Weight) → entry_weigh w entry ≤ state_weigh w state) → SpellableEntry entry
+entry_fits : (state : State) (entry : Entry) → LawfulAtRest state → LawfulEntry entry → ((w : Weight) → entry_weigh w entry ≤ state_weigh w state) → SpellableEntry entry
 entry_fits state (Port rights) lawful fits part = (
   (serial_fits state rights.port lawful (omega (arith, part (any_of rights.port), held_weighs rights.port (Port rights) fits refl))).1,
   omega (arith, fits.1),
@@ -88,7 +89,7 @@ entry_fits state (SendOnce port target) lawful fits part =
 entry_fits state Set lawful fits part = tt
 entry_fits state (Dead references) lawful fits part = omega (arith, fits.1)
 
-names_fit : (state : State) (space : ℕ) (names : Names) → Lawful state → finmap.get state.spaces space ≡ Some names → SpellableNames names
+names_fit : (state : State) (space : ℕ) (names : Names) → LawfulAtRest state → finmap.get state.spaces space ≡ Some names → SpellableNames names
 names_fit state space names lawful there =
     let own : LawfulNames names = (lawful.spaces space names there).2 in
     record {
@@ -105,7 +106,7 @@ all_parts f P Q bound [] within each all = All-nil Q
 all_parts f P Q bound (x ∷ xs) within each all =
     All-cons Q x xs (each x (λ (w : Weight). omega (arith, within w)) (All-head P x xs all)) (all_parts f P Q bound xs (λ (w : Weight). omega (arith, within w)) each (All-tail P x xs all))
 
-right_fits : (state : State) (right : CarriedRight) → Lawful state → ((w : Weight) → carried_weigh w right ≤ state_weigh w state) → SpellableRight right
+right_fits : (state : State) (right : CarriedRight) → LawfulAtRest state → ((w : Weight) → carried_weigh w right ≤ state_weigh w state) → SpellableRight right
 right_fits state right lawful part =
     elim right.port as (λ (p : PortInMessage). ((w : Weight) → carried_weigh w (record { kind = right.kind; port = p }) ≤ state_weigh w state) → SpellablePlace p) [
       | Null ↦ λ (_ : _). tt
@@ -113,7 +114,7 @@ right_fits state right lawful part =
       | Live serial ↦ λ (within : _). (serial_fits state serial lawful (omega (arith, within (any_of serial), own_weight serial right.kind))).1
     ] part
 
-reply_fits : (state : State) (reply : Option CarriedRight) → Lawful state → ((w : Weight) → reply_weigh w reply ≤ state_weigh w state) → SpellableReplyRight reply
+reply_fits : (state : State) (reply : Option CarriedRight) → LawfulAtRest state → ((w : Weight) → reply_weigh w reply ≤ state_weigh w state) → SpellableReplyRight reply
 reply_fits state None lawful part = tt
 reply_fits state (Some right) lawful part = right_fits state right lawful part
 
@@ -132,7 +133,7 @@ unfolding any_right
 all_any [] = All-nil any_right
 all_any (right ∷ rights) = All-cons any_right right rights tt (all_any rights)
 
-message_fits : (state : State) (queue : ℕ) (message : Message) → Lawful state → LawfulMessage message → ((w : Weight) → message_weigh w queue message ≤ state_weigh w state) → SpellableMessage message
+message_fits : (state : State) (queue : ℕ) (message : Message) → LawfulAtRest state → LawfulMessage message → ((w : Weight) → message_weigh w queue message ≤ state_weigh w state) → SpellableMessage message
 message_fits state queue message lawful own part = record {
   reply = reply_fits state message.reply lawful (λ (w : Weight). omega (arith, part w));
   id = own.id;
@@ -141,7 +142,7 @@ message_fits state queue message lawful own part = record {
   rights = all_parts carried_weigh any_right SpellableRight (λ (w : Weight). state_weigh w state) message.rights (λ (w : Weight). omega (arith, part w)) (λ (right : CarriedRight) (within : _) (_ : _). right_fits state right lawful within) (all_any message.rights);
 }
 
-set_fits : (state : State) (serial : ℕ) (port : PortState) (set : Option ℕ) → Lawful state → finmap.get state.ports serial ≡ Some port → port.set ≡ set → SpellableSet set
+set_fits : (state : State) (serial : ℕ) (port : PortState) (set : Option ℕ) → LawfulAtRest state → finmap.get state.ports serial ≡ Some port → port.set ≡ set → SpellableSet set
 set_fits state serial port None lawful at is = tt
 set_fits state serial port (Some set) lawful at is = elim (lawful.sets serial set port at is) as (λ _. (0 < set) × (set < 2 ^ 32)) [
   | inl held ↦
@@ -151,7 +152,7 @@ set_fits state serial port (Some set) lawful at is = elim (lawful.sets serial se
   | inr waits ↦ absurd (none_released serial waits)
 ]
 
-port_fits : (state : State) (serial : ℕ) (port : PortState) → Lawful state → ShortQueues state → finmap.get state.ports serial ≡ Some port → SpellablePort port
+port_fits : (state : State) (serial : ℕ) (port : PortState) → LawfulAtRest state → ShortQueues state → finmap.get state.ports serial ≡ Some port → SpellablePort port
 port_fits state serial port lawful short at =
     let own = (lawful.ports serial port at).2 in
     let part : (w : Weight) → port_weigh w serial port ≤ state_weigh w state = λ (w : Weight). port_part w state serial port at in
@@ -173,7 +174,7 @@ pub lawful_is_spellable : LawfulIsSpellable
 lawful_is_spellable state lawful short = record {
   next = lawful.next.1;
   few_spaces = omega (arith, few_keys (MAX_SPACES + 1) state.spaces (λ (space : ℕ) (names : Names) (there : _). omega (arith, (lawful.spaces space names there).1)));
-  spaces = all_entries SpellableSpace state.spaces (λ (space : ℕ) (names : Names) (there : _). (omega (arith, (lawful.spaces space names there).1), names_fit state space names lawful there));
+  spaces = all_entries SpellableSpace state.spaces (λ (space : ℕ) (names : Names) (there : _). (omega (arith, (lawful.spaces space names there).1), names_fit state space names (at_rest state lawful) there));
   few_ports = omega (arith, lawful.few_ports);
-  ports = all_entries SpellableLivePort state.ports (λ (serial : ℕ) (port : PortState) (at : _). (omega (arith, (lawful.ports serial port at).1, lawful.next.1), port_fits state serial port lawful short at));
+  ports = all_entries SpellableLivePort state.ports (λ (serial : ℕ) (port : PortState) (at : _). (omega (arith, (lawful.ports serial port at).1, lawful.next.1), port_fits state serial port (at_rest state lawful) short at));
 }

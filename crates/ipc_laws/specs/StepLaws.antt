@@ -14,6 +14,7 @@ use Rattle.ipc_model.specs.calls.Actions as actions
 use Rattle.ipc_model.specs.rights.CopyIn.{Taken}
 use Rattle.ipc_model.specs.effects.Effects.{Effect, Settles, settled, next_effect}
 use Rattle.ipc_model.specs.state.Lawful.{Lawful}
+use Rattle.ipc_laws.specs.LawfulLaws.{LawfulAtRest, at_rest}
 use Rattle.ipc_model.specs.calls.PortCalls.{tests_of}
 use Rattle.ipc_model.specs.messages.Receiving.{without_message}
 use Rattle.ipc_laws.specs.ReceiveLaws.{SameLeft, same_receipt}
@@ -151,7 +152,7 @@ of_receipt : (one other : State) (effects others : List Effect) → SameLeft one
 of_receipt one other effects others same = record { state = same.state; effects_are = same.effects_are }
 
 same_acts_in : (old : State) (space : ℕ) (names : Names) (c : Call) (answer : Reply) (one other : State) (effects others : List Effect)
-    → Lawful old → ActsIn old space names c answer one effects → ActsIn old space names c answer other others → SameOutcome one other effects others
+    → LawfulAtRest old → ActsIn old space names c answer one effects → ActsIn old space names c answer other others → SameOutcome one other effects others
 same_acts_in old space names (call.Send message) answer one other effects others lawful here there = same_send (ready_to_send old space message) old answer one other effects others here there
 same_acts_in old space names (call.Receive limit large name waited) answer one other effects others lawful here there =
     of_receipt one other effects others (same_receipt old space names (record { limit = limit; large = large; name = name; waited = waited }) answer one other effects others lawful here there)
@@ -159,7 +160,7 @@ same_acts_in old space names c answer one other effects others lawful here there
     same_call (first_failing (tests_of old space names c)) old space names c answer one other effects others here there
 
 same_acts_from : (old : State) (space : ℕ) (names : Option Names) (c : Call) (answer : Reply) (one other : State) (effects others : List Effect)
-    → Lawful old → ActsFrom old space names c answer one effects → ActsFrom old space names c answer other others → SameOutcome one other effects others
+    → LawfulAtRest old → ActsFrom old space names c answer one effects → ActsFrom old space names c answer other others → SameOutcome one other effects others
 same_acts_from old space None c answer one other effects others lawful here there = record { state = here.1 ∙ sym there.1; effects_are = here.2 ∙ sym there.2 }
 same_acts_from old space (Some names) c answer one other effects others lawful here there = same_acts_in old space names c answer one other effects others lawful here there
 
@@ -170,5 +171,5 @@ OneNewState = (old : State) (space : ℕ) (c : Call) (answer : Reply) (one other
 pub one_new_state : OneNewState
 unfolding Step
 one_new_state old space c answer one other lawful here there =
-    let same = same_acts_from old space (finmap.get old.spaces space) c answer here.0 there.0 here.1 there.1 lawful here.2 there.2 in
+    let same = same_acts_from old space (finmap.get old.spaces space) c answer here.0 there.0 here.1 there.1 (at_rest old lawful) here.2 there.2 in
     one_end here.0 here.1 one other here.3 (subst (λ (s : State). Settles s here.1 other) (sym same.state) (subst (λ (l : List Effect). Settles there.0 l other) (sym same.effects_are) there.3))

@@ -21,8 +21,9 @@ use Rattle.ipc_laws.specs.EffectRanks.{settled_is_lawful}
 use Rattle.ipc_laws.specs.Dangling.{not_equal}
 use Rattle.ipc_model.specs.effects.Effects.{Effect}
 use Rattle.ipc_model.specs.state.Lawful.{Lawful, LawfulEntry}
+use Rattle.ipc_laws.specs.LawfulLaws.{LawfulAtRest, at_rest}
 use Rattle.ipc_laws.specs.ModRefsKeep.{modified_kept}
-use Rattle.ipc_model.specs.calls.PortCalls.{is_no_right, references_of, tests_of_delta, tests_of, is_allocatable, is_full, is_in_use, is_right, is_no_name, entry_is, name_is, is_set, has_receive, send_references}
+use Rattle.ipc_model.specs.calls.PortCalls.{is_no_right, references_of, tests_of_delta, tests_of, is_allocatable, names_are_used_up, is_in_use, is_right, is_no_name, entry_is, name_is, is_set, has_receive, send_references}
 use Rattle.ipc_laws.specs.ReceiveKeep.{receive_kept}
 use Rattle.ipc_laws.specs.RenameKeep.{rename_kept}
 use Rattle.ipc_laws.specs.RequestsKeep.{request_kept}
@@ -49,7 +50,7 @@ some_left false port (suc send) (inr less) passes = not_equal (suc send) 0 (λ (
 has_references : (rights : PortRights) → LawfulEntry (Port rights) → (false || (has_receive (Port rights) && rights.send == 0)) ≡ false → (rights.send == 0) ≡ false
 has_references rights lawful passes = some_left rights.receive rights.port rights.send lawful.0 passes
 
-deallocated_kept : (old : State) (space name : ℕ) (names : Names) (entry : Entry) → Lawful old → Grounded old → finmap.get old.spaces space ≡ Some names → finmap.get names name ≡ Some entry
+deallocated_kept : (old : State) (space name : ℕ) (names : Names) (entry : Entry) → LawfulAtRest old → Grounded old → finmap.get old.spaces space ≡ Some names → finmap.get names name ≡ Some entry
     → (is_set entry || (has_receive entry && send_references entry == 0)) ≡ false → Kept (actions.deallocated old space names name entry).state (actions.deallocated old space names name entry).effects
 deallocated_kept old space name names (Port rights) lawful grounded there at passes =
     let own = ((lawful.spaces space names there).2.named name (Port rights) at).2 in
@@ -61,7 +62,7 @@ deallocated_kept old space name names (Dead references) lawful grounded there at
     let own = ((lawful.spaces space names there).2.named name (Dead references) at).2 in
     dead_left_kept old space name names references (references - 1) 7 lawful grounded there at (omega (arith, own.1))
 
-deallocate_kept : (old : State) (space name : ℕ) (names : Names) (answer : Reply) (new : State) (effects : List Effect) → Lawful old → Grounded old → finmap.get old.spaces space ≡ Some names
+deallocate_kept : (old : State) (space name : ℕ) (names : Names) (answer : Reply) (new : State) (effects : List Effect) → LawfulAtRest old → Grounded old → finmap.get old.spaces space ≡ Some names
     → first_failing (tests_of old space names (call.Deallocate name)) ≡ None → Done old space names (call.Deallocate name) answer new effects → Kept new effects
 unfolding Done tests_of
 deallocate_kept old space name names answer new effects lawful grounded there passes done =
@@ -79,31 +80,31 @@ deallocate_kept old space name names answer new effects lawful grounded there pa
 given_as : (state new : State) (effects : List Effect) → Kept state [] → new ≡ state → effects ≡ [] → Kept new effects
 given_as state new effects kept same none = subst (λ (s : State). Kept s effects) (sym same) (subst (λ (l : List Effect). Kept state l) (sym none) kept)
 
-allocate_kept : (old : State) (space which : ℕ) (names : Names) (answer : Reply) (new : State) (effects : List Effect) → Lawful old → Grounded old → finmap.get old.spaces space ≡ Some names
+allocate_kept : (old : State) (space which : ℕ) (names : Names) (answer : Reply) (new : State) (effects : List Effect) → LawfulAtRest old → Grounded old → finmap.get old.spaces space ≡ Some names
     → first_failing (tests_of old space names (call.Allocate which)) ≡ None → Done old space names (call.Allocate which) answer new effects → Kept new effects
 unfolding Done tests_of
 allocate_kept old space which names answer new effects lawful grounded there passes done =
-    let second : first_failing ((is_full names, NoSpace) ∷ (is_right which right.Receive && ports_are_used_up old, ResourceShortage) ∷ []) ≡ None =
-    (first_passes (not (is_allocatable which), InvalidValue) ((is_full names, NoSpace) ∷ (is_right which right.Receive && ports_are_used_up old, ResourceShortage) ∷ []) passes).1 in
-    let room = first_passes (is_full names, NoSpace) ((is_right which right.Receive && ports_are_used_up old, ResourceShortage) ∷ []) second in
+    let second : first_failing ((names_are_used_up names, NoSpace) ∷ (is_right which right.Receive && ports_are_used_up old, ResourceShortage) ∷ []) ≡ None =
+    (first_passes (not (is_allocatable which), InvalidValue) ((names_are_used_up names, NoSpace) ∷ (is_right which right.Receive && ports_are_used_up old, ResourceShortage) ∷ []) passes).1 in
+    let room = first_passes (names_are_used_up names, NoSpace) ((is_right which right.Receive && ports_are_used_up old, ResourceShortage) ∷ []) second in
     let ports = first_passes (is_right which right.Receive && ports_are_used_up old, ResourceShortage) [] room.1 in
     given_as (actions.allocated old space names which done.0) new effects (allocated_kept old space names which done.0 lawful grounded there done.1 room.0 ports.0) done.3 done.4
 
-allocate_name_kept : (old : State) (space which name : ℕ) (names : Names) (answer : Reply) (new : State) (effects : List Effect) → name < 2 ^ 32 → Lawful old → Grounded old → finmap.get old.spaces space ≡ Some names
+allocate_name_kept : (old : State) (space which name : ℕ) (names : Names) (answer : Reply) (new : State) (effects : List Effect) → name < 2 ^ 32 → LawfulAtRest old → Grounded old → finmap.get old.spaces space ≡ Some names
     → first_failing (tests_of old space names (call.AllocateName which name)) ≡ None → Done old space names (call.AllocateName which name) answer new effects → Kept new effects
 unfolding Done tests_of
 allocate_name_kept old space which name names answer new effects fits lawful grounded there passes done =
     let last : Tests = (is_right which right.Receive && ports_are_used_up old, ResourceShortage) ∷ [] in
-    let real = first_passes (is_null_or_dead name, InvalidValue) ((not (is_allocatable which), InvalidValue) ∷ (is_in_use names name, NameExists) ∷ (is_full names, NoSpace) ∷ last) passes in
-    let allowed = first_passes (not (is_allocatable which), InvalidValue) ((is_in_use names name, NameExists) ∷ (is_full names, NoSpace) ∷ last) real.1 in
-    let free = first_passes (is_in_use names name, NameExists) ((is_full names, NoSpace) ∷ last) allowed.1 in
-    let room = first_passes (is_full names, NoSpace) last free.1 in
+    let real = first_passes (is_null_or_dead name, InvalidValue) ((not (is_allocatable which), InvalidValue) ∷ (is_in_use names name, NameExists) ∷ (names_are_used_up names, NoSpace) ∷ last) passes in
+    let allowed = first_passes (not (is_allocatable which), InvalidValue) ((is_in_use names name, NameExists) ∷ (names_are_used_up names, NoSpace) ∷ last) real.1 in
+    let free = first_passes (is_in_use names name, NameExists) ((names_are_used_up names, NoSpace) ∷ last) allowed.1 in
+    let room = first_passes (names_are_used_up names, NoSpace) last free.1 in
     let ports = first_passes (is_right which right.Receive && ports_are_used_up old, ResourceShortage) [] room.1 in
     given_as (actions.allocated old space names which name) new effects (allocated_kept old space names which name lawful grounded there (chosen_unused names name real.0 free.0 fits) room.0 ports.0) done.1 done.2
 
 -- mach_port_destroy
 
-destroy_kept : (old : State) (space name : ℕ) (names : Names) (answer : Reply) (new : State) (effects : List Effect) → Lawful old → Grounded old → finmap.get old.spaces space ≡ Some names
+destroy_kept : (old : State) (space name : ℕ) (names : Names) (answer : Reply) (new : State) (effects : List Effect) → LawfulAtRest old → Grounded old → finmap.get old.spaces space ≡ Some names
     → Done old space names (call.Destroy name) answer new effects → Kept new effects
 unfolding Done
 destroy_kept old space name names answer new effects lawful grounded there done =
@@ -119,7 +120,7 @@ abbrev references_in : ℕ → Option Entry → ℕ
 references_in which None = 0
 references_in which (Some entry) = references_of which entry
 
-modify_kept : (old : State) (space name which delta : ℕ) (names : Names) (answer : Reply) (new : State) (effects : List Effect) → Lawful old → Grounded old → finmap.get old.spaces space ≡ Some names
+modify_kept : (old : State) (space name which delta : ℕ) (names : Names) (answer : Reply) (new : State) (effects : List Effect) → LawfulAtRest old → Grounded old → finmap.get old.spaces space ≡ Some names
     → first_failing (tests_of old space names (call.ModRefs name which delta)) ≡ None → Done old space names (call.ModRefs name which delta) answer new effects → Kept new effects
 unfolding Done tests_of
 modify_kept old space name which delta names answer new effects lawful grounded there passes done =
@@ -137,7 +138,7 @@ modify_kept old space name which delta names answer new effects lawful grounded 
     ] refl passes done
 
 -- every call that passes its tests
-done_kept : (old : State) (space : ℕ) (names : Names) (c : Call) (answer : Reply) (new : State) (effects : List Effect) → FitsCall c → Lawful old → Grounded old → finmap.get old.spaces space ≡ Some names
+done_kept : (old : State) (space : ℕ) (names : Names) (c : Call) (answer : Reply) (new : State) (effects : List Effect) → FitsCall c → LawfulAtRest old → Grounded old → finmap.get old.spaces space ≡ Some names
     → first_failing (tests_of old space names c) ≡ None → Done old space names c answer new effects → Kept new effects
 unfolding Done
 done_kept old space names (call.Rename from to) answer new effects fits lawful grounded there passes done = rename_kept old space from to names answer new effects fits.1 lawful grounded there passes done
@@ -167,11 +168,11 @@ done_kept old space names (call.GetSetStatus name) answer new effects fits lawfu
 done_kept old space names (call.MoveMember member after) answer new effects fits lawful grounded there passes done = simple_kept old space names (call.MoveMember member after) answer new effects refl fits lawful grounded there passes done
 
 called_kept : (refusal : Option KernReturn) (old : State) (space : ℕ) (names : Names) (c : Call) (answer : Reply) (new : State) (effects : List Effect) → refusal ≡ first_failing (tests_of old space names c) → FitsCall c
-    → Lawful old → Grounded old → finmap.get old.spaces space ≡ Some names → Called refusal old space names c answer new effects → Kept new effects
+    → LawfulAtRest old → Grounded old → finmap.get old.spaces space ≡ Some names → Called refusal old space names c answer new effects → Kept new effects
 called_kept None old space names c answer new effects is fits lawful grounded there called = done_kept old space names c answer new effects fits lawful grounded there (sym is) called
 called_kept (Some code) old space names c answer new effects is fits lawful grounded there called = kept_as old new effects lawful grounded called.1 called.2
 
-acts_kept : (old : State) (space : ℕ) (names : Names) (c : Call) (answer : Reply) (new : State) (effects : List Effect) → FitsCall c → Lawful old → Grounded old → finmap.get old.spaces space ≡ Some names
+acts_kept : (old : State) (space : ℕ) (names : Names) (c : Call) (answer : Reply) (new : State) (effects : List Effect) → FitsCall c → LawfulAtRest old → Grounded old → finmap.get old.spaces space ≡ Some names
     → ActsIn old space names c answer new effects → Kept new effects
 acts_kept old space names (call.Send message) answer new effects fits lawful grounded there acts = send_kept old space names message answer new effects fits.bytes lawful grounded there acts
 acts_kept old space names (call.Receive limit large name waited) answer new effects fits lawful grounded there acts =
@@ -179,7 +180,7 @@ acts_kept old space names (call.Receive limit large name waited) answer new effe
 acts_kept old space names c answer new effects fits lawful grounded there acts =
     called_kept (first_failing (tests_of old space names c)) old space names c answer new effects refl fits lawful grounded there acts
 
-from_kept : (old : State) (space : ℕ) (o : Option Names) (c : Call) (answer : Reply) (new : State) (effects : List Effect) → finmap.get old.spaces space ≡ o → FitsCall c → Lawful old → Grounded old
+from_kept : (old : State) (space : ℕ) (o : Option Names) (c : Call) (answer : Reply) (new : State) (effects : List Effect) → finmap.get old.spaces space ≡ o → FitsCall c → LawfulAtRest old → Grounded old
     → ActsFrom old space o c answer new effects → Kept new effects
 from_kept old space None c answer new effects there fits lawful grounded acts = kept_as old new effects lawful grounded acts.1 acts.2
 from_kept old space (Some names) c answer new effects there fits lawful grounded acts = acts_kept old space names c answer new effects fits lawful grounded there acts
@@ -191,7 +192,7 @@ StepsKeepLawful = (old : State) (space : ℕ) (c : Call) (answer : Reply) (new :
 pub steps_keep_lawful : StepsKeepLawful
 unfolding Step
 steps_keep_lawful old space c answer new fits lawful grounded step =
-    let acted = from_kept old space (finmap.get old.spaces space) c answer step.0 step.1 refl fits lawful grounded step.2 in
+    let acted = from_kept old space (finmap.get old.spaces space) c answer step.0 step.1 refl fits (at_rest old lawful) grounded step.2 in
     settled_is_lawful step.0 step.1 new acted.lawful acted.grounded step.3
 
 -- So every run of records from a lawful and grounded state ends in one.

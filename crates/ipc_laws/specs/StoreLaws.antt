@@ -36,13 +36,9 @@ closed_on : (rest tail : List ℕ) → length rest ≡ 1 → IsClosed rest → I
 closed_on [] tail one closed = absurd (omega arith)
 closed_on (gate ∷ rest) tail one closed = closed
 
--- the batches have as many bytes as is said
-size_of : (content : List ℕ) (records : List Record) (size : ℕ) (s : SpellsBatches content records size) → size ≡ length (batches_text 0 s.batches)
-size_of content records size s = omega (arith, s.sized, ap length s.text, length-append (batches_text 0 s.batches) s.rest)
-
 -- the same batches, with something else behind them that is closed
-pub other_end : (content : List ℕ) (records : List Record) (size : ℕ) (s : SpellsBatches content records size) (rest : List ℕ) → IsClosed rest → SpellsBatches (batches_text 0 s.batches ++ rest) records size
-other_end content records size s rest closed = record {
+pub other_end : (content : List ℕ) (records : List Record) (s : SpellsBatches content records) (rest : List ℕ) → IsClosed rest → SpellsBatches (batches_text 0 s.batches ++ rest) records
+other_end content records s rest closed = record {
   batches = s.batches;
   rest = rest;
   text = refl;
@@ -51,13 +47,12 @@ other_end content records size s rest closed = record {
   flat = s.flat;
   canonical = s.canonical;
   bounded = s.bounded;
-  sized = omega (arith, size_of content records size s, length-append (batches_text 0 s.batches) rest);
 }
 
 -- one batch more, of one record
-pub one_batch_more : (content : List ℕ) (records : List Record) (size : ℕ) (s : SpellsBatches content records size) (next : Record) (rest : List ℕ) → IsRecord next → length records < MAX_RECORDS → IsClosed rest
-    → SpellsBatches (batches_text 0 s.batches ++ (open_gate ∷ (batch_text (length records) (next ∷ []) ++ rest))) (records ++ next ∷ []) (size + 1 + length (batch_text (length records) (next ∷ [])))
-one_batch_more content records size s next rest fits room closed =
+pub one_batch_more : (content : List ℕ) (records : List Record) (s : SpellsBatches content records) (next : Record) (rest : List ℕ) → IsRecord next → length records < MAX_RECORDS → IsClosed rest
+    → SpellsBatches (batches_text 0 s.batches ++ (open_gate ∷ (batch_text (length records) (next ∷ []) ++ rest))) (records ++ next ∷ [])
+one_batch_more content records s next rest fits room closed =
     let text : List ℕ = batch_text (length records) (next ∷ []) in
     record {
       batches = s.batches ++ (next ∷ []) ∷ [];
@@ -69,12 +64,7 @@ one_batch_more content records size s next rest fits room closed =
       flat = ap (λ l. l ++ next ∷ []) s.flat ∙ sym (all_records-push s.batches (next ∷ []));
       canonical = are_records-join records (next ∷ []) s.canonical (fits, tt);
       bounded = omega (arith, length-append records (next ∷ []));
-      sized = omega (arith, size_of content records size s, length-append (batches_text 0 s.batches) (open_gate ∷ (text ++ rest)), length-append text rest);
     }
-
--- behind the batches of a segment in use stands one gate
-one_gate : (epoch : ℕ) (old : List ℕ) (records : List Record) (used : IsInUse epoch old records) → length used.spelled.rest ≡ 1
-one_gate epoch old records used = omega (arith, used.ended, used.spelled.sized)
 
 -- a segment in use up to its last gate
 before_gate : (epoch : ℕ) (old : List ℕ) (records : List Record) (used : IsInUse epoch old records) → take (length old - 1) old ≡ segment_header open_gate epoch ++ batches_text 0 used.spelled.batches
@@ -82,7 +72,7 @@ before_gate epoch old records used =
     let header = segment_header open_gate epoch in
     front_of_one old (header ++ batches_text 0 used.spelled.batches) used.spelled.rest
     (used.text ∙ ap (λ l. header ++ l) used.spelled.text ∙ sym (append_assoc header (batches_text 0 used.spelled.batches) used.spelled.rest))
-    (one_gate epoch old records used)
+    used.ended
 
 -- the same with other bytes from the gate on
 other_gate : (epoch : ℕ) (old new : List ℕ) (records : List Record) (used : IsInUse epoch old records) (behind : List ℕ) → new ≡ take (length old - 1) old ++ behind → new ≡ segment_header open_gate epoch ++ (batches_text 0 used.spelled.batches ++ behind)
@@ -91,7 +81,7 @@ other_gate epoch old new records used behind is =
 
 -- a segment in use spells its records
 pub in_use_spells : (epoch : ℕ) (bytes : List ℕ) (records : List Record) → IsInUse epoch bytes records → SpellsSegment epoch bytes records
-in_use_spells epoch bytes records used = record { content = used.content; size = used.size; text = used.text; spelled = used.spelled }
+in_use_spells epoch bytes records used = record { content = used.content; text = used.text; spelled = used.spelled }
 
 -- bytes behind the last gate don't count
 tail_spells : (epoch : ℕ) (old new : List ℕ) (records : List Record) → IsInUse epoch old records → (tail : List ℕ) → new ≡ old ++ tail → SpellsSegment epoch new records
@@ -100,34 +90,32 @@ tail_spells epoch old new records used tail is =
     let front = batches_text 0 used.spelled.batches in
     record {
       content = front ++ (used.spelled.rest ++ tail);
-      size = used.size;
       text = is ∙ ap (λ l. l ++ tail) (used.text ∙ ap (λ l. header ++ l) used.spelled.text) ∙ append_assoc header (front ++ used.spelled.rest) tail
           ∙ ap (λ l. header ++ l) (append_assoc front used.spelled.rest tail);
-      spelled = other_end used.content records used.size used.spelled (used.spelled.rest ++ tail) (closed_on used.spelled.rest tail (one_gate epoch old records used) used.spelled.closed);
+      spelled = other_end used.content records used.spelled (used.spelled.rest ++ tail) (closed_on used.spelled.rest tail used.ended used.spelled.closed);
     }
 
 -- a batch behind a closed gate doesn't count
 closed_spells : (epoch : ℕ) (old new : List ℕ) (records : List Record) → IsInUse epoch old records → (gate : ℕ) (behind : List ℕ) → gate ≢ open_gate → new ≡ take (length old - 1) old ++ (gate ∷ behind) → SpellsSegment epoch new records
 closed_spells epoch old new records used gate behind closed is = record {
   content = batches_text 0 used.spelled.batches ++ (gate ∷ behind);
-  size = used.size;
   text = other_gate epoch old new records used (gate ∷ behind) is;
-  spelled = other_end used.content records used.size used.spelled (gate ∷ behind) closed;
+  spelled = other_end used.content records used.spelled (gate ∷ behind) closed;
 }
 
 -- with one batch more a segment in use is one in use, of one record more
 pub appended_in_use : (epoch : ℕ) (old : List ℕ) (records : List Record) (next : Record) → IsInUse epoch old records → IsRecord next → length records < MAX_RECORDS
     → IsInUse epoch (with_batch old (batch_text (length records) (next ∷ []))) (records ++ next ∷ [])
+unfolding one_batch_more
 appended_in_use epoch old records next used fits room =
     let text : List ℕ = batch_text (length records) (next ∷ []) in
     let front = batches_text 0 used.spelled.batches in
     let behind : List ℕ = open_gate ∷ (text ++ closed_gate ∷ []) in
     record {
       content = front ++ behind;
-      size = used.size + 1 + length text;
       text = other_gate epoch old (with_batch old text) records used behind refl;
-      spelled = one_batch_more used.content records used.size used.spelled next (closed_gate ∷ []) fits room (omega arith);
-      ended = omega (arith, size_of used.content records used.size used.spelled, length-append front behind, length-append text (closed_gate ∷ []));
+      spelled = one_batch_more used.content records used.spelled next (closed_gate ∷ []) fits room (omega arith);
+      ended = refl;
     }
 
 -- A stop at any moment of an append leaves a segment of the records from before it, or of these and the new one.

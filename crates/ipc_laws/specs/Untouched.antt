@@ -180,13 +180,13 @@ deallocated_there state space names name (Dead references) = left_change state s
 
 modified_there : (state : State) (space : ℕ) (names : Names) (name : ℕ) (entry : Entry) (kind delta : ℕ) → Confined state (actions.modified state space names name entry kind delta).state space
 modified_there state space names name (Port rights) kind delta =
-    if_action state space (actions.send_left state space name rights (sum_of rights.send delta) 9) (if delta == minus_one then actions.receive_gone state space name rights else actions.done 9 state []) (is_right kind right.Send)
+    if_action state space (actions.send_left state space name rights (sum_of rights.send delta) 9) (if delta == minus_one then actions.receive_gone state space name rights else actions.done_with 9 state []) (is_right kind right.Send)
     (send_left_there state space name rights (sum_of rights.send delta) 9)
-    (if_action state space (actions.receive_gone state space name rights) (actions.done 9 state []) (delta == minus_one) (left_change state space name (Port (record rights { receive = false }))) (nothing state space))
+    (if_action state space (actions.receive_gone state space name rights) (actions.done_with 9 state []) (delta == minus_one) (left_change state space name (Port (record rights { receive = false }))) (nothing state space))
 modified_there state space names name (SendOnce port target) kind delta =
-    if_action state space (actions.send_once_gone state space name port target 9) (actions.done 9 state []) (delta == minus_one) (own_change state space (λ (n : Names). finmap.remove n name)) (nothing state space)
+    if_action state space (actions.send_once_gone state space name port target 9) (actions.done_with 9 state []) (delta == minus_one) (own_change state space (λ (n : Names). finmap.remove n name)) (nothing state space)
 modified_there state space names name Set kind delta =
-    if_action state space (actions.done 9 (with_names (actions.members_in state names name None) space (finmap.remove names name)) []) (actions.done 9 state []) (delta == minus_one)
+    if_action state space (actions.done_with 9 (with_names (actions.members_in state names name None) space (finmap.remove names name)) []) (actions.done_with 9 state []) (delta == minus_one)
     (new_names state (actions.members_in state names name None) space (finmap.remove names name) (ports_change state space (actions.serials_of_members state names name) (λ (port : PortState). record port { set = None })))
     (nothing state space)
 modified_there state space names name (Dead references) kind delta = left_change state space name (Dead (sum_of references delta))
@@ -303,9 +303,9 @@ done_confined old space names (call.Attach other) answer new effects makes_none 
 done_confined old space names call.Names answer new effects makes_none done = by_action old space _ answer new effects (nothing old space) done
 done_confined old space names (call.Type name) answer new effects makes_none done = by_entry old space _ _ answer new effects (λ (entry : Entry). nothing old space) done
 done_confined old space names (call.Rename from to) answer new effects makes_none done =
-    by_entry old space (finmap.get names from) (λ (entry : Entry). actions.done 3 (actions.renamed old space names from to entry) []) answer new effects
+    by_entry old space (finmap.get names from) (λ (entry : Entry). actions.done_with 3 (actions.renamed old space names from to entry) []) answer new effects
     (λ (entry : Entry). new_names old (actions.members_moved old names from (Some to) entry) space (finmap.insert (finmap.remove names from) to entry) (moved_members old space names from (Some to) entry)) done
-done_confined old space names (call.AllocateName kind name) answer new effects makes_none done = by_action old space (actions.done 4 (actions.allocated old space names kind name) []) answer new effects (allocated_there old space names kind name) done
+done_confined old space names (call.AllocateName kind name) answer new effects makes_none done = by_action old space (actions.done_with 4 (actions.allocated old space names kind name) []) answer new effects (allocated_there old space names kind name) done
 done_confined old space names (call.Allocate kind) answer new effects makes_none done = subst (λ (s : State). Confined old s space) (sym done.3) (allocated_there old space names kind done.0)
 done_confined old space names (call.Destroy name) answer new effects makes_none done =
     by_entry old space (finmap.get names name) (actions.destroyed old space names name) answer new effects
@@ -315,16 +315,16 @@ done_confined old space names (call.GetRefs name kind) answer new effects makes_
 done_confined old space names (call.ModRefs name kind delta) answer new effects makes_none done =
     by_entry old space (finmap.get names name) (λ (entry : Entry). actions.modified old space names name entry kind delta) answer new effects (λ (entry : Entry). modified_there old space names name entry kind delta) done
 done_confined old space names (call.SetQlimit name limit) answer new effects makes_none done =
-    by_entry old space (finmap.get names name) (λ (entry : Entry). actions.done 10 (actions.with_received old entry (λ (port : PortState). record port { limit = limit })) []) answer new effects (λ (entry : Entry). received_there old space entry (λ (port : PortState). record port { limit = limit })) done
+    by_entry old space (finmap.get names name) (λ (entry : Entry). actions.done_with 10 (actions.with_received old entry (λ (port : PortState). record port { limit = limit })) []) answer new effects (λ (entry : Entry). received_there old space entry (λ (port : PortState). record port { limit = limit })) done
 done_confined old space names (call.SetMscount name count) answer new effects makes_none done =
-    by_entry old space (finmap.get names name) (λ (entry : Entry). actions.done 11 (actions.with_received old entry (λ (port : PortState). record port { make_send_count = count })) []) answer new effects (λ (entry : Entry). received_there old space entry (λ (port : PortState). record port { make_send_count = count })) done
+    by_entry old space (finmap.get names name) (λ (entry : Entry). actions.done_with 11 (actions.with_received old entry (λ (port : PortState). record port { make_send_count = count })) []) answer new effects (λ (entry : Entry). received_there old space entry (λ (port : PortState). record port { make_send_count = count })) done
 done_confined old space names (call.SetSeqno name seqno) answer new effects makes_none done =
-    by_entry old space (finmap.get names name) (λ (entry : Entry). actions.done 12 (actions.with_received old entry (λ (port : PortState). record port { sequence_number = seqno })) []) answer new effects (λ (entry : Entry). received_there old space entry (λ (port : PortState). record port { sequence_number = seqno })) done
+    by_entry old space (finmap.get names name) (λ (entry : Entry). actions.done_with 12 (actions.with_received old entry (λ (port : PortState). record port { sequence_number = seqno })) []) answer new effects (λ (entry : Entry). received_there old space entry (λ (port : PortState). record port { sequence_number = seqno })) done
 done_confined old space names (call.GetReceiveStatus name) answer new effects makes_none done =
     by_entry old space (finmap.get names name) (λ (entry : Entry). actions.status_action_of old (received_port entry)) answer new effects (λ (entry : Entry). status_there old space (received_port entry)) done
 done_confined old space names (call.GetSetStatus name) answer new effects makes_none done = by_action old space _ answer new effects (nothing old space) done
 done_confined old space names (call.MoveMember member after) answer new effects makes_none done =
-    by_entry old space (finmap.get names member) (λ (entry : Entry). actions.done 15 (actions.with_received old entry (λ (port : PortState). record port { set = actions.set_named after })) []) answer new effects (λ (entry : Entry). received_there old space entry (λ (port : PortState). record port { set = actions.set_named after })) done
+    by_entry old space (finmap.get names member) (λ (entry : Entry). actions.done_with 15 (actions.with_received old entry (λ (port : PortState). record port { set = actions.set_named after })) []) answer new effects (λ (entry : Entry). received_there old space entry (λ (port : PortState). record port { set = actions.set_named after })) done
 done_confined old space names (call.RequestNotification name variant sync notify_name disposition) answer new effects makes_none done =
     let taken : actions.TakenTarget = actions.target_for old space notify_name disposition in
     gives_back_there old (actions.request_set_under taken.state space name variant sync taken.target).0 space (target_under taken.state (names_in taken.state space) variant name) done.0 new

@@ -11,7 +11,7 @@ use Rattle.ipc_model.specs.declared.port.PortState.{PortState}
 use Rattle.ipc_model.specs.rights.CopyIn.{Taken, copy_in}
 use Rattle.ipc_model.specs.rights.Dispositions.{Disposition, disposition_of, received_kind}
 use Rattle.ipc_model.specs.effects.Effects.{Outcome, Effect, queued, release, releases_of}
-use Rattle.ipc_model.specs.messages.Items.{Item, names_in}
+use Rattle.ipc_model.specs.messages.Items.{Item, names_of_item}
 use Rattle.ipc_model.specs.messages.Messages.{bits_of, remote_of, local_of, body_of, remote_disposition, local_disposition}
 use Rattle.ipc_laws.specs.ReceiveLaws.{Outcomes, was_large, was_lacking, was_received, outcome_of, Refuses, taking_of}
 use Rattle.ipc_model.specs.messages.Receiving.{Receipt, Receives, Received, TooLarge, without_oldest, receive_refusal}
@@ -71,7 +71,7 @@ rights_there old space disposition (name ∷ names) taken first =
 
 item_there : (old : State) (space : ℕ) (item : Item) (disposition : Option Disposition) (taken : TakenRights) → Confined old taken.state space → RightsConfined old space (take_item space item disposition taken)
 item_there old space item None taken first = first
-item_there old space item (Some disposition) taken first = rights_there old space disposition (names_in item) taken first
+item_there old space item (Some disposition) taken first = rights_there old space disposition (names_of_item item) taken first
 
 items_there : (old : State) (space : ℕ) (items : List Item) (taken : TakenRights) → Confined old taken.state space → RightsConfined old space (take_items space items taken)
 items_there old space [] taken first = first

@@ -4,6 +4,7 @@ ghost use Rattle.ipc_laws.specs.EffectRanks.{EffectsKeepGrounded, SettledIsLawfu
 ghost use Rattle.ipc_laws.specs.EffectsKeep.{EffectsKeepLawful};
 ghost use Rattle.ipc_laws.specs.ImageLaws.{ImagesHaveOneText};
 ghost use Rattle.ipc_laws.specs.NameChanges.{NamesMoveLawfully};
+ghost use Rattle.ipc_laws.specs.LawfulLaws.{LawfulIsAtRest};
 ghost use Rattle.ipc_laws.specs.OpeningLaws.{OpeningIsLawful};
 ghost use Rattle.ipc_laws.specs.OtherSpaces.{OthersFade, SpacesAreMade};
 ghost use Rattle.ipc_laws.specs.PortChanges.{PortMovesLawfully};
@@ -44,6 +45,11 @@ pub fn others_fade()
 /// A space comes by number 20 alone, and its reply names the one.
 pub fn spaces_are_made()
     ensures { SpacesAreMade }
+{}
+
+/// A state is lawful exactly where it is lawful with no effects left.
+pub fn lawful_is_at_rest()
+    ensures { LawfulIsAtRest }
 {}
 
 /// The opening state is lawful and grounded.

@@ -45,7 +45,7 @@ settles_adding {state} {end} {first} {rest} added is later = next_effect (subst 
 -- and what is asked of such a state, or changed in it
 pub ruleset state_rules = (entry_at, with_names, with_changed, with_entry, without_name, with_port, lives, ports_are_used_up, name_of_port, is_member, members_of)
 
-pub ruleset call_rules = (names_in, is_in_some_set, name_is, is_in_use, is_no_name, references_under, stands_elsewhere, port_calls.is_full, with_left, moved_port, taken_leaving, request_set_under, lacks_senders, make_send_count_of, port_request_set)
+pub ruleset call_rules = (names_in, is_in_some_set, name_is, is_in_use, is_no_name, references_under, stands_elsewhere, port_calls.names_are_used_up, with_left, moved_port, taken_leaving, request_set_under, lacks_senders, make_send_count_of, port_request_set)
 
 pub ruleset message_rules = (port_under, oldest_under, is_in_set, all_empty, without_oldest, is_full, tests_of_queue, carrier_of, meets)
 

@@ -76,7 +76,6 @@ first_allocation-is = record {
 pub first_segment-spells : SpellsSegment 0 first_segment (first_allocation ∷ [])
 first_segment-spells = record {
   content = drop 16 first_segment;
-  size = 53;
   text = refl;
   spelled = record {
     batches = (first_allocation ∷ []) ∷ [];
@@ -87,7 +86,6 @@ first_segment-spells = record {
     flat = refl;
     canonical = (first_allocation-is, tt);
     bounded = omega arith;
-    sized = refl;
   };
 }
 
@@ -124,9 +122,8 @@ empty_segment epoch = segment_header open_gate epoch ++ (closed_gate ∷ [])
 pub empty_segment-spells : (epoch : ℕ) → SpellsSegment epoch (empty_segment epoch) []
 empty_segment-spells epoch = record {
   content = closed_gate ∷ [];
-  size = 0;
   text = refl;
-  spelled = record { batches = []; rest = closed_gate ∷ []; text = refl; closed = λ (e : _). absurd (omega (arith, e)); none_empty = tt; flat = refl; canonical = tt; bounded = omega arith; sized = refl };
+  spelled = record { batches = []; rest = closed_gate ∷ []; text = refl; closed = λ (e : _). absurd (omega (arith, e)); none_empty = tt; flat = refl; canonical = tt; bounded = omega arith };
 }
 
 abbrev pub two_images : Slots
@@ -189,18 +186,16 @@ spells_by_segment rest records spelled =
 pub closed_batch-spells : Spells (with_segment (segment_header open_gate 0 ++ (0 ∷ drop 17 first_segment))) opening_state []
 closed_batch-spells = spells_by_segment (0 ∷ drop 17 first_segment) [] (record {
   content = 0 ∷ drop 17 first_segment;
-  size = 0;
   text = refl;
-  spelled = record { batches = []; rest = 0 ∷ drop 17 first_segment; text = refl; closed = λ (e : _). absurd (omega (arith, e)); none_empty = tt; flat = refl; canonical = tt; bounded = omega arith; sized = refl };
+  spelled = record { batches = []; rest = 0 ∷ drop 17 first_segment; text = refl; closed = λ (e : _). absurd (omega (arith, e)); none_empty = tt; flat = refl; canonical = tt; bounded = omega arith };
 })
 
 -- cut behind the header: no record
 pub cut_to_16-spells : Spells (with_segment (take 16 first_segment)) opening_state []
 cut_to_16-spells = spells_by_segment [] [] (record {
   content = [];
-  size = 0;
   text = refl;
-  spelled = record { batches = []; rest = []; text = refl; closed = tt; none_empty = tt; flat = refl; canonical = tt; bounded = omega arith; sized = refl };
+  spelled = record { batches = []; rest = []; text = refl; closed = tt; none_empty = tt; flat = refl; canonical = tt; bounded = omega arith };
 })
 
 -- cut behind the batch, so that its closed gate is missing: the record all the same
@@ -208,7 +203,6 @@ pub cut_to_69-spells : Spells (with_segment (take 69 first_segment)) opening_sta
 unfolding batch_text record_text call_text reply_text
 cut_to_69-spells = spells_by_segment (take 53 (drop 16 first_segment)) (first_allocation ∷ []) (record {
   content = take 53 (drop 16 first_segment);
-  size = 53;
   text = refl;
   spelled = record {
     batches = (first_allocation ∷ []) ∷ [];
@@ -219,7 +213,6 @@ cut_to_69-spells = spells_by_segment (take 53 (drop 16 first_segment)) (first_al
     flat = refl;
     canonical = (first_allocation-is, tt);
     bounded = omega arith;
-    sized = refl;
   };
 })
 
@@ -303,8 +296,8 @@ of_batches bytes (batch ∷ batches) rest text closed canonical few = record {
   closed = closed;
 }
 
-first_batch : (bytes : List ℕ) (records : List Record) (size : ℕ) → SpellsBatches (open_gate ∷ bytes) records size → Batch bytes
-first_batch bytes records size spelled = of_batches bytes spelled.batches spelled.rest spelled.text spelled.closed (subst AreRecords spelled.flat spelled.canonical) (omega (arith, spelled.bounded, ap length spelled.flat))
+first_batch : (bytes : List ℕ) (records : List Record) → SpellsBatches (open_gate ∷ bytes) records → Batch bytes
+first_batch bytes records spelled = of_batches bytes spelled.batches spelled.rest spelled.text spelled.closed (subst AreRecords spelled.flat spelled.canonical) (omega (arith, spelled.bounded, ap length spelled.flat))
 
 -- as many bytes as the count and the size say
 batch_long : (bytes : List ℕ) (b : Batch bytes) → 12 + length (records_text 0 b.batch) ≤ length bytes
@@ -329,7 +322,7 @@ lone_gate n (batch ∷ batches) rest closed is =
 -- a segment behind whose open gate there is no whole batch spells nothing
 no_batch_damaged : (bytes : List ℕ) → (Batch bytes → ⊥) → (base : State) (records : List Record) → Spells (with_segment (segment_header open_gate 0 ++ (open_gate ∷ bytes))) base records → ⊥
 no_batch_damaged bytes none = no_segment_damaged (segment_header open_gate 0 ++ (open_gate ∷ bytes)) (λ (epoch : ℕ) (records : List Record) (fits : _) (s : _).
-    none (first_batch bytes records s.size (subst (λ (l : List ℕ). SpellsBatches l records s.size) (header_16 epoch records (open_gate ∷ bytes) fits s) s.spelled)))
+    none (first_batch bytes records (subst (λ (l : List ℕ). SpellsBatches l records) (header_16 epoch records (open_gate ∷ bytes) fits s) s.spelled)))
 
 pub cut_to_17-damaged : (base : State) (records : List Record) → Spells (with_segment (take 17 first_segment)) base records → ⊥
 cut_to_17-damaged = no_batch_damaged [] (λ (b : _). absurd (omega (arith, batch_long [] b)))

@@ -65,8 +65,8 @@ pub record Remain (n : ℕ) (bytes : List ℕ) : Type 0 where
   pub bounded : n + length (all_records batches) ≤ MAX_RECORDS
 
 -- at first all of them remain
-pub all_remain : (bytes : List ℕ) (records : List Record) (size : ℕ) → SpellsBatches bytes records size → Remain 0 bytes
-all_remain bytes records size is = record {
+pub all_remain : (bytes : List ℕ) (records : List Record) → SpellsBatches bytes records → Remain 0 bytes
+all_remain bytes records is = record {
   batches = is.batches;
   rest = is.rest;
   text = is.text;

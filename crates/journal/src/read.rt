@@ -1,6 +1,7 @@
 ghost use Rattle.std.specs.Prelude.{◌≡◌, ◌⊎◌, ◌≤◌, ◌++◌, ℕ, List, length, drop, ◌∷◌, Err, OnOk, OnErr, IfOk, IfSome, IfNone, IsErrOf};
 ghost use Rattle.ipc_model.specs.declared.record.Record.{Record};
 ghost use Rattle.ipc_model.specs.store.Store.{open_gate, IsClosed, SpellsBatches};
+ghost use Rattle.ipc_laws.specs.Counted.{SpellsCounted};
 ghost use Rattle.journal.specs.Reading.{IsContent, IsBatch};
 
 use crate::StoreFault;
@@ -88,8 +89,8 @@ fn behind_open_gate(bytes: &[u8]) -> Option<&[u8]>
 /// batch is, or is numbered otherwise than on from the one before, or there are more records than a segment may
 /// hold. `NoMemory`: no memory.
 pub fn read_batches(alloc: Global, bytes: &[u8]) -> Result<(Vec<Record>, usize), StoreFault>
-    ensures spelled { IfOk result (λ r. SpellsBatches bytes.now r.0.items r.1) }
-    ensures damaged { IsErrOf result StoreFault.Damaged → (records : List Record) (size : ℕ) → SpellsBatches bytes.now records size → ⊥ }
+    ensures spelled { IfOk result (λ r. SpellsCounted bytes.now r.0.items r.1) }
+    ensures damaged { IsErrOf result StoreFault.Damaged → (records : List Record) → SpellsBatches bytes.now records → ⊥ }
     ensures faults { OnErr result ((result ≡ Err StoreFault.Damaged) ⊎ (result ≡ Err StoreFault.NoMemory)) }
 {
     let mut records = Vec::new(alloc);

@@ -24,7 +24,7 @@ use Rattle.codes.specs.declared.name.TheConstants.{MACH_PORT_NULL}
 use Rattle.rights.specs.Taking.{Takes}
 use Rattle.ipc_model.specs.effects.Effects.{Effect}
 use Rattle.ipc_laws.specs.Others.{with_port_spaces}
-use Rattle.ipc_model.specs.calls.PortCalls.{is_full, is_no_name, is_variant, names_in, notify_disposition, target_under, tests_of, tests_of_copy_in, tests_of_request, tests_of_taken, tests_of_variant}
+use Rattle.ipc_model.specs.calls.PortCalls.{names_are_used_up, is_no_name, is_variant, names_in, notify_disposition, target_under, tests_of, tests_of_copy_in, tests_of_request, tests_of_taken, tests_of_variant}
 use Rattle.ipc_model.specs.state.State.{State, Names, entry_at, received_port, with_entry, with_names}
 use Rattle.ipc_model.specs.calls.Tests.{Tests, first_failing}
 use Rattle.ipc_state.specs.Added.{names_added}
@@ -63,26 +63,26 @@ entry_in state space name = elim (finmap.get state.spaces space) as (λ (o : Opt
 ]
 
 module _ (state : State) (space name variant sync : ℕ) (cancels : Bool) (passes : first_failing (tests_of_request state space name variant sync cancels) ≡ None) where
-  named_tests : first_failing (tests_of_variant (names_in state space) name variant sync cancels ++ ((is_some (target_under state (names_in state space) variant name) && is_full (names_in state space), NoSpace) ∷ [])) ≡ None
-  named_tests = (first_passes (is_no_name (names_in state space) name, InvalidName) (tests_of_variant (names_in state space) name variant sync cancels ++ ((is_some (target_under state (names_in state space) variant name) && is_full (names_in state space), NoSpace) ∷ [])) passes).1
+  named_tests : first_failing (tests_of_variant (names_in state space) name variant sync cancels ++ ((is_some (target_under state (names_in state space) variant name) && names_are_used_up (names_in state space), NoSpace) ∷ [])) ≡ None
+  named_tests = (first_passes (is_no_name (names_in state space) name, InvalidName) (tests_of_variant (names_in state space) name variant sync cancels ++ ((is_some (target_under state (names_in state space) variant name) && names_are_used_up (names_in state space), NoSpace) ∷ [])) passes).1
 
   variant_passes : first_failing (tests_of_variant (names_in state space) name variant sync cancels) ≡ None
-  variant_passes = none_fails (tests_of_variant (names_in state space) name variant sync cancels) ((is_some (target_under state (names_in state space) variant name) && is_full (names_in state space), NoSpace) ∷ []) named_tests
+  variant_passes = none_fails (tests_of_variant (names_in state space) name variant sync cancels) ((is_some (target_under state (names_in state space) variant name) && names_are_used_up (names_in state space), NoSpace) ∷ []) named_tests
 
   -- there is room for the former target
   pub room_left : is_some (target_under state (names_in state space) variant name) ≡ true → finmap.len (names_in state space) < MAX_NAMES
   room_left asked =
-      let last : (is_some (target_under state (names_in state space) variant name) && is_full (names_in state space)) ≡ false =
-      (first_passes (is_some (target_under state (names_in state space) variant name) && is_full (names_in state space), NoSpace) []
-      (sym (passes_first (tests_of_variant (names_in state space) name variant sync cancels) ((is_some (target_under state (names_in state space) variant name) && is_full (names_in state space), NoSpace) ∷ []) variant_passes) ∙ named_tests)).0 in
-      let not_full : is_full (names_in state space) ≡ false = ap (λ (b : Bool). b && is_full (names_in state space)) (sym asked) ∙ last in
+      let last : (is_some (target_under state (names_in state space) variant name) && names_are_used_up (names_in state space)) ≡ false =
+      (first_passes (is_some (target_under state (names_in state space) variant name) && names_are_used_up (names_in state space), NoSpace) []
+      (sym (passes_first (tests_of_variant (names_in state space) name variant sync cancels) ((is_some (target_under state (names_in state space) variant name) && names_are_used_up (names_in state space), NoSpace) ∷ []) variant_passes) ∙ named_tests)).0 in
+      let not_full : names_are_used_up (names_in state space) ≡ false = ap (λ (b : Bool). b && names_are_used_up (names_in state space)) (sym asked) ∙ last in
       leb-false MAX_NAMES (finmap.len (names_in state space)) not_full
 
 -- a name that stands for what the request can't be made of
 pub variant_fails : (state : State) (space name variant sync : ℕ) (cancels : Bool) (code : KernReturn) → is_no_name (names_in state space) name ≡ false
     → first_failing (tests_of_variant (names_in state space) name variant sync cancels) ≡ Some code → first_failing (tests_of_request state space name variant sync cancels) ≡ Some code
 variant_fails state space name variant sync cancels code named fails =
-    let last : Tests = (is_some (target_under state (names_in state space) variant name) && is_full (names_in state space), NoSpace) ∷ [] in
+    let last : Tests = (is_some (target_under state (names_in state space) variant name) && names_are_used_up (names_in state space), NoSpace) ∷ [] in
     let rest : Tests = tests_of_variant (names_in state space) name variant sync cancels ++ last in
     ap (λ (b : Bool). if b then Some InvalidName else first_failing rest) named ∙ fails_first (tests_of_variant (names_in state space) name variant sync cancels) last code fails
 

@@ -3,7 +3,7 @@ ghost use Rattle.std.specs.FinMap as map;
 ghost use Rattle.ipc_model.specs.calls.Actions.{allocated};
 ghost use Rattle.ipc_model.specs.declared.call.Call.TheVariants as call;
 ghost use Rattle.ipc_model.specs.effects.Effects.{Effect};
-ghost use Rattle.ipc_model.specs.calls.PortCalls.{is_full, is_right, names_in, tests_of};
+ghost use Rattle.ipc_model.specs.calls.PortCalls.{names_are_used_up, is_right, names_in, tests_of};
 ghost use Rattle.ipc_model.specs.state.State.{State, IsUnused, ports_are_used_up};
 ghost use Rattle.ipc_model.specs.calls.Step.{ActsIn};
 ghost use Rattle.ipc_model.specs.calls.Tests.{first_failing};
@@ -67,7 +67,7 @@ pub fn refusal_of_allocate(state: &IpcState, space: u32, right: u32) -> Option<K
 /// The code that a right is refused with for which there is no room: the space uses all names that it may, or no
 /// further port can be made.
 fn refusal_for_want(state: &IpcState, space: u32, right: u32) -> Option<KernReturn>
-    ensures { result ≡ first_failing ((is_full (names_in state.now space), KernReturn.NoSpace) ∷ (is_right right Right.Receive && ports_are_used_up state.now, KernReturn.ResourceShortage) ∷ []) }
+    ensures { result ≡ first_failing ((names_are_used_up (names_in state.now space), KernReturn.NoSpace) ∷ (is_right right Right.Receive && ports_are_used_up state.now, KernReturn.ResourceShortage) ∷ []) }
 {
     if state.names(space) >= MAX_NAMES {
         return Some(KernReturn::NoSpace);
@@ -121,7 +121,7 @@ fn refusal_of_name(state: &IpcState, space: u32, right: u32, name: u32) -> Optio
 pub fn add_right(state: &mut IpcState, space: u32, right: u32, name: u32) -> Result<(), AllocError>
     requires there { IsSome (map.get state.old.spaces space) }
     requires fresh { map.get state.old.ports state.old.next ≡ None }
-    requires room { first_failing ((is_full (names_in state.old space), KernReturn.NoSpace) ∷ (is_right right Right.Receive && ports_are_used_up state.old, KernReturn.ResourceShortage) ∷ []) ≡ None }
+    requires room { first_failing ((names_are_used_up (names_in state.old space), KernReturn.NoSpace) ∷ (is_right right Right.Receive && ports_are_used_up state.old, KernReturn.ResourceShortage) ∷ []) ≡ None }
     requires unused { map.get (names_in state.old space) name ≡ None }
     ensures ok { OnOk result (state.new ≡ allocated state.old space (names_in state.old space) right name) }
     ensures err { OnErr result (state.new ≡ state.old) }

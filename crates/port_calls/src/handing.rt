@@ -5,7 +5,7 @@ ghost use Rattle.ipc_model.specs.rights.CopyIn.{copy_in};
 ghost use Rattle.ipc_model.specs.rights.CopyOut.{MayArrive, names_after};
 ghost use Rattle.ipc_model.specs.declared.call.Call.TheVariants as call;
 ghost use Rattle.ipc_model.specs.effects.Effects.{Effect};
-ghost use Rattle.ipc_model.specs.calls.PortCalls.{is_in_use, is_full, is_send_once_kind, is_taken_otherwise, names_in, passes_bound, stands_elsewhere, tests_of};
+ghost use Rattle.ipc_model.specs.calls.PortCalls.{is_in_use, names_are_used_up, is_send_once_kind, is_taken_otherwise, names_in, passes_bound, stands_elsewhere, tests_of};
 ghost use Rattle.ipc_model.specs.state.State.{State, entry_at, with_names};
 ghost use Rattle.ipc_model.specs.calls.Step.{ActsIn};
 ghost use Rattle.ipc_model.specs.calls.Tests.{first_failing};
@@ -113,7 +113,7 @@ fn refusal_of_insert(
     ensures refusal { result ≡ first_failing ((not (is_send_once_kind kind) && stands_elsewhere (names_in state.now space) name port, KernReturn.RightExists)
         ∷ (is_taken_otherwise kind port (map.get (names_in state.now space) name), KernReturn.NameExists)
         ∷ (passes_bound kind (map.get (names_in state.now space) name), KernReturn.UrefsOverflow)
-        ∷ (not (is_in_use (names_in state.now space) name) && is_full (names_in state.now space), KernReturn.NoSpace) ∷ []) }
+        ∷ (not (is_in_use (names_in state.now space) name) && names_are_used_up (names_in state.now space), KernReturn.NoSpace) ∷ []) }
     ensures room { IfNone result (map.get (names_in state.now space) name ≡ None → map.len (names_in state.now space) < MAX_NAMES) }
 {
     if kind != RightKind::SendOnce && state.stands_elsewhere(space, name, port) {

@@ -3,7 +3,8 @@ use Rattle.std.proofs.Common.{◌≡◌, inl, ℕ, ◌+◌, List, [], ◌∷◌,
 use Rattle.std.proofs.Math.Seq.{take-append-add}
 use Rattle.ipc_model.specs.declared.record.Record.{Record}
 use Rattle.ipc_model.specs.state.State.{State, opening_state}
-use Rattle.ipc_model.specs.store.Store.{SpellsBatches, IsInUse, IsClosed, open_gate, closed_gate, segment_header, image_content, batches_text}
+use Rattle.ipc_laws.specs.Counted.{SpellsCounted}
+use Rattle.ipc_model.specs.store.Store.{IsInUse, IsClosed, open_gate, closed_gate, segment_header, image_content, batches_text}
 use Rattle.disk.specs.Slots.{Slots, with_slot}
 use Rattle.disk.specs.declared.slot.Slot.TheVariants.{Image0, Segment0}
 use Rattle.recover.specs.Recovered.{IsOpen, HoldsOpeningImage, Recovers, Follows, IsReady, opening_text}
@@ -13,23 +14,22 @@ gate_behind : (rest : List ℕ) → IsClosed rest → IsClosed (take 1 (rest ++ 
 gate_behind [] is = (λ e. cc, refl)
 gate_behind (gate ∷ rest) is = (is, refl)
 
-pub ended_in_use : (segment batches new : List ℕ) (records : List Record) (size end : ℕ) → segment ≡ segment_header open_gate 0 ++ batches → SpellsBatches batches records size → end ≡ 16 + size → new ≡ take (end + 1) (segment ++ closed_gate ∷ [])
+pub ended_in_use : (segment batches new : List ℕ) (records : List Record) (size end : ℕ) → segment ≡ segment_header open_gate 0 ++ batches → SpellsCounted batches records size → end ≡ 16 + size → new ≡ take (end + 1) (segment ++ closed_gate ∷ [])
     → IsInUse 0 new records
-ended_in_use segment batches new records size end is spelled placed cut =
+ended_in_use segment batches new records size end is counted placed cut =
+    let spelled = counted.spelled in
     let header : List ℕ = segment_header open_gate 0 in
     let text : List ℕ = batches_text 0 spelled.batches in
     let tail : List ℕ = take 1 (spelled.rest ++ closed_gate ∷ []) in
     let gate = gate_behind spelled.rest spelled.closed in
-    let sized : size ≡ length text = omega (arith, spelled.sized, ap length spelled.text, length-append text spelled.rest) in
+    let sized : size ≡ length text = omega (arith, counted.sized, ap length spelled.text, length-append text spelled.rest) in
     let joined : segment ++ closed_gate ∷ [] ≡ (header ++ text) ++ (spelled.rest ++ closed_gate ∷ []) =
     ap (λ l. l ++ closed_gate ∷ []) (is ∙ ap (λ l. header ++ l) spelled.text ∙ sym (append_assoc header text spelled.rest)) ∙ append_assoc (header ++ text) spelled.rest (closed_gate ∷ []) in
     let long : end + 1 ≡ length (header ++ text) + 1 = omega arith in
     let left : new ≡ header ++ (text ++ tail) =
     cut ∙ (λ i. take (long i) (joined i)) ∙ take-append-add (header ++ text) (spelled.rest ++ closed_gate ∷ []) 1 ∙ append_assoc header text tail in
-    let both : length (text ++ tail) ≡ size + 1 = length-append text tail ∙ omega (arith, gate.1) in
     record {
       content = text ++ tail;
-      size = size;
       text = left;
       spelled = record {
         batches = spelled.batches;
@@ -40,15 +40,14 @@ ended_in_use segment batches new records size end is spelled placed cut =
         flat = spelled.flat;
         canonical = spelled.canonical;
         bounded = spelled.bounded;
-        sized = omega (arith, gate.1, both);
       };
-      ended = both;
+      ended = gate.1;
     }
 
 pub ready_follows : (slots : Slots) (state : State) (count : ℕ) → IsReady slots state count → Follows slots.segment0 state count
 ready_follows slots state count ready = record {
   records = ready.0;
-  spelled = record { content = ready.1.content; size = ready.1.size; text = ready.1.text; spelled = ready.1.spelled };
+  spelled = record { content = ready.1.content; text = ready.1.text; spelled = ready.1.spelled };
   run = ready.2;
   counted = ready.3;
 }
@@ -77,7 +76,7 @@ made_ready old new state is opening =
         content = closed_gate ∷ [];
         size = 0;
         text = segment;
-        spelled = record { batches = []; rest = closed_gate ∷ []; text = refl; closed = λ e. cc; none_empty = tt; flat = refl; canonical = tt; bounded = omega arith; sized = refl };
+        spelled = record { batches = []; rest = closed_gate ∷ []; text = refl; closed = λ e. cc; none_empty = tt; flat = refl; canonical = tt; bounded = omega arith };
         ended = refl;
       },
       opening,

@@ -89,8 +89,8 @@ no_batches : (batches : List (List Record)) → NoneEmpty batches → [] ≡ all
 no_batches [] none is = refl
 no_batches (batch ∷ batches) none is = absurd (omega (arith, none.0, ap length is, length-append batch (all_records batches)))
 
-closed_behind : (content : List ℕ) (size : ℕ) → SpellsBatches content [] size → IsClosed content
-closed_behind content size spelled =
+closed_behind : (content : List ℕ) → SpellsBatches content [] → IsClosed content
+closed_behind content spelled =
     subst IsClosed (sym (spelled.text ∙ ap (λ (b : List (List Record)). batches_text 0 b ++ spelled.rest) (no_batches spelled.batches spelled.none_empty spelled.flat))) spelled.closed
 
 new_written : (slots : Slots) (state : State) (count : ℕ) → (IsOpen 24 slots.image1 → ⊥) → (IsOpen 16 slots.segment1 → ⊥) → IsNew slots state count → written.Recovered (slots_of slots) state
@@ -107,7 +107,7 @@ new_written slots state count no_image no_segment new = record {
             → (epoch ≡ 0) × IsClosed (drop written.segment_header_length ((slots_of slots).segment n)))
             (λ (is_open : _) (is : _).
             let spelled = new.segment is_open in
-            (only_0 0 epoch slots.segment0 (segment_of_0 slots.segment0 [] spelled) is, subst IsClosed (sym (ap (λ (l : List ℕ). drop 16 l) spelled.text)) (closed_behind spelled.content spelled.size spelled.spelled)))
+            (only_0 0 epoch slots.segment0 (segment_of_0 slots.segment0 [] spelled) is, subst IsClosed (sym (ap (λ (l : List ℕ). drop 16 l) spelled.text)) (closed_behind spelled.content spelled.spelled)))
             (λ (is_open : _) (_ : _). absurd (no_segment is_open)) number small;
       },
       refl,

@@ -14,7 +14,7 @@ use Rattle.recover.specs.Recovered.{IsOpen, HasOtherVersion, IsOtherVersion, Hol
 one_list : (segment : List ℕ) (one two : List Record) → SpellsSegment 0 segment one → SpellsSegment 0 segment two → one ≡ two
 one_list segment one two a b =
     let same : a.content ≡ b.content = ap (drop 16) (sym a.text ∙ b.text) in
-    (one_reading b.content one two a.size b.size (subst (λ (l : List ℕ). SpellsBatches l one a.size) same a.spelled) b.spelled).0
+    one_reading b.content one two (subst (λ (l : List ℕ). SpellsBatches l one) same a.spelled) b.spelled
 
 one_end : (segment : List ℕ) (state other : State) (count number : ℕ) → Follows segment state count → Follows segment other number → (state ≡ other) × (count ≡ number)
 one_end segment state other count number a b =

@@ -4,6 +4,7 @@ ghost use Rattle.disk.specs.Moments.{Grew, MayLeave};
 ghost use Rattle.ipc_model.specs.declared.record.Record.{Record};
 ghost use Rattle.ipc_model.specs.state.State.{State, opening_state};
 ghost use Rattle.kernel.specs.Served.{ServedRun};
+ghost use Rattle.ipc_laws.specs.Counted.{SpellsCounted};
 ghost use Rattle.ipc_model.specs.store.Store.{segment_header, open_gate, SpellsBatches, IsInUse};
 ghost use Rattle.recover.specs.AtRest.{IsAtRest};
 ghost use Rattle.recover.specs.Fronts.{four_slots, fronts_of};
@@ -106,10 +107,10 @@ fn read_fronts<D: Disk>(alloc: Global, disk: &mut D) -> Result<Fronts, StoreFaul
 
 /// The state after the records of these batches, how many records they are, and how many bytes they have.
 fn replay_batches(alloc: Global, batches: &[u8]) -> Result<(Kernel, u64, usize), StoreFault>
-    ensures state { IfOk result (λ r. (records : List Record) × SpellsBatches batches.now records r.2
+    ensures state { IfOk result (λ r. (records : List Record) × SpellsCounted batches.now records r.2
         × ServedRun opening_state records r.0 × (r.1 ≡ length records)) }
-    ensures damaged { IsErrOf result StoreFault.Damaged → (records : List Record) → (size : ℕ) → (state : State)
-        → SpellsBatches batches.now records size → ServedRun opening_state records state → ⊥ }
+    ensures damaged { IsErrOf result StoreFault.Damaged → (records : List Record) → (state : State)
+        → SpellsBatches batches.now records → ServedRun opening_state records state → ⊥ }
     ensures faults { OnErr result ((result ≡ Err StoreFault.Damaged) ⊎ (result ≡ Err StoreFault.NoMemory)) }
 {
     let (records, size) = read_batches(alloc, batches)?;

@@ -36,8 +36,8 @@ abbrev pub only : State → Reply → Action
 only state answer = record { answer = answer; state = state; effects = [] }
 
 -- the call of this number is done, and has no results
-abbrev pub done : ℕ → State → List Effect → Action
-done number state effects = record { answer = reply.Done number; state = state; effects = effects }
+abbrev pub done_with : ℕ → State → List Effect → Action
+done_with number state effects = record { answer = reply.Done number; state = state; effects = effects }
 
 -- every member of a set in a space gets this set's name, or none
 abbrev pub serials_of_members : State → Names → ℕ → List ℕ
@@ -62,15 +62,15 @@ renamed state space names from to entry = with_names (members_moved state names 
 
 -- what a new name of a right's number stands for; a new port gets the next serial
 abbrev pub allocated_entry : ℕ → ℕ → Entry
-allocated_entry serial kind =
-    if is_right kind right.Receive then Port (record { port = serial; receive = true; send = 0; dead_name_target = None })
-    else if is_right kind right.PortSet then Set
+allocated_entry serial wanted =
+    if is_right wanted right.Receive then Port (record { port = serial; receive = true; send = 0; dead_name_target = None })
+    else if is_right wanted right.PortSet then Set
     else Dead 1
 
 abbrev pub allocated : State → ℕ → Names → ℕ → ℕ → State
-allocated state space names kind name =
-    let named : State = with_names state space (finmap.insert names name (allocated_entry state.next kind)) in
-    if is_right kind right.Receive then record named { ports = finmap.insert state.ports state.next new_port; next = state.next + 1 } else named
+allocated state space names wanted name =
+    let named : State = with_names state space (finmap.insert names name (allocated_entry state.next wanted)) in
+    if is_right wanted right.Receive then record named { ports = finmap.insert state.ports state.next new_port; next = state.next + 1 } else named
 
 -- the releases of all that a name stands for, and its port-deleted notice
 abbrev pub release_if : Bool → Effect → List Effect
@@ -85,45 +85,45 @@ effects_of_name name (Dead references) = []
 
 abbrev pub destroyed : State → ℕ → Names → ℕ → Entry → Action
 destroyed state space names name entry =
-    done 6 (with_names (members_moved state names name None entry) space (finmap.remove names name)) (effects_of_name name entry)
+    done_with 6 (with_names (members_moved state names name None entry) space (finmap.remove names name)) (effects_of_name name entry)
 
 -- A right's references under a name become this many; where none are left the right goes.
 abbrev pub send_left : State → ℕ → ℕ → PortRights → ℕ → ℕ → Action
 send_left state space name rights left number =
     let entry : Entry = Port (record rights { send = left }) in
-    done number (with_left state space name entry) (release_if (left == 0) (release kind.Send rights.port) ++ notices_of_left name entry)
+    done_with number (with_left state space name entry) (release_if (left == 0) (release kind.Send rights.port) ++ notices_of_left name entry)
 
 abbrev pub dead_left : State → ℕ → ℕ → ℕ → ℕ → Action
-dead_left state space name left number = done number (with_left state space name (Dead left)) []
+dead_left state space name left number = done_with number (with_left state space name (Dead left)) []
 
 abbrev pub receive_gone : State → ℕ → ℕ → PortRights → Action
 receive_gone state space name rights =
     let entry : Entry = Port (record rights { receive = false }) in
-    done 9 (with_left state space name entry) (release kind.Receive rights.port ∷ notices_of_left name entry)
+    done_with 9 (with_left state space name entry) (release kind.Receive rights.port ∷ notices_of_left name entry)
 
 abbrev pub send_once_gone : State → ℕ → ℕ → ℕ → Option ℕ → ℕ → Action
-send_once_gone state space name port target number = done number (without_name state space name) (release kind.SendOnce port ∷ port_deleted name target)
+send_once_gone state space name port target number = done_with number (without_name state space name) (release kind.SendOnce port ∷ port_deleted name target)
 
 -- mach_port_deallocate: one reference less of a send right, a send-once right or a dead name
 abbrev pub deallocated : State → ℕ → Names → ℕ → Entry → Action
 deallocated state space names name (Port rights) = send_left state space name rights (rights.send - 1) 7
 deallocated state space names name (SendOnce port target) = send_once_gone state space name port target 7
-deallocated state space names name Set = done 7 state []
+deallocated state space names name Set = done_with 7 state [] -- its tests refuse it
 deallocated state space names name (Dead references) = dead_left state space name (references - 1) 7
 
 -- mach_port_mod_refs. With a delta of 0 nothing changes.
 abbrev pub modified_port : State → ℕ → ℕ → PortRights → ℕ → ℕ → Action
-modified_port state space name rights kind delta =
-    if is_right kind right.Send then send_left state space name rights (sum_of rights.send delta) 9
+modified_port state space name rights wanted delta =
+    if is_right wanted right.Send then send_left state space name rights (sum_of rights.send delta) 9
     else if delta == minus_one then receive_gone state space name rights
-    else done 9 state []
+    else done_with 9 state []
 
 abbrev pub modified : State → ℕ → Names → ℕ → Entry → ℕ → ℕ → Action
-modified state space names name (Port rights) kind delta = modified_port state space name rights kind delta
-modified state space names name (SendOnce port target) kind delta = if delta == minus_one then send_once_gone state space name port target 9 else done 9 state []
-modified state space names name Set kind delta =
-    if delta == minus_one then done 9 (with_names (members_in state names name None) space (finmap.remove names name)) [] else done 9 state []
-modified state space names name (Dead references) kind delta = dead_left state space name (sum_of references delta) 9
+modified state space names name (Port rights) wanted delta = modified_port state space name rights wanted delta
+modified state space names name (SendOnce port target) wanted delta = if delta == minus_one then send_once_gone state space name port target 9 else done_with 9 state []
+modified state space names name Set wanted delta =
+    if delta == minus_one then done_with 9 (with_names (members_in state names name None) space (finmap.remove names name)) [] else done_with 9 state []
+modified state space names name (Dead references) wanted delta = dead_left state space name (sum_of references delta) 9
 
 -- a change of what the port keeps whose receive right a name holds
 abbrev pub with_received : State → Entry → (PortState → PortState) → State
@@ -256,48 +256,50 @@ received_serials names = filter_map (λ e. received_port e.1) (finmap.entries na
 abbrev pub space_destroyed : State → ℕ → Names → Action
 space_destroyed state space names =
     let outside : State = with_ports state (received_serials names) (λ port. record port { set = None }) in
-    done 21 (record outside { spaces = finmap.remove state.spaces space }) (flat_map (λ e. effects_of_name e.0 e.1) (finmap.entries names))
+    done_with 21 (record outside { spaces = finmap.remove state.spaces space }) (flat_map (λ e. effects_of_name e.0 e.1) (finmap.entries names))
 
--- an action, where the name is in use
+-- a call acts so: it answers, leaves a state, and sets effects off
 abbrev pub Acts : Action → Reply → State → List Effect → Type 0
 Acts action answer new effects = (answer ≡ action.answer) × (new ≡ action.state) × (effects ≡ action.effects)
 
+-- so it acts on what a name stands for; the tests see to it that the name is in use
 abbrev pub ActsOn : Option Entry → (Entry → Action) → Reply → State → List Effect → Type 0
 ActsOn None action answer new effects = ⊥
 ActsOn (Some entry) action answer new effects = Acts (action entry) answer new effects
 
+-- the tests see to it that the name holds a receive right, whose port lives
 abbrev pub status_action : State → Option PortState → ℕ → Action
-status_action state None serial = done 13 state []
+status_action state None serial = done_with 13 state []
 status_action state (Some port) serial = only state (reply.ReceiveStatus (status_of state serial port))
 
 abbrev pub status_action_of : State → Option ℕ → Action
-status_action_of state None = done 13 state []
+status_action_of state None = done_with 13 state []
 status_action_of state (Some serial) = status_action state (finmap.get state.ports serial) serial
 
 -- What a call on names and ports may answer that passes its tests, the state after it, and the effects that it sets off.
 unfoldable pub Done : State → ℕ → Names → Call → Reply → State → List Effect → Type 0
-Done old space names (call.Attach other) answer new effects = Acts (done 0 old []) answer new effects
+Done old space names (call.Attach other) answer new effects = Acts (done_with 0 old []) answer new effects
 Done old space names call.Names answer new effects =
     Acts (only old (reply.Names (map (λ e. record { name = e.0; bits = type_of e.1 }) (finmap.entries names)))) answer new effects
 Done old space names (call.Type name) answer new effects = ActsOn (finmap.get names name) (λ entry. only old (reply.Type (type_of entry))) answer new effects
-Done old space names (call.Rename from to) answer new effects = ActsOn (finmap.get names from) (λ entry. done 3 (renamed old space names from to entry) []) answer new effects
-Done old space names (call.AllocateName kind name) answer new effects = Acts (done 4 (allocated old space names kind name) []) answer new effects
-Done old space names (call.Allocate kind) answer new effects =
-    (name : ℕ) × IsUnused names name × (answer ≡ reply.Allocate name) × (new ≡ allocated old space names kind name) × (effects ≡ [])
+Done old space names (call.Rename from to) answer new effects = ActsOn (finmap.get names from) (λ entry. done_with 3 (renamed old space names from to entry) []) answer new effects
+Done old space names (call.AllocateName wanted name) answer new effects = Acts (done_with 4 (allocated old space names wanted name) []) answer new effects
+Done old space names (call.Allocate wanted) answer new effects =
+    (name : ℕ) × IsUnused names name × (answer ≡ reply.Allocate name) × (new ≡ allocated old space names wanted name) × (effects ≡ [])
 Done old space names (call.Destroy name) answer new effects = ActsOn (finmap.get names name) (destroyed old space names name) answer new effects
 Done old space names (call.Deallocate name) answer new effects = ActsOn (finmap.get names name) (deallocated old space names name) answer new effects
-Done old space names (call.GetRefs name kind) answer new effects = ActsOn (finmap.get names name) (λ entry. only old (reply.References (references_of kind entry))) answer new effects
-Done old space names (call.ModRefs name kind delta) answer new effects = ActsOn (finmap.get names name) (λ entry. modified old space names name entry kind delta) answer new effects
+Done old space names (call.GetRefs name wanted) answer new effects = ActsOn (finmap.get names name) (λ entry. only old (reply.References (references_of wanted entry))) answer new effects
+Done old space names (call.ModRefs name wanted delta) answer new effects = ActsOn (finmap.get names name) (λ entry. modified old space names name entry wanted delta) answer new effects
 Done old space names (call.SetQlimit name limit) answer new effects =
-    ActsOn (finmap.get names name) (λ entry. done 10 (with_received old entry (λ port. record port { limit = limit })) []) answer new effects
+    ActsOn (finmap.get names name) (λ entry. done_with 10 (with_received old entry (λ port. record port { limit = limit })) []) answer new effects
 Done old space names (call.SetMscount name count) answer new effects =
-    ActsOn (finmap.get names name) (λ entry. done 11 (with_received old entry (λ port. record port { make_send_count = count })) []) answer new effects
+    ActsOn (finmap.get names name) (λ entry. done_with 11 (with_received old entry (λ port. record port { make_send_count = count })) []) answer new effects
 Done old space names (call.SetSeqno name seqno) answer new effects =
-    ActsOn (finmap.get names name) (λ entry. done 12 (with_received old entry (λ port. record port { sequence_number = seqno })) []) answer new effects
+    ActsOn (finmap.get names name) (λ entry. done_with 12 (with_received old entry (λ port. record port { sequence_number = seqno })) []) answer new effects
 Done old space names (call.GetReceiveStatus name) answer new effects = ActsOn (finmap.get names name) (λ entry. status_action_of old (received_port entry)) answer new effects
 Done old space names (call.GetSetStatus name) answer new effects = Acts (only old (reply.SetStatus (members_of old names name))) answer new effects
 Done old space names (call.MoveMember member after) answer new effects =
-    ActsOn (finmap.get names member) (λ entry. done 15 (with_received old entry (λ port. record port { set = set_named after })) []) answer new effects
+    ActsOn (finmap.get names member) (λ entry. done_with 15 (with_received old entry (λ port. record port { set = set_named after })) []) answer new effects
 Done old space names (call.RequestNotification name variant sync notify_name disposition) answer new effects =
     Requested old space name variant sync (target_for old space notify_name disposition) answer new effects
 Done old space names (call.InsertRight name right_name disposition) answer new effects =

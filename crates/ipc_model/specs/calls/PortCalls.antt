@@ -26,14 +26,14 @@ use Rattle.ipc_model.specs.calls.Tests.{Tests}
 
 -- the numbers of the rights that a name may hold
 abbrev pub is_right : ℕ → Right → Bool
-is_right n kind = n == number_of kind
+is_right n wanted = n == number_of wanted
 
 -- the rights that can be allocated: a receive right, a port set, a dead name
 abbrev pub is_allocatable : ℕ → Bool
 is_allocatable n = is_right n right.Receive || is_right n right.PortSet || is_right n right.DeadName
 
-abbrev pub is_full : Names → Bool
-is_full names = nat_le MAX_NAMES (finmap.len names)
+abbrev pub names_are_used_up : Names → Bool
+names_are_used_up names = nat_le MAX_NAMES (finmap.len names)
 
 abbrev pub is_in_use : Names → ℕ → Bool
 is_in_use names name = is_some (finmap.get names name)
@@ -152,7 +152,8 @@ is_in_some_set state entry = elim (option_and_then (λ serial. finmap.get state.
 abbrev pub stands_elsewhere : Names → ℕ → ℕ → Bool
 stands_elsewhere names name serial = list_any (λ e. is_number (port_held e.1) serial && not (e.0 == name)) (finmap.entries names)
 
--- a name may take a right to a port: it isn't in use, or holds this port's send or receive right and the right is no send-once one
+-- a name is in use for something that this right can't join: a send-once right joins nothing, and a send or receive
+-- right only the other rights of its own port
 abbrev pub is_taken_otherwise : RightKind → ℕ → Option Entry → Bool
 is_taken_otherwise kind serial None = false
 is_taken_otherwise kind.SendOnce serial (Some entry) = true
@@ -176,7 +177,7 @@ tests_of_insert space name taken serial =
     (not (is_send_once_kind taken.right.kind) && stands_elsewhere names name serial, RightExists)
     ∷ (is_taken_otherwise taken.right.kind serial (finmap.get names name), NameExists)
     ∷ (passes_bound taken.right.kind (finmap.get names name), UrefsOverflow)
-    ∷ (not (is_in_use names name) && is_full names, NoSpace)
+    ∷ (not (is_in_use names name) && names_are_used_up names, NoSpace)
     ∷ []
 
 -- a right that comes out under a name may want a new one
@@ -214,7 +215,7 @@ abbrev pub tests_of_request : State → ℕ → ℕ → ℕ → ℕ → Bool →
 tests_of_request state space name variant sync cancels =
     let names : Names = names_in state space in
     ((is_no_name names name, InvalidName) ∷ []) ++ (tests_of_variant names name variant sync cancels
-    ++ ((is_some (target_under state names variant name) && is_full names, NoSpace) ∷ []))
+    ++ ((is_some (target_under state names variant name) && names_are_used_up names, NoSpace) ∷ []))
 
 -- a notification's disposition makes or moves a send-once right
 abbrev pub notify_disposition : ℕ → Option Disposition
@@ -232,19 +233,19 @@ tests_of state space names call.Names = []
 tests_of state space names (call.Type name) = (is_no_name names name, InvalidName) ∷ []
 tests_of state space names (call.Rename from to) =
     (is_no_name names from, InvalidName) ∷ (is_null_or_dead to, InvalidValue) ∷ (is_in_use names to, NameExists) ∷ []
-tests_of state space names (call.AllocateName kind name) =
-    (is_null_or_dead name, InvalidValue) ∷ (not (is_allocatable kind), InvalidValue) ∷ (is_in_use names name, NameExists)
-    ∷ (is_full names, NoSpace) ∷ (is_right kind right.Receive && ports_are_used_up state, ResourceShortage) ∷ []
-tests_of state space names (call.Allocate kind) =
-    (not (is_allocatable kind), InvalidValue) ∷ (is_full names, NoSpace) ∷ (is_right kind right.Receive && ports_are_used_up state, ResourceShortage) ∷ []
+tests_of state space names (call.AllocateName wanted name) =
+    (is_null_or_dead name, InvalidValue) ∷ (not (is_allocatable wanted), InvalidValue) ∷ (is_in_use names name, NameExists)
+    ∷ (names_are_used_up names, NoSpace) ∷ (is_right wanted right.Receive && ports_are_used_up state, ResourceShortage) ∷ []
+tests_of state space names (call.Allocate wanted) =
+    (not (is_allocatable wanted), InvalidValue) ∷ (names_are_used_up names, NoSpace) ∷ (is_right wanted right.Receive && ports_are_used_up state, ResourceShortage) ∷ []
 tests_of state space names (call.Destroy name) = (is_no_name names name, InvalidName) ∷ []
 tests_of state space names (call.Deallocate name) =
     (is_no_name names name, InvalidName)
     ∷ (name_is (λ entry. is_set entry || (has_receive entry && send_references entry == 0)) names name, InvalidRight) ∷ []
-tests_of state space names (call.GetRefs name kind) = (is_no_right kind, InvalidValue) ∷ (is_no_name names name, InvalidName) ∷ []
-tests_of state space names (call.ModRefs name kind delta) =
-    (is_no_right kind, InvalidValue) ∷ (is_no_name names name, InvalidName) ∷ (references_under names name kind == 0, InvalidRight)
-    ∷ tests_of_delta kind (references_under names name kind) delta
+tests_of state space names (call.GetRefs name wanted) = (is_no_right wanted, InvalidValue) ∷ (is_no_name names name, InvalidName) ∷ []
+tests_of state space names (call.ModRefs name wanted delta) =
+    (is_no_right wanted, InvalidValue) ∷ (is_no_name names name, InvalidName) ∷ (references_under names name wanted == 0, InvalidRight)
+    ∷ tests_of_delta wanted (references_under names name wanted) delta
 tests_of state space names (call.SetQlimit name limit) =
     (nat_lt MAX_QUEUE_LIMIT limit, InvalidValue) ∷ (is_no_name names name, InvalidName) ∷ (not (name_is has_receive names name), InvalidRight) ∷ []
 tests_of state space names (call.SetMscount name count) = (is_no_name names name, InvalidName) ∷ (not (name_is has_receive names name), InvalidRight) ∷ []

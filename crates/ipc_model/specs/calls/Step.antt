@@ -1,6 +1,6 @@
 -- The machine: what each call may answer, and the state that it leaves.
 -- (Kernel Interfaces, mach_msg and "Port Manipulation".)
-use Rattle.std.specs.Prelude.{◌≡◌, ℕ, Bool, true, false, ◌&&◌, ◌||◌, List, [], ◌∷◌, Option, None, Some, MatchOption, MatchResult}
+use Rattle.std.specs.Prelude.{◌≡◌, ℕ, Bool, true, false, ◌&&◌, ◌||◌, List, [], ◌∷◌, Option, None, Some, MatchResult}
 use Rattle.std.specs.FinMap as finmap
 use Rattle.codes.specs.declared.kern_return.KernReturn.{KernReturn}
 use Rattle.codes.specs.declared.kern_return.KernReturn.TheVariants.{Success, InvalidTask, RcvTooLarge}
@@ -16,7 +16,7 @@ use Rattle.ipc_model.specs.calls.PortCalls.{tests_of}
 use Rattle.ipc_model.specs.messages.Receiving.{Receives, without_message}
 use Rattle.ipc_model.specs.messages.Sending.{Ready, ready_to_send, sent}
 use Rattle.ipc_model.specs.state.State.{State, Names}
-use Rattle.ipc_model.specs.calls.Tests.{first_failing}
+use Rattle.ipc_model.specs.calls.Tests.{RefusedOrDone, first_failing}
 
 -- the number of a call in its frame
 abbrev pub number_of_call : Call → ℕ
@@ -50,21 +50,25 @@ refused (call.Send message) code = without_message code 0 MACH_PORT_NULL
 refused (call.Receive limit large name waited) code = without_message code 0 MACH_PORT_NULL
 refused c code = reply.Refused (number_of_call c) code
 
--- A call's own action, without the effects that it sets off: refused, it answers the code and changes nothing.
+-- refused, a call answers so, changes nothing, and sets nothing off
+abbrev pub IsRefusedWith : Reply → State → Reply → State → List Effect → Type 0
+IsRefusedWith refusal old answer new effects = (answer ≡ refusal) × (new ≡ old) × (effects ≡ [])
+
+-- A call's own action, without the effects that it sets off: it is refused, or done.
 abbrev pub ActsIn : State → ℕ → Names → Call → Reply → State → List Effect → Type 0
 ActsIn old space names (call.Send message) answer new effects =
     MatchResult (ready_to_send old space message)
     (λ (ready : Ready). (answer ≡ without_message Success 0 MACH_PORT_NULL) × (new ≡ (sent ready).0) × (effects ≡ (sent ready).1))
-    (λ code. (answer ≡ without_message code 0 MACH_PORT_NULL) × (new ≡ old) × (effects ≡ []))
+    (λ code. IsRefusedWith (without_message code 0 MACH_PORT_NULL) old answer new effects)
 ActsIn old space names (call.Receive limit large name waited) answer new effects =
     Receives old space names (record { limit = limit; large = large; name = name; waited = waited }) answer new effects
 ActsIn old space names c answer new effects =
-    MatchOption (first_failing (tests_of old space names c)) (Done old space names c answer new effects)
-    (λ code. (answer ≡ reply.Refused (number_of_call c) code) × (new ≡ old) × (effects ≡ []))
+    RefusedOrDone (first_failing (tests_of old space names c))
+    (λ code. IsRefusedWith (reply.Refused (number_of_call c) code) old answer new effects) (Done old space names c answer new effects)
 
 -- A caller whose space is gone is refused before all else.
 abbrev pub ActsFrom : State → ℕ → Option Names → Call → Reply → State → List Effect → Type 0
-ActsFrom old space None c answer new effects = (answer ≡ refused c InvalidTask) × (new ≡ old) × (effects ≡ [])
+ActsFrom old space None c answer new effects = IsRefusedWith (refused c InvalidTask) old answer new effects
 ActsFrom old space (Some names) c answer new effects = ActsIn old space names c answer new effects
 
 -- A step of the machine: this call of a task of this space may answer so, and leaves this state once its effects have settled.

@@ -1,5 +1,5 @@
 -- Tests of a call, in the order in which they are made.
-use Rattle.std.specs.Prelude.{Bool, List, [], ◌∷◌, Option, None, Some, Result, Ok, Err, if◌then◌else◌}
+use Rattle.std.specs.Prelude.{Bool, List, [], ◌∷◌, Option, None, Some, Result, Ok, Err, MatchOption, if◌then◌else◌}
 use Rattle.codes.specs.declared.kern_return.KernReturn.{KernReturn}
 
 -- A test is true where it fails, and then the call is refused with the code beside it.
@@ -10,6 +10,10 @@ Tests = List (Bool × KernReturn)
 abbrev pub first_failing : Tests → Option KernReturn
 first_failing [] = None
 first_failing (test ∷ tests) = if test.0 then Some test.1 else first_failing tests
+
+-- Where a test fails the call is refused with its code; else it is done.
+abbrev pub RefusedOrDone : Option KernReturn → (KernReturn → Type 0) → Type 0 → Type 0
+RefusedOrDone refusal refused done = MatchOption refusal done refused
 
 -- a value, or a code where there is none
 abbrev pub or_refused : {X : Type 0} → KernReturn → Option X → Result X KernReturn

@@ -116,8 +116,8 @@ words_of zero bytes = []
 words_of (suc n) bytes = little_number 4 bytes ∷ words_of n (drop 4 bytes)
 
 -- the names in a port item
-abbrev pub names_in : Item → List ℕ
-names_in item = if is_port_item item then words_of item.number item.content else []
+abbrev pub names_of_item : Item → List ℕ
+names_of_item item = if is_port_item item then words_of item.number item.content else []
 
 -- the number of a port type as received; other types stay
 abbrev pub received_type : ℕ → ℕ

@@ -1,5 +1,5 @@
 -- Receiving a message. (Kernel Interfaces, mach_msg, MACH_RCV_MSG.)
-use Rattle.std.specs.Prelude.{◌≡◌, ℕ, ◌+◌, ◌*◌, ◌^◌, Bool, true, false, nat_lt, List, [], ◌∷◌, ◌++◌, length, drop, Contains, Option, None, Some, is_some, MatchOption, MatchBool, if◌then◌else◌}
+use Rattle.std.specs.Prelude.{◌≡◌, ℕ, ◌+◌, ◌*◌, ◌^◌, Bool, true, false, nat_lt, List, [], ◌∷◌, ◌++◌, length, drop, Contains, Option, None, Some, is_some, option_and_then, MatchOption, MatchBool, if◌then◌else◌}
 use Rattle.std.specs.FinMap as finmap
 use Rattle.codes.specs.declared.kern_return.KernReturn.{KernReturn}
 use Rattle.codes.specs.declared.kern_return.KernReturn.TheVariants.{Success, RcvInvalidName, RcvTimedOut, RcvTooLarge, RcvPortChanged, RcvPortDied, RcvInSet, RcvHeaderErrorSpace}
@@ -44,10 +44,7 @@ sources state names name (Some (Dead references)) = None
 
 -- the port whose receive right a name holds
 abbrev pub port_under : State → Names → ℕ → Option PortState
-port_under state names name = elim (finmap.get names name) as (λ _. Option PortState) [
-  | None ↦ None
-  | Some entry ↦ elim (received_port entry) as (λ _. Option PortState) [ None ↦ None | Some serial ↦ finmap.get state.ports serial ]
-]
+port_under state names name = option_and_then (λ (serial : ℕ). finmap.get state.ports serial) (option_and_then received_port (finmap.get names name))
 
 -- the message that the port under a name would give next
 abbrev pub oldest : List Message → Option Message
@@ -55,7 +52,7 @@ oldest [] = None
 oldest (message ∷ messages) = Some message
 
 abbrev pub oldest_under : State → Names → ℕ → Option Message
-oldest_under state names name = elim (port_under state names name) as (λ _. Option Message) [ None ↦ None | Some port ↦ oldest port.messages ]
+oldest_under state names name = option_and_then (λ (port : PortState). oldest port.messages) (port_under state names name)
 
 -- a port that is in a set gives messages through the set alone
 abbrev pub is_in_set : State → Names → ℕ → Bool

@@ -16,7 +16,7 @@ use Rattle.ipc_model.specs.state.Circular.{is_circular}
 use Rattle.ipc_model.specs.rights.CopyIn.{Taken, copy_in}
 use Rattle.ipc_model.specs.rights.Dispositions.{Disposition, MoveReceive, MoveSend, MoveSendOnce, CopySend, MakeSend, MakeSendOnce, disposition_of, received_kind}
 use Rattle.ipc_model.specs.effects.Effects.{Effect, release, releases_of, queued, Outcome}
-use Rattle.ipc_model.specs.messages.Items.{Item, items_of, items_text, as_stored, is_port_item, names_in}
+use Rattle.ipc_model.specs.messages.Items.{Item, items_of, items_text, as_stored, is_port_item, names_of_item}
 use Rattle.ipc_model.specs.messages.Messages.{bits_of, remote_of, local_of, id_of, body_of, remote_disposition, local_disposition, is_complex, header_length}
 use Rattle.ipc_model.specs.state.Placed.{same_kind}
 use Rattle.ipc_model.specs.state.State.{State, is_null_or_dead}
@@ -49,7 +49,7 @@ take_rights space disposition (name ∷ names) taken =
 
 abbrev pub take_item : ℕ → Item → Option Disposition → TakenRights → Option TakenRights
 take_item space item None taken = Some taken
-take_item space item (Some disposition) taken = take_rights space disposition (names_in item) taken
+take_item space item (Some disposition) taken = take_rights space disposition (names_of_item item) taken
 
 -- the rights of all port items, from the left
 abbrev pub take_items : ℕ → List Item → TakenRights → Option TakenRights
@@ -120,7 +120,7 @@ items_if_complex bits body = if is_complex bits then items_of body else Ok []
 
 -- how many ports items hold, NULL and DEAD among them
 abbrev pub ports_in : List Item → ℕ
-ports_in items = length (flat_map names_in items)
+ports_in items = length (flat_map names_of_item items)
 
 abbrev pub tests_of_size : ℕ → Tests
 tests_of_size size = (nat_lt size header_length || not (size % 4 == 0), SendMsgTooSmall) ∷ (nat_lt MAX_MESSAGE_SIZE size, SendNoBuffer) ∷ []

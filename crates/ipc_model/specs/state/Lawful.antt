@@ -14,40 +14,14 @@ use Rattle.ipc_model.specs.declared.port.PortState.{PortState}
 use Rattle.ipc_model.specs.effects.Effects.{Effect, release, notify}
 use Rattle.ipc_model.specs.messages.Notices as notice
 use Rattle.ipc_model.specs.messages.Items.{Item, items_of, is_port_item}
-use Rattle.ipc_model.specs.state.Placed.{Right, waiting, placed, same_kind}
+use Rattle.ipc_model.specs.state.Placed.{Right, waiting, placed, same_kind, receive_count}
 use Rattle.ipc_model.specs.messages.Receiving.{message_size}
 use Rattle.ipc_model.specs.state.State.{State, Names, lives, port_held, received_port}
 use Rattle.words.specs.Words.{AreBytes}
 
--- the rights that wait among effects: released ones, and those that notices are sent by
-abbrev pub right_of_effect : Effect → Right
-right_of_effect (release kind serial) = record { kind = kind; port = serial; place = waiting }
-right_of_effect (notify target what) = record { kind = kind.SendOnce; port = target; place = waiting }
-
--- every right of a state, and those that wait among effects
-abbrev pub placed_with : State → List Effect → List Right
-placed_with state effects = placed state ++ map right_of_effect effects
-
--- how many rights of a kind a port has, those among effects too
-abbrev pub count_with : RightKind → State → List Effect → ℕ → ℕ
-count_with wanted state effects serial = count_by (λ r. same_kind r.kind wanted && r.port == serial) (placed_with state effects)
-
 -- how many rights of any kind a port has
 abbrev pub rights_count : State → ℕ → ℕ
 rights_count state serial = count_by (λ r. r.port == serial) (placed state)
-
--- a port-destroyed notice goes out within the effect that sends it, and never waits
-abbrev pub IsWaiting : Effect → Type 0
-IsWaiting (release kind serial) = Unit {0}
-IsWaiting (notify target (notice.PortDeleted name)) = Unit {0}
-IsWaiting (notify target (notice.PortDestroyed serial)) = ⊥
-IsWaiting (notify target (notice.NoSenders count)) = Unit {0}
-IsWaiting (notify target notice.SendOnce) = Unit {0}
-IsWaiting (notify target (notice.DeadName name)) = Unit {0}
-
-abbrev pub AllWaiting : List Effect → Type 0
-AllWaiting [] = Unit {0}
-AllWaiting (first ∷ rest) = IsWaiting first × AllWaiting rest
 
 -- What a name may stand for: a port by its receive right or at least one reference, a dead name with at least one.
 abbrev pub LawfulEntry : Entry → Type 0
@@ -110,11 +84,58 @@ IsHeldBesideSet state serial set =
     (space : ℕ) × (names : Names) × (name : ℕ) × (entry : Entry) × (finmap.get state.spaces space ≡ Some names)
     × (finmap.get names name ≡ Some entry) × (received_port entry ≡ Some serial) × (finmap.get names set ≡ Some Set)
 
+-- A lawful state.
+pub record Lawful (state : State) : Type 0 where
+  pub first_space : (names : Names) × (finmap.get state.spaces 1 ≡ Some names)
+  pub spaces : (space : ℕ) (names : Names) → finmap.get state.spaces space ≡ Some names → (0 < space) × (space ≤ MAX_SPACES) × LawfulNames names
+  pub ports : (serial : ℕ) (port : PortState) → finmap.get state.ports serial ≡ Some port → (0 < serial) × (serial < state.next) × LawfulPort port
+  pub few_ports : finmap.len state.ports ≤ MAX_PORTS
+  pub next : (0 < state.next) × (state.next < 2 ^ 64)
+  -- each live port has exactly one receive right, held or carried
+  pub one_receive : (serial : ℕ) → lives state serial ≡ true → receive_count state serial ≡ 1
+  -- each right names a live port: a port that isn't live has none
+  pub live : (serial : ℕ) → lives state serial ≡ false → rights_count state serial ≡ 0
+  -- a port is in a set of the space that holds its receive right
+  pub sets : (serial set : ℕ) (port : PortState) → finmap.get state.ports serial ≡ Some port → port.set ≡ Some set → IsHeldBesideSet state serial set
+
+-- No queue holds more messages than a word counts. It is no part of a lawful state, since no call is refused for it:
+-- a program that would come to it is short of memory first.
+abbrev pub ShortQueues : State → Type 0
+ShortQueues state = (serial : ℕ) (port : PortState) → finmap.get state.ports serial ≡ Some port → length port.messages < 2 ^ 32
+
+-- While the effects of a call are worked off, rights wait among them, and a port whose receive right waits is in its set still.
+
+-- the rights that wait among effects: released ones, and those that notices are sent by
+abbrev pub right_of_effect : Effect → Right
+right_of_effect (release kind serial) = record { kind = kind; port = serial; place = waiting }
+right_of_effect (notify target what) = record { kind = kind.SendOnce; port = target; place = waiting }
+
+-- every right of a state, and those that wait among effects
+abbrev pub placed_with : State → List Effect → List Right
+placed_with state effects = placed state ++ map right_of_effect effects
+
+-- how many rights of a kind a port has, those among effects too
+abbrev pub count_with : RightKind → State → List Effect → ℕ → ℕ
+count_with wanted state effects serial = count_by (λ r. same_kind r.kind wanted && r.port == serial) (placed_with state effects)
+
+-- a port-destroyed notice goes out within the effect that sends it, and never waits
+abbrev pub IsWaiting : Effect → Type 0
+IsWaiting (release kind serial) = Unit {0}
+IsWaiting (notify target (notice.PortDeleted name)) = Unit {0}
+IsWaiting (notify target (notice.PortDestroyed serial)) = ⊥
+IsWaiting (notify target (notice.NoSenders count)) = Unit {0}
+IsWaiting (notify target notice.SendOnce) = Unit {0}
+IsWaiting (notify target (notice.DeadName name)) = Unit {0}
+
+abbrev pub AllWaiting : List Effect → Type 0
+AllWaiting [] = Unit {0}
+AllWaiting (first ∷ rest) = IsWaiting first × AllWaiting rest
+
 -- the port's receive right waits among effects
 abbrev pub IsReleased : List Effect → ℕ → Type 0
 IsReleased effects serial = Contains effects (release kind.Receive serial)
 
--- A state is lawful, where the rights that wait among effects count as placed.
+-- A state is lawful, where the rights that wait among effects count as placed. With no effects left it is lawful.
 pub record LawfulBut (state : State) (effects : List Effect) : Type 0 where
   pub first_space : (names : Names) × (finmap.get state.spaces 1 ≡ Some names)
   pub spaces : (space : ℕ) (names : Names) → finmap.get state.spaces space ≡ Some names → (0 < space) × (space ≤ MAX_SPACES) × LawfulNames names
@@ -127,12 +148,3 @@ pub record LawfulBut (state : State) (effects : List Effect) : Type 0 where
   pub live : (serial : ℕ) → lives state serial ≡ false → rights_count state serial ≡ 0
   pub waits : AllWaiting effects
   pub sets : (serial set : ℕ) (port : PortState) → finmap.get state.ports serial ≡ Some port → port.set ≡ Some set → IsHeldBesideSet state serial set ⊎ IsReleased effects serial
-
--- A lawful state, with no effects left.
-abbrev pub Lawful : State → Type 0
-Lawful state = LawfulBut state []
-
--- No queue holds more messages than a word counts. It is no part of a lawful state, since no call is refused for it:
--- a program that would come to it is short of memory first.
-abbrev pub ShortQueues : State → Type 0
-ShortQueues state = (serial : ℕ) (port : PortState) → finmap.get state.ports serial ≡ Some port → length port.messages < 2 ^ 32

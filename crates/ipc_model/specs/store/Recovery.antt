@@ -55,13 +55,21 @@ pub record HoldsImage (epoch : ℕ) (slot : List ℕ) (state : State) : Type 0 w
   pub grounded : Grounded state
   pub short : ShortQueues state
 
--- What the other segment slot adds to the records of an epoch: nothing where it is closed or of the epoch before, and
--- the records of the next epoch where it is of that.
+-- The other segment slot is closed, and adds nothing;
+abbrev pub ClosedAddsNothing : List ℕ → List Record → Type 0
+ClosedAddsNothing slot next = (IsOpen segment_header_length slot → ⊥) × (next ≡ [])
+
+-- or it is of the epoch before, and adds nothing;
+abbrev pub FormerAddsNothing : ℕ → List ℕ → List Record → Type 0
+FormerAddsNothing epoch slot next = (before : ℕ) × (suc before ≡ epoch) × IsOfEpoch (before % 2) before slot × (next ≡ [])
+
+-- or it is of the next epoch, and adds that epoch's records.
+abbrev pub NextAddsRecords : ℕ → List ℕ → List Record → Type 0
+NextAddsRecords epoch slot next = (epoch + 1 < 2 ^ 64) × SpellsSegment (epoch + 1) slot next
+
+-- What the other segment slot adds to the records of an epoch.
 abbrev pub Continues : ℕ → List ℕ → List Record → Type 0
-Continues epoch slot next =
-    ((IsOpen segment_header_length slot → ⊥) × (next ≡ []))
-    ⊎ (((before : ℕ) × (suc before ≡ epoch) × IsOfEpoch (before % 2) before slot × (next ≡ []))
-    ⊎ ((epoch + 1 < 2 ^ 64) × SpellsSegment (epoch + 1) slot next))
+Continues epoch slot next = ClosedAddsNothing slot next ⊎ (FormerAddsNothing epoch slot next ⊎ NextAddsRecords epoch slot next)
 
 -- A store in use: the open image of the greatest epoch, and the records of that epoch's segment, and then of the next
 -- epoch's where that follows.

@@ -52,9 +52,9 @@ abbrev pub AreRecords : List Record → Type 0
 AreRecords [] = Unit {0}
 AreRecords (first ∷ records) = IsRecord first × AreRecords records
 
--- Bytes behind a segment's header spell these records: in open batches, whole and numbered from 0, of `size`
--- bytes in all, and then comes a gate that isn't open, or nothing.
-pub record SpellsBatches (bytes : List ℕ) (records : List Record) (size : ℕ) : Type 0 where
+-- Bytes behind a segment's header spell these records: in open batches, whole and numbered from 0, and then comes a
+-- gate that isn't open, or nothing.
+pub record SpellsBatches (bytes : List ℕ) (records : List Record) : Type 0 where
   pub batches : List (List Record)
   pub rest : List ℕ
   pub text : bytes ≡ batches_text 0 batches ++ rest
@@ -63,22 +63,19 @@ pub record SpellsBatches (bytes : List ℕ) (records : List Record) (size : ℕ)
   pub flat : records ≡ all_records batches
   pub canonical : AreRecords records
   pub bounded : length records ≤ MAX_RECORDS
-  pub sized : size + length rest ≡ length bytes
 
 -- An open segment of this epoch spells these records: those of its batches up to the first gate that isn't open.
 pub record SpellsSegment (epoch : ℕ) (bytes : List ℕ) (records : List Record) : Type 0 where
   pub content : List ℕ
-  pub size : ℕ
   pub text : bytes ≡ segment_header open_gate epoch ++ content
-  pub spelled : SpellsBatches content records size
+  pub spelled : SpellsBatches content records
 
 -- A segment in use: behind its batches stands one closed gate and nothing else.
 pub record IsInUse (epoch : ℕ) (bytes : List ℕ) (records : List Record) : Type 0 where
   pub content : List ℕ
-  pub size : ℕ
   pub text : bytes ≡ segment_header open_gate epoch ++ content
-  pub spelled : SpellsBatches content records size
-  pub ended : length content ≡ size + 1
+  pub spelled : SpellsBatches content records
+  pub ended : length spelled.rest ≡ 1
 
 -- a segment that ends in a closed gate, with one batch more in that gate's place, and a closed gate behind it
 abbrev pub with_batch : List ℕ → List ℕ → List ℕ

@@ -15,18 +15,20 @@ pub returns-clause-spelled : goal.returns-clause-spelled
 returns-clause-spelled c =
     let read = c.loop-batch.invariant in
     record {
-      batches = read.batches;
-      rest = c.loop-batch.rest.now;
-      text = read.text;
-      closed = c.in_default.ensures.closed;
-      none_empty = read.none_empty;
-      flat = read.flat;
-      canonical = read.canonical;
-      bounded = read.bounded;
+      spelled = record {
+        batches = read.batches;
+        rest = c.loop-batch.rest.now;
+        text = read.text;
+        closed = c.in_default.ensures.closed;
+        none_empty = read.none_empty;
+        flat = read.flat;
+        canonical = read.canonical;
+        bounded = read.bounded;
+      };
       sized = omega (arith, read.shorter);
     }
 
 pub returns-in_err-rest-clause-damaged : goal.returns-in_err-rest-clause-damaged
-returns-in_err-rest-clause-damaged c = λ failed records size is.
-    let first = remain_first (length c.loop-batch.records.items) c.loop-batch.rest.now c.in-Some.batch.now c.in-Some.ensures.open (c.loop-batch.invariant.remains (all_remain c.args.bytes.now records size is)) in
+returns-in_err-rest-clause-damaged c = λ failed records is.
+    let first = remain_first (length c.loop-batch.records.items) c.loop-batch.rest.now c.in-Some.batch.now c.in-Some.ensures.open (c.loop-batch.invariant.remains (all_remain c.args.bytes.now records is)) in
     c.in_err-rest.ensures.damaged (ap Err (same_fault c.from_residual.result c.in_err-rest.field-0.0 _ c.from_residual.ensures.1 failed)) first.records first.rest first.is

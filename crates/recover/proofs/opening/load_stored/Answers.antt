@@ -10,7 +10,7 @@ returns-in_err-kernel-clause-damaged g c = λ honest is state count follows.
     let p = err_from_is_err_and c.from_residual.result c.from_residual.ensures.1 in
     let segment = follows.spelled in
     let same : segment.content ≡ c.args.batches.now = ap (drop 16) (sym segment.text ∙ c.requires honest) in
-    c.in_err-kernel.ensures.damaged (cc (p.1, p.2, is)) follows.records segment.size state (subst (λ l. SpellsBatches l follows.records segment.size) same segment.spelled) follows.run
+    c.in_err-kernel.ensures.damaged (cc (p.1, p.2, is)) follows.records state (subst (λ l. SpellsBatches l follows.records) same segment.spelled) follows.run
 
 pub returns-clause-ready : goal.returns-clause-ready
 returns-clause-ready g c = λ honest.
