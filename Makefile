@@ -1,7 +1,8 @@
 .PHONY: demo test bin bench
 
-# The main job on a new folder, with its bytes explained.
-demo: bin
+# The main job on a new folder, with its bytes explained. It proves nothing: the program runs checked, and where bin/ has
+# the proved one, that.
+demo:
 	./demo/run
 
 # The gate: every proof, wrong body, test and stored run, from nothing.
