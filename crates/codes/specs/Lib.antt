@@ -1,2 +1,3 @@
+pub mod Disposition
 pub mod KernReturn
 pub mod Right

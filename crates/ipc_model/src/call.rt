@@ -1,9 +1,13 @@
 use crate::{RightKind, Sequence};
-use codes::{KernReturn, MACH_PORT_NULL};
+use codes::{
+    ATTACH, KernReturn, MACH_MSG, MACH_PORT_ALLOCATE, MACH_PORT_ALLOCATE_NAME,
+    MACH_PORT_DEALLOCATE, MACH_PORT_DESTROY, MACH_PORT_EXTRACT_RIGHT, MACH_PORT_GET_RECEIVE_STATUS,
+    MACH_PORT_GET_REFS, MACH_PORT_GET_SET_STATUS, MACH_PORT_INSERT_RIGHT, MACH_PORT_MOD_REFS,
+    MACH_PORT_MOVE_MEMBER, MACH_PORT_NAMES, MACH_PORT_NULL, MACH_PORT_RENAME,
+    MACH_PORT_REQUEST_NOTIFICATION, MACH_PORT_SET_MSCOUNT, MACH_PORT_SET_QLIMIT,
+    MACH_PORT_SET_SEQNO, MACH_PORT_TYPE, SPACE_CREATE, SPACE_DESTROY,
+};
 use std::alloc::Global;
-
-/// The number of `mach_msg`, which shows its results in any case.
-pub const MACH_MSG: u32 = 19;
 
 /// A call of a task. Arguments are kept as they were sent, whether they are allowed or not.
 #[derive(Debug, Drop)]
@@ -131,28 +135,28 @@ impl Call {
         ensures { result ≡ number_of_call self.now }
     {
         match self {
-            Call::Attach { .. } => 0,
-            Call::Names => 1,
-            Call::Type { .. } => 2,
-            Call::Rename { .. } => 3,
-            Call::AllocateName { .. } => 4,
-            Call::Allocate { .. } => 5,
-            Call::Destroy { .. } => 6,
-            Call::Deallocate { .. } => 7,
-            Call::GetRefs { .. } => 8,
-            Call::ModRefs { .. } => 9,
-            Call::SetQlimit { .. } => 10,
-            Call::SetMscount { .. } => 11,
-            Call::SetSeqno { .. } => 12,
-            Call::GetReceiveStatus { .. } => 13,
-            Call::GetSetStatus { .. } => 14,
-            Call::MoveMember { .. } => 15,
-            Call::RequestNotification { .. } => 16,
-            Call::InsertRight { .. } => 17,
-            Call::ExtractRight { .. } => 18,
-            Call::Send { .. } | Call::Receive { .. } => 19,
-            Call::SpaceCreate { .. } => 20,
-            Call::SpaceDestroy => 21,
+            Call::Attach { .. } => ATTACH,
+            Call::Names => MACH_PORT_NAMES,
+            Call::Type { .. } => MACH_PORT_TYPE,
+            Call::Rename { .. } => MACH_PORT_RENAME,
+            Call::AllocateName { .. } => MACH_PORT_ALLOCATE_NAME,
+            Call::Allocate { .. } => MACH_PORT_ALLOCATE,
+            Call::Destroy { .. } => MACH_PORT_DESTROY,
+            Call::Deallocate { .. } => MACH_PORT_DEALLOCATE,
+            Call::GetRefs { .. } => MACH_PORT_GET_REFS,
+            Call::ModRefs { .. } => MACH_PORT_MOD_REFS,
+            Call::SetQlimit { .. } => MACH_PORT_SET_QLIMIT,
+            Call::SetMscount { .. } => MACH_PORT_SET_MSCOUNT,
+            Call::SetSeqno { .. } => MACH_PORT_SET_SEQNO,
+            Call::GetReceiveStatus { .. } => MACH_PORT_GET_RECEIVE_STATUS,
+            Call::GetSetStatus { .. } => MACH_PORT_GET_SET_STATUS,
+            Call::MoveMember { .. } => MACH_PORT_MOVE_MEMBER,
+            Call::RequestNotification { .. } => MACH_PORT_REQUEST_NOTIFICATION,
+            Call::InsertRight { .. } => MACH_PORT_INSERT_RIGHT,
+            Call::ExtractRight { .. } => MACH_PORT_EXTRACT_RIGHT,
+            Call::Send { .. } | Call::Receive { .. } => MACH_MSG,
+            Call::SpaceCreate { .. } => SPACE_CREATE,
+            Call::SpaceDestroy => SPACE_DESTROY,
         }
     }
 

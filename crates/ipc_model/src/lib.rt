@@ -8,7 +8,7 @@ mod port;
 mod record;
 mod sequence;
 
-pub use call::{Call, MACH_MSG, NamedType, ReceiveStatus, Reply};
+pub use call::{Call, NamedType, ReceiveStatus, Reply};
 pub use entry::{Entry, PortRights};
 pub use message::{CarriedRight, Message, PortInMessage, RightKind};
 pub use port::PortState;

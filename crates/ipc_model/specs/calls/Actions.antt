@@ -2,6 +2,8 @@
 -- (Kernel Interfaces, "Port Manipulation"; the calls on spaces are this server's.)
 use Rattle.std.specs.Prelude.{◌≡◌, ℕ, ◌+◌, ◌-◌, ◌^◌, ◌<◌, ◌≤◌, min, Bool, true, false, ◌==◌, ◌&&◌, not, nat_le, List, [], ◌∷◌, ◌++◌, length, map, filter, filter_map, flat_map, Option, None, Some, is_some, option_and_then, if◌then◌else◌}
 use Rattle.std.specs.FinMap as finmap
+use Rattle.codes.specs.declared.notification.TheConstants.{MACH_NOTIFY_PORT_DESTROYED, MACH_NOTIFY_DEAD_NAME}
+use Rattle.codes.specs.declared.call_number.TheConstants.{ATTACH, MACH_PORT_RENAME, MACH_PORT_ALLOCATE_NAME, MACH_PORT_DESTROY, MACH_PORT_DEALLOCATE, MACH_PORT_MOD_REFS, MACH_PORT_SET_QLIMIT, MACH_PORT_SET_MSCOUNT, MACH_PORT_SET_SEQNO, MACH_PORT_GET_RECEIVE_STATUS, MACH_PORT_MOVE_MEMBER, MACH_PORT_INSERT_RIGHT, SPACE_DESTROY}
 use Rattle.codes.specs.declared.limits.TheConstants.{MAX_SPACES}
 use Rattle.codes.specs.declared.name.TheConstants.{MACH_PORT_NULL}
 use Rattle.codes.specs.declared.right.Right.TheVariants as right
@@ -85,7 +87,7 @@ effects_of_name name (Dead references) = []
 
 abbrev pub destroyed : State → ℕ → Names → ℕ → Entry → Action
 destroyed state space names name entry =
-    done_with 6 (with_names (members_moved state names name None entry) space (finmap.remove names name)) (effects_of_name name entry)
+    done_with MACH_PORT_DESTROY (with_names (members_moved state names name None entry) space (finmap.remove names name)) (effects_of_name name entry)
 
 -- A right's references under a name become this many; where none are left the right goes.
 abbrev pub send_left : State → ℕ → ℕ → PortRights → ℕ → ℕ → Action
@@ -99,31 +101,31 @@ dead_left state space name left number = done_with number (with_left state space
 abbrev pub receive_gone : State → ℕ → ℕ → PortRights → Action
 receive_gone state space name rights =
     let entry : Entry = Port (record rights { receive = false }) in
-    done_with 9 (with_left state space name entry) (release kind.Receive rights.port ∷ notices_of_left name entry)
+    done_with MACH_PORT_MOD_REFS (with_left state space name entry) (release kind.Receive rights.port ∷ notices_of_left name entry)
 
 abbrev pub send_once_gone : State → ℕ → ℕ → ℕ → Option ℕ → ℕ → Action
 send_once_gone state space name port target number = done_with number (without_name state space name) (release kind.SendOnce port ∷ port_deleted name target)
 
 -- mach_port_deallocate: one reference less of a send right, a send-once right or a dead name
 abbrev pub deallocated : State → ℕ → Names → ℕ → Entry → Action
-deallocated state space names name (Port rights) = send_left state space name rights (rights.send - 1) 7
-deallocated state space names name (SendOnce port target) = send_once_gone state space name port target 7
-deallocated state space names name Set = done_with 7 state [] -- its tests refuse it
-deallocated state space names name (Dead references) = dead_left state space name (references - 1) 7
+deallocated state space names name (Port rights) = send_left state space name rights (rights.send - 1) MACH_PORT_DEALLOCATE
+deallocated state space names name (SendOnce port target) = send_once_gone state space name port target MACH_PORT_DEALLOCATE
+deallocated state space names name Set = done_with MACH_PORT_DEALLOCATE state []  -- its tests refuse it
+deallocated state space names name (Dead references) = dead_left state space name (references - 1) MACH_PORT_DEALLOCATE
 
 -- mach_port_mod_refs. With a delta of 0 nothing changes.
 abbrev pub modified_port : State → ℕ → ℕ → PortRights → ℕ → ℕ → Action
 modified_port state space name rights wanted delta =
-    if is_right wanted right.Send then send_left state space name rights (sum_of rights.send delta) 9
+    if is_right wanted right.Send then send_left state space name rights (sum_of rights.send delta) MACH_PORT_MOD_REFS
     else if delta == minus_one then receive_gone state space name rights
-    else done_with 9 state []
+    else done_with MACH_PORT_MOD_REFS state []
 
 abbrev pub modified : State → ℕ → Names → ℕ → Entry → ℕ → ℕ → Action
 modified state space names name (Port rights) wanted delta = modified_port state space name rights wanted delta
-modified state space names name (SendOnce port target) wanted delta = if delta == minus_one then send_once_gone state space name port target 9 else done_with 9 state []
+modified state space names name (SendOnce port target) wanted delta = if delta == minus_one then send_once_gone state space name port target MACH_PORT_MOD_REFS else done_with MACH_PORT_MOD_REFS state []
 modified state space names name Set wanted delta =
-    if delta == minus_one then done_with 9 (with_names (members_in state names name None) space (finmap.remove names name)) [] else done_with 9 state []
-modified state space names name (Dead references) wanted delta = dead_left state space name (sum_of references delta) 9
+    if delta == minus_one then done_with MACH_PORT_MOD_REFS (with_names (members_in state names name None) space (finmap.remove names name)) [] else done_with MACH_PORT_MOD_REFS state []
+modified state space names name (Dead references) wanted delta = dead_left state space name (sum_of references delta) MACH_PORT_MOD_REFS
 
 -- a change of what the port keeps whose receive right a name holds
 abbrev pub with_received : State → Entry → (PortState → PortState) → State
@@ -164,9 +166,9 @@ make_send_count_of state serial = elim (finmap.get state.ports serial) as (λ _.
 -- A request on a port: it is kept, or answered at once and not kept.
 abbrev pub port_request_set : State → ℕ → ℕ → ℕ → Option ℕ → State × List Effect
 port_request_set state variant sync serial None =
-    (with_port state serial (λ port. if variant == 69 then record port { port_destroyed_target = None } else record port { no_senders_target = None }), [])
+    (with_port state serial (λ port. if variant == MACH_NOTIFY_PORT_DESTROYED then record port { port_destroyed_target = None } else record port { no_senders_target = None }), [])
 port_request_set state variant sync serial (Some target) =
-    if variant == 69 then (with_port state serial (λ port. record port { port_destroyed_target = Some target }), [])
+    if variant == MACH_NOTIFY_PORT_DESTROYED then (with_port state serial (λ port. record port { port_destroyed_target = Some target }), [])
     else if lacks_senders state sync serial
     then (with_port state serial (λ port. record port { no_senders_target = None }), notify target (notice.NoSenders (make_send_count_of state serial)) ∷ [])
     else (with_port state serial (λ port. record port { no_senders_target = Some target }), [])
@@ -181,7 +183,7 @@ dead_name_request_set state space name (Some target) (Dead references) = (with_e
 
 abbrev pub request_set : State → ℕ → ℕ → ℕ → ℕ → Option ℕ → Entry → State × List Effect
 request_set state space name variant sync target entry =
-    if variant == 72 then dead_name_request_set state space name target entry
+    if variant == MACH_NOTIFY_DEAD_NAME then dead_name_request_set state space name target entry
     else elim (received_port entry) as (λ _. State × List Effect) [ None ↦ (state, []) | Some serial ↦ port_request_set state variant sync serial target ]
 
 abbrev pub request_set_under : State → ℕ → ℕ → ℕ → ℕ → Option ℕ → State × List Effect
@@ -256,7 +258,7 @@ received_serials names = filter_map (λ e. received_port e.1) (finmap.entries na
 abbrev pub space_destroyed : State → ℕ → Names → Action
 space_destroyed state space names =
     let outside : State = with_ports state (received_serials names) (λ port. record port { set = None }) in
-    done_with 21 (record outside { spaces = finmap.remove state.spaces space }) (flat_map (λ e. effects_of_name e.0 e.1) (finmap.entries names))
+    done_with SPACE_DESTROY (record outside { spaces = finmap.remove state.spaces space }) (flat_map (λ e. effects_of_name e.0 e.1) (finmap.entries names))
 
 -- a call acts so: it answers, leaves a state, and sets effects off
 abbrev pub Acts : Action → Reply → State → List Effect → Type 0
@@ -269,21 +271,21 @@ ActsOn (Some entry) action answer new effects = Acts (action entry) answer new e
 
 -- the tests see to it that the name holds a receive right, whose port lives
 abbrev pub status_action : State → Option PortState → ℕ → Action
-status_action state None serial = done_with 13 state []
+status_action state None serial = done_with MACH_PORT_GET_RECEIVE_STATUS state []
 status_action state (Some port) serial = only state (reply.ReceiveStatus (status_of state serial port))
 
 abbrev pub status_action_of : State → Option ℕ → Action
-status_action_of state None = done_with 13 state []
+status_action_of state None = done_with MACH_PORT_GET_RECEIVE_STATUS state []
 status_action_of state (Some serial) = status_action state (finmap.get state.ports serial) serial
 
 -- What a call on names and ports may answer that passes its tests, the state after it, and the effects that it sets off.
 unfoldable pub Done : State → ℕ → Names → Call → Reply → State → List Effect → Type 0
-Done old space names (call.Attach other) answer new effects = Acts (done_with 0 old []) answer new effects
+Done old space names (call.Attach other) answer new effects = Acts (done_with ATTACH old []) answer new effects
 Done old space names call.Names answer new effects =
     Acts (only old (reply.Names (map (λ e. record { name = e.0; bits = type_of e.1 }) (finmap.entries names)))) answer new effects
 Done old space names (call.Type name) answer new effects = ActsOn (finmap.get names name) (λ entry. only old (reply.Type (type_of entry))) answer new effects
-Done old space names (call.Rename from to) answer new effects = ActsOn (finmap.get names from) (λ entry. done_with 3 (renamed old space names from to entry) []) answer new effects
-Done old space names (call.AllocateName wanted name) answer new effects = Acts (done_with 4 (allocated old space names wanted name) []) answer new effects
+Done old space names (call.Rename from to) answer new effects = ActsOn (finmap.get names from) (λ entry. done_with MACH_PORT_RENAME (renamed old space names from to entry) []) answer new effects
+Done old space names (call.AllocateName wanted name) answer new effects = Acts (done_with MACH_PORT_ALLOCATE_NAME (allocated old space names wanted name) []) answer new effects
 Done old space names (call.Allocate wanted) answer new effects =
     (name : ℕ) × IsUnused names name × (answer ≡ reply.Allocate name) × (new ≡ allocated old space names wanted name) × (effects ≡ [])
 Done old space names (call.Destroy name) answer new effects = ActsOn (finmap.get names name) (destroyed old space names name) answer new effects
@@ -291,19 +293,19 @@ Done old space names (call.Deallocate name) answer new effects = ActsOn (finmap.
 Done old space names (call.GetRefs name wanted) answer new effects = ActsOn (finmap.get names name) (λ entry. only old (reply.References (references_of wanted entry))) answer new effects
 Done old space names (call.ModRefs name wanted delta) answer new effects = ActsOn (finmap.get names name) (λ entry. modified old space names name entry wanted delta) answer new effects
 Done old space names (call.SetQlimit name limit) answer new effects =
-    ActsOn (finmap.get names name) (λ entry. done_with 10 (with_received old entry (λ port. record port { limit = limit })) []) answer new effects
+    ActsOn (finmap.get names name) (λ entry. done_with MACH_PORT_SET_QLIMIT (with_received old entry (λ port. record port { limit = limit })) []) answer new effects
 Done old space names (call.SetMscount name count) answer new effects =
-    ActsOn (finmap.get names name) (λ entry. done_with 11 (with_received old entry (λ port. record port { make_send_count = count })) []) answer new effects
+    ActsOn (finmap.get names name) (λ entry. done_with MACH_PORT_SET_MSCOUNT (with_received old entry (λ port. record port { make_send_count = count })) []) answer new effects
 Done old space names (call.SetSeqno name seqno) answer new effects =
-    ActsOn (finmap.get names name) (λ entry. done_with 12 (with_received old entry (λ port. record port { sequence_number = seqno })) []) answer new effects
+    ActsOn (finmap.get names name) (λ entry. done_with MACH_PORT_SET_SEQNO (with_received old entry (λ port. record port { sequence_number = seqno })) []) answer new effects
 Done old space names (call.GetReceiveStatus name) answer new effects = ActsOn (finmap.get names name) (λ entry. status_action_of old (received_port entry)) answer new effects
 Done old space names (call.GetSetStatus name) answer new effects = Acts (only old (reply.SetStatus (members_of old names name))) answer new effects
 Done old space names (call.MoveMember member after) answer new effects =
-    ActsOn (finmap.get names member) (λ entry. done_with 15 (with_received old entry (λ port. record port { set = set_named after })) []) answer new effects
+    ActsOn (finmap.get names member) (λ entry. done_with MACH_PORT_MOVE_MEMBER (with_received old entry (λ port. record port { set = set_named after })) []) answer new effects
 Done old space names (call.RequestNotification name variant sync notify_name disposition) answer new effects =
     Requested old space name variant sync (target_for old space notify_name disposition) answer new effects
 Done old space names (call.InsertRight name right_name disposition) answer new effects =
-    (answer ≡ reply.Done 17) × Inserted (taken_by old space right_name disposition) space name new effects
+    (answer ≡ reply.Done MACH_PORT_INSERT_RIGHT) × Inserted (taken_by old space right_name disposition) space name new effects
 Done old space names (call.ExtractRight name disposition) answer new effects = Extracted (taken_by old space name disposition) space answer new effects
 Done old space names (call.Send message) answer new effects = ⊥
 Done old space names (call.Receive limit large name waited) answer new effects = ⊥

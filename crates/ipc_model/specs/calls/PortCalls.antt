@@ -3,10 +3,11 @@
 use Rattle.std.specs.Prelude.{ℕ, ◌+◌, ◌-◌, ◌^◌, Bool, true, false, ◌==◌, ◌&&◌, ◌||◌, not, nat_le, nat_lt, [], ◌∷◌, ◌++◌, Option, None, Some, is_some, is_none, option_and_then, if◌then◌else◌}
 use Rattle.std.specs.List.{list_any}
 use Rattle.std.specs.FinMap as finmap
+use Rattle.codes.specs.declared.notification.TheConstants.{MACH_NOTIFY_PORT_DESTROYED, MACH_NOTIFY_NO_SENDERS, MACH_NOTIFY_DEAD_NAME}
 use Rattle.codes.specs.declared.kern_return.KernReturn.{KernReturn}
 use Rattle.codes.specs.declared.kern_return.KernReturn.TheVariants.{NoSpace, InvalidArgument, Failure, ResourceShortage, NotInSet, NameExists, InvalidName, InvalidTask, InvalidRight, InvalidValue, UrefsOverflow, InvalidCapability, RightExists}
 use Rattle.codes.specs.declared.limits.TheConstants.{MAX_NAMES, MAX_SPACES, MAX_SEND_REFERENCES, MAX_DEAD_REFERENCES}
-use Rattle.codes.specs.declared.name.TheConstants.{MACH_PORT_NULL, MAX_QUEUE_LIMIT}
+use Rattle.codes.specs.declared.name.TheConstants.{MACH_PORT_NULL, MAX_QUEUE_LIMIT, FIRST_SPACE}
 use Rattle.codes.specs.declared.right.Right.{Right}
 use Rattle.codes.specs.declared.right.Right.TheVariants as right
 use Rattle.codes.specs.Right.{number_of}
@@ -188,15 +189,15 @@ tests_of_extract space taken serial =
 
 -- MACH_NOTIFY_PORT_DESTROYED, _NO_SENDERS and _DEAD_NAME can be asked for
 abbrev pub is_variant : ℕ → Bool
-is_variant variant = variant == 69 || variant == 70 || variant == 72
+is_variant variant = variant == MACH_NOTIFY_PORT_DESTROYED || variant == MACH_NOTIFY_NO_SENDERS || variant == MACH_NOTIFY_DEAD_NAME
 
 -- the target of the request that a variant asks of an entry, as it stands now
 abbrev pub target_of_port : State → ℕ → Option ℕ → Option ℕ
 target_of_port state variant None = None
-target_of_port state variant (Some serial) = option_and_then (λ (port : PortState). if variant == 69 then port.port_destroyed_target else port.no_senders_target) (finmap.get state.ports serial)
+target_of_port state variant (Some serial) = option_and_then (λ (port : PortState). if variant == MACH_NOTIFY_PORT_DESTROYED then port.port_destroyed_target else port.no_senders_target) (finmap.get state.ports serial)
 
 abbrev pub target_now : State → ℕ → Entry → Option ℕ
-target_now state variant entry = if variant == 72 then request_of entry else target_of_port state variant (received_port entry)
+target_now state variant entry = if variant == MACH_NOTIFY_DEAD_NAME then request_of entry else target_of_port state variant (received_port entry)
 
 abbrev pub target_under : State → Names → ℕ → ℕ → Option ℕ
 target_under state names variant name = option_and_then (target_now state variant) (finmap.get names name)
@@ -204,8 +205,8 @@ target_under state names variant name = option_and_then (target_now state varian
 -- the tests of a variant
 abbrev pub tests_of_variant : Names → ℕ → ℕ → ℕ → Bool → Tests
 tests_of_variant names name variant sync cancels =
-    if variant == 69 then (not (sync == 0), InvalidValue) ∷ (not (name_is has_receive names name), InvalidRight) ∷ []
-    else if variant == 70 then (not (name_is has_receive names name), InvalidRight) ∷ []
+    if variant == MACH_NOTIFY_PORT_DESTROYED then (not (sync == 0), InvalidValue) ∷ (not (name_is has_receive names name), InvalidRight) ∷ []
+    else if variant == MACH_NOTIFY_NO_SENDERS then (not (name_is has_receive names name), InvalidRight) ∷ []
     else (name_is is_set names name, InvalidRight)
     ∷ (name_is is_dead names name && (sync == 0 || cancels), InvalidArgument)
     ∷ (name_is (λ entry. nat_le MAX_DEAD_REFERENCES (dead_references entry)) names name, UrefsOverflow)
@@ -271,4 +272,4 @@ tests_of state space names (call.Receive limit large name waited) = []
 tests_of state space names (call.SpaceCreate name disposition) =
     (is_none (disposition_of disposition), InvalidValue) ∷ (is_no_name names name, InvalidName)
     ∷ tests_of_copy_in state space name (disposition_of disposition) InvalidRight (λ taken serial. (nat_le MAX_SPACES (finmap.len state.spaces), ResourceShortage) ∷ [])
-tests_of state space names call.SpaceDestroy = (space == 1, Failure) ∷ []
+tests_of state space names call.SpaceDestroy = (space == FIRST_SPACE, Failure) ∷ []

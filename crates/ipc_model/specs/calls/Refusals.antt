@@ -1,15 +1,12 @@
 -- How the call of a number is refused.
 use Rattle.std.specs.Prelude.{ℕ, ◌==◌, if◌then◌else◌}
+use Rattle.codes.specs.declared.call_number.TheConstants.{MACH_MSG}
 use Rattle.codes.specs.declared.kern_return.KernReturn.{KernReturn}
 use Rattle.codes.specs.declared.name.TheConstants.{MACH_PORT_NULL}
 use Rattle.ipc_model.specs.declared.call.Reply.{Reply}
 use Rattle.ipc_model.specs.declared.call.Reply.TheVariants as reply
 use Rattle.ipc_model.specs.messages.Receiving.{without_message}
 
--- the number of mach_msg
-abbrev pub mach_msg_number : ℕ
-mach_msg_number = 19
-
 -- the reply that refuses the call of a number; mach_msg shows its results in any case
 abbrev pub refused_of : ℕ → KernReturn → Reply
-refused_of number code = if number == mach_msg_number then without_message code 0 MACH_PORT_NULL else reply.Refused number code
+refused_of number code = if number == MACH_MSG then without_message code 0 MACH_PORT_NULL else reply.Refused number code

@@ -2,6 +2,7 @@
 -- (Kernel Interfaces, mach_msg and "Port Manipulation".)
 use Rattle.std.specs.Prelude.{◌≡◌, ℕ, Bool, true, false, ◌&&◌, ◌||◌, List, [], ◌∷◌, Option, None, Some, MatchResult}
 use Rattle.std.specs.FinMap as finmap
+use Rattle.codes.specs.declared.call_number.TheConstants.{ATTACH, MACH_PORT_NAMES, MACH_PORT_TYPE, MACH_PORT_RENAME, MACH_PORT_ALLOCATE_NAME, MACH_PORT_ALLOCATE, MACH_PORT_DESTROY, MACH_PORT_DEALLOCATE, MACH_PORT_GET_REFS, MACH_PORT_MOD_REFS, MACH_PORT_SET_QLIMIT, MACH_PORT_SET_MSCOUNT, MACH_PORT_SET_SEQNO, MACH_PORT_GET_RECEIVE_STATUS, MACH_PORT_GET_SET_STATUS, MACH_PORT_MOVE_MEMBER, MACH_PORT_REQUEST_NOTIFICATION, MACH_PORT_INSERT_RIGHT, MACH_PORT_EXTRACT_RIGHT, MACH_MSG, SPACE_CREATE, SPACE_DESTROY}
 use Rattle.codes.specs.declared.kern_return.KernReturn.{KernReturn}
 use Rattle.codes.specs.declared.kern_return.KernReturn.TheVariants.{Success, InvalidTask, RcvTooLarge}
 use Rattle.codes.specs.declared.name.TheConstants.{MACH_PORT_NULL}
@@ -20,29 +21,29 @@ use Rattle.ipc_model.specs.calls.Tests.{RefusedOrDone, first_failing}
 
 -- the number of a call in its frame
 abbrev pub number_of_call : Call → ℕ
-number_of_call (call.Attach space) = 0
-number_of_call call.Names = 1
-number_of_call (call.Type name) = 2
-number_of_call (call.Rename from to) = 3
-number_of_call (call.AllocateName kind name) = 4
-number_of_call (call.Allocate kind) = 5
-number_of_call (call.Destroy name) = 6
-number_of_call (call.Deallocate name) = 7
-number_of_call (call.GetRefs name kind) = 8
-number_of_call (call.ModRefs name kind delta) = 9
-number_of_call (call.SetQlimit name limit) = 10
-number_of_call (call.SetMscount name count) = 11
-number_of_call (call.SetSeqno name seqno) = 12
-number_of_call (call.GetReceiveStatus name) = 13
-number_of_call (call.GetSetStatus name) = 14
-number_of_call (call.MoveMember member after) = 15
-number_of_call (call.RequestNotification name variant sync notify_name disposition) = 16
-number_of_call (call.InsertRight name right_name disposition) = 17
-number_of_call (call.ExtractRight name disposition) = 18
-number_of_call (call.Send message) = 19
-number_of_call (call.Receive limit large name waited) = 19
-number_of_call (call.SpaceCreate name disposition) = 20
-number_of_call call.SpaceDestroy = 21
+number_of_call (call.Attach space) = ATTACH
+number_of_call call.Names = MACH_PORT_NAMES
+number_of_call (call.Type name) = MACH_PORT_TYPE
+number_of_call (call.Rename from to) = MACH_PORT_RENAME
+number_of_call (call.AllocateName kind name) = MACH_PORT_ALLOCATE_NAME
+number_of_call (call.Allocate kind) = MACH_PORT_ALLOCATE
+number_of_call (call.Destroy name) = MACH_PORT_DESTROY
+number_of_call (call.Deallocate name) = MACH_PORT_DEALLOCATE
+number_of_call (call.GetRefs name kind) = MACH_PORT_GET_REFS
+number_of_call (call.ModRefs name kind delta) = MACH_PORT_MOD_REFS
+number_of_call (call.SetQlimit name limit) = MACH_PORT_SET_QLIMIT
+number_of_call (call.SetMscount name count) = MACH_PORT_SET_MSCOUNT
+number_of_call (call.SetSeqno name seqno) = MACH_PORT_SET_SEQNO
+number_of_call (call.GetReceiveStatus name) = MACH_PORT_GET_RECEIVE_STATUS
+number_of_call (call.GetSetStatus name) = MACH_PORT_GET_SET_STATUS
+number_of_call (call.MoveMember member after) = MACH_PORT_MOVE_MEMBER
+number_of_call (call.RequestNotification name variant sync notify_name disposition) = MACH_PORT_REQUEST_NOTIFICATION
+number_of_call (call.InsertRight name right_name disposition) = MACH_PORT_INSERT_RIGHT
+number_of_call (call.ExtractRight name disposition) = MACH_PORT_EXTRACT_RIGHT
+number_of_call (call.Send message) = MACH_MSG
+number_of_call (call.Receive limit large name waited) = MACH_MSG
+number_of_call (call.SpaceCreate name disposition) = SPACE_CREATE
+number_of_call call.SpaceDestroy = SPACE_DESTROY
 
 -- how a call is refused; mach_msg shows its results in any case
 abbrev pub refused : Call → KernReturn → Reply

@@ -1,5 +1,6 @@
 -- The notices that the kernel sends about ports (Kernel Interfaces, "Notifications").
 use Rattle.std.specs.Prelude.{ℕ, List, [], ◌∷◌, ◌++◌, true, false, None}
+use Rattle.codes.specs.declared.notification.TheConstants.{MACH_NOTIFY_PORT_DELETED, MACH_NOTIFY_PORT_DESTROYED, MACH_NOTIFY_NO_SENDERS, MACH_NOTIFY_SEND_ONCE, MACH_NOTIFY_DEAD_NAME}
 use Rattle.ipc_model.specs.declared.message.Message.{Message}
 use Rattle.ipc_model.specs.declared.message.PortInMessage.TheVariants.{Live}
 use Rattle.ipc_model.specs.declared.message.RightKind.TheVariants as kind
@@ -20,11 +21,11 @@ pub data Notice : Type 0 where
 
 -- MACH_NOTIFY_PORT_DELETED, _PORT_DESTROYED, _NO_SENDERS, _SEND_ONCE and _DEAD_NAME
 abbrev pub notice_id : Notice → ℕ
-notice_id (PortDeleted name) = 65
-notice_id (PortDestroyed serial) = 69
-notice_id (NoSenders count) = 70
-notice_id SendOnce = 71
-notice_id (DeadName name) = 72
+notice_id (PortDeleted name) = MACH_NOTIFY_PORT_DELETED
+notice_id (PortDestroyed serial) = MACH_NOTIFY_PORT_DESTROYED
+notice_id (NoSenders count) = MACH_NOTIFY_NO_SENDERS
+notice_id SendOnce = MACH_NOTIFY_SEND_ONCE
+notice_id (DeadName name) = MACH_NOTIFY_DEAD_NAME
 
 -- one inline item of one element: a port's name (type 15), a receive right (16), a 32-bit integer (2)
 abbrev pub notice_body : Notice → List ℕ
@@ -39,7 +40,7 @@ abbrev pub notice_message : Notice → Message
 notice_message (PortDestroyed serial) = record {
   destination = kind.SendOnce;
   reply = None;
-  id = 69;
+  id = MACH_NOTIFY_PORT_DESTROYED;
   complex = true;
   rights = (record { kind = kind.Receive; port = Live serial }) ∷ [];
   body = notice_body (PortDestroyed serial);

@@ -3,7 +3,7 @@
 use Rattle.std.specs.Prelude.{false, ◌∷◌, ◌≡◌, ◌≢◌, ◌⊎◌, ℕ, ◌%◌, ◌^◌, ◌<◌, ◌≤◌, true, ◌==◌, ◌&&◌, List, [], ◌++◌, length, map, flat_map, replicate, All, Contains, count_by, Option, None, Some, Ok, if◌then◌else◌, MatchBool}
 use Rattle.std.specs.FinMap as finmap
 use Rattle.codes.specs.declared.limits.TheConstants.{MAX_NAMES, MAX_PORTS, MAX_SPACES, MAX_MESSAGE_SIZE, MAX_MESSAGE_PORTS, MAX_SEND_REFERENCES, MAX_DEAD_REFERENCES}
-use Rattle.codes.specs.declared.name.TheConstants.{MACH_PORT_DEAD, MAX_QUEUE_LIMIT}
+use Rattle.codes.specs.declared.name.TheConstants.{MACH_PORT_DEAD, MAX_QUEUE_LIMIT, FIRST_SPACE}
 use Rattle.ipc_model.specs.declared.entry.Entry.{Entry}
 use Rattle.ipc_model.specs.declared.entry.Entry.TheVariants.{Port, SendOnce, Set, Dead}
 use Rattle.ipc_model.specs.declared.message.CarriedRight.{CarriedRight}
@@ -86,7 +86,7 @@ IsHeldBesideSet state serial set =
 
 -- A lawful state.
 pub record Lawful (state : State) : Type 0 where
-  pub first_space : (names : Names) × (finmap.get state.spaces 1 ≡ Some names)
+  pub first_space : (names : Names) × (finmap.get state.spaces FIRST_SPACE ≡ Some names)
   pub spaces : (space : ℕ) (names : Names) → finmap.get state.spaces space ≡ Some names → (0 < space) × (space ≤ MAX_SPACES) × LawfulNames names
   pub ports : (serial : ℕ) (port : PortState) → finmap.get state.ports serial ≡ Some port → (0 < serial) × (serial < state.next) × LawfulPort port
   pub few_ports : finmap.len state.ports ≤ MAX_PORTS
@@ -137,7 +137,7 @@ IsReleased effects serial = Contains effects (release kind.Receive serial)
 
 -- A state is lawful, where the rights that wait among effects count as placed. With no effects left it is lawful.
 pub record LawfulBut (state : State) (effects : List Effect) : Type 0 where
-  pub first_space : (names : Names) × (finmap.get state.spaces 1 ≡ Some names)
+  pub first_space : (names : Names) × (finmap.get state.spaces FIRST_SPACE ≡ Some names)
   pub spaces : (space : ℕ) (names : Names) → finmap.get state.spaces space ≡ Some names → (0 < space) × (space ≤ MAX_SPACES) × LawfulNames names
   pub ports : (serial : ℕ) (port : PortState) → finmap.get state.ports serial ≡ Some port → (0 < serial) × (serial < state.next) × LawfulPort port
   pub few_ports : finmap.len state.ports ≤ MAX_PORTS

@@ -4,7 +4,7 @@ use Rattle.std.specs.Prelude.{◌≡◌, ℕ, ◌+◌, ◌-◌, ◌^◌, ◌<◌
 use Rattle.std.specs.Ordering.{nat_cmp}
 use Rattle.std.specs.FinMap as finmap
 use Rattle.codes.specs.declared.limits.TheConstants.{MAX_PORTS}
-use Rattle.codes.specs.declared.name.TheConstants.{MACH_PORT_NULL, MACH_PORT_DEAD, DEFAULT_QUEUE_LIMIT}
+use Rattle.codes.specs.declared.name.TheConstants.{MACH_PORT_NULL, MACH_PORT_DEAD, DEFAULT_QUEUE_LIMIT, FIRST_SPACE}
 use Rattle.codes.specs.Right.{type_bit}
 use Rattle.codes.specs.declared.right.Right.TheVariants as right
 use Rattle.ipc_model.specs.declared.entry.Entry.{Entry}
@@ -23,7 +23,7 @@ pub record State : Type 0 where
 
 -- The state of a new store: space 1 without names, and no port.
 abbrev pub opening_state : State
-opening_state = record { spaces = finmap.insert finmap.empty 1 finmap.empty; ports = finmap.empty; next = 1 }
+opening_state = record { spaces = finmap.insert finmap.empty FIRST_SPACE finmap.empty; ports = finmap.empty; next = 1 }
 
 -- what a space holds under a name
 abbrev pub entry_at : State → ℕ → ℕ → Option Entry

@@ -1,5 +1,6 @@
 -- Calls, replies and records in bytes, one spelling each.
 use Rattle.std.specs.Prelude.{◌≡◌, ℕ, ◌+◌, ◌%◌, ◌^◌, ◌<◌, Bool, IsTrue, List, [], ◌∷◌, ◌++◌, length, drop, All, flat_map, if◌then◌else◌}
+use Rattle.codes.specs.declared.call_number.TheConstants.{MACH_PORT_NAMES, MACH_PORT_TYPE, MACH_PORT_ALLOCATE, MACH_PORT_GET_REFS, MACH_PORT_GET_RECEIVE_STATUS, MACH_PORT_GET_SET_STATUS, MACH_PORT_REQUEST_NOTIFICATION, MACH_PORT_EXTRACT_RIGHT, MACH_MSG, SPACE_CREATE}
 use Rattle.byteorder.specs.Endian.{little_number}
 use Rattle.codes.specs.KernReturn.{number_of}
 use Rattle.ipc_model.specs.declared.call.Call.{Call}
@@ -68,31 +69,31 @@ done_text number results = word number ++ (word 0 ++ results)
 unfoldable pub reply_text : Reply → List ℕ
 reply_text (reply.Refused number code) = word number ++ word (number_of code)
 reply_text (reply.Done number) = done_text number []
-reply_text (reply.Names names) = done_text 1 (word (length names) ++ flat_map (λ (n : NamedType). word n.name ++ word n.bits) names)
-reply_text (reply.Type bits) = done_text 2 (word bits)
-reply_text (reply.Allocate name) = done_text 5 (word name)
-reply_text (reply.References count) = done_text 8 (word count)
-reply_text (reply.ReceiveStatus status) = done_text 13 (status_text status)
-reply_text (reply.SetStatus members) = done_text 14 (word (length members) ++ flat_map word members)
-reply_text (reply.PreviousTarget name) = done_text 16 (word name)
-reply_text (reply.Extracted name kind) = done_text 18 (word name ++ word (number_of_kind kind))
-reply_text (reply.Message code size member message) = word 19 ++ (word (number_of code) ++ (word size ++ (word member ++ message)))
-reply_text (reply.SpaceCreated space name) = done_text 20 (word space ++ word name)
+reply_text (reply.Names names) = done_text MACH_PORT_NAMES (word (length names) ++ flat_map (λ (n : NamedType). word n.name ++ word n.bits) names)
+reply_text (reply.Type bits) = done_text MACH_PORT_TYPE (word bits)
+reply_text (reply.Allocate name) = done_text MACH_PORT_ALLOCATE (word name)
+reply_text (reply.References count) = done_text MACH_PORT_GET_REFS (word count)
+reply_text (reply.ReceiveStatus status) = done_text MACH_PORT_GET_RECEIVE_STATUS (status_text status)
+reply_text (reply.SetStatus members) = done_text MACH_PORT_GET_SET_STATUS (word (length members) ++ flat_map word members)
+reply_text (reply.PreviousTarget name) = done_text MACH_PORT_REQUEST_NOTIFICATION (word name)
+reply_text (reply.Extracted name kind) = done_text MACH_PORT_EXTRACT_RIGHT (word name ++ word (number_of_kind kind))
+reply_text (reply.Message code size member message) = word MACH_MSG ++ (word (number_of code) ++ (word size ++ (word member ++ message)))
+reply_text (reply.SpaceCreated space name) = done_text SPACE_CREATE (word space ++ word name)
 
 -- the number of the call that a reply is one of
 abbrev pub number_of_reply : Reply → ℕ
 number_of_reply (reply.Refused number code) = number
 number_of_reply (reply.Done number) = number
-number_of_reply (reply.Names names) = 1
-number_of_reply (reply.Type bits) = 2
-number_of_reply (reply.Allocate name) = 5
-number_of_reply (reply.References count) = 8
-number_of_reply (reply.ReceiveStatus status) = 13
-number_of_reply (reply.SetStatus members) = 14
-number_of_reply (reply.PreviousTarget name) = 16
-number_of_reply (reply.Extracted name kind) = 18
-number_of_reply (reply.Message code size member message) = 19
-number_of_reply (reply.SpaceCreated space name) = 20
+number_of_reply (reply.Names names) = MACH_PORT_NAMES
+number_of_reply (reply.Type bits) = MACH_PORT_TYPE
+number_of_reply (reply.Allocate name) = MACH_PORT_ALLOCATE
+number_of_reply (reply.References count) = MACH_PORT_GET_REFS
+number_of_reply (reply.ReceiveStatus status) = MACH_PORT_GET_RECEIVE_STATUS
+number_of_reply (reply.SetStatus members) = MACH_PORT_GET_SET_STATUS
+number_of_reply (reply.PreviousTarget name) = MACH_PORT_REQUEST_NOTIFICATION
+number_of_reply (reply.Extracted name kind) = MACH_PORT_EXTRACT_RIGHT
+number_of_reply (reply.Message code size member message) = MACH_MSG
+number_of_reply (reply.SpaceCreated space name) = SPACE_CREATE
 
 -- a record with its number in its epoch: who called, the call's frame and the reply's
 unfoldable pub record_text : ℕ → Record → List ℕ
