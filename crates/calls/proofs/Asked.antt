@@ -1,5 +1,6 @@
 -- What frames ask for.
 use Rattle.std.proofs.Common.{◌≡◌, ◌≢◌, ℕ, Bool, true, false, ◌==◌, ◌||◌, List, ◌++◌, drop, ◌⊎◌, Option, None, Some, IfSome, Result, Ok, Err, IfOk, bit_and, if◌then◌else◌, sym, ap, subst, ◌∙◌, arith}
+use Rattle.codes.specs.declared.call_number.TheConstants.{MACH_MSG}
 use Rattle.codes.specs.declared.kern_return.KernReturn.TheVariants.{Success, InvalidArgument}
 use Rattle.ipc_model.specs.declared.call.Call.{Call}
 use Rattle.ipc_model.specs.declared.call.Call.TheVariants as call
@@ -48,25 +49,25 @@ pub asks_fits : (content : List ℕ) (r : Result Request CallFault) → IfOk r (
 asks_fits content (Ok q) asks = fits_one content q asks
 asks_fits content (Err e) asks = tt
 
-front_of : (content arguments : List ℕ) (q : Request) → content ≡ word 19 ++ arguments → AsksMachMsg arguments q → Asks content q
+front_of : (content arguments : List ℕ) (q : Request) → content ≡ word MACH_MSG ++ arguments → AsksMachMsg arguments q → Asks content q
 front_of content arguments (request.One c) is (m, fits, spelled, e) = absurd (never_one c m e)
 front_of content arguments (request.Message m) is asks = (arguments, is, asks)
 front_of content arguments (request.Answered code) is asks = (arguments, is, asks)
 
 -- what the arguments of a mach_msg ask for, its frame does
-pub asks_in_front : (content arguments : List ℕ) (r : Result Request CallFault) → content ≡ word 19 ++ arguments → IfOk r (λ q. AsksMachMsg arguments q) → IfOk r (λ q. Asks content q)
+pub asks_in_front : (content arguments : List ℕ) (r : Result Request CallFault) → content ≡ word MACH_MSG ++ arguments → IfOk r (λ q. AsksMachMsg arguments q) → IfOk r (λ q. Asks content q)
 asks_in_front content arguments (Ok q) is asks = front_of content arguments q is asks
 asks_in_front content arguments (Err e) is asks = tt
 
-not_one : (content arguments : List ℕ) (c : Call) → content ≡ word 19 ++ arguments → number_of_call c ≢ 19 → content ≡ call_text c → ⊥
+not_one : (content arguments : List ℕ) (c : Call) → content ≡ word MACH_MSG ++ arguments → number_of_call c ≢ MACH_MSG → content ≡ call_text c → ⊥
 unfolding call_text
-not_one content arguments c is other text = other (same_word (number_of_call c) 19 (arguments_text c) arguments (number-fits c) (omega arith) (sym text ∙ is))
+not_one content arguments c is other text = other (same_word (number_of_call c) MACH_MSG (arguments_text c) arguments (number-fits c) (omega arith) (sym text ∙ is))
 
-behind : (arguments others : List ℕ) (q : Request) → word 19 ++ arguments ≡ word 19 ++ others → AsksMachMsg others q → AsksMachMsg arguments q
+behind : (arguments others : List ℕ) (q : Request) → word MACH_MSG ++ arguments ≡ word MACH_MSG ++ others → AsksMachMsg others q → AsksMachMsg arguments q
 behind arguments others q same asks = let e : others ≡ arguments = ap (λ (l : List ℕ). drop 4 l) (sym same) in subst (λ (l : List ℕ). AsksMachMsg l q) e asks
 
 -- and what its frame asks for, they do
-pub asks_behind : (content arguments : List ℕ) (r : Result Request CallFault) → content ≡ word 19 ++ arguments
+pub asks_behind : (content arguments : List ℕ) (r : Result Request CallFault) → content ≡ word MACH_MSG ++ arguments
     → ((q : Request) → AsksMachMsg arguments q → (r ≡ Ok q) ⊎ (r ≡ Err NoMemory)) → (q : Request) → Asks content q → (r ≡ Ok q) ⊎ (r ≡ Err NoMemory)
 asks_behind content arguments r is only (request.One c) (other, fits, text) = absurd (not_one content arguments c is other text)
 asks_behind content arguments r is only (request.Message m) (others, text, asks) = only (request.Message m) (behind arguments others (request.Message m) (sym is ∙ text) asks)

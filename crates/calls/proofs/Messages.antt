@@ -3,6 +3,7 @@ use Rattle.std.proofs.Common.{◌≡◌, ℕ, ◌+◌, ◌<◌, ◌^◌, Bool, t
 use Rattle.std.proofs.lemmas.Bool.Decides.{Decides-eqb}
 use Rattle.std.proofs.lemmas.Slice.Eq.{slice_eq-Decides}
 use Rattle.std.specs.Cmp.Lexicographic.{pointwise}
+use Rattle.codes.specs.declared.call_number.TheConstants.{MACH_MSG}
 use Rattle.ipc_model.specs.declared.call.Call.{Call}
 use Rattle.ipc_model.specs.declared.call.Call.TheVariants as call
 use Rattle.ipc_model.specs.calls.Step.{number_of_call}
@@ -33,7 +34,7 @@ bytes_behind bytes behind n are is i =
 -- behind the option of a receipt stands a receipt
 pub only_receipt : (large : Bool) (words : List ℕ) (r : Option Call)
     → ((limit name : ℕ) (waited : Bool) → limit < 2 ^ 32 → name < 2 ^ 32 → words ≡ word limit ++ (word name ++ word (number_of_bool waited)) → r ≡ Some (call.Receive limit large name waited))
-    → (c : Call) → FitsCall c → number_of_call c ≡ 19 → word (receive_option large) ++ words ≡ arguments_text c → r ≡ Some c
+    → (c : Call) → FitsCall c → number_of_call c ≡ MACH_MSG → word (receive_option large) ++ words ≡ arguments_text c → r ≡ Some c
 only_receipt true words r only (call.Send message) fits number is = absurd cc
 only_receipt false words r only (call.Send message) fits number is = absurd cc
 only_receipt true words r only (call.Receive limit true name waited) fits number is = only limit name waited fits.0 fits.1 (ap (λ (l : List ℕ). drop 4 l) is)

@@ -1,5 +1,6 @@
 -- What a frame asks for.
 use Rattle.std.specs.Prelude.{◌≡◌, ◌≢◌, ℕ, ◌<◌, ◌^◌, Bool, false, not, IsTrue, ◌==◌, ◌||◌, List, ◌++◌, Option, None, Some, IfSome, bit_and, if◌then◌else◌}
+use Rattle.codes.specs.declared.call_number.TheConstants.{MACH_MSG}
 use Rattle.codes.specs.declared.kern_return.KernReturn.TheVariants.{Success, InvalidArgument}
 use Rattle.ipc_model.specs.declared.call.Call.{Call}
 use Rattle.ipc_model.specs.declared.call.Call.TheVariants as call
@@ -83,8 +84,8 @@ AsksMachMsg arguments asks = (m : MachMsg) × FitsMachMsg m × (arguments ≡ ma
 
 -- A frame of this content asks for this.
 abbrev pub Asks : List ℕ → Request → Type 0
-Asks content (request.One c) = (number_of_call c ≢ 19) × FitsCall c × (content ≡ call_text c)
-Asks content asks = (arguments : List ℕ) × (content ≡ word 19 ++ arguments) × AsksMachMsg arguments asks
+Asks content (request.One c) = (number_of_call c ≢ MACH_MSG) × FitsCall c × (content ≡ call_text c)
+Asks content asks = (arguments : List ℕ) × (content ≡ word MACH_MSG ++ arguments) × AsksMachMsg arguments asks
 
 -- its calls are fit to be recorded
 abbrev pub FitsRequest : Request → Type 0

@@ -1,13 +1,14 @@
 -- The shapes of calls' arguments.
 use Rattle.std.specs.Prelude.{ℕ, ◌==◌, ◌||◌, if◌then◌else◌}
+use Rattle.codes.specs.declared.call_number.TheConstants.{ATTACH, MACH_PORT_NAMES, MACH_PORT_TYPE, MACH_PORT_RENAME, MACH_PORT_ALLOCATE_NAME, MACH_PORT_ALLOCATE, MACH_PORT_DESTROY, MACH_PORT_DEALLOCATE, MACH_PORT_GET_REFS, MACH_PORT_MOD_REFS, MACH_PORT_SET_QLIMIT, MACH_PORT_SET_MSCOUNT, MACH_PORT_SET_SEQNO, MACH_PORT_GET_RECEIVE_STATUS, MACH_PORT_GET_SET_STATUS, MACH_PORT_MOVE_MEMBER, MACH_PORT_REQUEST_NOTIFICATION, MACH_PORT_INSERT_RIGHT, MACH_PORT_EXTRACT_RIGHT, SPACE_CREATE, SPACE_DESTROY}
 
 -- How many words the arguments of a call of this number have, where that is one number: not for mach_msg, which has a
 -- message. 6 stands for no such call.
 abbrev pub count_of_words : ℕ → ℕ
 count_of_words n =
-    if n == 1 || n == 21 then 0
-    else if n == 0 || n == 2 || n == 5 || n == 6 || n == 7 || n == 13 || n == 14 then 1
-    else if n == 3 || n == 4 || n == 8 || n == 10 || n == 11 || n == 12 || n == 15 || n == 18 || n == 20 then 2
-    else if n == 9 || n == 17 then 3
-    else if n == 16 then 5
+    if n == MACH_PORT_NAMES || n == SPACE_DESTROY then 0
+    else if n == ATTACH || n == MACH_PORT_TYPE || n == MACH_PORT_ALLOCATE || n == MACH_PORT_DESTROY || n == MACH_PORT_DEALLOCATE || n == MACH_PORT_GET_RECEIVE_STATUS || n == MACH_PORT_GET_SET_STATUS then 1
+    else if n == MACH_PORT_RENAME || n == MACH_PORT_ALLOCATE_NAME || n == MACH_PORT_GET_REFS || n == MACH_PORT_SET_QLIMIT || n == MACH_PORT_SET_MSCOUNT || n == MACH_PORT_SET_SEQNO || n == MACH_PORT_MOVE_MEMBER || n == MACH_PORT_EXTRACT_RIGHT || n == SPACE_CREATE then 2
+    else if n == MACH_PORT_MOD_REFS || n == MACH_PORT_INSERT_RIGHT then 3
+    else if n == MACH_PORT_REQUEST_NOTIFICATION then 5
     else 6

@@ -6,6 +6,13 @@ ghost use Rattle.words.specs.Words.{word};
 ghost use Rattle.calls.specs.Shapes.{count_of_words};
 
 use crate::run::{five_words, one_word, three_words, two_words};
+use codes::{
+    ATTACH, MACH_MSG, MACH_PORT_ALLOCATE, MACH_PORT_ALLOCATE_NAME, MACH_PORT_DEALLOCATE,
+    MACH_PORT_DESTROY, MACH_PORT_EXTRACT_RIGHT, MACH_PORT_GET_RECEIVE_STATUS, MACH_PORT_GET_REFS,
+    MACH_PORT_GET_SET_STATUS, MACH_PORT_INSERT_RIGHT, MACH_PORT_MOD_REFS, MACH_PORT_MOVE_MEMBER,
+    MACH_PORT_NAMES, MACH_PORT_RENAME, MACH_PORT_REQUEST_NOTIFICATION, MACH_PORT_SET_MSCOUNT,
+    MACH_PORT_SET_QLIMIT, MACH_PORT_SET_SEQNO, MACH_PORT_TYPE, SPACE_CREATE, SPACE_DESTROY,
+};
 use ipc_model::Call;
 
 /// The call of this number that has no arguments.
@@ -14,8 +21,8 @@ fn call_of_none(number: u32) -> Option<Call>
     ensures none { IfNone result (count_of_words number ≢ 0) }
 {
     match number {
-        1 => Some(Call::Names),
-        21 => Some(Call::SpaceDestroy),
+        MACH_PORT_NAMES => Some(Call::Names),
+        SPACE_DESTROY => Some(Call::SpaceDestroy),
         _ => None,
     }
 }
@@ -26,13 +33,13 @@ fn call_of_one(number: u32, a: u32) -> Option<Call>
     ensures none { IfNone result (count_of_words number ≢ 1) }
 {
     match number {
-        0 => Some(Call::Attach { space: a }),
-        2 => Some(Call::Type { name: a }),
-        5 => Some(Call::Allocate { right: a }),
-        6 => Some(Call::Destroy { name: a }),
-        7 => Some(Call::Deallocate { name: a }),
-        13 => Some(Call::GetReceiveStatus { name: a }),
-        14 => Some(Call::GetSetStatus { name: a }),
+        ATTACH => Some(Call::Attach { space: a }),
+        MACH_PORT_TYPE => Some(Call::Type { name: a }),
+        MACH_PORT_ALLOCATE => Some(Call::Allocate { right: a }),
+        MACH_PORT_DESTROY => Some(Call::Destroy { name: a }),
+        MACH_PORT_DEALLOCATE => Some(Call::Deallocate { name: a }),
+        MACH_PORT_GET_RECEIVE_STATUS => Some(Call::GetReceiveStatus { name: a }),
+        MACH_PORT_GET_SET_STATUS => Some(Call::GetSetStatus { name: a }),
         _ => None,
     }
 }
@@ -43,21 +50,21 @@ fn call_of_two(number: u32, a: u32, b: u32) -> Option<Call>
     ensures none { IfNone result (count_of_words number ≢ 2) }
 {
     match number {
-        3 => Some(Call::Rename { from: a, to: b }),
-        4 => Some(Call::AllocateName { right: a, name: b }),
-        8 => Some(Call::GetRefs { name: a, right: b }),
-        10 => Some(Call::SetQlimit { name: a, limit: b }),
-        11 => Some(Call::SetMscount { name: a, count: b }),
-        12 => Some(Call::SetSeqno { name: a, seqno: b }),
-        15 => Some(Call::MoveMember {
+        MACH_PORT_RENAME => Some(Call::Rename { from: a, to: b }),
+        MACH_PORT_ALLOCATE_NAME => Some(Call::AllocateName { right: a, name: b }),
+        MACH_PORT_GET_REFS => Some(Call::GetRefs { name: a, right: b }),
+        MACH_PORT_SET_QLIMIT => Some(Call::SetQlimit { name: a, limit: b }),
+        MACH_PORT_SET_MSCOUNT => Some(Call::SetMscount { name: a, count: b }),
+        MACH_PORT_SET_SEQNO => Some(Call::SetSeqno { name: a, seqno: b }),
+        MACH_PORT_MOVE_MEMBER => Some(Call::MoveMember {
             member: a,
             after: b,
         }),
-        18 => Some(Call::ExtractRight {
+        MACH_PORT_EXTRACT_RIGHT => Some(Call::ExtractRight {
             name: a,
             disposition: b,
         }),
-        20 => Some(Call::SpaceCreate {
+        SPACE_CREATE => Some(Call::SpaceCreate {
             name: a,
             disposition: b,
         }),
@@ -71,12 +78,12 @@ fn call_of_three(number: u32, a: u32, b: u32, c: u32) -> Option<Call>
     ensures none { IfNone result (count_of_words number ≢ 3) }
 {
     match number {
-        9 => Some(Call::ModRefs {
+        MACH_PORT_MOD_REFS => Some(Call::ModRefs {
             name: a,
             right: b,
             delta: c,
         }),
-        17 => Some(Call::InsertRight {
+        MACH_PORT_INSERT_RIGHT => Some(Call::InsertRight {
             name: a,
             right_name: b,
             disposition: c,
@@ -87,7 +94,7 @@ fn call_of_three(number: u32, a: u32, b: u32, c: u32) -> Option<Call>
 
 /// The call whose number and arguments these are, of any number but that of `mach_msg`.
 pub(crate) fn read_arguments(number: u32, arguments: &[u8]) -> Option<Call>
-    requires { number ≢ 19 }
+    requires { number ≢ MACH_MSG }
     ensures found { IfSome result (λ call. (number_of_call call ≡ number) × (arguments.now ≡ arguments_text call) × FitsCall call) }
     ensures only { (call : Call) → FitsCall call → number_of_call call ≡ number → arguments.now ≡ arguments_text call → result ≡ Some call }
 {
@@ -105,7 +112,7 @@ pub(crate) fn read_arguments(number: u32, arguments: &[u8]) -> Option<Call>
             let (a, b, c) = three_words(arguments)?;
             call_of_three(number, a, b, c)
         }
-        20 if number == 16 => {
+        20 if number == MACH_PORT_REQUEST_NOTIFICATION => {
             let (name, variant, sync, notify, disposition) = five_words(arguments)?;
             Some(Call::RequestNotification {
                 name,

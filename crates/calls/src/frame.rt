@@ -4,7 +4,11 @@ ghost use Rattle.words.specs.Words.{word};
 ghost use Rattle.calls.specs.Rows.{names_text};
 
 use crate::spell::{kind_number, status_words};
-use codes::MAX_FRAME_CONTENT;
+use codes::{
+    MACH_MSG, MACH_PORT_ALLOCATE, MACH_PORT_EXTRACT_RIGHT, MACH_PORT_GET_RECEIVE_STATUS,
+    MACH_PORT_GET_REFS, MACH_PORT_GET_SET_STATUS, MACH_PORT_NAMES, MACH_PORT_REQUEST_NOTIFICATION,
+    MACH_PORT_TYPE, MAX_FRAME_CONTENT, SPACE_CREATE,
+};
 use ipc_model::{NamedType, ReceiveStatus, Reply};
 use wire::Frame;
 
@@ -47,10 +51,15 @@ fn put_names(frame: &mut Frame, names: &[NamedType])
 /// Makes this the frame of the state of a port.
 fn start_status(frame: &mut Frame, status: &ReceiveStatus)
     requires { MAX_FRAME_CONTENT ≤ frame.old.room }
-    ensures content { frame.new.content ≡ done_text 13 (status_text status.now) }
+    ensures content { frame.new.content ≡ done_text MACH_PORT_GET_RECEIVE_STATUS (status_text status.now) }
     ensures room { frame.old.room ≤ frame.new.room }
 {
-    start_reply(frame, 13, 0, &status_words(status));
+    start_reply(
+        frame,
+        MACH_PORT_GET_RECEIVE_STATUS,
+        0,
+        &status_words(status),
+    );
 }
 
 #[tactic(auto, unfolding(ipc_model::specs::texts::Texts::reply_text))]
@@ -67,29 +76,44 @@ pub fn reply_frame(reply: &Reply, frame: &mut Frame)
         Reply::Done { number } => start_reply(frame, *number, 0, &[]),
         Reply::Names { names } => {
             let names = names.as_slice();
-            start_reply(frame, 1, 0, &[names.len() as u32]);
+            start_reply(frame, MACH_PORT_NAMES, 0, &[names.len() as u32]);
             put_names(frame, names);
         }
-        Reply::Type { bits } => start_reply(frame, 2, 0, &[*bits]),
-        Reply::Allocate { name } => start_reply(frame, 5, 0, &[*name]),
-        Reply::References { count } => start_reply(frame, 8, 0, &[*count]),
+        Reply::Type { bits } => start_reply(frame, MACH_PORT_TYPE, 0, &[*bits]),
+        Reply::Allocate { name } => start_reply(frame, MACH_PORT_ALLOCATE, 0, &[*name]),
+        Reply::References { count } => start_reply(frame, MACH_PORT_GET_REFS, 0, &[*count]),
         Reply::ReceiveStatus { status } => start_status(frame, status),
         Reply::SetStatus { members } => {
             let members = members.as_slice();
-            start_reply(frame, 14, 0, &[members.len() as u32]);
+            start_reply(frame, MACH_PORT_GET_SET_STATUS, 0, &[members.len() as u32]);
             put_words(frame, members);
         }
-        Reply::PreviousTarget { name } => start_reply(frame, 16, 0, &[*name]),
-        Reply::Extracted { name, kind } => start_reply(frame, 18, 0, &[*name, kind_number(*kind)]),
+        Reply::PreviousTarget { name } => start_reply(
+            frame,
+            MACH_PORT_REQUEST_NOTIFICATION,
+            0,
+            &[*name],
+        ),
+        Reply::Extracted { name, kind } => start_reply(
+            frame,
+            MACH_PORT_EXTRACT_RIGHT,
+            0,
+            &[*name, kind_number(*kind)],
+        ),
         Reply::Message {
             code,
             size,
             member,
             message,
         } => {
-            start_reply(frame, 19, code.number(), &[*size, *member]);
+            start_reply(frame, MACH_MSG, code.number(), &[*size, *member]);
             frame.put_bytes(message.as_slice());
         }
-        Reply::SpaceCreated { space, name } => start_reply(frame, 20, 0, &[*space, *name]),
+        Reply::SpaceCreated { space, name } => start_reply(
+            frame,
+            SPACE_CREATE,
+            0,
+            &[*space, *name],
+        ),
     }
 }

@@ -9,7 +9,8 @@ use crate::arguments::read_arguments;
 use crate::kept::keep_message;
 use crate::options::{RCV_LARGE, RCV_MSG, SEND_MSG};
 use crate::run::three_words;
-use ipc_model::{Call, MACH_MSG, Sequence};
+use codes::MACH_MSG;
+use ipc_model::{Call, Sequence};
 use std::alloc::{AllocError, Global};
 use words::take_word;
 
@@ -31,7 +32,7 @@ fn flag_of(number: u32) -> Option<bool>
 /// A receipt as a record has it, behind its option.
 fn read_receive(large: bool, words: &[u8]) -> Option<Call>
     ensures found { IfSome result (λ call. (word (receive_option large) ++ words.now ≡ arguments_text call)
-        × (number_of_call call ≡ 19) × FitsCall call) }
+        × (number_of_call call ≡ MACH_MSG) × FitsCall call) }
     ensures only { (limit name : ℕ) (waited : Bool) → limit < 2 ^ 32 → name < 2 ^ 32
         → words.now ≡ word limit ++ (word name ++ word (number_of_bool waited))
         → result ≡ Some (call_variants.Receive limit large name waited) }
@@ -60,7 +61,7 @@ fn behind_zeros(bytes: &[u8]) -> Option<&[u8]>
 /// A send as a record has it, behind its option.
 fn read_send(alloc: Global, words: &[u8]) -> Result<Option<Call>, AllocError>
     ensures found { IfOk result (λ found. IfSome found (λ call. (word 1 ++ words.now ≡ arguments_text call)
-        × (number_of_call call ≡ 19) × FitsCall call)) }
+        × (number_of_call call ≡ MACH_MSG) × FitsCall call)) }
     ensures only { (message : List ℕ) → IsKeptMessage message → words.now ≡ word 0 ++ (word 0 ++ (word 0 ++ message))
         → IfOk result (λ found. found ≡ Some (call_variants.Send message)) }
 {
@@ -78,8 +79,8 @@ fn read_send(alloc: Global, words: &[u8]) -> Result<Option<Call>, AllocError>
 /// The send or the receipt whose arguments in a record these are.
 fn read_message_call(alloc: Global, arguments: &[u8]) -> Result<Option<Call>, AllocError>
     ensures found { IfOk result (λ found. IfSome found (λ call. (arguments.now ≡ arguments_text call)
-        × (number_of_call call ≡ 19) × FitsCall call)) }
-    ensures only { (call : Call) → FitsCall call → number_of_call call ≡ 19 → arguments.now ≡ arguments_text call
+        × (number_of_call call ≡ MACH_MSG) × FitsCall call)) }
+    ensures only { (call : Call) → FitsCall call → number_of_call call ≡ MACH_MSG → arguments.now ≡ arguments_text call
         → IfOk result (λ found. found ≡ Some call) }
 {
     let Some((option, words)) = take_word(arguments) else {

@@ -6,8 +6,8 @@ ghost use Rattle.calls.specs.Requests as requests;
 use crate::arguments::read_arguments;
 use crate::kept::keep_message;
 use crate::options::{KNOWN_OPTIONS, RCV_LARGE, RCV_MSG, RCV_TIMEOUT, SEND_MSG, SEND_TIMEOUT};
-use codes::KernReturn;
-use ipc_model::{Call, MACH_MSG, Sequence};
+use codes::{KernReturn, MACH_MSG};
+use ipc_model::{Call, Sequence};
 use std::alloc::{AllocError, Global};
 use wire::Frame;
 use words::take_word;
@@ -172,7 +172,7 @@ pub fn read_request(alloc: Global, frame: &Frame) -> Result<Request, CallFault>
     // The calls are as a record has them: a send's message is what is kept of it.
     ensures fits { IfOk result (λ request. requests.FitsRequest request) }
     ensures memory { IsErrOf result CallFault.NoMemory
-        → (arguments : List ℕ) × (frame.now.content ≡ word 19 ++ arguments) × requests.IsSend arguments }
+        → (arguments : List ℕ) × (frame.now.content ≡ word MACH_MSG ++ arguments) × requests.IsSend arguments }
 {
     let Some((number, arguments)) = take_word(frame.content()) else {
         return Err(CallFault::NoCall);

@@ -11,8 +11,11 @@ ghost use Rattle.words.specs.Words.{word};
 ghost use Rattle.calls.specs.Recorded.{IsRecordedReply};
 
 use crate::run::{one_word, two_words};
-use codes::KernReturn;
-use ipc_model::{Call, MACH_MSG, Reply, RightKind, Sequence};
+use codes::{
+    KernReturn, MACH_MSG, MACH_PORT_ALLOCATE, MACH_PORT_EXTRACT_RIGHT,
+    MACH_PORT_REQUEST_NOTIFICATION, SPACE_CREATE,
+};
+use ipc_model::{Call, Reply, RightKind, Sequence};
 use std::alloc::{AllocError, Global};
 use words::take_word;
 
@@ -71,12 +74,12 @@ fn read_message_reply(
     code: u32,
     results: &[u8],
 ) -> Result<Option<Reply>, AllocError>
-    requires of_call { number_of_call call.now ≡ 19 }
+    requires of_call { number_of_call call.now ≡ MACH_MSG }
     requires recorded { is_recorded call.now ≡ true }
     ensures found { IfOk result (λ found. IfSome found (λ answer.
-        (word 19 ++ (word code ++ results.now) ≡ reply_text answer) × IsRecordedReply call.now answer)) }
+        (word MACH_MSG ++ (word code ++ results.now) ≡ reply_text answer) × IsRecordedReply call.now answer)) }
     ensures only { (answer : Reply) → IsRecordedReply call.now answer → 0 < length results.now
-        → word 19 ++ (word code ++ results.now) ≡ reply_text answer → IfOk result (λ found. found ≡ Some answer) }
+        → word MACH_MSG ++ (word code ++ results.now) ≡ reply_text answer → IfOk result (λ found. found ≡ Some answer) }
 {
     let Some(code) = recorded_code(call, code) else {
         return Ok(None);
@@ -98,24 +101,24 @@ fn read_message_reply(
 fn read_plain_reply(number: u32, results: &[u8]) -> Option<Reply>
     ensures found { IfSome result (λ answer. (done_text number results.now ≡ reply_text answer) × FitsReply answer
         × (number_of_reply answer ≡ number) × ((c : Call) → succeeded c answer ≡ true)) }
-    ensures only { (c : Call) (answer : Reply) → IsRecordedReply c answer → number_of_call c ≡ number → number ≢ 19
+    ensures only { (c : Call) (answer : Reply) → IsRecordedReply c answer → number_of_call c ≡ number → number ≢ MACH_MSG
         → 0 < length results.now → done_text number results.now ≡ reply_text answer → result ≡ Some answer }
 {
     match number {
-        5 => {
+        MACH_PORT_ALLOCATE => {
             let name = one_word(results)?;
             Some(Reply::Allocate { name })
         }
-        16 => {
+        MACH_PORT_REQUEST_NOTIFICATION => {
             let name = one_word(results)?;
             Some(Reply::PreviousTarget { name })
         }
-        18 => {
+        MACH_PORT_EXTRACT_RIGHT => {
             let (name, kind) = two_words(results)?;
             let kind = kind_of_number(kind)?;
             Some(Reply::Extracted { name, kind })
         }
-        20 => {
+        SPACE_CREATE => {
             let (space, name) = two_words(results)?;
             Some(Reply::SpaceCreated { space, name })
         }

@@ -6,6 +6,13 @@ ghost use Rattle.calls.specs.Rows.{names_text};
 
 use crate::options::{RCV_LARGE, RCV_MSG, SEND_MSG};
 use crate::run::push_words;
+use codes::{
+    ATTACH, MACH_MSG, MACH_PORT_ALLOCATE, MACH_PORT_ALLOCATE_NAME, MACH_PORT_DEALLOCATE,
+    MACH_PORT_DESTROY, MACH_PORT_EXTRACT_RIGHT, MACH_PORT_GET_RECEIVE_STATUS, MACH_PORT_GET_REFS,
+    MACH_PORT_GET_SET_STATUS, MACH_PORT_INSERT_RIGHT, MACH_PORT_MOD_REFS, MACH_PORT_MOVE_MEMBER,
+    MACH_PORT_NAMES, MACH_PORT_RENAME, MACH_PORT_REQUEST_NOTIFICATION, MACH_PORT_SET_MSCOUNT,
+    MACH_PORT_SET_QLIMIT, MACH_PORT_SET_SEQNO, MACH_PORT_TYPE, SPACE_CREATE, SPACE_DESTROY,
+};
 use ipc_model::{Call, NamedType, ReceiveStatus, Reply, RightKind};
 use std::alloc::AllocError;
 
@@ -15,37 +22,69 @@ pub fn push_call(out: &mut Vec<u8>, call: &Call) -> Result<(), AllocError>
     ensures ok { OnOk result (out.new.items ≡ out.old.items ++ call_text call.now) }
 {
     match call {
-        Call::Attach { space } => push_words(out, &[0, *space]),
-        Call::Names => push_words(out, &[1]),
-        Call::Type { name } => push_words(out, &[2, *name]),
-        Call::Rename { from, to } => push_words(out, &[3, *from, *to]),
-        Call::AllocateName { right, name } => push_words(out, &[4, *right, *name]),
-        Call::Allocate { right } => push_words(out, &[5, *right]),
-        Call::Destroy { name } => push_words(out, &[6, *name]),
-        Call::Deallocate { name } => push_words(out, &[7, *name]),
-        Call::GetRefs { name, right } => push_words(out, &[8, *name, *right]),
-        Call::ModRefs { name, right, delta } => push_words(out, &[9, *name, *right, *delta]),
-        Call::SetQlimit { name, limit } => push_words(out, &[10, *name, *limit]),
-        Call::SetMscount { name, count } => push_words(out, &[11, *name, *count]),
-        Call::SetSeqno { name, seqno } => push_words(out, &[12, *name, *seqno]),
-        Call::GetReceiveStatus { name } => push_words(out, &[13, *name]),
-        Call::GetSetStatus { name } => push_words(out, &[14, *name]),
-        Call::MoveMember { member, after } => push_words(out, &[15, *member, *after]),
+        Call::Attach { space } => push_words(out, &[ATTACH, *space]),
+        Call::Names => push_words(out, &[MACH_PORT_NAMES]),
+        Call::Type { name } => push_words(out, &[MACH_PORT_TYPE, *name]),
+        Call::Rename { from, to } => push_words(out, &[MACH_PORT_RENAME, *from, *to]),
+        Call::AllocateName { right, name } => push_words(
+            out,
+            &[MACH_PORT_ALLOCATE_NAME, *right, *name],
+        ),
+        Call::Allocate { right } => push_words(out, &[MACH_PORT_ALLOCATE, *right]),
+        Call::Destroy { name } => push_words(out, &[MACH_PORT_DESTROY, *name]),
+        Call::Deallocate { name } => push_words(out, &[MACH_PORT_DEALLOCATE, *name]),
+        Call::GetRefs { name, right } => push_words(out, &[MACH_PORT_GET_REFS, *name, *right]),
+        Call::ModRefs { name, right, delta } => push_words(
+            out,
+            &[MACH_PORT_MOD_REFS, *name, *right, *delta],
+        ),
+        Call::SetQlimit { name, limit } => push_words(out, &[MACH_PORT_SET_QLIMIT, *name, *limit]),
+        Call::SetMscount { name, count } => push_words(
+            out,
+            &[MACH_PORT_SET_MSCOUNT, *name, *count],
+        ),
+        Call::SetSeqno { name, seqno } => push_words(out, &[MACH_PORT_SET_SEQNO, *name, *seqno]),
+        Call::GetReceiveStatus { name } => push_words(out, &[MACH_PORT_GET_RECEIVE_STATUS, *name]),
+        Call::GetSetStatus { name } => push_words(out, &[MACH_PORT_GET_SET_STATUS, *name]),
+        Call::MoveMember { member, after } => push_words(
+            out,
+            &[MACH_PORT_MOVE_MEMBER, *member, *after],
+        ),
         Call::RequestNotification {
             name,
             variant,
             sync,
             notify,
             disposition,
-        } => { push_words(out, &[16, *name, *variant, *sync, *notify, *disposition]) }
+        } => {
+            push_words(
+                out,
+                &[
+                    MACH_PORT_REQUEST_NOTIFICATION,
+                    *name,
+                    *variant,
+                    *sync,
+                    *notify,
+                    *disposition,
+                ],
+            )
+        }
         Call::InsertRight {
             name,
             right_name,
             disposition,
-        } => { push_words(out, &[17, *name, *right_name, *disposition]) }
-        Call::ExtractRight { name, disposition } => push_words(out, &[18, *name, *disposition]),
+        } => {
+            push_words(
+                out,
+                &[MACH_PORT_INSERT_RIGHT, *name, *right_name, *disposition],
+            )
+        }
+        Call::ExtractRight { name, disposition } => push_words(
+            out,
+            &[MACH_PORT_EXTRACT_RIGHT, *name, *disposition],
+        ),
         Call::Send { message } => {
-            push_words(out, &[19, SEND_MSG, 0, 0, 0])?;
+            push_words(out, &[MACH_MSG, SEND_MSG, 0, 0, 0])?;
             out.extend_from_slice(message.as_slice())
         }
         Call::Receive {
@@ -57,7 +96,7 @@ pub fn push_call(out: &mut Vec<u8>, call: &Call) -> Result<(), AllocError>
             push_words(
                 out,
                 &[
-                    19,
+                    MACH_MSG,
                     option_to_receive(*large),
                     *limit,
                     *name,
@@ -65,8 +104,11 @@ pub fn push_call(out: &mut Vec<u8>, call: &Call) -> Result<(), AllocError>
                 ],
             )
         }
-        Call::SpaceCreate { name, disposition } => push_words(out, &[20, *name, *disposition]),
-        Call::SpaceDestroy => push_words(out, &[21]),
+        Call::SpaceCreate { name, disposition } => push_words(
+            out,
+            &[SPACE_CREATE, *name, *disposition],
+        ),
+        Call::SpaceDestroy => push_words(out, &[SPACE_DESTROY]),
     }
 }
 
@@ -122,9 +164,9 @@ pub(crate) fn status_words(status: &ReceiveStatus) -> [u32; 9]
 
 /// Adds the reply of the state of a port.
 fn push_status(out: &mut Vec<u8>, status: &ReceiveStatus) -> Result<(), AllocError>
-    ensures ok { OnOk result (out.new.items ≡ out.old.items ++ done_text 13 (status_text status.now)) }
+    ensures ok { OnOk result (out.new.items ≡ out.old.items ++ done_text MACH_PORT_GET_RECEIVE_STATUS (status_text status.now)) }
 {
-    push_words(out, &[13, 0])?;
+    push_words(out, &[MACH_PORT_GET_RECEIVE_STATUS, 0])?;
     push_words(out, &status_words(status))
 }
 
@@ -139,29 +181,35 @@ pub fn push_reply(out: &mut Vec<u8>, reply: &Reply) -> Result<(), AllocError>
         Reply::Refused { number, code } => push_words(out, &[*number, code.number()]),
         Reply::Done { number } => push_words(out, &[*number, 0]),
         Reply::Names { names } => {
-            push_words(out, &[1, 0])?;
+            push_words(out, &[MACH_PORT_NAMES, 0])?;
             push_names(out, names.as_slice())
         }
-        Reply::Type { bits } => push_words(out, &[2, 0, *bits]),
-        Reply::Allocate { name } => push_words(out, &[5, 0, *name]),
-        Reply::References { count } => push_words(out, &[8, 0, *count]),
+        Reply::Type { bits } => push_words(out, &[MACH_PORT_TYPE, 0, *bits]),
+        Reply::Allocate { name } => push_words(out, &[MACH_PORT_ALLOCATE, 0, *name]),
+        Reply::References { count } => push_words(out, &[MACH_PORT_GET_REFS, 0, *count]),
         Reply::ReceiveStatus { status } => push_status(out, status),
         Reply::SetStatus { members } => {
             let members = members.as_slice();
-            push_words(out, &[14, 0, members.len() as u32])?;
+            push_words(out, &[MACH_PORT_GET_SET_STATUS, 0, members.len() as u32])?;
             push_words(out, members)
         }
-        Reply::PreviousTarget { name } => push_words(out, &[16, 0, *name]),
-        Reply::Extracted { name, kind } => push_words(out, &[18, 0, *name, kind_number(*kind)]),
+        Reply::PreviousTarget { name } => push_words(
+            out,
+            &[MACH_PORT_REQUEST_NOTIFICATION, 0, *name],
+        ),
+        Reply::Extracted { name, kind } => push_words(
+            out,
+            &[MACH_PORT_EXTRACT_RIGHT, 0, *name, kind_number(*kind)],
+        ),
         Reply::Message {
             code,
             size,
             member,
             message,
         } => {
-            push_words(out, &[19, code.number(), *size, *member])?;
+            push_words(out, &[MACH_MSG, code.number(), *size, *member])?;
             out.extend_from_slice(message.as_slice())
         }
-        Reply::SpaceCreated { space, name } => push_words(out, &[20, 0, *space, *name]),
+        Reply::SpaceCreated { space, name } => push_words(out, &[SPACE_CREATE, 0, *space, *name]),
     }
 }

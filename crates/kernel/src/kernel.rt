@@ -9,7 +9,7 @@ use crate::ranges::arguments_in_range;
 use crate::reply::is_same_reply;
 use crate::shown::Shown;
 use crate::stepping::step;
-use codes::KernReturn;
+use codes::{KernReturn, MACH_PORT_GET_RECEIVE_STATUS, MACH_PORT_GET_REFS, MACH_PORT_TYPE};
 use ipc_model::{Call, Record, Reply};
 use ipc_state::IpcState;
 use std::alloc::{AllocError, Global};
@@ -103,7 +103,7 @@ impl Kernel {
         ensures { Step self.now space (Call.Type name) result self.now }
     {
         if !self.state.has_space(space) {
-            return gone(2);
+            return gone(MACH_PORT_TYPE);
         }
         port_calls::port_type(&self.state, space, name)
     }
@@ -113,7 +113,7 @@ impl Kernel {
         ensures { Step self.now space (Call.GetRefs name right) result self.now }
     {
         if !self.state.has_space(space) {
-            return gone(8);
+            return gone(MACH_PORT_GET_REFS);
         }
         port_calls::get_refs(&self.state, space, name, right)
     }
@@ -123,7 +123,7 @@ impl Kernel {
         ensures { Step self.now space (Call.GetReceiveStatus name) result self.now }
     {
         if !self.state.has_space(space) {
-            return gone(13);
+            return gone(MACH_PORT_GET_RECEIVE_STATUS);
         }
         port_calls::receive_status(&self.state, space, name)
     }

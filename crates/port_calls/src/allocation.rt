@@ -10,7 +10,7 @@ ghost use Rattle.ipc_model.specs.calls.Tests.{first_failing};
 
 use crate::ask::is_null_or_dead;
 use crate::entry::{allocated_entry, is_allocatable};
-use codes::{KernReturn, MAX_NAMES, Right};
+use codes::{KernReturn, MACH_PORT_ALLOCATE, MACH_PORT_ALLOCATE_NAME, MAX_NAMES, Right};
 use ipc_model::Reply;
 use ipc_state::IpcState;
 use std::alloc::AllocError;
@@ -32,7 +32,10 @@ pub fn allocate(
     ensures err { OnErr result (state.new ≡ state.old) }
 {
     if let Some(code) = refusal_of_allocate(state, space, right) {
-        return Ok(Reply::Refused { number: 5, code });
+        return Ok(Reply::Refused {
+            number: MACH_PORT_ALLOCATE,
+            code,
+        });
     }
     let name = chosen_name(state, space, wanted);
     add_right(state, space, right, name)?;
@@ -92,7 +95,7 @@ pub fn allocate_name(
     ensures acts { IfOk result (λ reply. ActsIn state.old space (names_in state.old space) (call.AllocateName right name) reply state.new []) }
     ensures err { OnErr result (state.new ≡ state.old) }
 {
-    let number = 4;
+    let number = MACH_PORT_ALLOCATE_NAME;
     if let Some(code) = refusal_of_name(state, space, right, name) {
         return Ok(Reply::Refused { number, code });
     }

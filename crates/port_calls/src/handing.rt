@@ -10,14 +10,16 @@ ghost use Rattle.ipc_model.specs.state.State.{State, entry_at, with_names};
 ghost use Rattle.ipc_model.specs.calls.Step.{ActsIn};
 ghost use Rattle.ipc_model.specs.calls.Tests.{first_failing};
 ghost use Rattle.port_calls.specs.Trying.{Tries};
-ghost use Rattle.rights.specs.Meaning.{disposition_meant};
 
 use crate::ask::{is_null_or_dead, named};
-use codes::{KernReturn, MAX_NAMES, MAX_SEND_REFERENCES};
+use codes::{
+    Disposition, KernReturn, MACH_PORT_EXTRACT_RIGHT, MACH_PORT_INSERT_RIGHT, MAX_NAMES,
+    MAX_SEND_REFERENCES,
+};
 use effects::Effects;
 use ipc_model::{CarriedRight, Entry, PortInMessage, Reply, RightKind};
 use ipc_state::IpcState;
-use rights::{Disposition, arrival_name, may_arrive, names_wanted, put_right, take_right};
+use rights::{arrival_name, may_arrive, names_wanted, put_right, take_right};
 use std::alloc::AllocError;
 
 /// `mach_port_insert_right`: a right that a name hands over comes to stand under a name that the task chooses. The
@@ -35,14 +37,14 @@ pub fn insert_right(
     requires there { IsSome (map.get state.old.spaces space) }
     ensures { IfOk result (λ reply. Tries state.old space (call.InsertRight name right_name disposition) reply state.new effects.new) }
 {
-    let number = 17;
+    let number = MACH_PORT_INSERT_RIGHT;
     if is_null_or_dead(name) {
         return Ok(Reply::Refused {
             number,
             code: KernReturn::InvalidValue,
         });
     }
-    let Some(disposition) = Disposition::of_number(disposition) else {
+    let Some(disposition) = Disposition::from_number(disposition) else {
         return Ok(Reply::Refused {
             number,
             code: KernReturn::InvalidValue,
@@ -78,8 +80,8 @@ fn take_given(
 ) -> Result<Option<CarriedRight>, AllocError>
     requires none { effects.old ≡ [] }
     requires there { IsSome (map.get state.old.spaces space) }
-    ensures taken { IfOk result (λ taken. IfSome taken (λ right. copy_in state.old space name (disposition_meant disposition) ≡ Some (record { right = right; state = state.new; notices = effects.new }))) }
-    ensures refused { IfOk result (λ taken. IfNone taken (copy_in state.old space name (disposition_meant disposition) ≡ None)) }
+    ensures taken { IfOk result (λ taken. IfSome taken (λ right. copy_in state.old space name disposition ≡ Some (record { right = right; state = state.new; notices = effects.new }))) }
+    ensures refused { IfOk result (λ taken. IfNone taken (copy_in state.old space name disposition ≡ None)) }
     ensures there { IfOk result (λ taken. IfSome taken (λ right. IsSome (map.get state.new.spaces space))) }
 {
     let Some(right) = take_right(state, space, name, disposition, effects)? else {
@@ -176,7 +178,10 @@ pub fn extract_right(
 {
     let right = match take_extracted(state, space, name, disposition, effects)? {
         Ok(right) => right,
-        Err(code) => return Ok(Reply::Refused { number: 18, code }),
+        Err(code) => return Ok(Reply::Refused {
+            number: MACH_PORT_EXTRACT_RIGHT,
+            code,
+        }),
     };
     let shown = shown_name(state, space, right, wanted);
     put_given(state, space, right, shown)?;
@@ -204,7 +209,7 @@ fn take_extracted(
     ensures room { IfOk result (λ taken. IfOk taken (λ right. (name : ℕ) → MayArrive (names_in state.new space) right.kind right.port name
         → map.get (names_in state.new space) name ≡ None → map.len (names_in state.new space) < MAX_NAMES)) }
 {
-    let Some(disposition) = Disposition::of_number(disposition) else {
+    let Some(disposition) = Disposition::from_number(disposition) else {
         return Ok(Err(KernReturn::InvalidValue));
     };
     if named(state, space, name).is_none() {

@@ -11,24 +11,21 @@ ghost use Rattle.port_space.specs.References.{AreFewReferences};
 use crate::ask::named;
 use crate::references::{release, send_left, send_once_gone};
 use crate::removal::move_members;
-use codes::{KernReturn, MAX_DEAD_REFERENCES, MAX_SEND_REFERENCES};
+use codes::{KernReturn, MACH_PORT_MOD_REFS, MAX_DEAD_REFERENCES, MAX_SEND_REFERENCES};
 use effects::Effects;
 use ipc_model::{Entry, PortRights, Reply, RightKind};
 use ipc_state::IpcState;
 use rights::{announce_left, set_left};
 use std::alloc::{AllocError, Global};
 
-/// The number of the call.
-const NUMBER: u32 = 9;
-
 /// Minus one, as a delta in two's complement.
 const MINUS_ONE: u32 = u32::MAX;
 
 fn refused(code: KernReturn) -> Reply
-    ensures { result ≡ Reply.Refused 9 code }
+    ensures { result ≡ Reply.Refused MACH_PORT_MOD_REFS code }
 {
     Reply::Refused {
-        number: NUMBER,
+        number: MACH_PORT_MOD_REFS,
         code,
     }
 }
@@ -96,7 +93,9 @@ fn mod_send(
         return Ok(refused(KernReturn::UrefsOverflow));
     }
     send_left(state, space, name, rights, left as u32, effects)?;
-    Ok(Reply::Done { number: NUMBER })
+    Ok(Reply::Done {
+        number: MACH_PORT_MOD_REFS,
+    })
 }
 
 #[tactic(auto, unfolding(ipc_model::specs::calls::PortCalls::tests_of, ipc_model::specs::calls::Actions::Done))]
@@ -123,7 +122,9 @@ fn mod_receive(
     } else if delta != 0 {
         return Ok(refused(KernReturn::InvalidValue));
     }
-    Ok(Reply::Done { number: NUMBER })
+    Ok(Reply::Done {
+        number: MACH_PORT_MOD_REFS,
+    })
 }
 
 /// A receive right goes; send references stay with the name.
@@ -169,7 +170,9 @@ fn mod_send_once(
     } else if delta != 0 {
         return Ok(refused(KernReturn::InvalidValue));
     }
-    Ok(Reply::Done { number: NUMBER })
+    Ok(Reply::Done {
+        number: MACH_PORT_MOD_REFS,
+    })
 }
 
 #[tactic(auto, unfolding(ipc_model::specs::calls::PortCalls::tests_of, ipc_model::specs::calls::Actions::Done))]
@@ -206,7 +209,9 @@ fn mod_dead(
             references: left as u32,
         },
     );
-    Ok(Reply::Done { number: NUMBER })
+    Ok(Reply::Done {
+        number: MACH_PORT_MOD_REFS,
+    })
 }
 
 #[tactic(auto, unfolding(ipc_model::specs::calls::PortCalls::tests_of, ipc_model::specs::calls::Actions::Done))]
@@ -226,14 +231,18 @@ fn mod_set(
 {
     let _none = &effects;
     if delta == 0 {
-        return Ok(Reply::Done { number: NUMBER });
+        return Ok(Reply::Done {
+            number: MACH_PORT_MOD_REFS,
+        });
     }
     if delta != MINUS_ONE {
         return Ok(refused(KernReturn::InvalidValue));
     }
     move_members(alloc, state, space, name, None, Entry::Set)?;
     state.remove_name(space, name);
-    Ok(Reply::Done { number: NUMBER })
+    Ok(Reply::Done {
+        number: MACH_PORT_MOD_REFS,
+    })
 }
 
 /// Whether references with a negative delta would fall below 0.

@@ -4,7 +4,7 @@ ghost use Rattle.ipc_model.specs.calls.PortCalls.{names_in, is_in_some_set};
 ghost use Rattle.ipc_model.specs.calls.Step.{ActsIn};
 
 use crate::ask::named;
-use codes::{KernReturn, MACH_PORT_NULL};
+use codes::{KernReturn, MACH_PORT_MOVE_MEMBER, MACH_PORT_NULL};
 use ipc_model::{Entry, Reply};
 use ipc_state::IpcState;
 use port_set::received_port;
@@ -15,7 +15,7 @@ use port_set::received_port;
 pub fn move_member(state: &mut IpcState, space: u32, member: u32, after: u32) -> Reply
     ensures { ActsIn state.old space (names_in state.old space) (call.MoveMember member after) result state.new [] }
 {
-    let number = 15;
+    let number = MACH_PORT_MOVE_MEMBER;
     let Some(entry) = named(state, space, member) else {
         return Reply::Refused {
             number,

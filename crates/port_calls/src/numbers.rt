@@ -4,7 +4,9 @@ ghost use Rattle.ipc_model.specs.calls.PortCalls.{names_in};
 ghost use Rattle.ipc_model.specs.calls.Step.{ActsIn};
 
 use crate::ask::named;
-use codes::{KernReturn, MAX_QUEUE_LIMIT};
+use codes::{
+    KernReturn, MACH_PORT_SET_MSCOUNT, MACH_PORT_SET_QLIMIT, MACH_PORT_SET_SEQNO, MAX_QUEUE_LIMIT,
+};
 use ipc_model::Reply;
 use ipc_state::IpcState;
 use port_set::received_port;
@@ -15,7 +17,7 @@ use ports::PortNumbers;
 pub fn set_qlimit(state: &mut IpcState, space: u32, name: u32, limit: u32) -> Reply
     ensures { ActsIn state.old space (names_in state.old space) (call.SetQlimit name limit) result state.new [] }
 {
-    let number = 10;
+    let number = MACH_PORT_SET_QLIMIT;
     if limit > MAX_QUEUE_LIMIT {
         return Reply::Refused {
             number,
@@ -45,7 +47,7 @@ pub fn set_qlimit(state: &mut IpcState, space: u32, name: u32, limit: u32) -> Re
 pub fn set_mscount(state: &mut IpcState, space: u32, name: u32, count: u32) -> Reply
     ensures { ActsIn state.old space (names_in state.old space) (call.SetMscount name count) result state.new [] }
 {
-    let number = 11;
+    let number = MACH_PORT_SET_MSCOUNT;
     let Some(entry) = named(state, space, name) else {
         return Reply::Refused {
             number,
@@ -76,7 +78,7 @@ pub fn set_mscount(state: &mut IpcState, space: u32, name: u32, count: u32) -> R
 pub fn set_seqno(state: &mut IpcState, space: u32, name: u32, seqno: u32) -> Reply
     ensures { ActsIn state.old space (names_in state.old space) (call.SetSeqno name seqno) result state.new [] }
 {
-    let number = 12;
+    let number = MACH_PORT_SET_SEQNO;
     let Some(entry) = named(state, space, name) else {
         return Reply::Refused {
             number,

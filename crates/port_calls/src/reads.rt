@@ -8,7 +8,10 @@ ghost use Rattle.ipc_model.specs.calls.Step.{ActsIn};
 
 use crate::ask::named;
 use crate::entry::type_of;
-use codes::{KernReturn, MACH_PORT_NULL};
+use codes::{
+    KernReturn, MACH_PORT_GET_RECEIVE_STATUS, MACH_PORT_GET_REFS, MACH_PORT_GET_SET_STATUS,
+    MACH_PORT_NULL, MACH_PORT_TYPE,
+};
 use ipc_model::{Entry, NamedType, ReceiveStatus, Reply, RightKind, Sequence};
 use ipc_state::IpcState;
 use port_set::received_port;
@@ -24,7 +27,7 @@ pub fn port_type(state: &IpcState, space: u32, name: u32) -> Reply
             bits: type_of(&entry),
         },
         None => Reply::Refused {
-            number: 2,
+            number: MACH_PORT_TYPE,
             code: KernReturn::InvalidName,
         },
     }
@@ -35,7 +38,7 @@ pub fn port_type(state: &IpcState, space: u32, name: u32) -> Reply
 pub fn get_refs(state: &IpcState, space: u32, name: u32, right: u32) -> Reply
     ensures { ActsIn state.now space (names_in state.now space) (call.GetRefs name right) result state.now [] }
 {
-    let number = 8;
+    let number = MACH_PORT_GET_REFS;
     if right > 4 {
         return Reply::Refused {
             number,
@@ -85,7 +88,7 @@ fn named_types(alloc: Global, state: &IpcState, space: u32) -> Result<Vec<NamedT
 pub fn receive_status(state: &IpcState, space: u32, name: u32) -> Reply
     ensures { ActsIn state.now space (names_in state.now space) (call.GetReceiveStatus name) result state.now [] }
 {
-    let number = 13;
+    let number = MACH_PORT_GET_RECEIVE_STATUS;
     let Some(entry) = named(state, space, name) else {
         return Reply::Refused {
             number,
@@ -133,7 +136,7 @@ pub fn get_set_status(
 ) -> Result<Reply, AllocError>
     ensures { IfOk result (λ reply. ActsIn state.now space (names_in state.now space) (call.GetSetStatus name) reply state.now []) }
 {
-    let number = 14;
+    let number = MACH_PORT_GET_SET_STATUS;
     match named(state, space, name) {
         None => Ok(Reply::Refused {
             number,

@@ -12,7 +12,7 @@ ghost use Rattle.port_index.specs.Indexed.{MentionsNoOther};
 ghost use Rattle.port_space.specs.Mentions.{entry_mentions};
 
 use crate::ask::named;
-use codes::KernReturn;
+use codes::{KernReturn, MACH_PORT_DEALLOCATE};
 use effects::{Effect, Effects};
 use ipc_model::{Entry, PortRights, Reply, RightKind};
 use ipc_state::IpcState;
@@ -30,7 +30,7 @@ pub fn deallocate(
     requires none { effects.old ≡ [] }
     ensures { IfOk result (λ reply. ActsIn state.old space (names_in state.old space) (call.Deallocate name) reply state.new effects.new) }
 {
-    let number = 7;
+    let number = MACH_PORT_DEALLOCATE;
     let Some(entry) = named(state, space, name) else {
         return Ok(Reply::Refused {
             number,

@@ -6,7 +6,7 @@ ghost use Rattle.ipc_model.specs.calls.Step.{ActsIn};
 
 use crate::ask::named;
 use crate::references::release_name;
-use codes::KernReturn;
+use codes::{KernReturn, MACH_PORT_DESTROY};
 use effects::Effects;
 use ipc_model::{Entry, Reply};
 use ipc_state::IpcState;
@@ -25,7 +25,7 @@ pub fn destroy(
     requires none { effects.old ≡ [] }
     ensures { IfOk result (λ reply. ActsIn state.old space (names_in state.old space) (call.Destroy name) reply state.new effects.new) }
 {
-    let number = 6;
+    let number = MACH_PORT_DESTROY;
     let Some(entry) = named(state, space, name) else {
         return Ok(Reply::Refused {
             number,

@@ -7,7 +7,7 @@ ghost use Rattle.ipc_model.specs.state.State.{entry_at};
 ghost use Rattle.ipc_model.specs.calls.Step.{ActsIn};
 
 use crate::ask::{is_null_or_dead, named};
-use codes::KernReturn;
+use codes::{KernReturn, MACH_PORT_RENAME};
 use ipc_model::{Entry, Reply};
 use ipc_state::IpcState;
 use port_set::{member_ports, move_ports};
@@ -27,7 +27,7 @@ pub fn rename(
     ensures acts { IfOk result (λ reply. ActsIn state.old space (names_in state.old space) (call.Rename from to) reply state.new []) }
     ensures err { OnErr result (state.new ≡ state.old) }
 {
-    let number = 3;
+    let number = MACH_PORT_RENAME;
     let Some(entry) = named(state, space, from) else {
         return Ok(Reply::Refused {
             number,

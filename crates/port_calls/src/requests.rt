@@ -9,26 +9,22 @@ ghost use Rattle.ipc_model.specs.calls.Step.{ActsIn};
 ghost use Rattle.ipc_model.specs.calls.Tests.{first_failing};
 ghost use Rattle.port_calls.specs.Trying.{Tries};
 ghost use Rattle.port_space.specs.References.{AreFewReferences};
-ghost use Rattle.rights.specs.Meaning.{disposition_meant};
 
 use crate::allocation::chosen_name;
 use crate::ask::named;
-use codes::{KernReturn, MACH_PORT_NULL, MAX_DEAD_REFERENCES, MAX_NAMES};
+use codes::{
+    Disposition, KernReturn, MACH_NOTIFY_DEAD_NAME, MACH_NOTIFY_NO_SENDERS,
+    MACH_NOTIFY_PORT_DESTROYED, MACH_PORT_NULL, MACH_PORT_REQUEST_NOTIFICATION,
+    MAX_DEAD_REFERENCES, MAX_NAMES,
+};
 use effects::{Effect, Effects, Notice};
 use ipc_model::{Entry, PortInMessage, Reply};
 use ipc_state::IpcState;
 use notify::{replace_no_senders, replace_port_destroyed, with_request};
 use port_set::received_port;
 use port_space::request_of;
-use rights::{Disposition, take_right};
+use rights::take_right;
 use std::alloc::AllocError;
-
-/// `MACH_NOTIFY_PORT_DESTROYED`.
-const PORT_DESTROYED: u32 = 69;
-/// `MACH_NOTIFY_NO_SENDERS`.
-const NO_SENDERS: u32 = 70;
-/// `MACH_NOTIFY_DEAD_NAME`.
-const DEAD_NAME: u32 = 72;
 
 /// `mach_port_request_notification`: a request for a notice to a port is made, or cancelled where the notice's name is
 /// `MACH_PORT_NULL`. The former target comes back as a send-once right, under the wanted name where that is unused, and
@@ -61,7 +57,10 @@ pub fn request_notification(
         disposition,
         effects,
     )? {
-        Err(code) => Ok(Reply::Refused { number: 16, code }),
+        Err(code) => Ok(Reply::Refused {
+            number: MACH_PORT_REQUEST_NOTIFICATION,
+            code,
+        }),
         Ok(target) => {
             let name = replace_target(state, space, name, variant, sync, target, wanted, effects)?;
             Ok(Reply::PreviousTarget { name })
@@ -116,12 +115,14 @@ fn take_target(
 fn is_variant(variant: u32) -> bool
     ensures { result ≡ is_variant variant }
 {
-    variant == PORT_DESTROYED || variant == NO_SENDERS || variant == DEAD_NAME
+    variant == MACH_NOTIFY_PORT_DESTROYED
+        || variant == MACH_NOTIFY_NO_SENDERS
+        || variant == MACH_NOTIFY_DEAD_NAME
 }
 
 /// The disposition of a notice's right: a send-once right is moved or made.
 fn notify_disposition(disposition: u32) -> Option<Disposition>
-    ensures { option_map disposition_meant result ≡ notify_disposition disposition }
+    ensures { result ≡ notify_disposition disposition }
 {
     match disposition {
         18 => Some(Disposition::MoveSendOnce),
@@ -169,7 +170,7 @@ fn refusal_of_variant(
     requires named { map.get (names_in state.now space) name ≡ Some entry }
     ensures { result ≡ first_failing (tests_of_variant (names_in state.now space) name variant sync cancels) }
 {
-    if variant == PORT_DESTROYED {
+    if variant == MACH_NOTIFY_PORT_DESTROYED {
         if sync != 0 {
             return Some(KernReturn::InvalidValue);
         }
@@ -178,7 +179,7 @@ fn refusal_of_variant(
         }
         return None;
     }
-    if variant == NO_SENDERS {
+    if variant == MACH_NOTIFY_NO_SENDERS {
         if received_port(entry).is_none() {
             return Some(KernReturn::InvalidRight);
         }
@@ -206,7 +207,7 @@ fn target_under(state: &IpcState, space: u32, name: u32, variant: u32) -> Option
     let Some(entry) = state.entry(space, name) else {
         return None;
     };
-    if variant == DEAD_NAME {
+    if variant == MACH_NOTIFY_DEAD_NAME {
         return request_of(entry);
     }
     let Some(port) = received_port(entry) else {
@@ -215,7 +216,7 @@ fn target_under(state: &IpcState, space: u32, name: u32, variant: u32) -> Option
     let Some(numbers) = state.numbers(port) else {
         return None;
     };
-    if variant == PORT_DESTROYED {
+    if variant == MACH_NOTIFY_PORT_DESTROYED {
         return numbers.port_destroyed_target;
     }
     numbers.no_senders_target
@@ -261,7 +262,7 @@ fn set_request(
     let Some(entry) = state.entry(space, name) else {
         return Ok(());
     };
-    if variant == DEAD_NAME {
+    if variant == MACH_NOTIFY_DEAD_NAME {
         set_dead_name_request(state, space, name, target, entry, effects)?;
         return Ok(());
     }
@@ -323,7 +324,7 @@ fn set_port_request(
     ensures state { OnOk result (state.new ≡ (port_request_set state.old variant sync port target).0) }
     ensures effects { OnOk result (effects.new ≡ effects.old ++ (port_request_set state.old variant sync port target).1) }
 {
-    if variant == PORT_DESTROYED {
+    if variant == MACH_NOTIFY_PORT_DESTROYED {
         replace_port_destroyed(state, port, target)?;
         return Ok(());
     }

@@ -13,24 +13,23 @@ ghost use Rattle.rights.specs.Taking.{Takes};
 
 use crate::ask::named;
 use crate::references::release_name;
-use codes::{KernReturn, MAX_SPACES};
+use codes::{
+    ATTACH, Disposition, FIRST_SPACE, KernReturn, MAX_SPACES, SPACE_CREATE, SPACE_DESTROY,
+};
 use effects::Effects;
 use ipc_model::{CarriedRight, PortInMessage, Reply};
 use ipc_state::IpcState;
 use port_set::{move_ports, received_ports};
 use port_space::PortSpace;
-use rights::{Disposition, arrival_name, may_arrive, put_right, take_right};
+use rights::{arrival_name, may_arrive, put_right, take_right};
 use std::alloc::{AllocError, Global};
-
-/// The number of the space that is always there.
-const FIRST_SPACE: u32 = 1;
 
 /// Attaches a task to another space, which has to be there.
 #[tactic(auto, unfolding(ipc_model::specs::calls::PortCalls::tests_of, ipc_model::specs::calls::Actions::Done))]
 pub fn attach(state: &IpcState, space: u32, other: u32) -> Reply
     ensures { ActsIn state.now space (names_in state.now space) (call.Attach other) result state.now [] }
 {
-    let number = 0;
+    let number = ATTACH;
     if !state.has_space(other) {
         return Reply::Refused {
             number,
@@ -59,7 +58,10 @@ pub fn space_create(
         → ActsIn state.old space (names_in state.old space) (call.SpaceCreate name disposition) (Reply.SpaceCreated number child) new effects → reply ≡ Reply.SpaceCreated number child) }
 {
     match take_for_space(state, space, name, disposition, effects)? {
-        Err(code) => Ok(Reply::Refused { number: 20, code }),
+        Err(code) => Ok(Reply::Refused {
+            number: SPACE_CREATE,
+            code,
+        }),
         Ok(right) => {
             let (space, name) = add_child(alloc, state, right, wanted)?;
             Ok(Reply::SpaceCreated { space, name })
@@ -80,7 +82,7 @@ pub fn space_destroy(
     ensures acts { IfOk result (λ reply. ActsIn state.old space (names_in state.old space) call.SpaceDestroy reply state.new effects.new) }
     ensures err { OnErr result (state.new ≡ state.old) }
 {
-    let number = 21;
+    let number = SPACE_DESTROY;
     if space == FIRST_SPACE {
         return Ok(Reply::Refused {
             number,
@@ -138,7 +140,7 @@ fn take_for_space(
     ensures taken { IfOk result (λ outcome. IfOk outcome (λ right. Takes (taken_by state.old space name disposition) state.old [] (Some right) state.new effects.new)) }
     ensures room { IfOk result (λ outcome. IfOk outcome (λ right. map.len state.new.spaces < MAX_SPACES)) }
 {
-    let Some(disposition) = Disposition::of_number(disposition) else {
+    let Some(disposition) = Disposition::from_number(disposition) else {
         return Ok(Err(KernReturn::InvalidValue));
     };
     if named(state, space, name).is_none() {

@@ -1,5 +1,4 @@
 pub mod Keeping
-pub mod Meaning
 pub mod Room
 pub mod Taking
 pub mod Wanting

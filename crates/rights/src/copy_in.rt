@@ -6,11 +6,10 @@ ghost use Rattle.ipc_model.specs.declared.entry.Entry.{Entry};
 ghost use Rattle.port_index.specs.Indexed.{MentionsNoOther};
 ghost use Rattle.port_space.specs.Mentions.{entry_mentions};
 ghost use Rattle.port_space.specs.References.{AreFewReferences};
-ghost use Rattle.rights.specs.Meaning.{disposition_meant};
 ghost use Rattle.rights.specs.Taking.{Takes};
 
-use crate::Disposition;
 use crate::left::{announce_left, set_left};
+use codes::Disposition;
 use effects::Effects;
 use ipc_model::{CarriedRight, Entry, PortInMessage, PortRights, RightKind};
 use ipc_state::IpcState;
@@ -28,7 +27,7 @@ pub fn take_right(
     disposition: Disposition,
     effects: &mut Effects,
 ) -> Result<Option<CarriedRight>, AllocError>
-    ensures taken { IfOk result (λ right. Takes (copy_in state.old space name (disposition_meant disposition)) state.old effects.old right state.new effects.new) }
+    ensures taken { IfOk result (λ right. Takes (copy_in state.old space name disposition) state.old effects.old right state.new effects.new) }
     ensures err { OnErr result ((state.new ≡ state.old) × (effects.new ≡ effects.old)) }
 {
     let Some(entry) = state.entry(space, name) else {
@@ -80,7 +79,7 @@ fn take_from_port(
     requires named { IsSome (entry_at state.old space name) }
     requires few { AreFewReferences (Entry.Port rights) }
     requires known { (former : Entry) → entry_at state.old space name ≡ Some former → MentionsNoOther entry_mentions (Entry.Port rights) former }
-    ensures taken { IfOk result (λ right. Takes (taken_of_port state.old space name (disposition_meant disposition) rights) state.old effects.old right state.new effects.new) }
+    ensures taken { IfOk result (λ right. Takes (taken_of_port state.old space name disposition rights) state.old effects.old right state.new effects.new) }
     ensures err { OnErr result ((state.new ≡ state.old) × (effects.new ≡ effects.old)) }
 {
     match disposition {
@@ -109,7 +108,7 @@ fn move_receive(
     requires named { IsSome (entry_at state.old space name) }
     requires few { AreFewReferences (Entry.Port rights) }
     requires known { (former : Entry) → entry_at state.old space name ≡ Some former → MentionsNoOther entry_mentions (Entry.Port rights) former }
-    ensures taken { IfOk result (λ right. Takes (taken_of_port state.old space name (disposition_meant Disposition.MoveReceive) rights) state.old effects.old right state.new effects.new) }
+    ensures taken { IfOk result (λ right. Takes (taken_of_port state.old space name Disposition.MoveReceive rights) state.old effects.old right state.new effects.new) }
     ensures err { OnErr result ((state.new ≡ state.old) × (effects.new ≡ effects.old)) }
 {
     if !rights.receive {
@@ -152,7 +151,7 @@ fn move_send(
     requires named { IsSome (entry_at state.old space name) }
     requires few { AreFewReferences (Entry.Port rights) }
     requires known { (former : Entry) → entry_at state.old space name ≡ Some former → MentionsNoOther entry_mentions (Entry.Port rights) former }
-    ensures taken { IfOk result (λ right. Takes (taken_of_port state.old space name (disposition_meant Disposition.MoveSend) rights) state.old effects.old right state.new effects.new) }
+    ensures taken { IfOk result (λ right. Takes (taken_of_port state.old space name Disposition.MoveSend rights) state.old effects.old right state.new effects.new) }
     ensures err { OnErr result ((state.new ≡ state.old) × (effects.new ≡ effects.old)) }
 {
     if rights.send == 0 {
@@ -199,7 +198,7 @@ fn take_send_once(
     request: Option<u64>,
     effects: &mut Effects,
 ) -> Result<Option<CarriedRight>, AllocError>
-    ensures taken { IfOk result (λ right. Takes (taken_of_send_once state.old space name (disposition_meant disposition) port request) state.old effects.old right state.new effects.new) }
+    ensures taken { IfOk result (λ right. Takes (taken_of_send_once state.old space name disposition port request) state.old effects.old right state.new effects.new) }
     ensures err { OnErr result ((state.new ≡ state.old) × (effects.new ≡ effects.old)) }
 {
     if disposition != Disposition::MoveSendOnce {
@@ -221,7 +220,7 @@ fn take_dead(
 ) -> Result<Option<CarriedRight>, AllocError>
     requires named { IsSome (entry_at state.old space name) }
     requires few { AreFewReferences (Entry.Dead references) }
-    ensures taken { IfOk result (λ right. Takes (taken_of_dead state.old space name (disposition_meant disposition) references) state.old effects.old right state.new effects.new) }
+    ensures taken { IfOk result (λ right. Takes (taken_of_dead state.old space name disposition references) state.old effects.old right state.new effects.new) }
     ensures err { OnErr result ((state.new ≡ state.old) × (effects.new ≡ effects.old)) }
 {
     let kind = match disposition {

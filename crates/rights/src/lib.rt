@@ -3,12 +3,10 @@
 
 mod copy_in;
 mod copy_out;
-mod disposition;
 mod left;
 mod wanted;
 
 pub use copy_in::take_right;
 pub use copy_out::{arrival_name, may_arrive, put_right};
-pub use disposition::Disposition;
 pub use left::{announce_left, is_empty, set_left};
 pub use wanted::names_wanted;

@@ -10,7 +10,7 @@ ghost use Rattle.ipc_model.specs.texts.Texts.{reply_text, FitsCall};
 ghost use Rattle.ipc_model.specs.declared.call.Call.{Call};
 ghost use Rattle.ipc_model.specs.declared.call.Reply.{Reply};
 
-use codes::{KernReturn, MACH_PORT_NULL, MAX_FRAME_CONTENT, MAX_RECORDS};
+use codes::{FIRST_SPACE, KernReturn, MACH_PORT_NULL, MAX_FRAME_CONTENT, MAX_RECORDS};
 use disk::Disk;
 use ipc_model::{Call, Record, Reply};
 use journal::{Journal, StoreFault};
@@ -18,9 +18,6 @@ use kernel::Kernel;
 use recover::Opened;
 use std::alloc::Global;
 use std::marker::Model;
-
-/// The number of the space that a connection's task is attached to at first.
-const FIRST_SPACE: u32 = 1;
 
 /// Who makes the calls of a connection.
 pub trait Caller {

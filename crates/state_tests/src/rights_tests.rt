@@ -1,9 +1,9 @@
 use crate::making::{put, received, right, with_ports};
-use codes::MAX_NAMES;
+use codes::{Disposition, MAX_NAMES};
 use effects::{Effect, Effects, Notice};
 use ipc_model::{CarriedRight, RightKind};
 use ipc_state::IpcState;
-use rights::{Disposition, arrival_name, may_arrive, names_wanted, put_right, take_right};
+use rights::{arrival_name, may_arrive, names_wanted, put_right, take_right};
 use std::alloc::Global;
 use std::test::Fail;
 

@@ -1,4 +1,5 @@
 use Rattle.std.proofs.Common.{◌≡◌, ℕ, List, ◌++◌, drop, ◌||◌, sym, ap, subst, ◌∙◌, arith}
+use Rattle.codes.specs.declared.call_number.TheConstants.{MACH_MSG}
 use Rattle.codes.specs.KernReturn.{number_of}
 use Rattle.ipc_model.specs.calls.Step.{is_recorded, is_success, has_destroyed}
 use Rattle.ipc_model.specs.texts.Texts.{reply_text}
@@ -14,8 +15,8 @@ returns-clause-found c =
     let results = c.in-Some-take_message in
     let whole : results.message.now ≡ c.new-message.result = sym (c.new-message.ensures ∙ c.in_ok-from_slice.ensures.items) in
     let bytes = bytes_behind c.args.results.now results.message.now 8 (λ i. omega (arith, c.type_inv.results i)) (ap (λ (l : List ℕ). drop 8 l) results.ensures.found) in (
-      ap (λ (n : ℕ). word 19 ++ (word n ++ c.args.results.now)) (sym c.in-Some.ensures.found.0)
-          ∙ ap (λ (l : List ℕ). word 19 ++ (word (number_of code) ++ l)) (results.ensures.found ∙ ap (λ (l : List ℕ). word results.size ++ (word results.member ++ l)) whole),
+      ap (λ (n : ℕ). word MACH_MSG ++ (word n ++ c.args.results.now)) (sym c.in-Some.ensures.found.0)
+          ∙ ap (λ (l : List ℕ). word MACH_MSG ++ (word (number_of code) ++ l)) (results.ensures.found ∙ ap (λ (l : List ℕ). word results.size ++ (word results.member ++ l)) whole),
       record {
         fits = (results.ensures.fits.0, results.ensures.fits.1, subst AreBytes whole bytes);
         of_one_call = sym c.requires.of_call;
@@ -26,4 +27,4 @@ returns-clause-found c =
 pub returns-clause-only : goal.returns-clause-only
 returns-clause-only c = λ answer of_record some is.
     let mine = returns-clause-found c in
-    one_reply c.args.call.now _ answer (word 19 ++ (word c.args.code ++ c.args.results.now)) mine.1 mine.0 of_record is
+    one_reply c.args.call.now _ answer (word MACH_MSG ++ (word c.args.code ++ c.args.results.now)) mine.1 mine.0 of_record is
