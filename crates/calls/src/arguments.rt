@@ -5,7 +5,7 @@ ghost use Rattle.ipc_model.specs.texts.Texts.{arguments_text, FitsCall};
 ghost use Rattle.words.specs.Words.{word};
 ghost use Rattle.calls.specs.Shapes.{count_of_words};
 
-use crate::run::{five_words, one_word, three_words, two_words};
+use crate::word_rows::{five_words, one_word, three_words, two_words};
 use codes::{
     ATTACH, MACH_MSG, MACH_PORT_ALLOCATE, MACH_PORT_ALLOCATE_NAME, MACH_PORT_DEALLOCATE,
     MACH_PORT_DESTROY, MACH_PORT_EXTRACT_RIGHT, MACH_PORT_GET_RECEIVE_STATUS, MACH_PORT_GET_REFS,

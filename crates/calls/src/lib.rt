@@ -3,13 +3,13 @@
 
 mod arguments;
 mod frame;
-mod kept;
+mod kept_message;
 mod options;
 mod read;
 mod request;
 mod results;
-mod run;
 mod spell;
+mod word_rows;
 
 pub use frame::reply_frame;
 pub use read::read_call;

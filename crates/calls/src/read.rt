@@ -6,9 +6,9 @@ ghost use Rattle.ipc_model.specs.texts.Texts.{arguments_text, call_text, receive
 ghost use Rattle.words.specs.Words.{word};
 
 use crate::arguments::read_arguments;
-use crate::kept::keep_message;
+use crate::kept_message::keep_message;
 use crate::options::{RCV_LARGE, RCV_MSG, SEND_MSG};
-use crate::run::three_words;
+use crate::word_rows::three_words;
 use codes::MACH_MSG;
 use ipc_model::{Call, Sequence};
 use std::alloc::{AllocError, Global};

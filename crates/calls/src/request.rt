@@ -4,7 +4,7 @@ ghost use Rattle.calls.specs.declared.request.Request.{Request};
 ghost use Rattle.calls.specs.Requests as requests;
 
 use crate::arguments::read_arguments;
-use crate::kept::keep_message;
+use crate::kept_message::keep_message;
 use crate::options::{KNOWN_OPTIONS, RCV_LARGE, RCV_MSG, RCV_TIMEOUT, SEND_MSG, SEND_TIMEOUT};
 use codes::{KernReturn, MACH_MSG};
 use ipc_model::{Call, Sequence};

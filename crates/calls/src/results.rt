@@ -10,7 +10,7 @@ ghost use Rattle.ipc_model.specs.texts.Texts.{reply_text, done_text, number_of_r
 ghost use Rattle.words.specs.Words.{word};
 ghost use Rattle.calls.specs.Recorded.{IsRecordedReply};
 
-use crate::run::{one_word, two_words};
+use crate::word_rows::{one_word, two_words};
 use codes::{
     KernReturn, MACH_MSG, MACH_PORT_ALLOCATE, MACH_PORT_EXTRACT_RIGHT,
     MACH_PORT_REQUEST_NOTIFICATION, SPACE_CREATE,

@@ -5,7 +5,7 @@ ghost use Rattle.words.specs.Words.{word};
 ghost use Rattle.calls.specs.Rows.{names_text};
 
 use crate::options::{RCV_LARGE, RCV_MSG, SEND_MSG};
-use crate::run::push_words;
+use crate::word_rows::push_words;
 use codes::{
     ATTACH, MACH_MSG, MACH_PORT_ALLOCATE, MACH_PORT_ALLOCATE_NAME, MACH_PORT_DEALLOCATE,
     MACH_PORT_DESTROY, MACH_PORT_EXTRACT_RIGHT, MACH_PORT_GET_RECEIVE_STATUS, MACH_PORT_GET_REFS,

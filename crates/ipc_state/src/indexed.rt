@@ -13,7 +13,7 @@ ghost use Rattle.port_space.specs.Renaming.{under_other_name};
 ghost use Rattle.queue.specs.Counts.{capped_count};
 
 use crate::mentions::{add_entry, add_names, drop_entry, drop_names};
-use crate::one_space::{
+use crate::space_changes::{
     dead_names_at, forget_at, put_at, remove_at, rename_at, replace_at, rights_at,
 };
 use codes::MAX_NAMES;

@@ -6,7 +6,7 @@ mod indexed;
 mod live_ports;
 mod mentions;
 mod names;
-mod one_space;
+mod space_changes;
 mod spaces;
 mod state;
 

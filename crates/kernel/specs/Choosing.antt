@@ -17,7 +17,7 @@ use Rattle.ipc_model.specs.state.State.{State, Names}
 use Rattle.ipc_model.specs.calls.Step.{ActsIn}
 use Rattle.ipc_laws.specs.StepLaws.{Called}
 use Rattle.ipc_model.specs.calls.Tests.{first_failing}
-use Rattle.kernel.specs.declared.shown.Shown.{Shown}
+use Rattle.kernel.specs.declared.choices.Shown.{Shown}
 use Rattle.kernel.specs.PortCallLaws.{as_called}
 use Rattle.kernel.specs.Served.{is_served}
 

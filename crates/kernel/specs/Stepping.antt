@@ -12,7 +12,7 @@ use Rattle.ipc_model.specs.calls.PortCalls.{names_in}
 use Rattle.ipc_model.specs.state.State.{State, Names}
 use Rattle.ipc_model.specs.calls.Refusals.{refused_of}
 use Rattle.ipc_model.specs.calls.Step.{Step, ActsIn, ActsFrom, refused, number_of_call}
-use Rattle.kernel.specs.declared.shown.Shown.{Shown}
+use Rattle.kernel.specs.declared.choices.Shown.{Shown}
 use Rattle.kernel.specs.Choosing.{Prefers, gives_up, hands_over, only_reads, sets_nothing_off, shown_by}
 use Rattle.kernel.specs.Served.{is_served, unserved_code, ServedStep}
 use Rattle.kernel.specs.Trials.{done_acting, refused_acting}

@@ -5,9 +5,9 @@ ghost use Rattle.ipc_model.specs.calls.Step.{Step, has_record, number_of_call};
 ghost use Rattle.ipc_model.specs.texts.Texts.{number_of_reply, reply_text};
 ghost use Rattle.kernel.specs.Served.{ServedStep};
 
+use crate::choices::Shown;
 use crate::ranges::arguments_in_range;
 use crate::reply::is_same_reply;
-use crate::shown::Shown;
 use crate::stepping::step;
 use codes::{KernReturn, MACH_PORT_GET_RECEIVE_STATUS, MACH_PORT_GET_REFS, MACH_PORT_TYPE};
 use ipc_model::{Call, Record, Reply};

@@ -1,12 +1,12 @@
 //! The machine as it runs: one call is one step.
 #![tactic(auto)]
 
-mod acting;
+mod choices;
+mod dispatch;
 mod kernel;
 mod laws;
 mod ranges;
 mod reply;
-mod shown;
 mod stepping;
 
 pub use kernel::{Kernel, ReplayFault};

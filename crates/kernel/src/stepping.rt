@@ -5,9 +5,9 @@ ghost use Rattle.kernel.specs.Served.{is_served, ServedStep};
 ghost use Rattle.kernel.specs.Stepping.{PrefersStep};
 ghost use Rattle.port_calls.specs.Trying.{Tries};
 
-use crate::acting::{change, give_up, hand_over, read};
+use crate::choices::Shown;
+use crate::dispatch::{change, give_up, hand_over, read};
 use crate::reply::is_refusal;
-use crate::shown::Shown;
 use codes::KernReturn;
 use death::settle;
 use effects::Effects;

@@ -8,8 +8,8 @@ ghost use Rattle.ipc_model.specs.state.State.{State, IsUnused, ports_are_used_up
 ghost use Rattle.ipc_model.specs.calls.Step.{ActsIn};
 ghost use Rattle.ipc_model.specs.calls.Tests.{first_failing};
 
-use crate::ask::is_null_or_dead;
 use crate::entry::{allocated_entry, is_allocatable};
+use crate::name_lookup::is_null_or_dead;
 use codes::{KernReturn, MACH_PORT_ALLOCATE, MACH_PORT_ALLOCATE_NAME, MAX_NAMES, Right};
 use ipc_model::Reply;
 use ipc_state::IpcState;

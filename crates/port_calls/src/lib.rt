@@ -2,21 +2,20 @@
 #![tactic(auto)]
 
 mod allocation;
-mod ask;
 mod entry;
-mod handing;
 mod modifying;
 mod moves;
+mod name_lookup;
 mod numbers;
 mod reads;
 mod references;
 mod removal;
 mod renaming;
 mod requests;
+mod right_transfer;
 mod spaces;
 
 pub use allocation::{allocate, allocate_name};
-pub use handing::{extract_right, insert_right};
 pub use modifying::mod_refs;
 pub use moves::move_member;
 pub use numbers::{set_mscount, set_qlimit, set_seqno};
@@ -24,5 +23,6 @@ pub use reads::{get_refs, get_set_status, names, port_type, receive_status};
 pub use references::deallocate;
 pub use removal::destroy;
 pub use renaming::rename;
-pub use requests::request_notification;
+pub use requests::{NoticeRequest, request_notification};
+pub use right_transfer::{extract_right, insert_right};
 pub use spaces::{attach, space_create, space_destroy};

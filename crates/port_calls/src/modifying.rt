@@ -8,7 +8,7 @@ ghost use Rattle.ipc_model.specs.state.State.{entry_at};
 ghost use Rattle.ipc_model.specs.calls.Step.{ActsIn};
 ghost use Rattle.port_space.specs.References.{AreFewReferences};
 
-use crate::ask::named;
+use crate::name_lookup::named;
 use crate::references::{release, send_left, send_once_gone};
 use crate::removal::move_members;
 use codes::{KernReturn, MACH_PORT_MOD_REFS, MAX_DEAD_REFERENCES, MAX_SEND_REFERENCES};

@@ -3,7 +3,7 @@ ghost use Rattle.ipc_model.specs.declared.call.Call.TheVariants as call;
 ghost use Rattle.ipc_model.specs.calls.PortCalls.{names_in, is_in_some_set};
 ghost use Rattle.ipc_model.specs.calls.Step.{ActsIn};
 
-use crate::ask::named;
+use crate::name_lookup::named;
 use codes::{KernReturn, MACH_PORT_MOVE_MEMBER, MACH_PORT_NULL};
 use ipc_model::{Entry, Reply};
 use ipc_state::IpcState;

@@ -6,8 +6,8 @@ ghost use Rattle.ipc_model.specs.declared.call.Call.TheVariants as call;
 ghost use Rattle.ipc_model.specs.calls.PortCalls.{names_in, references_of};
 ghost use Rattle.ipc_model.specs.calls.Step.{ActsIn};
 
-use crate::ask::named;
 use crate::entry::type_of;
+use crate::name_lookup::named;
 use codes::{
     KernReturn, MACH_PORT_GET_RECEIVE_STATUS, MACH_PORT_GET_REFS, MACH_PORT_GET_SET_STATUS,
     MACH_PORT_NULL, MACH_PORT_TYPE,

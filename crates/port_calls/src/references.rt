@@ -11,7 +11,7 @@ ghost use Rattle.ipc_model.specs.declared.entry.Entry.{Entry};
 ghost use Rattle.port_index.specs.Indexed.{MentionsNoOther};
 ghost use Rattle.port_space.specs.Mentions.{entry_mentions};
 
-use crate::ask::named;
+use crate::name_lookup::named;
 use codes::{KernReturn, MACH_PORT_DEALLOCATE};
 use effects::{Effect, Effects};
 use ipc_model::{Entry, PortRights, Reply, RightKind};

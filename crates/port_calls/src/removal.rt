@@ -4,7 +4,7 @@ ghost use Rattle.ipc_model.specs.declared.call.Call.TheVariants as call;
 ghost use Rattle.ipc_model.specs.calls.PortCalls.{names_in};
 ghost use Rattle.ipc_model.specs.calls.Step.{ActsIn};
 
-use crate::ask::named;
+use crate::name_lookup::named;
 use crate::references::release_name;
 use codes::{KernReturn, MACH_PORT_DESTROY};
 use effects::Effects;

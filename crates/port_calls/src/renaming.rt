@@ -6,7 +6,7 @@ ghost use Rattle.ipc_model.specs.calls.PortCalls.{names_in};
 ghost use Rattle.ipc_model.specs.state.State.{entry_at};
 ghost use Rattle.ipc_model.specs.calls.Step.{ActsIn};
 
-use crate::ask::{is_null_or_dead, named};
+use crate::name_lookup::{is_null_or_dead, named};
 use codes::{KernReturn, MACH_PORT_RENAME};
 use ipc_model::{Entry, Reply};
 use ipc_state::IpcState;

@@ -11,7 +11,7 @@ ghost use Rattle.port_calls.specs.Trying.{Tries};
 ghost use Rattle.port_space.specs.References.{AreFewReferences};
 
 use crate::allocation::chosen_name;
-use crate::ask::named;
+use crate::name_lookup::named;
 use codes::{
     Disposition, KernReturn, MACH_NOTIFY_DEAD_NAME, MACH_NOTIFY_NO_SENDERS,
     MACH_NOTIFY_PORT_DESTROYED, MACH_PORT_NULL, MACH_PORT_REQUEST_NOTIFICATION,
@@ -26,6 +26,21 @@ use port_space::request_of;
 use rights::take_right;
 use std::alloc::AllocError;
 
+/// What `mach_port_request_notification` asks for.
+#[derive(Clone, Copy, Debug, PartialEq, Eq)]
+pub struct NoticeRequest {
+    /// The name that the notice is to be about.
+    pub name: u32,
+    /// The id of the notice.
+    pub variant: u32,
+    /// How many send rights the task knows to have been made, or whether a notice that is due already is wanted.
+    pub sync: u32,
+    /// The name of the right that the notice is to be sent by, `MACH_PORT_NULL` to cancel the request.
+    pub notify: u32,
+    /// How that right is handed over.
+    pub disposition: u32,
+}
+
 /// `mach_port_request_notification`: a request for a notice to a port is made, or cancelled where the notice's name is
 /// `MACH_PORT_NULL`. The former target comes back as a send-once right, under the wanted name where that is unused, and
 /// else under the least unused one. The call is tried on a copy of the state, which is to be given up where it is
@@ -34,35 +49,22 @@ use std::alloc::AllocError;
 pub fn request_notification(
     state: &mut IpcState,
     space: u32,
-    name: u32,
-    variant: u32,
-    sync: u32,
-    notify_name: u32,
-    disposition: u32,
+    asked: NoticeRequest,
     wanted: Option<u32>,
     effects: &mut Effects,
 ) -> Result<Reply, AllocError>
     requires none { effects.old ≡ [] }
-    ensures tries { IfOk result (λ reply. Tries state.old space (call.RequestNotification name variant sync notify_name disposition) reply state.new effects.new) }
+    ensures tries { IfOk result (λ reply. Tries state.old space (call.RequestNotification asked.name asked.variant asked.sync asked.notify asked.disposition) reply state.new effects.new) }
     ensures wanted { IfOk result (λ reply. (shown : ℕ) → wanted ≡ Some shown → (new : State) → (effects : List machine.Effect)
-        → ActsIn state.old space (names_in state.old space) (call.RequestNotification name variant sync notify_name disposition) (Reply.PreviousTarget shown) new effects → reply ≡ Reply.PreviousTarget shown) }
+        → ActsIn state.old space (names_in state.old space) (call.RequestNotification asked.name asked.variant asked.sync asked.notify asked.disposition) (Reply.PreviousTarget shown) new effects → reply ≡ Reply.PreviousTarget shown) }
 {
-    match take_target(
-        state,
-        space,
-        name,
-        variant,
-        sync,
-        notify_name,
-        disposition,
-        effects,
-    )? {
+    match take_target(state, space, asked, effects)? {
         Err(code) => Ok(Reply::Refused {
             number: MACH_PORT_REQUEST_NOTIFICATION,
             code,
         }),
         Ok(target) => {
-            let name = replace_target(state, space, name, variant, sync, target, wanted, effects)?;
+            let name = replace_target(state, space, asked, target, wanted, effects)?;
             Ok(Reply::PreviousTarget { name })
         }
     }
@@ -74,38 +76,34 @@ pub fn request_notification(
 fn take_target(
     state: &mut IpcState,
     space: u32,
-    name: u32,
-    variant: u32,
-    sync: u32,
-    notify_name: u32,
-    disposition: u32,
+    asked: NoticeRequest,
     effects: &mut Effects,
 ) -> Result<Result<Option<u64>, KernReturn>, AllocError>
     requires none { effects.old ≡ [] }
-    ensures refused { IfOk result (λ outcome. IfErr outcome (λ code. first_failing (tests_of state.old space (names_in state.old space) (call.RequestNotification name variant sync notify_name disposition)) ≡ Some code)) }
-    ensures passed { IfOk result (λ outcome. IfOk outcome (λ target. first_failing (tests_of state.old space (names_in state.old space) (call.RequestNotification name variant sync notify_name disposition)) ≡ None)) }
-    ensures taken { IfOk result (λ outcome. IfOk outcome (λ target. target_for state.old space notify_name disposition ≡ record { target = target; state = state.new; notices = effects.new })) }
-    ensures allowed { IfOk result (λ outcome. IfOk outcome (λ target. first_failing (tests_of_request state.new space name variant sync (is_none target)) ≡ None)) }
+    ensures refused { IfOk result (λ outcome. IfErr outcome (λ code. first_failing (tests_of state.old space (names_in state.old space) (call.RequestNotification asked.name asked.variant asked.sync asked.notify asked.disposition)) ≡ Some code)) }
+    ensures passed { IfOk result (λ outcome. IfOk outcome (λ target. first_failing (tests_of state.old space (names_in state.old space) (call.RequestNotification asked.name asked.variant asked.sync asked.notify asked.disposition)) ≡ None)) }
+    ensures taken { IfOk result (λ outcome. IfOk outcome (λ target. target_for state.old space asked.notify asked.disposition ≡ record { target = target; state = state.new; notices = effects.new })) }
+    ensures allowed { IfOk result (λ outcome. IfOk outcome (λ target. first_failing (tests_of_request state.new space asked.name asked.variant asked.sync (is_none target)) ≡ None)) }
 {
-    if !is_variant(variant) {
+    if !is_variant(asked.variant) {
         return Ok(Err(KernReturn::InvalidValue));
     }
-    if notify_name == MACH_PORT_NULL {
-        if let Some(code) = refusal_of_request(state, space, name, variant, sync, true) {
+    if asked.notify == MACH_PORT_NULL {
+        if let Some(code) = refusal_of_request(state, space, asked, true) {
             return Ok(Err(code));
         }
         return Ok(Ok(None));
     }
-    let Some(disposition) = notify_disposition(disposition) else {
+    let Some(disposition) = notify_disposition(asked.disposition) else {
         return Ok(Err(KernReturn::InvalidValue));
     };
-    let Some(right) = take_right(state, space, notify_name, disposition, effects)? else {
+    let Some(right) = take_right(state, space, asked.notify, disposition, effects)? else {
         return Ok(Err(KernReturn::InvalidCapability));
     };
     let PortInMessage::Live(port) = right.port else {
         return Ok(Err(KernReturn::InvalidCapability));
     };
-    if let Some(code) = refusal_of_request(state, space, name, variant, sync, false) {
+    if let Some(code) = refusal_of_request(state, space, asked, false) {
         return Ok(Err(code));
     }
     Ok(Ok(Some(port)))
@@ -135,20 +133,18 @@ fn notify_disposition(disposition: u32) -> Option<Disposition>
 fn refusal_of_request(
     state: &IpcState,
     space: u32,
-    name: u32,
-    variant: u32,
-    sync: u32,
+    asked: NoticeRequest,
     cancels: bool,
 ) -> Option<KernReturn>
-    ensures { result ≡ first_failing (tests_of_request state.now space name variant sync cancels) }
+    ensures { result ≡ first_failing (tests_of_request state.now space asked.name asked.variant asked.sync cancels) }
 {
-    let Some(entry) = named(state, space, name) else {
+    let Some(entry) = named(state, space, asked.name) else {
         return Some(KernReturn::InvalidName);
     };
-    if let Some(code) = refusal_of_variant(state, space, name, entry, variant, sync, cancels) {
+    if let Some(code) = refusal_of_variant(state, space, asked, entry, cancels) {
         return Some(code);
     }
-    if target_under(state, space, name, variant).is_none() {
+    if target_under(state, space, asked.name, asked.variant).is_none() {
         return None;
     }
     if state.names(space) >= MAX_NAMES {
@@ -161,17 +157,15 @@ fn refusal_of_request(
 fn refusal_of_variant(
     state: &IpcState,
     space: u32,
-    name: u32,
+    asked: NoticeRequest,
     entry: Entry,
-    variant: u32,
-    sync: u32,
     cancels: bool,
 ) -> Option<KernReturn>
-    requires named { map.get (names_in state.now space) name ≡ Some entry }
-    ensures { result ≡ first_failing (tests_of_variant (names_in state.now space) name variant sync cancels) }
+    requires named { map.get (names_in state.now space) asked.name ≡ Some entry }
+    ensures { result ≡ first_failing (tests_of_variant (names_in state.now space) asked.name asked.variant asked.sync cancels) }
 {
-    if variant == MACH_NOTIFY_PORT_DESTROYED {
-        if sync != 0 {
+    if asked.variant == MACH_NOTIFY_PORT_DESTROYED {
+        if asked.sync != 0 {
             return Some(KernReturn::InvalidValue);
         }
         if received_port(entry).is_none() {
@@ -179,7 +173,7 @@ fn refusal_of_variant(
         }
         return None;
     }
-    if variant == MACH_NOTIFY_NO_SENDERS {
+    if asked.variant == MACH_NOTIFY_NO_SENDERS {
         if received_port(entry).is_none() {
             return Some(KernReturn::InvalidRight);
         }
@@ -189,7 +183,7 @@ fn refusal_of_variant(
         Entry::Port(_) | Entry::SendOnce { .. } => None,
         Entry::Set => Some(KernReturn::InvalidRight),
         Entry::Dead { references } => {
-            if sync == 0 || cancels {
+            if asked.sync == 0 || cancels {
                 return Some(KernReturn::InvalidArgument);
             }
             if references >= MAX_DEAD_REFERENCES {
@@ -226,21 +220,19 @@ fn target_under(state: &IpcState, space: u32, name: u32, variant: u32) -> Option
 fn replace_target(
     state: &mut IpcState,
     space: u32,
-    name: u32,
-    variant: u32,
-    sync: u32,
+    asked: NoticeRequest,
     target: Option<u64>,
     wanted: Option<u32>,
     effects: &mut Effects,
 ) -> Result<u32, AllocError>
-    requires allowed { first_failing (tests_of_request state.old space name variant sync (is_none target)) ≡ None }
-    ensures given { IfOk result (λ given. GivesBack (request_set_under state.old space name variant sync target).0 space (target_under state.old (names_in state.old space) variant name) given state.new) }
-    ensures effects { OnOk result (effects.new ≡ effects.old ++ (request_set_under state.old space name variant sync target).1) }
+    requires allowed { first_failing (tests_of_request state.old space asked.name asked.variant asked.sync (is_none target)) ≡ None }
+    ensures given { IfOk result (λ given. GivesBack (request_set_under state.old space asked.name asked.variant asked.sync target).0 space (target_under state.old (names_in state.old space) asked.variant asked.name) given state.new) }
+    ensures effects { OnOk result (effects.new ≡ effects.old ++ (request_set_under state.old space asked.name asked.variant asked.sync target).1) }
     ensures wanted { IfOk result (λ given. (shown : ℕ) → wanted ≡ Some shown → (new : State)
-        → GivesBack (request_set_under state.old space name variant sync target).0 space (target_under state.old (names_in state.old space) variant name) shown new → given ≡ shown) }
+        → GivesBack (request_set_under state.old space asked.name asked.variant asked.sync target).0 space (target_under state.old (names_in state.old space) asked.variant asked.name) shown new → given ≡ shown) }
 {
-    let former = target_under(state, space, name, variant);
-    set_request(state, space, name, variant, sync, target, effects)?;
+    let former = target_under(state, space, asked.name, asked.variant);
+    set_request(state, space, asked, target, effects)?;
     let given = give_back(state, space, former, wanted)?;
     Ok(given)
 }
@@ -249,27 +241,25 @@ fn replace_target(
 fn set_request(
     state: &mut IpcState,
     space: u32,
-    name: u32,
-    variant: u32,
-    sync: u32,
+    asked: NoticeRequest,
     target: Option<u64>,
     effects: &mut Effects,
 ) -> Result<(), AllocError>
-    requires allowed { first_failing (tests_of_request state.old space name variant sync (is_none target)) ≡ None }
-    ensures state { OnOk result (state.new ≡ (request_set_under state.old space name variant sync target).0) }
-    ensures effects { OnOk result (effects.new ≡ effects.old ++ (request_set_under state.old space name variant sync target).1) }
+    requires allowed { first_failing (tests_of_request state.old space asked.name asked.variant asked.sync (is_none target)) ≡ None }
+    ensures state { OnOk result (state.new ≡ (request_set_under state.old space asked.name asked.variant asked.sync target).0) }
+    ensures effects { OnOk result (effects.new ≡ effects.old ++ (request_set_under state.old space asked.name asked.variant asked.sync target).1) }
 {
-    let Some(entry) = state.entry(space, name) else {
+    let Some(entry) = state.entry(space, asked.name) else {
         return Ok(());
     };
-    if variant == MACH_NOTIFY_DEAD_NAME {
-        set_dead_name_request(state, space, name, target, entry, effects)?;
+    if asked.variant == MACH_NOTIFY_DEAD_NAME {
+        set_dead_name_request(state, space, asked.name, target, entry, effects)?;
         return Ok(());
     }
     let Some(port) = received_port(entry) else {
         return Ok(());
     };
-    set_port_request(state, variant, sync, port, target, effects)?;
+    set_port_request(state, asked.variant, asked.sync, port, target, effects)?;
     Ok(())
 }
 

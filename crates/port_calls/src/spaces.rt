@@ -11,8 +11,9 @@ ghost use Rattle.ipc_model.specs.calls.Tests.{first_failing};
 ghost use Rattle.port_calls.specs.Trying.{Tries};
 ghost use Rattle.rights.specs.Taking.{Takes};
 
-use crate::ask::named;
+use crate::name_lookup::named;
 use crate::references::release_name;
+use crate::right_transfer::arrival_wanted;
 use codes::{
     ATTACH, Disposition, FIRST_SPACE, KernReturn, MAX_SPACES, SPACE_CREATE, SPACE_DESTROY,
 };
@@ -21,7 +22,7 @@ use ipc_model::{CarriedRight, PortInMessage, Reply};
 use ipc_state::IpcState;
 use port_set::{move_ports, received_ports};
 use port_space::PortSpace;
-use rights::{arrival_name, may_arrive, put_right, take_right};
+use rights::{put_right, take_right};
 use std::alloc::{AllocError, Global};
 
 /// Attaches a task to another space, which has to be there.
@@ -176,7 +177,7 @@ fn add_child(
     let (wanted_number, wanted_name) = wanted.unzip();
     let number = space_number(state, wanted_number);
     state.add_space(number, PortSpace::new(alloc))?;
-    let name = child_name(state, number, right, wanted_name);
+    let name = arrival_wanted(state, number, right, wanted_name);
     put_right(state, number, right, name)?;
     Ok((number, name))
 }
@@ -193,17 +194,4 @@ fn space_number(state: &IpcState, wanted: Option<u32>) -> u32
         }
     }
     state.free_space()
-}
-
-/// The wanted name of a right where it may arrive under it, and else the one that it gets by itself.
-fn child_name(state: &IpcState, space: u32, right: CarriedRight, wanted: Option<u32>) -> u32
-    ensures arrives { MayArrive (names_in state.now space) right.kind right.port result }
-    ensures wanted { (name : ℕ) → wanted ≡ Some name → MayArrive (names_in state.now space) right.kind right.port name → result ≡ name }
-{
-    if let Some(name) = wanted {
-        if may_arrive(state, space, right, name) {
-            return name;
-        }
-    }
-    arrival_name(state, space, right)
 }

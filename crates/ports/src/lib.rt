@@ -1,9 +1,9 @@
 //! The live ports.
 #![tactic(auto)]
 
-mod found;
 mod places;
 mod port;
+mod port_changes;
 mod ports;
 
 pub use port::{Port, PortNumbers};

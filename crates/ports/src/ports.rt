@@ -8,11 +8,11 @@ ghost use Rattle.ipc_model.specs.declared.port.PortState.{PortState};
 ghost use Rattle.queue.specs.Counts.{capped_count};
 ghost use Rattle.ports.specs.Changed.{changed, messages_at, numbers_of, with_numbers, KeepsTargets};
 
-use crate::found::{
-    carrier_among, count_at, count_elsewhere, forget_at, push_message, put_numbers, take_message,
-};
 use crate::places::{add_message, add_target, drop_message, drop_port};
 use crate::port::{Port, PortNumbers};
+use crate::port_changes::{
+    carrier_among, count_at, count_elsewhere, forget_at, push_message, put_numbers, take_message,
+};
 use codes::MAX_PORTS;
 use ipc_model::{Message, RightKind};
 use number_map::{Copier, NumberMap};

@@ -1,0 +1,209 @@
+ghost use Rattle.std.specs.Prelude.{◌≡◌, [], false, true, None, IfOk, IfSome, IfNone, OnErr, IsSome};
+ghost use Rattle.std.specs.FinMap as map;
+ghost use Rattle.ipc_model.specs.calls.PortCalls.{names_in};
+ghost use Rattle.ipc_model.specs.calls.Step.{ActsIn};
+ghost use Rattle.kernel.specs.Choosing.{Prefers, gives_up, hands_over, only_reads, sets_nothing_off};
+ghost use Rattle.port_calls.specs.Trying.{Tries};
+
+use crate::choices::Shown;
+use effects::Effects;
+use ipc_model::{Call, Reply};
+use ipc_state::IpcState;
+use port_calls::NoticeRequest;
+use std::alloc::{AllocError, Global};
+
+/// The reply to a call that only reads; `None` for other calls.
+pub fn read(
+    alloc: Global,
+    state: &IpcState,
+    space: u32,
+    call: &Call,
+) -> Result<Option<Reply>, AllocError>
+    ensures acts { IfOk result (λ done. IfSome done (λ reply. ActsIn state.now space (names_in state.now space) call.now reply state.now [])) }
+    ensures reads { IfOk result (λ done. IfSome done (λ reply. only_reads call.now ≡ true)) }
+    ensures none { IfOk result (λ done. IfNone done (only_reads call.now ≡ false)) }
+{
+    match call {
+        Call::Attach { space: other } => Ok(Some(port_calls::attach(state, space, *other))),
+        Call::Names => {
+            let reply = port_calls::names(alloc, state, space)?;
+            Ok(Some(reply))
+        }
+        Call::Type { name } => Ok(Some(port_calls::port_type(state, space, *name))),
+        Call::GetRefs { name, right } => Ok(Some(port_calls::get_refs(
+            state, space, *name, *right,
+        ))),
+        Call::GetReceiveStatus { name } => {
+            Ok(Some(port_calls::receive_status(state, space, *name)))
+        }
+        Call::GetSetStatus { name } => {
+            let reply = port_calls::get_set_status(alloc, state, space, *name)?;
+            Ok(Some(reply))
+        }
+        _ => Ok(None),
+    }
+}
+
+/// Makes a call that changes the state and sets nothing off; `None` for other calls. Where memory is wanted nothing
+/// changed.
+pub fn change(
+    alloc: Global,
+    state: &mut IpcState,
+    space: u32,
+    call: &Call,
+    shown: Shown,
+) -> Result<Option<Reply>, AllocError>
+    requires there { IsSome (map.get state.old.spaces space) }
+    requires fresh { map.get state.old.ports state.old.next ≡ None }
+    ensures acts { IfOk result (λ done. IfSome done (λ reply. ActsIn state.old space (names_in state.old space) call.now reply state.new [])) }
+    ensures changes { IfOk result (λ done. IfSome done (λ reply. sets_nothing_off call.now ≡ true)) }
+    ensures shown { IfOk result (λ done. IfSome done (λ reply. Prefers state.old space call.now shown reply)) }
+    ensures none { IfOk result (λ done. IfNone done (sets_nothing_off call.now ≡ false)) }
+    ensures same { IfOk result (λ done. IfNone done (state.new ≡ state.old)) }
+    ensures err { OnErr result (state.new ≡ state.old) }
+{
+    match call {
+        Call::Rename { from, to } => {
+            let reply = port_calls::rename(alloc, state, space, *from, *to)?;
+            Ok(Some(reply))
+        }
+        Call::AllocateName { right, name } => {
+            let reply = port_calls::allocate_name(state, space, *right, *name)?;
+            Ok(Some(reply))
+        }
+        Call::Allocate { right } => {
+            let reply = port_calls::allocate(state, space, *right, shown.name)?;
+            Ok(Some(reply))
+        }
+        Call::SetQlimit { name, limit } => {
+            let reply = port_calls::set_qlimit(state, space, *name, *limit);
+            Ok(Some(reply))
+        }
+        Call::SetMscount { name, count } => {
+            let reply = port_calls::set_mscount(state, space, *name, *count);
+            Ok(Some(reply))
+        }
+        Call::SetSeqno { name, seqno } => {
+            let reply = port_calls::set_seqno(state, space, *name, *seqno);
+            Ok(Some(reply))
+        }
+        Call::MoveMember { member, after } => {
+            let reply = port_calls::move_member(state, space, *member, *after);
+            Ok(Some(reply))
+        }
+        _ => Ok(None),
+    }
+}
+
+/// Tries a call that gives rights up on a copy of the state, which is to be given up where the call is refused or memory
+/// is wanted; `None` for other calls.
+pub fn give_up(
+    alloc: Global,
+    state: &mut IpcState,
+    space: u32,
+    call: &Call,
+    effects: &mut Effects,
+) -> Result<Option<Reply>, AllocError>
+    requires none { effects.old ≡ [] }
+    requires there { IsSome (map.get state.old.spaces space) }
+    ensures tries { IfOk result (λ done. IfSome done (λ reply. Tries state.old space call.now reply state.new effects.new)) }
+    ensures gives { IfOk result (λ done. IfSome done (λ reply. gives_up call.now ≡ true)) }
+    ensures none { IfOk result (λ done. IfNone done ((gives_up call.now ≡ false) × (state.new ≡ state.old) × (effects.new ≡ effects.old))) }
+{
+    match call {
+        Call::Destroy { name } => {
+            let reply = port_calls::destroy(alloc, state, space, *name, effects)?;
+            Ok(Some(reply))
+        }
+        Call::Deallocate { name } => {
+            let reply = port_calls::deallocate(state, space, *name, effects)?;
+            Ok(Some(reply))
+        }
+        Call::ModRefs { name, right, delta } => {
+            let reply = port_calls::mod_refs(alloc, state, space, *name, *right, *delta, effects)?;
+            Ok(Some(reply))
+        }
+        Call::SpaceDestroy => {
+            let reply = port_calls::space_destroy(alloc, state, space, effects)?;
+            Ok(Some(reply))
+        }
+        _ => Ok(None),
+    }
+}
+
+/// Tries a call that copies a right in on a copy of the state, which is to be given up where the call is refused or
+/// memory is wanted; `None` for other calls.
+pub fn hand_over(
+    alloc: Global,
+    state: &mut IpcState,
+    space: u32,
+    call: &Call,
+    shown: Shown,
+    effects: &mut Effects,
+) -> Result<Option<Reply>, AllocError>
+    requires none { effects.old ≡ [] }
+    requires there { IsSome (map.get state.old.spaces space) }
+    ensures tries { IfOk result (λ done. IfSome done (λ reply. Tries state.old space call.now reply state.new effects.new)) }
+    ensures hands { IfOk result (λ done. IfSome done (λ reply. hands_over call.now ≡ true)) }
+    ensures shown { IfOk result (λ done. IfSome done (λ reply. Prefers state.old space call.now shown reply)) }
+    ensures none { IfOk result (λ done. IfNone done (hands_over call.now ≡ false)) }
+{
+    match call {
+        Call::RequestNotification {
+            name,
+            variant,
+            sync,
+            notify,
+            disposition,
+        } => {
+            let asked = NoticeRequest {
+                name: *name,
+                variant: *variant,
+                sync: *sync,
+                notify: *notify,
+                disposition: *disposition,
+            };
+            let reply = port_calls::request_notification(state, space, asked, shown.name, effects)?;
+            Ok(Some(reply))
+        }
+        Call::InsertRight {
+            name,
+            right_name,
+            disposition,
+        } => {
+            let reply = port_calls::insert_right(
+                state,
+                space,
+                *name,
+                *right_name,
+                *disposition,
+                effects,
+            )?;
+            Ok(Some(reply))
+        }
+        Call::ExtractRight { name, disposition } => {
+            let reply = port_calls::extract_right(
+                state,
+                space,
+                *name,
+                *disposition,
+                shown.name,
+                effects,
+            )?;
+            Ok(Some(reply))
+        }
+        Call::SpaceCreate { name, disposition } => {
+            let reply = port_calls::space_create(
+                alloc,
+                state,
+                space,
+                *name,
+                *disposition,
+                shown.space,
+                effects,
+            )?;
+            Ok(Some(reply))
+        }
+        _ => Ok(None),
+    }
+}

@@ -1,0 +1,240 @@
+ghost use Rattle.std.specs.Prelude.{◌≡◌, ℕ, ◌<◌, ◌&&◌, ◌∷◌, [], not, Some, None, IfOk, IfErr, IfSome, IfNone, OnOk, IsSome, List};
+ghost use Rattle.std.specs.FinMap as map;
+ghost use Rattle.ipc_model.specs.calls.Actions.{taken_by};
+ghost use Rattle.ipc_model.specs.rights.CopyIn.{copy_in};
+ghost use Rattle.ipc_model.specs.rights.CopyOut.{MayArrive, names_after};
+ghost use Rattle.ipc_model.specs.declared.call.Call.TheVariants as call;
+ghost use Rattle.ipc_model.specs.effects.Effects.{Effect};
+ghost use Rattle.ipc_model.specs.calls.PortCalls.{is_in_use, names_are_used_up, is_send_once_kind, is_taken_otherwise, names_in, passes_bound, stands_elsewhere, tests_of};
+ghost use Rattle.ipc_model.specs.state.State.{State, entry_at, with_names};
+ghost use Rattle.ipc_model.specs.calls.Step.{ActsIn};
+ghost use Rattle.ipc_model.specs.calls.Tests.{first_failing};
+ghost use Rattle.port_calls.specs.Trying.{Tries};
+
+use crate::name_lookup::{is_null_or_dead, named};
+use codes::{
+    Disposition, KernReturn, MACH_PORT_EXTRACT_RIGHT, MACH_PORT_INSERT_RIGHT, MAX_NAMES,
+    MAX_SEND_REFERENCES,
+};
+use effects::Effects;
+use ipc_model::{CarriedRight, Entry, PortInMessage, Reply, RightKind};
+use ipc_state::IpcState;
+use rights::{arrival_name, may_arrive, names_wanted, put_right, take_right};
+use std::alloc::AllocError;
+
+/// `mach_port_insert_right`: a right that a name hands over comes to stand under a name that the task chooses. The
+/// space is there, and no effect waits. Where the call is refused, or memory is wanted, the state has to be given up.
+#[tactic(auto, unfolding(ipc_model::specs::calls::PortCalls::tests_of, ipc_model::specs::calls::Actions::Done))]
+pub fn insert_right(
+    state: &mut IpcState,
+    space: u32,
+    name: u32,
+    right_name: u32,
+    disposition: u32,
+    effects: &mut Effects,
+) -> Result<Reply, AllocError>
+    requires none { effects.old ≡ [] }
+    requires there { IsSome (map.get state.old.spaces space) }
+    ensures { IfOk result (λ reply. Tries state.old space (call.InsertRight name right_name disposition) reply state.new effects.new) }
+{
+    let number = MACH_PORT_INSERT_RIGHT;
+    if is_null_or_dead(name) {
+        return Ok(Reply::Refused {
+            number,
+            code: KernReturn::InvalidValue,
+        });
+    }
+    let Some(disposition) = Disposition::from_number(disposition) else {
+        return Ok(Reply::Refused {
+            number,
+            code: KernReturn::InvalidValue,
+        });
+    };
+    let Some(right) = take_given(state, space, right_name, disposition, effects)? else {
+        return Ok(Reply::Refused {
+            number,
+            code: KernReturn::InvalidCapability,
+        });
+    };
+    let PortInMessage::Live(port) = right.port else {
+        return Ok(Reply::Refused {
+            number,
+            code: KernReturn::InvalidCapability,
+        });
+    };
+    if let Some(code) = refusal_of_insert(state, space, name, right.kind, port) {
+        return Ok(Reply::Refused { number, code });
+    }
+    put_given(state, space, right, name)?;
+    Ok(Reply::Done { number })
+}
+
+/// Takes the right that a name hands over, as copy in does.
+#[tactic(auto, using(crate::proofs::Handed::taken_is))]
+fn take_given(
+    state: &mut IpcState,
+    space: u32,
+    name: u32,
+    disposition: Disposition,
+    effects: &mut Effects,
+) -> Result<Option<CarriedRight>, AllocError>
+    requires none { effects.old ≡ [] }
+    requires there { IsSome (map.get state.old.spaces space) }
+    ensures taken { IfOk result (λ taken. IfSome taken (λ right. copy_in state.old space name disposition ≡ Some (record { right = right; state = state.new; notices = effects.new }))) }
+    ensures refused { IfOk result (λ taken. IfNone taken (copy_in state.old space name disposition ≡ None)) }
+    ensures there { IfOk result (λ taken. IfSome taken (λ right. IsSome (map.get state.new.spaces space))) }
+{
+    let Some(right) = take_right(state, space, name, disposition, effects)? else {
+        return Ok(None);
+    };
+    Ok(Some(right))
+}
+
+/// Has a right that was taken come to stand under a name.
+fn put_given(
+    state: &mut IpcState,
+    space: u32,
+    right: CarriedRight,
+    name: u32,
+) -> Result<(), AllocError>
+    requires there { IsSome (map.get state.old.spaces space) }
+    requires room { map.get (names_in state.old space) name ≡ None → map.len (names_in state.old space) < MAX_NAMES }
+    ensures { OnOk result (state.new ≡ with_names state.old space (names_after (names_in state.old space) right.kind right.port name)) }
+{
+    put_right(state, space, right, name)
+}
+
+/// The code with which a right to a port is refused under a name that the task chose, if it is.
+fn refusal_of_insert(
+    state: &IpcState,
+    space: u32,
+    name: u32,
+    kind: RightKind,
+    port: u64,
+) -> Option<KernReturn>
+    ensures refusal { result ≡ first_failing ((not (is_send_once_kind kind) && stands_elsewhere (names_in state.now space) name port, KernReturn.RightExists)
+        ∷ (is_taken_otherwise kind port (map.get (names_in state.now space) name), KernReturn.NameExists)
+        ∷ (passes_bound kind (map.get (names_in state.now space) name), KernReturn.UrefsOverflow)
+        ∷ (not (is_in_use (names_in state.now space) name) && names_are_used_up (names_in state.now space), KernReturn.NoSpace) ∷ []) }
+    ensures room { IfNone result (map.get (names_in state.now space) name ≡ None → map.len (names_in state.now space) < MAX_NAMES) }
+{
+    if kind != RightKind::SendOnce && state.stands_elsewhere(space, name, port) {
+        return Some(KernReturn::RightExists);
+    }
+    let entry = state.entry(space, name);
+    if is_taken_otherwise(kind, port, entry) {
+        return Some(KernReturn::NameExists);
+    }
+    if passes_bound(kind, entry) {
+        return Some(KernReturn::UrefsOverflow);
+    }
+    if entry.is_none() && state.names(space) >= MAX_NAMES {
+        return Some(KernReturn::NoSpace);
+    }
+    None
+}
+
+/// Whether a name may not take a right to a port: it is in use, and doesn't hold the port's send or receive right, or
+/// the right is a send-once one.
+fn is_taken_otherwise(kind: RightKind, port: u64, entry: Option<Entry>) -> bool
+    ensures { result ≡ is_taken_otherwise kind port entry }
+{
+    match entry {
+        None => false,
+        Some(Entry::Port(rights)) => kind == RightKind::SendOnce || rights.port != port,
+        Some(_) => true,
+    }
+}
+
+/// Whether a send right more would pass the greatest number of references.
+fn passes_bound(kind: RightKind, entry: Option<Entry>) -> bool
+    ensures { result ≡ passes_bound kind entry }
+{
+    match entry {
+        Some(Entry::Port(rights)) => {
+            kind == RightKind::Send && rights.send >= MAX_SEND_REFERENCES
+        }
+        _ => false,
+    }
+}
+
+/// `mach_port_extract_right`: a right that a name hands over comes out under its port's name, or a new one: the wanted
+/// one where it may. The space is there, and no effect waits. Where the call is refused, or memory is wanted, the
+/// state has to be given up.
+#[tactic(auto, unfolding(ipc_model::specs::calls::PortCalls::tests_of, ipc_model::specs::calls::Actions::Done))]
+pub fn extract_right(
+    state: &mut IpcState,
+    space: u32,
+    name: u32,
+    disposition: u32,
+    wanted: Option<u32>,
+    effects: &mut Effects,
+) -> Result<Reply, AllocError>
+    requires none { effects.old ≡ [] }
+    requires there { IsSome (map.get state.old.spaces space) }
+    ensures acts { IfOk result (λ reply. Tries state.old space (call.ExtractRight name disposition) reply state.new effects.new) }
+    ensures wanted { IfOk result (λ reply. (shown : ℕ) → wanted ≡ Some shown → (kind : RightKind) → (new : State) → (effects : List Effect)
+        → ActsIn state.old space (names_in state.old space) (call.ExtractRight name disposition) (Reply.Extracted shown kind) new effects → reply ≡ Reply.Extracted shown kind) }
+{
+    let right = match take_extracted(state, space, name, disposition, effects)? {
+        Ok(right) => right,
+        Err(code) => return Ok(Reply::Refused {
+            number: MACH_PORT_EXTRACT_RIGHT,
+            code,
+        }),
+    };
+    let shown = arrival_wanted(state, space, right, wanted);
+    put_given(state, space, right, shown)?;
+    Ok(Reply::Extracted {
+        name: shown,
+        kind: right.kind,
+    })
+}
+
+/// Takes the right that is to be extracted, or gives the code with which that is refused.
+#[tactic(auto, unfolding(ipc_model::specs::calls::PortCalls::tests_of), using(rights::specs::Room::room_to_come))]
+fn take_extracted(
+    state: &mut IpcState,
+    space: u32,
+    name: u32,
+    disposition: u32,
+    effects: &mut Effects,
+) -> Result<Result<CarriedRight, KernReturn>, AllocError>
+    requires none { effects.old ≡ [] }
+    requires there { IsSome (map.get state.old.spaces space) }
+    ensures refused { IfOk result (λ taken. IfErr taken (λ code. first_failing (tests_of state.old space (names_in state.old space) (call.ExtractRight name disposition)) ≡ Some code)) }
+    ensures passed { IfOk result (λ taken. IfOk taken (λ right. first_failing (tests_of state.old space (names_in state.old space) (call.ExtractRight name disposition)) ≡ None)) }
+    ensures taken { IfOk result (λ taken. IfOk taken (λ right. taken_by state.old space name disposition ≡ Some (record { right = right; state = state.new; notices = effects.new }))) }
+    ensures there { IfOk result (λ taken. IfOk taken (λ right. IsSome (map.get state.new.spaces space))) }
+    ensures room { IfOk result (λ taken. IfOk taken (λ right. (name : ℕ) → MayArrive (names_in state.new space) right.kind right.port name
+        → map.get (names_in state.new space) name ≡ None → map.len (names_in state.new space) < MAX_NAMES)) }
+{
+    let Some(disposition) = Disposition::from_number(disposition) else {
+        return Ok(Err(KernReturn::InvalidValue));
+    };
+    if named(state, space, name).is_none() {
+        return Ok(Err(KernReturn::InvalidName));
+    }
+    let Some(right) = take_given(state, space, name, disposition, effects)? else {
+        return Ok(Err(KernReturn::InvalidRight));
+    };
+    let PortInMessage::Live(_) = right.port else {
+        return Ok(Err(KernReturn::InvalidRight));
+    };
+    if state.names(space) > MAX_NAMES - names_wanted(state, space, &[right]) {
+        return Ok(Err(KernReturn::NoSpace));
+    }
+    Ok(Ok(right))
+}
+
+/// The name under which a right arrives: the wanted one where it may arrive under it, or else the one that it gets by
+/// itself.
+pub(crate) fn arrival_wanted(state: &IpcState, space: u32, right: CarriedRight, wanted: Option<u32>) -> u32
+    ensures may { MayArrive (names_in state.now space) right.kind right.port result }
+    ensures wanted { (shown : ℕ) → wanted ≡ Some shown → MayArrive (names_in state.now space) right.kind right.port shown → result ≡ shown }
+{
+    match wanted {
+        Some(name) if may_arrive(state, space, right, name) => name,
+        _ => arrival_name(state, space, right),
+    }
+}
