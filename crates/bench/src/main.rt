@@ -1,8 +1,11 @@
 //! `bench FOLDER` measures acknowledged calls on a new store in the folder FOLDER/store, which has to be there and
 //! empty, beside pairs of syncs of a file in FOLDER, which is what a stored call costs at least. It also measures calls
-//! of a kernel alone, in memory.
+//! of a kernel alone, in memory, also what each kind of call costs beside few and beside many other ports.
 #![tactic(auto)]
 
+mod costs;
+
+use crate::costs::print_costs;
 use disk::FileDisk;
 use ipc_model::{Call, Reply};
 use kernel::Kernel;
@@ -133,6 +136,14 @@ fn time_rounds(
     Ok(start.elapsed(rt)?)
 }
 
+/// How many nanoseconds one of so many took.
+fn per_call(count: u64, duration: Duration) -> u64 {
+    if count == 0 {
+        return 0;
+    }
+    u64::try_from(duration.as_nanos() / u128::from(count)).unwrap_or(u64::MAX)
+}
+
 /// So many in a second.
 fn per_second(count: u64, duration: Duration) -> u64 {
     let micros = duration.as_micros();
@@ -194,8 +205,16 @@ fn main(rt: HostRuntime) -> ExitCode {
     match measure(&rt, folder.as_str()) {
         Ok(figures) => {
             print(&rt, &figures);
-            ExitCode::SUCCESS
+            end(&rt, print_costs(&rt))
         }
+        Err(fault) => end(&rt, Err(fault)),
+    }
+}
+
+/// Tells of a fault, and gives the status to end with.
+fn end(rt: &HostRuntime, outcome: Result<(), Fault>) -> ExitCode {
+    match outcome {
+        Ok(()) => ExitCode::SUCCESS,
         Err(fault) => {
             let _ = eprintln!(rt; "bench: {fault}");
             ExitCode::from(1)

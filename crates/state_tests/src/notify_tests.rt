@@ -1,9 +1,8 @@
-use crate::making::with_ports;
+use crate::making::right;
 use effects::Notice;
-use ipc_model::{CarriedRight, Entry, RightKind};
-use ipc_state::IpcState;
-use notify::{message, replace_no_senders, replace_port_destroyed, with_request};
-use std::alloc::{AllocError, Global};
+use ipc_model::{CarriedRight, RightKind};
+use notify::message;
+use std::alloc::Global;
 use std::process::Abort;
 use std::test::Fail;
 
@@ -43,7 +42,7 @@ fn notices_of_names(rt: HostRuntime) -> Result<(), Fail> {
 #[test]
 fn notices_of_ports(rt: HostRuntime) -> Result<(), Fail> {
     let destroyed = [0x10, 0x20, 0x01, 0x10, 0, 0, 0, 0];
-    let receive = crate::making::right(RightKind::Receive, 7);
+    let receive = right(RightKind::Receive, 7);
     says(
         &rt,
         rt.alloc(),
@@ -62,45 +61,4 @@ fn notices_of_ports(rt: HostRuntime) -> Result<(), Fail> {
         &[],
     )?;
     says(&rt, rt.alloc(), Notice::SendOnce, 71, &[], &[])
-}
-
-/// Sets the target of a no-senders request of port 1, then of a port-destroyed request, and gives those before.
-fn replace(
-    state: &mut IpcState,
-    no_senders: Option<u64>,
-    port_destroyed: Option<u64>,
-) -> Result<[Option<u64>; 2], AllocError> {
-    Ok([
-        replace_no_senders(state, 1, no_senders)?,
-        replace_port_destroyed(state, 1, port_destroyed)?,
-    ])
-}
-
-#[test]
-fn keeps_and_gives_back_requests(rt: HostRuntime) -> Result<(), Fail> {
-    let mut state = with_ports(rt.alloc(), 1)?;
-    let given = [
-        replace(&mut state, Some(8), None)?,
-        replace(&mut state, Some(9), Some(7))?,
-        replace(&mut state, None, None)?,
-        replace(&mut state, None, None)?,
-    ];
-    let before = [
-        [None, None],
-        [Some(8), None],
-        [Some(9), Some(7)],
-        [None, None],
-    ];
-    assert_eq!(rt; given, before);
-    Ok(())
-}
-
-#[test]
-fn a_name_has_a_request(rt: HostRuntime) {
-    let once = |dead_name_target| Entry::SendOnce {
-        port: 1,
-        dead_name_target,
-    };
-    let asked = [once(Some(7)), Entry::Set].map(|entry| with_request(entry, Some(8)));
-    assert_eq!(rt; asked, [once(Some(8)), Entry::Set]);
 }

@@ -1,6 +1,6 @@
 use crate::making::{carrying, right};
 use ipc_model::RightKind;
-use ports::{PortNumbers, Ports};
+use ports::Ports;
 use queue::PushFault;
 use std::alloc::{AllocError, Global};
 use std::test::Fail;
@@ -59,46 +59,5 @@ fn messages_are_taken_in_their_order(rt: HostRuntime) -> Result<(), Fail> {
     );
     assert_eq!(rt; take_two(&mut ports, 8), [None, None]);
     assert_eq!(rt; take_two(&mut copy, 7), [Some(1), Some(2)]);
-    Ok(())
-}
-
-#[test]
-fn ports_are_removed(rt: HostRuntime) -> Result<(), Fail> {
-    let mut ports = two_ports(rt.alloc())?;
-    let removed = [7, 7, 8].map(|serial| ports.remove(serial).map(|port| port.into_queue().len()));
-    assert_eq!(rt; removed, [Some(1), None, None]);
-    assert_eq!(rt; (ports.len(), ports.is_empty()), (1, false));
-    Ok(())
-}
-
-const NUMBERS: PortNumbers = PortNumbers {
-    limit: 1,
-    sequence_number: 2,
-    make_send_count: 3,
-    set: Some(4),
-    no_senders_target: Some(9),
-    port_destroyed_target: Some(8),
-};
-
-#[test]
-fn requests_are_kept(rt: HostRuntime) -> Result<(), Fail> {
-    let mut ports = two_ports(rt.alloc())?;
-    ports.replace_numbers(7, NUMBERS)?;
-    assert_eq!(rt; [ports.numbers(7), ports.numbers(8)], [Some(NUMBERS), None]);
-    let counts = [9, 8, 7].map(|serial| ports.rights_to(RightKind::SendOnce, serial));
-    assert_eq!(rt; counts, [1, 1, 0]);
-    Ok(())
-}
-
-#[test]
-fn a_dead_port_is_forgotten(rt: HostRuntime) -> Result<(), Fail> {
-    let mut ports = two_ports(rt.alloc())?;
-    ports.replace_numbers(7, NUMBERS)?;
-    let carriers = [9, 8].map(|serial| ports.carrier(serial));
-    ports.forget_port(9);
-    assert_eq!(rt; (carriers, ports.carrier(9)), ([Some(4), None], None));
-    assert_eq!(rt; ports.rights_to(RightKind::Receive, 9), 0);
-    let targets = ports.numbers(7).map(|kept| [kept.no_senders_target, kept.port_destroyed_target]);
-    assert_eq!(rt; targets, Some([None, Some(8)]));
     Ok(())
 }

@@ -1,5 +1,4 @@
-use crate::making::{carrying, right, with_reply};
-use ipc_model::{CarriedRight, PortInMessage, RightKind};
+use crate::making::carrying;
 use queue::{PushFault, Queue};
 use std::alloc::{AllocError, Global};
 use std::test::Fail;
@@ -39,41 +38,5 @@ fn the_oldest_message_comes_first(rt: HostRuntime) -> Result<(), Fail> {
     assert_eq!(rt; queue.first().map(|message| message.id), Some(1));
     assert_eq!(rt; take_three(&mut queue), [Some(1), Some(2), None]);
     assert_eq!(rt; take_three(&mut copy), [Some(1), Some(2), None]);
-    Ok(())
-}
-
-/// A queue with the receive rights of ports 7 and 8 and send rights to both, and a reply right to port 9.
-fn with_rights(alloc: Global) -> Result<Queue, AllocError> {
-    let mut queue = Queue::new(alloc);
-    let receive = [right(RightKind::Receive, 7), right(RightKind::Receive, 8)];
-    queue.push_forced(carrying(alloc, 1, &receive)?)?;
-    let null = CarriedRight {
-        kind: RightKind::Send,
-        port: PortInMessage::Null,
-    };
-    let send = [right(RightKind::Send, 7), null, right(RightKind::Send, 8)];
-    queue.push_forced(with_reply(carrying(alloc, 2, &send)?, 9))?;
-    Ok(queue)
-}
-
-#[test]
-fn rights_are_counted(rt: HostRuntime) -> Result<(), Fail> {
-    let queue = with_rights(rt.alloc())?;
-    let carried = [7, 8, 9].map(|serial| queue.carries(serial));
-    assert_eq!(rt; carried, [true, true, false]);
-    // Two messages by send rights to the queue's own port, and one carried.
-    assert_eq!(rt; queue.rights_to(7, RightKind::Send, 7), 3);
-    assert_eq!(rt; queue.rights_to(7, RightKind::Receive, 8), 1);
-    assert_eq!(rt; queue.rights_to(7, RightKind::SendOnce, 9), 1);
-    Ok(())
-}
-
-#[test]
-fn rights_to_a_dead_port_die(rt: HostRuntime) -> Result<(), Fail> {
-    let mut queue = with_rights(rt.alloc())?;
-    queue.forget_port(7);
-    let carried = [7, 8].map(|serial| queue.carries(serial));
-    assert_eq!(rt; carried, [false, true]);
-    assert_eq!(rt; queue.rights_to(6, RightKind::Send, 7), 0);
     Ok(())
 }
