@@ -74,7 +74,6 @@ made_ready old new state is opening =
       [],
       record {
         content = closed_gate ∷ [];
-        size = 0;
         text = segment;
         spelled = record { batches = []; rest = closed_gate ∷ []; text = refl; closed = λ e. cc; none_empty = tt; flat = refl; canonical = tt; bounded = omega arith };
         ended = refl;
