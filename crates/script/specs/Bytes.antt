@@ -19,4 +19,4 @@ bytes_at (word ∷ words) = read_bytes word >>= λ bytes. Some (bytes, words)
 
 -- the bytes behind their label, or none where it is missing
 unfoldable pub optional_bytes_at : List ℕ → List (List ℕ) → Option (List ℕ × List (List ℕ))
-optional_bytes_at label words = elim (label_at label words) [ | None ↦ Some ([], words) | Some rest ↦ bytes_at rest ]
+optional_bytes_at label words = elim (label_at label words) [ None ↦ Some ([], words) | Some rest ↦ bytes_at rest ]

@@ -39,8 +39,13 @@ labelled_at label k words = label_at label words >>= λ rest. value_at k rest
 
 -- the same, or 0 where the label is missing
 unfoldable pub optional_at : List ℕ → Kind → List (List ℕ) → Option (ℕ × List (List ℕ))
-optional_at label k words = elim (label_at label words) [ | None ↦ Some (0, words) | Some rest ↦ value_at k rest ]
+optional_at label k words = elim (label_at label words) [ None ↦ Some (0, words) | Some rest ↦ value_at k rest ]
 
 -- whether a word is there
 unfoldable pub flag_at : List ℕ → List (List ℕ) → Bool × List (List ℕ)
-flag_at label words = elim (label_at label words) [ | None ↦ (false, words) | Some rest ↦ (true, rest) ]
+flag_at label words = elim (label_at label words) [ None ↦ (false, words) | Some rest ↦ (true, rest) ]
+
+-- nothing more is left
+unfoldable pub last : {X : Type 0} → X × List (List ℕ) → Option X
+last (x, []) = Some x
+last (x, word ∷ words) = None

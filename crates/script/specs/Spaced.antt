@@ -26,7 +26,7 @@ words_of (c ∷ cs) =
     else if begins_word cs then in_front c (words_of cs) else (c ∷ []) ∷ words_of cs
 
 -- words behind what they follow: a space in front of each
-abbrev pub spaced : List (List ℕ) → List ℕ
+unfoldable pub spaced : List (List ℕ) → List ℕ
 spaced words = flat_map (λ word. 32 ∷ word) words
 
 -- words as a line

@@ -53,16 +53,23 @@ impl Kind {
         }
     }
 
+    /// The number that a word stands for.
+    fn number_named(self, word: &[u8]) -> Option<u32>
+        ensures { result ≡ find (λ number. is_name self word.now number) all_named }
+    {
+        ALL_NAMED
+            .iter()
+            .copied()
+            .find(|number| self.is_name(*number, word))
+    }
+
     #[tactic(auto, unfolding(crate::specs::Kinds::read_word))]
     /// The number that a word stands for or spells.
     pub(crate) fn read_word(self, word: &[u8]) -> Option<u32>
         ensures { result ≡ read_word self word.now }
     {
         if begins_with_letter(word) {
-            ALL_NAMED
-                .iter()
-                .copied()
-                .find(|number| self.is_name(*number, word))
+            self.number_named(word)
         } else {
             number_of_word(word)
         }

@@ -1,5 +1,5 @@
 ghost use Rattle.std.specs.Prelude.{◌≡◌, ◌<◌, ◌≤◌, ◌^◌};
-ghost use Rattle.script.specs.Numbers.{natural, number_from, number_of_word};
+ghost use Rattle.script.specs.Numbers.{natural, number_from, with_digit, number_of_word};
 
 /// The number that digits spell, if they are some and it has four bytes.
 fn natural(radix: u32, digits: &[u8]) -> Option<u32>
@@ -13,6 +13,16 @@ fn natural(radix: u32, digits: &[u8]) -> Option<u32>
     number_from(radix, digits)
 }
 
+/// A number with one digit more.
+fn with_digit(radix: u32, number: u32, byte: u8) -> Option<u32>
+    requires low { 2 ≤ radix }
+    requires high { radix ≤ 36 }
+    ensures { result ≡ with_digit radix number byte }
+{
+    let digit = char::from(byte).to_digit(radix)?;
+    number.checked_mul(radix)?.checked_add(digit)
+}
+
 fn number_from(radix: u32, digits: &[u8]) -> Option<u32>
     requires low { 2 ≤ radix }
     requires high { radix ≤ 36 }
@@ -20,8 +30,7 @@ fn number_from(radix: u32, digits: &[u8]) -> Option<u32>
 {
     let mut number = 0u32;
     for byte in digits {
-        let digit = char::from(*byte).to_digit(radix)?;
-        number = number.checked_mul(radix)?.checked_add(digit)?;
+        number = with_digit(radix, number, *byte)?;
     }
     Some(number)
 }

@@ -1,3 +1,5 @@
+ghost use Rattle.std.specs.Prelude.{◌<◌, length};
+
 use crate::fault::{LineFault, ScriptFault};
 use crate::line::{Exchange, read_line};
 use std::alloc::Global;
@@ -12,7 +14,9 @@ pub struct Line {
 }
 
 /// The first line of a text without its end, and what stands behind it.
-fn first_line(text: &[u8]) -> (&[u8], &[u8]) {
+fn first_line(text: &[u8]) -> (&[u8], &[u8])
+    ensures { 0 < length text.now → length result.1.now < length text.now }
+{
     let count = text.iter().take_while(|byte| **byte != b'\n').count();
     let (line, rest) = text.split_at(count);
     match rest {

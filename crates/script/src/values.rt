@@ -1,4 +1,4 @@
-ghost use Rattle.std.specs.Prelude.{◌≡◌, ◌<◌, ◌^◌, MatchOption, None, Some, OnOk, ◌++◌, map};
+ghost use Rattle.std.specs.Prelude.{◌≡◌, ◌<◌, ◌^◌, MatchOption, None, Some, OnOk, ◌++◌, ◌∷◌, []};
 ghost use Rattle.script.specs.Kinds.{value_word};
 ghost use Rattle.script.specs.Reading.{Gives, value_at, label_at, labelled_at, optional_at, flag_at};
 ghost use Rattle.script.specs.Spaced.{words_of, spaced};
@@ -76,12 +76,29 @@ pub(crate) fn read_flag<'a>(label: &[u8], text: &'a [u8]) -> (bool, &'a [u8])
     }
 }
 
-/// Adds numbers, each as a word. Where memory is wanted some may have been added.
-pub(crate) fn push_values(line: &mut Vec<u8>, values: &[(Kind, u32)]) -> Result<(), AllocError>
-    ensures { OnOk result (line.new.items ≡ line.old.items ++ spaced (map (λ v. value_word v.0 v.1) values.now)) }
+#[tactic(auto, using(crate::proofs::WordsOf::spaced_laws))]
+/// Adds two numbers, each as a word. Where memory is wanted some may have been added.
+pub(crate) fn push_two(
+    line: &mut Vec<u8>,
+    first: (Kind, u32),
+    second: (Kind, u32),
+) -> Result<(), AllocError>
+    ensures { OnOk result (line.new.items ≡ line.old.items ++ spaced (value_word first.0 first.1 ∷ value_word second.0 second.1 ∷ [])) }
 {
-    for (kind, number) in values {
-        push_value(line, *kind, *number)?;
-    }
-    Ok(())
+    push_value(line, first.0, first.1)?;
+    push_value(line, second.0, second.1)
+}
+
+#[tactic(auto, using(crate::proofs::WordsOf::spaced_laws))]
+/// Adds three numbers, each as a word. Where memory is wanted some may have been added.
+pub(crate) fn push_three(
+    line: &mut Vec<u8>,
+    first: (Kind, u32),
+    second: (Kind, u32),
+    third: (Kind, u32),
+) -> Result<(), AllocError>
+    ensures { OnOk result (line.new.items ≡ line.old.items ++ spaced (value_word first.0 first.1 ∷ value_word second.0 second.1 ∷ value_word third.0 third.1 ∷ [])) }
+{
+    push_two(line, first, second)?;
+    push_value(line, third.0, third.1)
 }

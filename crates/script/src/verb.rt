@@ -92,9 +92,6 @@ impl Verb {
     pub(crate) fn of_word(word: &[u8]) -> Option<Verb>
         ensures { result ≡ find (λ verb. bytes_eq (verb_word verb) word.now) all_verbs }
     {
-        ALL_VERBS
-            .iter()
-            .copied()
-            .find(|verb| verb.word() == word)
+        ALL_VERBS.iter().copied().find(|verb| verb.word() == word)
     }
 }
