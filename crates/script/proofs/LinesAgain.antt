@@ -1,13 +1,15 @@
 -- Lines are read as they are printed.
-use Rattle.std.proofs.Common.{◌≡◌, ℕ, Bool, true, List, [], ◌∷◌, ◌++◌, refl, sym, ap, ◌∙◌, Option, Some, None, append-nil}
+use Rattle.std.proofs.Common.{◌≡◌, ℕ, Bool, true, List, [], ◌∷◌, ◌++◌, refl, sym, ap, subst, ◌∙◌, Option, Some, None, append-nil}
 use Rattle.ipc_model.specs.declared.call.Call.{Call}
 use Rattle.ipc_model.specs.Step.{number_of_call}
 use Rattle.ipc_model.specs.Texts.{number_of_reply}
 use Rattle.script.specs.declared.fault.Fault.{Fault}
 use Rattle.script.specs.declared.fault.Fault.TheVariants as fault
+use Rattle.script.specs.declared.fault.LineFault.{LineFault}
+use Rattle.script.specs.declared.fault.LineFault.TheVariants as line_fault
 use Rattle.script.specs.declared.line.Exchange.{Exchange}
 use Rattle.script.specs.Calls.{call_words, call_line, call_at, HasLine}
-use Rattle.script.specs.Lines.{IsExchange, exchange_words, exchange_line, exchange_at, request_at}
+use Rattle.script.specs.Lines.{IsExchange, exchange_words, exchange_line, exchange_at, request_at, IsUnreadable}
 use Rattle.script.specs.Reading.{◌>>=◌, Fails}
 use Rattle.script.specs.Replies.{reply_words, reply_at}
 use Rattle.script.specs.Spaced.{words_of}
@@ -53,3 +55,11 @@ same_some x y e = cc
 pub some_words : (x : Exchange) → exchange_words x ≡ [] → ⊥
 unfolding call_words
 some_words x e = cc
+
+-- what can't be read
+pub fails_none : {X : Type 0} (f : Fault) (read : Option X) → (f ≡ fault.NoMemory → ⊥) → Fails f read → read ≡ None
+fails_none fault.NoMemory read unreadable fails = absurd (unreadable refl)
+fails_none (fault.Unreadable left expected) read unreadable fails = fails
+
+pub unreadable_none : {X : Type 0} (f : Fault) (told : LineFault) (read : Option X) → (f ≡ fault.NoMemory → told ≡ line_fault.NoMemory) → Fails f read → IsUnreadable told → read ≡ None
+unreadable_none f told read memory fails is = fails_none f read (λ (e : _). subst IsUnreadable (memory e) is) fails

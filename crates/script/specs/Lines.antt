@@ -49,3 +49,7 @@ IsRead (Err fault) x = fault ≡ line_fault.NoMemory
 abbrev pub IsWithin : LineFault → ℕ → Type 0
 IsWithin (line_fault.Unreadable column expected) n = column ≤ n
 IsWithin line_fault.NoMemory n = Unit {0}
+
+abbrev pub IsUnreadable : LineFault → Type 0
+IsUnreadable (line_fault.Unreadable column expected) = Unit {0}
+IsUnreadable line_fault.NoMemory = ⊥

@@ -1,8 +1,8 @@
-ghost use Rattle.std.specs.Prelude.{◌≡◌, ◌++◌, [], length, OnOk, OnErr, IfErr};
+ghost use Rattle.std.specs.Prelude.{◌≡◌, ◌++◌, [], length, None, Some, OnOk, OnErr, IfOk, IfErr, IfSome};
 ghost use Rattle.ipc_model.specs.declared.call.Call.{Call};
 ghost use Rattle.script.specs.declared.line.Exchange.{Exchange};
 ghost use Rattle.script.specs.Calls.{call_words, call_line, HasLine};
-ghost use Rattle.script.specs.Lines.{exchange_words, exchange_line, exchange_at, request_at, reply_line, IsExchange, IsRead, IsWithin};
+ghost use Rattle.script.specs.Lines.{exchange_words, exchange_line, exchange_at, request_at, reply_line, IsExchange, IsRead, IsUnreadable, IsWithin};
 ghost use Rattle.script.specs.Reading.{Gives};
 ghost use Rattle.script.specs.Spaced.{words_of};
 
@@ -65,6 +65,9 @@ pub fn read_line(alloc: Global, line: &[u8]) -> Result<Option<Exchange>, LineFau
     // Whatever stands between the words, and with a comment behind them.
     ensures spaced { (x : Exchange) → IsExchange x → words_of line.now ≡ exchange_words x → IsRead result (Some x) }
     ensures blank { words_of line.now ≡ [] → result ≡ Ok None }
+    // Nothing else is read, and nothing that can be read is a fault but of memory.
+    ensures found { IfOk result (λ found. IfSome found (λ x. exchange_at (words_of line.now) ≡ Some x)) }
+    ensures unreadable { IfErr result (λ fault. IsUnreadable fault → exchange_at (words_of line.now) ≡ None) }
     ensures column { IfErr result (λ fault. IsWithin fault (length line.now)) }
 {
     let Some(_) = take_word(line) else {
@@ -81,6 +84,8 @@ pub fn read_line(alloc: Global, line: &[u8]) -> Result<Option<Exchange>, LineFau
 pub fn read_request_line(alloc: Global, line: &[u8]) -> Result<Call, LineFault>
     ensures only { (c : Call) → HasLine c → line.now ≡ call_line c → IsRead result c }
     ensures spaced { (c : Call) → HasLine c → words_of line.now ≡ call_words c → IsRead result c }
+    ensures found { IfOk result (λ call. request_at (words_of line.now) ≡ Some call) }
+    ensures unreadable { IfErr result (λ fault. IsUnreadable fault → request_at (words_of line.now) ≡ None) }
     ensures column { IfErr result (λ fault. IsWithin fault (length line.now)) }
 {
     match read_request_words(alloc, line) {
