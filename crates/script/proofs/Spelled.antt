@@ -10,7 +10,7 @@ use Rattle.std.proofs.lemmas.Fmt.{digits_is_IsNumeral}
 use Rattle.std.proofs.lemmas.List.Elements.{All-head, All-tail}
 use Rattle.hex.specs.Hex.{encode_with, encode_lower, lower_digits}
 use Rattle.byteorder.specs.Endian.{little_number}
-use Rattle.words.specs.WordLaws.{AreBytes}
+use Rattle.words.specs.Words.{AreBytes}
 use Rattle.codes.specs.declared.kern_return.KernReturn.{KernReturn}
 use Rattle.codes.specs.declared.kern_return.KernReturn.TheVariants as code
 use Rattle.ipc_model.specs.declared.call.Call.{Call}
@@ -21,7 +21,7 @@ use Rattle.ipc_model.specs.declared.call.Reply.{Reply}
 use Rattle.ipc_model.specs.declared.call.Reply.TheVariants as reply
 use Rattle.ipc_model.specs.declared.message.RightKind.{RightKind}
 use Rattle.ipc_model.specs.declared.message.RightKind.TheVariants as kind_of
-use Rattle.ipc_model.specs.Texts.{FitsReply}
+use Rattle.ipc_model.specs.texts.Texts.{FitsReply}
 use Rattle.script.specs.declared.kind.Kind.{Kind}
 use Rattle.script.specs.declared.kind.Kind.TheVariants as kind
 use Rattle.script.specs.declared.kind.Kind.TheVariants.{Hexadecimal, Decimal, Signed, Right, Disposition, Notification}

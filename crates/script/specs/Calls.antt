@@ -3,8 +3,8 @@ use Rattle.std.specs.Prelude.{ℕ, Bool, List, [], ◌∷◌, ◌++◌, find, Op
 use Rattle.std.specs.Str.{bytes_eq}
 use Rattle.ipc_model.specs.declared.call.Call.{Call}
 use Rattle.ipc_model.specs.declared.call.Call.TheVariants as call
-use Rattle.ipc_model.specs.Texts.{FitsCall}
-use Rattle.words.specs.WordLaws.{AreBytes}
+use Rattle.ipc_model.specs.texts.Texts.{FitsCall}
+use Rattle.words.specs.Words.{AreBytes}
 use Rattle.script.specs.declared.kind.Kind.TheVariants.{Hexadecimal, Decimal, Signed, Right, Disposition, Notification}
 use Rattle.script.specs.declared.verb.Verb.{Verb}
 use Rattle.script.specs.declared.verb.Verb.TheVariants as verb

@@ -1,7 +1,7 @@
 -- Lines.
 use Rattle.std.specs.Prelude.{◌≡◌, ℕ, ◌≤◌, List, [], ◌∷◌, ◌++◌, Option, None, Some, Result, Ok, Err}
-use Rattle.ipc_model.specs.Step.{number_of_call}
-use Rattle.ipc_model.specs.Texts.{number_of_reply, FitsReply}
+use Rattle.ipc_model.specs.calls.Step.{number_of_call}
+use Rattle.ipc_model.specs.texts.Texts.{number_of_reply, FitsReply}
 use Rattle.ipc_model.specs.declared.call.Call.{Call}
 use Rattle.script.specs.declared.fault.LineFault.{LineFault}
 use Rattle.script.specs.declared.fault.LineFault.TheVariants as line_fault

@@ -1,0 +1,255 @@
+use crate::row::code_of;
+use disk::{Disk, MemDisk, Slot, Torn};
+use journal::StoreFault;
+use recover::open;
+use server::{Alone, serve};
+use std::alloc::{AllocError, Global};
+use std::fmt;
+use words::take_word;
+
+/// Why a frame has no reply.
+#[derive(Clone, Copy, Debug, PartialEq, Eq)]
+pub enum Unanswered {
+    /// The server ended in place of it.
+    NoReply,
+    /// The task could not be attached again to the space that it was attached to.
+    Detached,
+}
+
+/// How a script went wrong at a line.
+#[derive(Debug, Drop)]
+pub enum Difference {
+    /// The reply was another frame.
+    Reply(Vec<u8>),
+    /// There was none.
+    Unanswered(Unanswered),
+    /// Segment 0 had another length.
+    Length(u64),
+    /// The store could not be opened.
+    Unopened(StoreFault),
+    /// The store did not have the calls that were answered and at most the one that was being made.
+    Records,
+}
+
+/// A line of a script, and how the script is run.
+#[derive(Clone, Copy, Debug, PartialEq, Eq)]
+pub struct Place {
+    pub line: u32,
+    pub way: Way,
+}
+
+/// How a script is run.
+#[derive(Clone, Copy, Debug, PartialEq, Eq)]
+pub enum Way {
+    /// On one server.
+    Straight,
+    /// On a store that is stopped and opened again after each call.
+    Reopened,
+    /// On a store that stops at a device call of each append.
+    Stopped(Stop),
+}
+
+/// A stop at one of the device calls of an append.
+#[derive(Clone, Copy, Debug, PartialEq, Eq)]
+pub struct Stop {
+    /// Which of them, from 1.
+    pub at: u64,
+    /// What the stop leaves.
+    pub torn: Torn,
+}
+
+impl fmt::Display for Way {
+    fn fmt<W: fmt::Write>(&self, f: &mut fmt::Formatter<W>) -> fmt::Result {
+        match self {
+            Way::Straight => f.write_str("on one server"),
+            Way::Reopened => f.write_str("the store opened again after each call"),
+            Way::Stopped(Stop { at, torn }) => {
+                write!(f, "stopped at device call {at} of each append ({torn:?})")
+            }
+        }
+    }
+}
+
+/// Why a script was not run to its end.
+#[derive(Debug, Drop)]
+pub enum Failure {
+    NoMemory,
+    At {
+        place: Place,
+        difference: Difference,
+    },
+}
+
+impl Place {
+    /// The opening of a script's store.
+    pub fn start(way: Way) -> Place {
+        Place { line: 0, way }
+    }
+
+    /// That something else came here than was wanted.
+    pub fn differs(self, difference: Difference) -> Failure {
+        Failure::At {
+            place: self,
+            difference,
+        }
+    }
+}
+
+impl From<AllocError> for Failure {
+    fn from(_: AllocError) -> Self {
+        Failure::NoMemory
+    }
+}
+
+/// The space that a connection's task is attached to at first.
+const FIRST_SPACE: u32 = 1;
+
+/// The number of the call that attaches to a space.
+const ATTACH: u32 = 0;
+
+/// A store that a script left: its disk, and the space that the script's task is attached to.
+#[derive(Drop)]
+pub struct Store {
+    pub disk: MemDisk,
+    pub space: u32,
+}
+
+impl Store {
+    /// A store of nothing.
+    pub fn new(alloc: Global) -> Store {
+        Store {
+            disk: MemDisk::new(alloc),
+            space: FIRST_SPACE,
+        }
+    }
+
+    /// The store for another connection.
+    pub fn connected_anew(self) -> Store {
+        Store {
+            space: FIRST_SPACE,
+            ..self
+        }
+    }
+
+    /// How many bytes segment 0 has.
+    pub fn length(&self) -> u64 {
+        self.disk.length(Slot::Segment0)
+    }
+}
+
+/// A connection to a server over an opened store.
+#[derive(Drop)]
+pub struct Connection {
+    alloc: Global,
+    caller: Alone<MemDisk>,
+    /// The space that the task is attached to.
+    attached: u32,
+    /// The space that the script's task is attached to, and this one from its next call on.
+    space: u32,
+    records: u64,
+}
+
+/// The frame that attaches to a space.
+fn attach_frame(space: u32) -> [u8; 12] {
+    let [a, b, c, d] = space.to_le_bytes();
+    [8, 0, 0, 0, 0, 0, 0, 0, a, b, c, d]
+}
+
+/// The space that a frame asks to be attached to, if it asks for that.
+fn attached_by(frame: &[u8]) -> Option<u32> {
+    let (_, content) = take_word(frame)?;
+    let (number, arguments) = take_word(content)?;
+    let (space, behind) = take_word(arguments)?;
+    if number == ATTACH && behind.is_empty() {
+        Some(space)
+    } else {
+        None
+    }
+}
+
+impl Connection {
+    /// Opens a store.
+    pub fn open(alloc: Global, store: Store, place: Place) -> Result<Connection, Failure> {
+        let Store { disk, space } = store;
+        let opened = match open(alloc, disk) {
+            Ok(opened) => opened,
+            Err((fault, _)) => return Err(place.differs(Difference::Unopened(fault))),
+        };
+        let records = opened.journal.records();
+        Ok(Connection {
+            alloc,
+            caller: Alone::new(alloc, opened),
+            attached: FIRST_SPACE,
+            space,
+            records,
+        })
+    }
+
+    /// How many records the store had when it was opened.
+    pub fn records(&self) -> u64 {
+        self.records
+    }
+
+    /// The frame that answers a frame, if there is one.
+    fn send(&mut self, frame: &[u8]) -> Option<Vec<u8>> {
+        let mut rest = frame;
+        let mut output = Vec::new(self.alloc);
+        if serve(self.alloc, &mut rest, &mut output, &mut self.caller).is_err() {
+            return None;
+        }
+        Some(output)
+    }
+
+    /// Attaches the task as the script's is.
+    fn attach(&mut self) -> Result<(), Unanswered> {
+        let Some(reply) = self.send(&attach_frame(self.space)) else {
+            return Err(Unanswered::NoReply);
+        };
+        if code_of(&reply) != Some(0) {
+            return Err(Unanswered::Detached);
+        }
+        self.attached = self.space;
+        Ok(())
+    }
+
+    /// The frame that answers a frame of the script.
+    pub fn ask(&mut self, frame: &[u8]) -> Result<Vec<u8>, Unanswered> {
+        if self.attached != self.space {
+            self.attach()?;
+        }
+        let Some(reply) = self.send(frame) else {
+            return Err(Unanswered::NoReply);
+        };
+        if let Some(space) = attached_by(frame)
+            && code_of(&reply) == Some(0)
+        {
+            self.attached = space;
+            self.space = space;
+        }
+        Ok(reply)
+    }
+
+    /// The store, once the server has ended.
+    pub fn close(self) -> Store {
+        let Connection {
+            alloc: _,
+            caller,
+            attached: _,
+            space,
+            records: _,
+        } = self;
+        Store {
+            disk: caller.into_disk(),
+            space,
+        }
+    }
+
+    /// The store that a stop leaves, which is the planned one where it came.
+    pub fn stop(self) -> Result<Store, AllocError> {
+        let Store { disk, space } = self.close();
+        Ok(Store {
+            disk: disk.after_stop()?,
+            space,
+        })
+    }
+}
