@@ -41,6 +41,18 @@ closed : (bytes : List ℕ) → IsClosed bytes → take 1 bytes ≡ open_gate �
 closed [] is e = cc
 closed (gate ∷ rest) is e = is (cc)
 
+closed_unless_open : (bytes : List ℕ) → ¬ IsOpen 1 bytes → IsClosed bytes
+closed_unless_open [] shut = tt
+closed_unless_open (gate ∷ rest) shut = λ is. shut (omega arith, ap (λ (g : ℕ). g ∷ []) is)
+
+-- and one with none spells no record
+pub unused_spells : (slot rest : List ℕ) → slot ≡ segment_header open_gate 0 ++ rest → ¬ IsOpen 1 rest → SpellsSegment 0 slot []
+unused_spells slot rest is shut = record {
+  content = rest;
+  text = is;
+  spelled = record { batches = []; rest = rest; text = refl; closed = closed_unless_open rest shut; none_empty = tt; flat = refl; canonical = tt; bounded = omega arith };
+}
+
 pub unspelled : (slot rest : List ℕ) → slot ≡ segment_header open_gate 0 ++ rest → IsOpen 1 rest → SpellsSegment 0 slot [] → ⊥
 unspelled slot rest is gate segment =
     let same : segment.content ≡ rest = ap (drop 16) (sym segment.text ∙ is) in

@@ -8,7 +8,8 @@ use Rattle.std.proofs.lemmas.List.{drop-drop, take-append-drop}
 use Rattle.std.proofs.lemmas.Slice.Eq.{bytes_eq-Decides}
 use Rattle.byteorder.specs.Endian.{little_number}
 use Rattle.byteorder.specs.Numbers.{little_from-lt}
-use Rattle.words.specs.WordLaws.{AreBytes, word-little_number}
+use Rattle.words.specs.WordLaws.{word-little_number}
+use Rattle.words.specs.Words.{AreBytes}
 use Rattle.words.specs.Words.{word}
 use Rattle.script.specs.declared.kind.Kind.TheVariants as kind
 use Rattle.script.specs.declared.kind.Kind.TheVariants.{Hexadecimal, Decimal, Disposition}

@@ -11,8 +11,8 @@ use crate::kind::{Kind, push_value};
 use crate::message::{push_labelled, push_message, push_optional, read_message};
 use crate::spaced::{push_spaced, take_word};
 use crate::values::{behind_label, push_two, read_labelled, read_optional, read_value};
-use codes::KernReturn;
-use ipc_model::{MACH_MSG, NamedType, ReceiveStatus, Reply, RightKind, Sequence};
+use codes::{KernReturn, MACH_MSG};
+use ipc_model::{NamedType, ReceiveStatus, Reply, RightKind, Sequence};
 use std::alloc::{AllocError, Global};
 
 #[tactic(auto, unfolding(crate::specs::Replies::yes_or_no))]
