@@ -1,5 +1,5 @@
 -- Scripts are read as they are printed.
-use Rattle.std.proofs.Common.{◌≡◌, ℕ, suc, ◌+◌, ◌<◌, ◌≤◌, ◌^◌, Bool, true, false, not, ◌&&◌, ◌==◌, List, [], ◌∷◌, ◌++◌, length, take, drop, cond, one-add, refl, sym, ap, ◌∙◌, arith, append_assoc}
+use Rattle.std.proofs.Common.{◌≡◌, ℕ, suc, ◌+◌, ◌<◌, Bool, true, ◌&&◌, List, [], ◌∷◌, ◌++◌, length, take, drop, cond, one-add, refl, sym, ap, ◌∙◌, arith, append_assoc}
 use Rattle.std.specs.List.{prefix_len}
 use Rattle.std.proofs.Math.Seq.{take-append_seam}
 use Rattle.std.proofs.lemmas.Bool.{and_parts}
@@ -123,12 +123,12 @@ unfolding numbered script_text
 left_next xs number lines rest state some = elim state.left as (λ (left : List Exchange). AreExchanges left → rest ≡ script_text left → lines ++ numbered (number + 1) left ≡ numbered 1 xs → number + length left ≡ length xs → Next xs number lines rest) [
   | [] ↦ λ (fit : _) (is : _) (done : _) (count : _). absurd (omega (arith, ap length is))
   | x ∷ left ↦ λ (fit : _) (is : _) (done : _) (count : _). record {
-      first = x;
-      others = left;
-      fits = All-head IsExchange x left fit;
-      fit = All-tail IsExchange x left fit;
-      is = is;
-      done = append_assoc lines (record { number = number + 1; exchange = x } ∷ []) (numbered (number + 1 + 1) left) ∙ done;
-      count = omega (arith, count);
-    }
+    first = x;
+    others = left;
+    fits = All-head IsExchange x left fit;
+    fit = All-tail IsExchange x left fit;
+    is = is;
+    done = append_assoc lines (record { number = number + 1; exchange = x } ∷ []) (numbered (number + 1 + 1) left) ∙ done;
+    count = omega (arith, count);
+  }
 ] state.fit state.is state.done state.count

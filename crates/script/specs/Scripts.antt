@@ -1,5 +1,5 @@
 -- Scripts: lines one under another.
-use Rattle.std.specs.Prelude.{◌≡◌, ℕ, ◌+◌, Bool, not, ◌==◌, List, [], ◌∷◌, ◌++◌, All, flat_map}
+use Rattle.std.specs.Prelude.{ℕ, ◌+◌, Bool, not, ◌==◌, List, [], ◌∷◌, ◌++◌, All, flat_map}
 use Rattle.script.specs.declared.line.Exchange.{Exchange}
 use Rattle.script.specs.declared.text.Line.{Line}
 use Rattle.script.specs.Lines.{exchange_line, IsExchange}

@@ -44,12 +44,7 @@ fn first_line(text: &[u8]) -> (&[u8], &[u8])
 }
 
 /// Adds the call of a line, if it holds one.
-fn add_line(
-    alloc: Global,
-    lines: &mut Vec<Line>,
-    number: u32,
-    line: &[u8],
-) -> Result<(), LineFault>
+fn add_line(alloc: Global, lines: &mut Vec<Line>, number: u32, line: &[u8]) -> Result<(), LineFault>
     ensures { (x : Exchange) → IsExchange x → line.now ≡ exchange_line x
         → MatchResult result (λ _. lines.new.items ≡ lines.old.items ++ record { number = number; exchange = x } ∷ []) (λ fault. fault ≡ LineFault.NoMemory) }
 {

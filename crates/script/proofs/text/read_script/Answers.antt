@@ -1,7 +1,6 @@
-use Rattle.std.proofs.Common.{◌≡◌, ◌+◌, ◌<◌, ◌++◌, ◌∷◌, [], length, length-drop, ap, sym, ◌∙◌, arith, rules}
+use Rattle.std.proofs.Common.{◌≡◌, ◌+◌, ◌<◌, [], length, length-drop, ap, ◌∙◌, arith}
 use Rattle.std.proofs.lemmas.Grind.{common_steps}
-use Rattle.script.specs.Scripts.{numbered}
-use Rattle.script.proofs.ScriptsAgain.{Next, left_first, left_none, left_next, line_is, rest_is}
+use Rattle.script.proofs.ScriptsAgain.{left_none, left_next, line_is, rest_is}
 use Rattle.script.proofs.text.read_script.Goals as goal
 
 pub returns-in-Err : goal.returns-in-Err
