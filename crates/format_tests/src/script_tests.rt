@@ -20,7 +20,16 @@ fn printed_and_read(rt: &HostRuntime, exchange: &Exchange, line: &[u8]) -> Resul
 
 #[test]
 fn calls_without_a_message(rt: HostRuntime) -> Result<(), Fail> {
-    let names = vec![in rt.alloc(); NamedType { name: 0x100, bits: 0x2_0000 }, NamedType { name: 0x101, bits: 0x8_0000 }]?;
+    let names = vec![in rt.alloc();
+        NamedType {
+            name: 0x100,
+            bits: 0x2_0000
+        },
+        NamedType {
+            name: 0x101,
+            bits: 0x8_0000
+        },
+    ]?;
     let rows: [(Exchange, &[u8]); 5] = [
         (
             Exchange {
@@ -98,7 +107,8 @@ fn state_of_a_port(rt: HostRuntime) -> Result<(), Fail> {
         call: Call::GetReceiveStatus { name: 0x100 },
         reply: Reply::ReceiveStatus { status },
     };
-    let line = b"get_receive_status 0x100 = set 0x0 seqno 0 mscount 1 qlimit 5 messages 1 send_once 2 senders no port_destroyed yes no_senders no";
+    let line =
+        b"get_receive_status 0x100 = set 0x0 seqno 0 mscount 1 qlimit 5 messages 1 send_once 2 senders no port_destroyed yes no_senders no";
     assert_eq!(rt; printed_and_read(&rt, &exchange, line)?, [true, true]);
     Ok(())
 }
@@ -123,7 +133,10 @@ fn messages(rt: HostRuntime) -> Result<(), Fail> {
     };
     let sent = printed_and_read(&rt, &send, b"send make_send 0x100 id 7 data 44332211")?;
     let line = b"receive 0x100 limit 24 large ! MACH_RCV_TOO_LARGE size 28 member 0x100";
-    assert_eq!(rt; [sent, printed_and_read(&rt, &receive, line)?], [[true, true], [true, true]]);
+    assert_eq!(rt;
+        [sent, printed_and_read(&rt, &receive, line)?],
+        [[true, true], [true, true]]
+    );
     Ok(())
 }
 

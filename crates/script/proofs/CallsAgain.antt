@@ -1,24 +1,22 @@
 -- Calls are read as they are printed.
-use Rattle.std.proofs.Common.{◌≡◌, ℕ, ◌^◌, ◌<◌, Bool, true, false, List, [], ◌∷◌, ◌++◌, cond, refl, sym, ap, ◌∙◌, arith, Option, Some, None, append_assoc}
+use Rattle.std.proofs.Common.{◌≡◌, ℕ, ◌^◌, ◌<◌, Bool, List, ◌∷◌, ◌++◌, refl, ap, ◌∙◌, Some, append_assoc}
 use Rattle.std.specs.Prelude.{codes, find}
 use Rattle.std.specs.Str.{bytes_eq}
 use Rattle.ipc_model.specs.declared.call.Call.{Call}
 use Rattle.ipc_model.specs.declared.call.Call.TheVariants as call
 use Rattle.script.specs.declared.kind.Kind.{Kind}
-use Rattle.script.specs.declared.kind.Kind.TheVariants as kind
 use Rattle.script.specs.declared.kind.Kind.TheVariants.{Hexadecimal, Decimal, Signed, Right, Disposition, Notification, Absent}
 use Rattle.script.specs.declared.plain.Arguments.{Arguments}
-use Rattle.script.specs.declared.plain.Kinds.{Kinds}
 use Rattle.script.specs.declared.verb.Verb.{Verb}
 use Rattle.script.specs.declared.verb.Verb.TheVariants as verb
 use Rattle.script.specs.Calls.{verb_of, argument_words, call_words, HasLine, receive_at, send_at, behind_at, call_at}
 use Rattle.script.specs.Kinds.{value_word}
 use Rattle.script.specs.Messages.{flag_words, message_at}
 use Rattle.script.specs.Plain.{three_kinds, kinds_of, plain_call, arguments_at, plain_at}
-use Rattle.script.specs.Reading.{◌>>=◌, value_at, label_at, labelled_at, flag_at}
+use Rattle.script.specs.Reading.{value_at, labelled_at, flag_at}
 use Rattle.script.specs.Verbs.{verb_word, all_verbs}
 use Rattle.script.proofs.MessagesAgain.{message_again}
-use Rattle.script.proofs.ReadingAgain.{value_again, label_again, labelled_again, flag_again, past_flag, NoLabel}
+use Rattle.script.proofs.ReadingAgain.{value_again, labelled_again, flag_again, past_flag, NoLabel}
 
 verb_again : (v : Verb) → find (λ (u : Verb). bytes_eq (verb_word u) (verb_word v)) all_verbs ≡ Some v
 verb_again verb.Attach = refl

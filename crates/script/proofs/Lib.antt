@@ -5,6 +5,7 @@ pub mod NumbersAgain
 pub mod ReadingAgain
 pub mod RepliesAgain
 pub mod Rows
+pub mod ScriptsAgain
 pub mod Spelled
 pub mod ValuesAgain
 pub mod WordsOf

@@ -1,8 +1,7 @@
 -- Lines are read as they are printed.
-use Rattle.std.proofs.Common.{◌≡◌, ℕ, Bool, true, List, [], ◌∷◌, ◌++◌, refl, sym, ap, subst, ◌∙◌, Option, Some, None, append-nil}
+use Rattle.std.proofs.Common.{◌≡◌, ℕ, List, [], refl, sym, ap, subst, ◌∙◌, Option, Some, None, append-nil}
 use Rattle.ipc_model.specs.declared.call.Call.{Call}
 use Rattle.ipc_model.specs.calls.Step.{number_of_call}
-use Rattle.ipc_model.specs.texts.Texts.{number_of_reply}
 use Rattle.script.specs.declared.fault.Fault.{Fault}
 use Rattle.script.specs.declared.fault.Fault.TheVariants as fault
 use Rattle.script.specs.declared.fault.LineFault.{LineFault}
@@ -10,7 +9,7 @@ use Rattle.script.specs.declared.fault.LineFault.TheVariants as line_fault
 use Rattle.script.specs.declared.line.Exchange.{Exchange}
 use Rattle.script.specs.Calls.{call_words, call_line, call_at, HasLine}
 use Rattle.script.specs.Lines.{IsExchange, exchange_words, exchange_line, exchange_at, request_at, IsUnreadable}
-use Rattle.script.specs.Reading.{◌>>=◌, Fails}
+use Rattle.script.specs.Reading.{Fails}
 use Rattle.script.specs.Replies.{reply_words, reply_at}
 use Rattle.script.specs.Spaced.{words_of}
 use Rattle.script.proofs.CallsAgain.{call_again}

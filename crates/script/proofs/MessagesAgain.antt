@@ -1,5 +1,5 @@
 -- Messages are read as they are printed.
-use Rattle.std.proofs.Common.{◌≡◌, ℕ, ◌+◌, ◌-◌, ◌*◌, ◌%◌, ◌/◌, ◌^◌, ◌<◌, ◌≤◌, Bool, true, false, ◌&&◌, ◌==◌, List, [], ◌∷◌, ◌++◌, zero, suc, length, drop, take, length-drop, cond, refl, sym, ap, subst, ◌∙◌, arith, Option, Some, None, append_assoc}
+use Rattle.std.proofs.Common.{◌≡◌, ℕ, ◌+◌, ◌*◌, ◌%◌, ◌/◌, ◌^◌, ◌<◌, ◌≤◌, Bool, true, false, ◌&&◌, ◌==◌, List, [], ◌∷◌, ◌++◌, zero, suc, length, drop, take, length-drop, cond, refl, sym, ap, ◌∙◌, arith, Option, Some, None, append_assoc}
 use Rattle.std.specs.Prelude.{nat_le, nat_lt, codes}
 use Rattle.std.specs.Str.{bytes_eq}
 use Rattle.std.proofs.lemmas.Bool.{eqb-true, and_parts}
@@ -14,12 +14,11 @@ use Rattle.words.specs.Words.{word}
 use Rattle.script.specs.declared.kind.Kind.TheVariants as kind
 use Rattle.script.specs.declared.kind.Kind.TheVariants.{Hexadecimal, Decimal, Disposition}
 use Rattle.script.specs.declared.message.Header.{Header}
-use Rattle.script.specs.declared.message.Rights.{Rights}
-use Rattle.script.specs.Bytes.{bytes_word, bytes_at, optional_bytes_at}
+use Rattle.script.specs.Bytes.{bytes_word, optional_bytes_at}
 use Rattle.script.specs.Kinds.{value_word, read_word}
-use Rattle.script.specs.Messages.{optional_words, flag_words, optional_bytes, local_words, header_of, header_text, header_words, message_words, bounded_at, further_at, local_at, rights_at, bits_of, header_at, message_at}
+use Rattle.script.specs.Messages.{optional_words, flag_words, optional_bytes, local_words, header_of, header_text, header_words, message_words, bounded_at, further_at, local_at, rights_at, header_at, message_at}
 use Rattle.script.specs.Reading.{◌>>=◌, value_at, label_at, labelled_at, optional_at, flag_at}
-use Rattle.script.proofs.ReadingAgain.{IsNumber, value_again, label_again, other_label, labelled_again, optional_again, flag_again, past_optional, past_flag, past_bytes, bytes_at_again, optional_bytes_again, NoLabel}
+use Rattle.script.proofs.ReadingAgain.{value_again, label_again, other_label, labelled_again, optional_again, flag_again, past_optional, past_bytes, bytes_at_again, optional_bytes_again, NoLabel}
 use Rattle.script.proofs.ValuesAgain.{word_again}
 
 pub bounded_again : (bound n : ℕ) (ws : List (List ℕ)) → n < bound → bound ≤ 2 ^ 32 → bounded_at Disposition bound (value_word Disposition n ∷ ws) ≡ Some (n, ws)

@@ -1,6 +1,5 @@
 -- Words are read as what they were printed for.
-use Rattle.std.proofs.Common.{◌≡◌, ℕ, ◌+◌, ◌-◌, ◌*◌, ◌%◌, ◌/◌, ◌^◌, ◌<◌, ◌≤◌, Bool, true, false, ◌&&◌, ◌==◌, List, [], ◌∷◌, ◌++◌, length, drop, take, cond, refl, sym, ap, subst, ◌∙◌, arith, Option, Some, None}
-use Rattle.std.specs.Prelude.{nat_le, codes}
+use Rattle.std.proofs.Common.{◌≡◌, ℕ, ◌^◌, ◌<◌, Bool, true, false, ◌==◌, List, [], ◌∷◌, ◌++◌, cond, refl, sym, ap, ◌∙◌, arith, Option, Some, None}
 use Rattle.std.specs.Str.{bytes_eq}
 use Rattle.std.proofs.lemmas.Bool.{eqb-true}
 use Rattle.std.proofs.lemmas.Bool.Decides.{nat_tests}
@@ -8,9 +7,9 @@ use Rattle.std.proofs.lemmas.Slice.Eq.{bytes_eq-Decides}
 use Rattle.words.specs.Words.{AreBytes}
 use Rattle.script.specs.declared.kind.Kind.{Kind}
 use Rattle.script.specs.declared.kind.Kind.TheVariants as kind
-use Rattle.script.specs.Bytes.{bytes_word, read_bytes, bytes_at, optional_bytes_at}
-use Rattle.script.specs.Kinds.{value_word, read_word, begins_with_letter}
-use Rattle.script.specs.Messages.{optional_words, flag_words, optional_bytes, local_words}
+use Rattle.script.specs.Bytes.{bytes_word, bytes_at, optional_bytes_at}
+use Rattle.script.specs.Kinds.{value_word, begins_with_letter}
+use Rattle.script.specs.Messages.{optional_words, flag_words, optional_bytes}
 use Rattle.script.specs.Reading.{◌>>=◌, value_at, label_at, labelled_at, optional_at, flag_at}
 use Rattle.script.proofs.ValuesAgain.{word_again, bytes_again}
 

@@ -1,5 +1,5 @@
 -- Replies are read as they are printed.
-use Rattle.std.proofs.Common.{◌≡◌, ◌≢◌, ℕ, ◌^◌, ◌<◌, Bool, true, false, not, ◌&&◌, ◌||◌, ◌==◌, List, [], ◌∷◌, ◌++◌, length, cond, refl, sym, ap, subst, ◌∙◌, arith, Option, Some, None, append_assoc, append-nil}
+use Rattle.std.proofs.Common.{◌≡◌, ℕ, ◌^◌, ◌<◌, Bool, true, false, not, ◌&&◌, ◌||◌, ◌==◌, List, [], ◌∷◌, ◌++◌, length, cond, refl, sym, ap, ◌∙◌, arith, Some, None, append_assoc, append-nil}
 use Rattle.std.specs.Prelude.{codes, find, All, IsTrue}
 use Rattle.std.specs.Str.{bytes_eq}
 use Rattle.std.proofs.lemmas.Bool.{eqb-true, and_parts}
@@ -18,12 +18,12 @@ use Rattle.words.specs.Words.{AreBytes}
 use Rattle.script.specs.declared.kind.Kind.{Kind}
 use Rattle.script.specs.declared.kind.Kind.TheVariants.{Hexadecimal, Decimal}
 use Rattle.script.specs.Codes.{code_word, all_codes}
-use Rattle.script.specs.Kinds.{value_word, read_word}
-use Rattle.script.specs.Messages.{message_words, message_at, optional_words}
-use Rattle.script.specs.Reading.{◌>>=◌, value_at, label_at, labelled_at, optional_at, last}
+use Rattle.script.specs.Kinds.{value_word}
+use Rattle.script.specs.Messages.{message_words, optional_words}
+use Rattle.script.specs.Reading.{label_at, optional_at, last}
 use Rattle.script.specs.Replies.{yes_or_no, kind_word, count_words, status_words, names_words, members_words, outcome_words, received_words, message_reply_words, result_words, reply_words, yes_or_no_at, answer_at, kind_at, counts_at, status_at, in_front_of, names_at, members_at, received_at, message_reply_at, last_value, extracted_at, space_created_at, last_status_at, results_at, has_results, silence, refusal_at, reply_at, IsOwn}
 use Rattle.script.proofs.MessagesAgain.{message_again}
-use Rattle.script.proofs.ReadingAgain.{IsNumber, value_again, label_again, other_label, labelled_again, optional_again, past_optional, NoLabel, no_label_end, no_label_sign}
+use Rattle.script.proofs.ReadingAgain.{IsNumber, value_again, label_again, labelled_again, optional_again, past_optional, NoLabel, no_label_end, no_label_sign}
 use Rattle.script.proofs.ValuesAgain.{word_again}
 
 code_again : (c : KernReturn) → find (λ (d : KernReturn). bytes_eq (code_word d) (code_word c)) all_codes ≡ Some c

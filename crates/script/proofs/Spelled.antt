@@ -1,15 +1,14 @@
 -- What is printed are words: none is empty, and none has a space or begins a comment.
-use Rattle.std.proofs.Common.{◌≡◌, ℕ, zero, suc, ◌+◌, ◌-◌, ◌*◌, ◌%◌, ◌/◌, ◌^◌, ◌<◌, ◌≤◌, Bool, true, false, ◌&&◌, ◌==◌, List, [], ◌∷◌, ◌++◌, length, drop, cond, refl, sym, ap, subst, ◌∙◌, arith, Option, Some, None}
+use Rattle.std.proofs.Common.{◌≡◌, ℕ, zero, suc, ◌-◌, ◌%◌, ◌/◌, ◌^◌, ◌<◌, ◌≤◌, Bool, true, false, ◌&&◌, ◌==◌, List, [], ◌∷◌, ◌++◌, length, drop, cond, refl, arith, Option, Some, None}
 use Rattle.std.specs.Prelude.{nat_lt, nat_le, codes, decimal, slice_index, unwrap_or, All}
 use Rattle.std.specs.Char.{digit_value}
 use Rattle.std.specs.Fmt.{digits}
 use Rattle.std.specs.Str.Parse.{AllDigits}
-use Rattle.std.proofs.lemmas.Bool.{eqb-true, and_parts}
+use Rattle.std.proofs.lemmas.Bool.{and_parts}
 use Rattle.std.proofs.lemmas.Bool.Decides.{nat_tests}
 use Rattle.std.proofs.lemmas.Fmt.{digits_is_IsNumeral}
 use Rattle.std.proofs.lemmas.List.Elements.{All-head, All-tail}
 use Rattle.hex.specs.Hex.{encode_with, encode_lower, lower_digits}
-use Rattle.byteorder.specs.Endian.{little_number}
 use Rattle.words.specs.Words.{AreBytes}
 use Rattle.codes.specs.declared.kern_return.KernReturn.{KernReturn}
 use Rattle.codes.specs.declared.kern_return.KernReturn.TheVariants as code
@@ -31,10 +30,10 @@ use Rattle.script.specs.declared.verb.Verb.TheVariants as verb
 use Rattle.script.specs.Bytes.{bytes_word}
 use Rattle.script.specs.Calls.{verb_of, argument_words, call_words, HasLine}
 use Rattle.script.specs.Codes.{code_word}
-use Rattle.script.specs.Kinds.{name_of, number_text, value_word}
+use Rattle.script.specs.Kinds.{value_word}
 use Rattle.script.specs.Messages.{optional_words, flag_words, local_words, optional_bytes, header_of, header_words, message_words}
 use Rattle.script.specs.Numbers.{hexadecimal, signed}
-use Rattle.script.specs.Replies.{yes_or_no, kind_word, count_words, status_words, names_words, members_words, outcome_words, received_words, message_reply_words, result_words, reply_words}
+use Rattle.script.specs.Replies.{yes_or_no, kind_word, count_words, status_words, names_words, members_words, outcome_words, received_words, message_reply_words, reply_words}
 use Rattle.script.specs.Spaced.{is_word_byte}
 use Rattle.script.specs.Verbs.{verb_word}
 use Rattle.script.proofs.MessagesAgain.{FitsHeader, fits_header, bytes_behind}

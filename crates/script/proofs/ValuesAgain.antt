@@ -1,9 +1,6 @@
 -- Numbers and bytes are read from the words that they are printed as.
-use Rattle.std.proofs.Common.{◌≡◌, ℕ, ◌+◌, ◌-◌, ◌*◌, ◌%◌, ◌/◌, ◌^◌, ◌<◌, ◌≤◌, Bool, true, false, ◌&&◌, ◌==◌, List, [], ◌∷◌, ◌++◌, length, drop, cond, refl, sym, ap, subst, ◌∙◌, arith, Option, Some, None, get_or, slice_index}
-use Rattle.std.specs.Prelude.{nat_lt, nat_le, nat_eq, codes, decimal, find, unwrap_or, Result, Ok, Err}
-use Rattle.std.specs.Char.{digit_value}
-use Rattle.std.specs.Fmt.{digits}
-use Rattle.std.specs.Option.{option_map_or}
+use Rattle.std.proofs.Common.{◌≡◌, ℕ, ◌-◌, ◌^◌, ◌<◌, Bool, true, false, ◌==◌, List, [], ◌∷◌, ◌++◌, cond, refl, sym, ap, subst, ◌∙◌, arith, Option, Some, None}
+use Rattle.std.specs.Prelude.{nat_lt, codes, decimal, find, unwrap_or, Ok}
 use Rattle.std.specs.Result.{result_ok}
 use Rattle.std.specs.Str.{bytes_eq}
 use Rattle.std.specs.Str.Parse.{AllDigits}
@@ -19,7 +16,7 @@ use Rattle.words.specs.Words.{AreBytes}
 use Rattle.script.specs.declared.kind.Kind.{Kind}
 use Rattle.script.specs.declared.kind.Kind.TheVariants as kind
 use Rattle.script.specs.Bytes.{bytes_word, read_bytes}
-use Rattle.script.specs.Kinds.{name_of, number_text, value_word, all_named, is_name, begins_with_letter, read_word}
+use Rattle.script.specs.Kinds.{name_of, value_word, all_named, is_name, begins_with_letter, read_word}
 use Rattle.script.specs.Numbers.{hexadecimal, signed, number_of_word}
 use Rattle.script.proofs.NumbersAgain.{decimal_again, hexadecimal_again, signed_again, decimal_fits}
 

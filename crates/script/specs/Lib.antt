@@ -8,5 +8,6 @@ pub mod Numbers
 pub mod Plain
 pub mod Reading
 pub mod Replies
+pub mod Scripts
 pub mod Spaced
 pub mod Verbs

@@ -1,5 +1,5 @@
 -- Numbers in text.
-use Rattle.std.specs.Prelude.{ℕ, ◌+◌, ◌-◌, ◌*◌, ◌%◌, ◌^◌, Bool, false, nat_lt, nat_eq, ◌==◌, ◌&&◌, List, [], ◌∷◌, ◌++◌, drop, length, Option, None, Some, codes, decimal, if◌then◌else◌}
+use Rattle.std.specs.Prelude.{ℕ, ◌+◌, ◌-◌, ◌*◌, ◌%◌, ◌^◌, false, nat_lt, nat_eq, ◌==◌, ◌&&◌, List, [], ◌∷◌, ◌++◌, drop, length, Option, None, Some, codes, decimal, if◌then◌else◌}
 use Rattle.std.specs.Char.{digit_value}
 use Rattle.std.specs.Fmt.{digits}
 use Rattle.std.specs.List.{starts_with}

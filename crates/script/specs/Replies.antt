@@ -1,9 +1,8 @@
 -- What calls answered, in words.
-use Rattle.std.specs.Prelude.{◌≡◌, ◌≢◌, ℕ, Bool, true, false, ◌==◌, ◌&&◌, ◌||◌, not, IsTrue, List, [], ◌∷◌, ◌++◌, length, flat_map, map, find, Option, None, Some, codes, if◌then◌else◌}
+use Rattle.std.specs.Prelude.{◌≢◌, ℕ, Bool, true, false, ◌==◌, ◌&&◌, ◌||◌, not, IsTrue, List, [], ◌∷◌, ◌++◌, length, flat_map, map, find, Option, None, Some, codes, if◌then◌else◌}
 use Rattle.std.specs.Str.{bytes_eq}
 use Rattle.codes.specs.declared.kern_return.KernReturn.{KernReturn}
 use Rattle.codes.specs.declared.kern_return.KernReturn.TheVariants.{Success}
-use Rattle.codes.specs.KernReturn.{number_of}
 use Rattle.ipc_model.specs.declared.call.NamedType.{NamedType}
 use Rattle.ipc_model.specs.declared.call.ReceiveStatus.{ReceiveStatus}
 use Rattle.ipc_model.specs.declared.call.Reply.{Reply}
@@ -17,7 +16,6 @@ use Rattle.script.specs.Codes.{code_word, all_codes}
 use Rattle.script.specs.Kinds.{read_word}
 use Rattle.script.specs.Messages.{message_words, message_at, optional_words}
 use Rattle.script.specs.Reading.{◌>>=◌, value_at, label_at, labelled_at, optional_at, last}
-use Rattle.script.specs.Spaced.{spaced}
 
 unfoldable pub yes_or_no : Bool → List ℕ
 yes_or_no b = if b then codes "yes" else codes "no"

@@ -1,3 +1,4 @@
+use std::error::Error;
 use std::fmt;
 
 /// What was expected where a line can't be read.
@@ -67,6 +68,8 @@ impl fmt::Display for LineFault {
     }
 }
 
+impl Error for LineFault {}
+
 /// Why a script can't be read.
 #[derive(Clone, Copy, Debug, PartialEq, Eq)]
 pub struct ScriptFault {
@@ -83,6 +86,8 @@ impl fmt::Display for ScriptFault {
         write!(f, "line {line}, {fault}")
     }
 }
+
+impl Error for ScriptFault {}
 
 /// Why words can't be read, in front of what is left of the line.
 #[derive(Clone, Copy, Debug, PartialEq, Eq)]

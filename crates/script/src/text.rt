@@ -1,4 +1,8 @@
-ghost use Rattle.std.specs.Prelude.{◌<◌, length};
+ghost use Rattle.std.specs.Prelude.{◌≡◌, ◌<◌, ◌^◌, ◌∷◌, [], ◌++◌, List, length, take, drop, MatchResult};
+ghost use Rattle.std.specs.List.{prefix_len};
+ghost use Rattle.script.specs.declared.line.Exchange.{Exchange};
+ghost use Rattle.script.specs.Lines.{exchange_line, IsExchange};
+ghost use Rattle.script.specs.Scripts.{in_line, script_text, numbered, AreExchanges};
 
 use crate::fault::{LineFault, ScriptFault};
 use crate::line::{Exchange, read_line};
@@ -13,39 +17,62 @@ pub struct Line {
     pub exchange: Exchange,
 }
 
+/// How many bytes stand in front of the first end of a line.
+fn count_line_bytes(text: &[u8]) -> usize
+    ensures { result ≡ prefix_len in_line text.now }
+{
+    text.iter().take_while(|byte| **byte != b'\n').count()
+}
+
+/// What stands behind the first byte.
+fn behind_first(text: &[u8]) -> &[u8]
+    ensures { result.now ≡ drop 1 text.now }
+{
+    match text.split_first() {
+        Some((_, behind)) => behind,
+        None => text,
+    }
+}
+
 /// The first line of a text without its end, and what stands behind it.
 fn first_line(text: &[u8]) -> (&[u8], &[u8])
-    ensures { 0 < length text.now → length result.1.now < length text.now }
+    ensures line { result.0.now ≡ take (prefix_len in_line text.now) text.now }
+    ensures rest { result.1.now ≡ drop 1 (drop (prefix_len in_line text.now) text.now) }
 {
-    let count = text.iter().take_while(|byte| **byte != b'\n').count();
-    let (line, rest) = text.split_at(count);
-    match rest {
-        [_, behind @ ..] => (line, behind),
-        [] => (line, rest),
+    let (line, rest) = text.split_at(count_line_bytes(text));
+    (line, behind_first(rest))
+}
+
+/// Adds the call of a line, if it holds one.
+fn add_line(alloc: Global, lines: &mut Vec<Line>, number: u32, line: &[u8]) -> Result<(), LineFault>
+    ensures { (x : Exchange) → IsExchange x → line.now ≡ exchange_line x
+        → MatchResult result (λ _. lines.new.items ≡ lines.old.items ++ record { number = number; exchange = x } ∷ []) (λ fault. fault ≡ LineFault.NoMemory) }
+{
+    let found = read_line(alloc, line)?;
+    let Some(exchange) = found else {
+        return Ok(());
+    };
+    match lines.push(Line { number, exchange }) {
+        Ok(()) => Ok(()),
+        Err(_) => Err(LineFault::NoMemory),
     }
 }
 
 /// The calls of a script, line by line, with what they answered. The fault tells the first line that can't be read.
 /// `Unreadable`: it isn't blank, a comment or a call with its answer. `NoMemory`: no memory for what it holds or for
 /// the row of lines.
-pub fn read_script(alloc: Global, text: &[u8]) -> Result<Vec<Line>, ScriptFault> {
+pub fn read_script(alloc: Global, text: &[u8]) -> Result<Vec<Line>, ScriptFault>
+    ensures { (xs : List Exchange) → AreExchanges xs → length xs < 2 ^ 32 → text.now ≡ script_text xs
+        → MatchResult result (λ lines. lines.items ≡ numbered 1 xs) (λ fault. fault.fault ≡ LineFault.NoMemory) }
+{
     let mut lines = Vec::new(alloc);
     let mut rest = text;
     let mut number = 0u32;
     while !rest.is_empty() {
         number = number.saturating_add(1);
         let (line, behind) = first_line(rest);
-        rest = behind;
-        match read_line(alloc, line) {
-            Ok(None) => {}
-            Ok(Some(exchange)) => {
-                if lines.push(Line { number, exchange }).is_err() {
-                    return Err(ScriptFault {
-                        line: number,
-                        fault: LineFault::NoMemory,
-                    });
-                }
-            }
+        match add_line(alloc, &mut lines, number, line) {
+            Ok(()) => rest = behind,
             Err(fault) => {
                 return Err(ScriptFault {
                     line: number,
