@@ -10,6 +10,8 @@ mod ipc_model_tests;
 #[cfg(test)]
 mod record_tests;
 #[cfg(test)]
+mod script_tests;
+#[cfg(test)]
 mod wire_tests;
 #[cfg(test)]
 mod words_tests;

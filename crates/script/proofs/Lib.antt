@@ -1,0 +1,10 @@
+pub mod CallsAgain
+pub mod LinesAgain
+pub mod MessagesAgain
+pub mod NumbersAgain
+pub mod ReadingAgain
+pub mod RepliesAgain
+pub mod Rows
+pub mod Spelled
+pub mod ValuesAgain
+pub mod WordsOf

@@ -1,0 +1,97 @@
+-- Words are read as what they were printed for.
+use Rattle.std.proofs.Common.{◌≡◌, ℕ, ◌+◌, ◌-◌, ◌*◌, ◌%◌, ◌/◌, ◌^◌, ◌<◌, ◌≤◌, Bool, true, false, ◌&&◌, ◌==◌, List, [], ◌∷◌, ◌++◌, length, drop, take, cond, refl, sym, ap, subst, ◌∙◌, arith, Option, Some, None}
+use Rattle.std.specs.Prelude.{nat_le, codes}
+use Rattle.std.specs.Str.{bytes_eq}
+use Rattle.std.proofs.lemmas.Bool.{eqb-true}
+use Rattle.std.proofs.lemmas.Bool.Decides.{nat_tests}
+use Rattle.std.proofs.lemmas.Slice.Eq.{bytes_eq-Decides}
+use Rattle.words.specs.WordLaws.{AreBytes}
+use Rattle.script.specs.declared.kind.Kind.{Kind}
+use Rattle.script.specs.declared.kind.Kind.TheVariants as kind
+use Rattle.script.specs.Bytes.{bytes_word, read_bytes, bytes_at, optional_bytes_at}
+use Rattle.script.specs.Kinds.{value_word, read_word, begins_with_letter}
+use Rattle.script.specs.Messages.{optional_words, flag_words, optional_bytes, local_words}
+use Rattle.script.specs.Reading.{◌>>=◌, value_at, label_at, labelled_at, optional_at, flag_at}
+use Rattle.script.proofs.ValuesAgain.{word_again, bytes_again}
+
+-- what a number's word is read as
+abbrev pub IsNumber : Kind → Type 0
+IsNumber kind.Absent = ⊥
+IsNumber k = Unit {0}
+
+pub value_again : (k : Kind) (n : ℕ) (ws : List (List ℕ)) → IsNumber k → n < 2 ^ 32 → value_at k (value_word k n ∷ ws) ≡ Some (n, ws)
+unfolding value_at
+value_again kind.Absent n ws number fits = absurd number
+value_again k n ws number fits = ap (λ (o : Option ℕ). o >>= λ (m : ℕ). Some (m, ws)) (word_again k n fits)
+
+pub same_bytes : (bytes : List ℕ) → bytes_eq bytes bytes ≡ true
+same_bytes bytes = (bytes_eq-Decides bytes bytes).1 refl
+
+pub label_again : (label : List ℕ) (ws : List (List ℕ)) → label_at label (label ∷ ws) ≡ Some ws
+unfolding label_at
+label_again label ws = ap (λ (b : Bool). cond b (Some ws) None) (same_bytes label)
+
+pub other_label : (label word : List ℕ) (ws : List (List ℕ)) → bytes_eq word label ≡ false → label_at label (word ∷ ws) ≡ None
+unfolding label_at
+other_label label word ws other = ap (λ (b : Bool). cond b (Some ws) None) other
+
+pub labelled_again : (label : List ℕ) (k : Kind) (n : ℕ) (ws : List (List ℕ)) → IsNumber k → n < 2 ^ 32
+    → labelled_at label k (label ∷ value_word k n ∷ ws) ≡ Some (n, ws)
+unfolding labelled_at
+labelled_again label k n ws number fits = ap (λ (o : Option (List (List ℕ))). o >>= λ (rest : List (List ℕ)). value_at k rest) (label_again label (value_word k n ∷ ws)) ∙ value_again k n ws number fits
+
+pub optional_again : (label : List ℕ) (k : Kind) (n : ℕ) (ws : List (List ℕ)) → IsNumber k → n < 2 ^ 32 → label_at label ws ≡ None
+    → optional_at label k (optional_words label k n ++ ws) ≡ Some (n, ws)
+unfolding optional_at optional_words
+optional_again label k n ws number fits none = elim (n == 0) as (λ (b : Bool). (n == 0) ≡ b → elim (label_at label (cond b [] (label ∷ value_word k n ∷ []) ++ ws)) as (λ _. Option (ℕ × List (List ℕ))) [ None ↦ Some (0, cond b [] (label ∷ value_word k n ∷ []) ++ ws) | Some rest ↦ value_at k rest ] ≡ Some (n, ws)) [
+  | true ↦ λ (is : _). rw none (ap (λ (m : ℕ). Some (m, ws)) (sym (eqb-true n 0 is)))
+  | false ↦ λ (_ : _). rw (label_again label (value_word k n ∷ ws)) (value_again k n ws number fits)
+] refl
+
+pub flag_again : (label : List ℕ) (b : Bool) (ws : List (List ℕ)) → label_at label ws ≡ None → flag_at label (flag_words label b ++ ws) ≡ (b, ws)
+unfolding flag_at flag_words
+flag_again label true ws none = rw (label_again label ws, flag_at) refl
+flag_again label false ws none = rw (none, flag_at) refl
+
+-- another label is passed over
+pub past_optional : (label other : List ℕ) (k : Kind) (n : ℕ) (ws : List (List ℕ)) → bytes_eq other label ≡ false → label_at label ws ≡ None
+    → label_at label (optional_words other k n ++ ws) ≡ None
+unfolding optional_words
+past_optional label other k n ws apart none = elim (n == 0) as (λ (b : Bool). label_at label (cond b [] (other ∷ value_word k n ∷ []) ++ ws) ≡ None) [
+  | true ↦ none
+  | false ↦ other_label label other (value_word k n ∷ ws) apart
+]
+
+pub past_flag : (label other : List ℕ) (b : Bool) (ws : List (List ℕ)) → bytes_eq other label ≡ false → label_at label ws ≡ None
+    → label_at label (flag_words other b ++ ws) ≡ None
+unfolding flag_words
+past_flag label other true ws apart none = other_label label other ws apart
+past_flag label other false ws apart none = none
+
+pub past_bytes : (label other bytes : List ℕ) (ws : List (List ℕ)) → bytes_eq other label ≡ false → label_at label ws ≡ None
+    → label_at label (optional_bytes other bytes ++ ws) ≡ None
+unfolding optional_bytes
+past_bytes label other [] ws apart none = none
+past_bytes label other (b ∷ bytes) ws apart none = other_label label other (bytes_word (b ∷ bytes) ∷ ws) apart
+
+pub bytes_at_again : (bytes : List ℕ) (ws : List (List ℕ)) → AreBytes bytes → bytes_at (bytes_word bytes ∷ ws) ≡ Some (bytes, ws)
+unfolding bytes_at
+bytes_at_again bytes ws fits = ap (λ (o : Option (List ℕ)). o >>= λ (found : List ℕ). Some (found, ws)) (bytes_again bytes fits)
+
+pub optional_bytes_again : (label bytes : List ℕ) (ws : List (List ℕ)) → AreBytes bytes → label_at label ws ≡ None
+    → optional_bytes_at label (optional_bytes label bytes ++ ws) ≡ Some (bytes, ws)
+unfolding optional_bytes_at optional_bytes
+optional_bytes_again label [] ws fits none = rw (none, optional_bytes_at) refl
+optional_bytes_again label (b ∷ bytes) ws fits none = rw (label_again label (bytes_word (b ∷ bytes) ∷ ws), optional_bytes_at) (bytes_at_again (b ∷ bytes) ws fits)
+
+-- words that begin with none that a letter begins
+abbrev pub NoLabel : List (List ℕ) → Type 0
+NoLabel ws = (label : List ℕ) → begins_with_letter label ≡ true → label_at label ws ≡ None
+
+pub no_label_end : NoLabel []
+unfolding label_at
+no_label_end label letter = refl
+
+pub no_label_sign : (c : ℕ) (cs : List ℕ) (ws : List (List ℕ)) → c < 97 → NoLabel ((c ∷ cs) ∷ ws)
+no_label_sign c cs ws sign [] letter = other_label [] (c ∷ cs) ws refl
+no_label_sign c cs ws sign (d ∷ ds) letter = other_label (d ∷ ds) (c ∷ cs) ws (grind (arith, nat_tests))

@@ -1,0 +1,83 @@
+-- Reading the calls whose arguments are numbers.
+use Rattle.std.specs.Prelude.{ℕ, List, Option, None, Some}
+use Rattle.ipc_model.specs.declared.call.Call.{Call}
+use Rattle.ipc_model.specs.declared.call.Call.TheVariants as call
+use Rattle.script.specs.declared.kind.Kind.{Kind}
+use Rattle.script.specs.declared.kind.Kind.TheVariants.{Hexadecimal, Decimal, Signed, Right, Disposition, Notification, Absent}
+use Rattle.script.specs.declared.plain.Arguments.{Arguments}
+use Rattle.script.specs.declared.plain.Kinds.{Kinds}
+use Rattle.script.specs.declared.verb.Verb.{Verb}
+use Rattle.script.specs.declared.verb.Verb.TheVariants as verb
+use Rattle.script.specs.Reading.{value_at, ◌>>=◌}
+
+abbrev pub three_kinds : Kind → Kind → Kind → Kinds
+three_kinds a b c = record { first = a; second = b; third = c; fourth = Absent; fifth = Absent }
+
+-- how the arguments of a call are spelled
+abbrev pub kinds_of : Verb → Kinds
+kinds_of verb.Attach = three_kinds Decimal Absent Absent
+kinds_of verb.Names = three_kinds Absent Absent Absent
+kinds_of verb.Type = three_kinds Hexadecimal Absent Absent
+kinds_of verb.Rename = three_kinds Hexadecimal Hexadecimal Absent
+kinds_of verb.AllocateName = three_kinds Right Hexadecimal Absent
+kinds_of verb.Allocate = three_kinds Right Absent Absent
+kinds_of verb.Destroy = three_kinds Hexadecimal Absent Absent
+kinds_of verb.Deallocate = three_kinds Hexadecimal Absent Absent
+kinds_of verb.GetRefs = three_kinds Hexadecimal Right Absent
+kinds_of verb.ModRefs = three_kinds Hexadecimal Right Signed
+kinds_of verb.SetQlimit = three_kinds Hexadecimal Decimal Absent
+kinds_of verb.SetMscount = three_kinds Hexadecimal Decimal Absent
+kinds_of verb.SetSeqno = three_kinds Hexadecimal Decimal Absent
+kinds_of verb.GetReceiveStatus = three_kinds Hexadecimal Absent Absent
+kinds_of verb.GetSetStatus = three_kinds Hexadecimal Absent Absent
+kinds_of verb.MoveMember = three_kinds Hexadecimal Hexadecimal Absent
+kinds_of verb.RequestNotification = record { first = Hexadecimal; second = Notification; third = Decimal; fourth = Hexadecimal; fifth = Disposition }
+kinds_of verb.InsertRight = three_kinds Hexadecimal Hexadecimal Disposition
+kinds_of verb.ExtractRight = three_kinds Hexadecimal Disposition Absent
+kinds_of verb.Send = three_kinds Absent Absent Absent
+kinds_of verb.Receive = three_kinds Absent Absent Absent
+kinds_of verb.SpaceCreate = three_kinds Hexadecimal Disposition Absent
+kinds_of verb.SpaceDestroy = three_kinds Absent Absent Absent
+
+-- the call of a verb with its arguments
+abbrev pub plain_call : Verb → Arguments → Option Call
+plain_call verb.Attach a = Some (call.Attach a.first)
+plain_call verb.Names a = Some call.Names
+plain_call verb.Type a = Some (call.Type a.first)
+plain_call verb.Rename a = Some (call.Rename a.first a.second)
+plain_call verb.AllocateName a = Some (call.AllocateName a.first a.second)
+plain_call verb.Allocate a = Some (call.Allocate a.first)
+plain_call verb.Destroy a = Some (call.Destroy a.first)
+plain_call verb.Deallocate a = Some (call.Deallocate a.first)
+plain_call verb.GetRefs a = Some (call.GetRefs a.first a.second)
+plain_call verb.ModRefs a = Some (call.ModRefs a.first a.second a.third)
+plain_call verb.SetQlimit a = Some (call.SetQlimit a.first a.second)
+plain_call verb.SetMscount a = Some (call.SetMscount a.first a.second)
+plain_call verb.SetSeqno a = Some (call.SetSeqno a.first a.second)
+plain_call verb.GetReceiveStatus a = Some (call.GetReceiveStatus a.first)
+plain_call verb.GetSetStatus a = Some (call.GetSetStatus a.first)
+plain_call verb.MoveMember a = Some (call.MoveMember a.first a.second)
+plain_call verb.RequestNotification a = Some (call.RequestNotification a.first a.second a.third a.fourth a.fifth)
+plain_call verb.InsertRight a = Some (call.InsertRight a.first a.second a.third)
+plain_call verb.ExtractRight a = Some (call.ExtractRight a.first a.second)
+plain_call verb.Send a = None
+plain_call verb.Receive a = None
+plain_call verb.SpaceCreate a = Some (call.SpaceCreate a.first a.second)
+plain_call verb.SpaceDestroy a = Some call.SpaceDestroy
+
+-- the arguments in front of words
+unfoldable pub arguments_at : Kinds → List (List ℕ) → Option (Arguments × List (List ℕ))
+arguments_at kinds words = do
+  a ← value_at kinds.first words
+  b ← value_at kinds.second a.1
+  c ← value_at kinds.third b.1
+  d ← value_at kinds.fourth c.1
+  e ← value_at kinds.fifth d.1
+  Some (record { first = a.0; second = b.0; third = c.0; fourth = d.0; fifth = e.0 }, e.1)
+
+-- the call that they make
+unfoldable pub plain_at : Verb → List (List ℕ) → Option (Call × List (List ℕ))
+plain_at v words = do
+  a ← arguments_at (kinds_of v) words
+  made ← plain_call v a.0
+  Some (made, a.1)

@@ -1,0 +1,35 @@
+-- The words of a line.
+use Rattle.std.specs.Prelude.{ℕ, Bool, true, false, ◌==◌, nat_le, nat_lt, not, ◌&&◌, List, [], ◌∷◌, ◌++◌, flat_map, if◌then◌else◌}
+
+-- what stands between words: a space, a tab or another byte up to the space
+abbrev pub is_space : ℕ → Bool
+is_space c = nat_le c 32
+
+-- any other byte but '#', with which a comment begins
+abbrev pub is_word_byte : ℕ → Bool
+is_word_byte c = nat_lt 32 c && not (c == 35)
+
+abbrev pub begins_word : List ℕ → Bool
+begins_word [] = false
+begins_word (c ∷ cs) = is_word_byte c
+
+abbrev pub in_front : ℕ → List (List ℕ) → List (List ℕ)
+in_front c [] = (c ∷ []) ∷ []
+in_front c (w ∷ ws) = (c ∷ w) ∷ ws
+
+-- the words of a line: the longest runs of bytes between spaces, up to a comment
+unfoldable pub words_of : List ℕ → List (List ℕ)
+words_of [] = []
+words_of (c ∷ cs) =
+    if is_space c then words_of cs
+    else if c == 35 then []
+    else if begins_word cs then in_front c (words_of cs) else (c ∷ []) ∷ words_of cs
+
+-- words behind what they follow: a space in front of each
+unfoldable pub spaced : List (List ℕ) → List ℕ
+spaced words = flat_map (λ word. 32 ∷ word) words
+
+-- words as a line
+abbrev pub line_of : List (List ℕ) → List ℕ
+line_of [] = []
+line_of (word ∷ words) = word ++ spaced words

@@ -1,0 +1,104 @@
+use std::fmt;
+
+/// What was expected where a line can't be read.
+#[derive(Clone, Copy, Debug, PartialEq, Eq)]
+pub enum Expected {
+    /// The name of a call.
+    CallName,
+    /// A number, or a word that stands for one there.
+    Number,
+    /// The bytes of a message, two hexadecimal digits each, or `none`.
+    Bytes,
+    /// A message: its remote right's disposition, or `bytes`.
+    Message,
+    /// The name of a return code.
+    Code,
+    /// `=` and the results of the call, or `!` and a return code.
+    Results,
+    /// The word that tells which result or which argument follows.
+    Label,
+    /// `yes` or `no`.
+    YesOrNo,
+    /// `receive`, `send` or `send_once`.
+    RightKind,
+    /// The end of the line.
+    End,
+}
+
+impl fmt::Display for Expected {
+    fn fmt<W: fmt::Write>(&self, f: &mut fmt::Formatter<W>) -> fmt::Result {
+        f.write_str(match self {
+            Expected::CallName => "the name of a call",
+            Expected::Number => "a number or a word for one",
+            Expected::Bytes => "bytes, two hexadecimal digits each, or none",
+            Expected::Message => "a message",
+            Expected::Code => "a return code",
+            Expected::Results => "what the call answered",
+            Expected::Label => "the word for what follows",
+            Expected::YesOrNo => "yes or no",
+            Expected::RightKind => "receive, send or send_once",
+            Expected::End => "the end of the line",
+        })
+    }
+}
+
+/// Why a line can't be read.
+#[derive(Clone, Copy, Debug, PartialEq, Eq)]
+pub enum LineFault {
+    /// Behind so many bytes of the line something else was expected.
+    Unreadable {
+        /// How many bytes stand in front of it, at most as many as the line has.
+        column: u32,
+        /// What was expected there.
+        expected: Expected,
+    },
+    /// No memory for what the line holds.
+    NoMemory,
+}
+
+impl fmt::Display for LineFault {
+    fn fmt<W: fmt::Write>(&self, f: &mut fmt::Formatter<W>) -> fmt::Result {
+        match self {
+            LineFault::Unreadable { column, expected } => {
+                write!(f, "column {column}: expected {expected}")
+            }
+            LineFault::NoMemory => f.write_str("no memory"),
+        }
+    }
+}
+
+/// Why a script can't be read.
+#[derive(Clone, Copy, Debug, PartialEq, Eq)]
+pub struct ScriptFault {
+    /// The number of the line, from 1.
+    pub line: u32,
+    /// Why the line can't be read.
+    pub fault: LineFault,
+}
+
+impl fmt::Display for ScriptFault {
+    fn fmt<W: fmt::Write>(&self, f: &mut fmt::Formatter<W>) -> fmt::Result {
+        let line = self.line;
+        let fault = self.fault;
+        write!(f, "line {line}, {fault}")
+    }
+}
+
+/// Why words can't be read, in front of what is left of the line.
+#[derive(Clone, Copy, Debug, PartialEq, Eq)]
+pub(crate) enum Fault {
+    /// Where so many bytes of the line were left, something else was expected.
+    Unreadable { left: usize, expected: Expected },
+    /// No memory for what is read.
+    NoMemory,
+}
+
+impl Fault {
+    /// That something else was expected in front of this text.
+    pub(crate) fn expected(expected: Expected, text: &[u8]) -> Fault {
+        Fault::Unreadable {
+            left: text.len(),
+            expected,
+        }
+    }
+}

@@ -1,0 +1,130 @@
+ghost use Rattle.std.specs.Prelude.{◌≡◌, ◌++◌, [], length, None, Some, OnOk, OnErr, IfOk, IfErr, IfSome};
+ghost use Rattle.ipc_model.specs.declared.call.Call.{Call};
+ghost use Rattle.script.specs.declared.line.Exchange.{Exchange};
+ghost use Rattle.script.specs.Calls.{call_words, call_line, HasLine};
+ghost use Rattle.script.specs.Lines.{exchange_words, exchange_line, exchange_at, request_at, reply_line, IsExchange, IsRead, IsUnreadable, IsWithin};
+ghost use Rattle.script.specs.Reading.{Gives};
+ghost use Rattle.script.specs.Spaced.{words_of};
+
+use crate::call::{push_call_words, read_call};
+use crate::fault::{Expected, Fault, LineFault};
+use crate::reply::{push_reply_words, read_reply};
+use crate::spaced::{column_of, take_word};
+use ipc_model::{Call, Reply};
+use std::alloc::{AllocError, Global};
+
+/// A call, and what it answered.
+#[derive(Debug, Drop)]
+pub struct Exchange {
+    /// The call.
+    pub call: Call,
+    /// Its answer, which is one of a call of its number.
+    pub reply: Reply,
+}
+
+/// The fault of a line.
+fn line_fault(line: &[u8], fault: Fault) -> LineFault
+    ensures column { IsWithin result (length line.now) }
+    ensures memory { fault ≡ Fault.NoMemory → result ≡ LineFault.NoMemory }
+{
+    match fault {
+        Fault::Unreadable { left, expected } => LineFault::Unreadable {
+            column: column_of(line, left),
+            expected,
+        },
+        Fault::NoMemory => LineFault::NoMemory,
+    }
+}
+
+#[tactic(auto, unfolding(crate::specs::Lines::exchange_at))]
+/// The call of a line and what it answered.
+fn read_words(alloc: Global, line: &[u8]) -> Result<Exchange, Fault>
+    ensures { Gives (λ x. x) result (exchange_at (words_of line.now)) }
+{
+    let (call, rest) = read_call(alloc, line)?;
+    let reply = read_reply(alloc, call.number(), rest)?;
+    Ok(Exchange { call, reply })
+}
+
+#[tactic(auto, unfolding(crate::specs::Lines::request_at))]
+/// The call of a line that tells no answer.
+fn read_request_words(alloc: Global, line: &[u8]) -> Result<Call, Fault>
+    ensures { Gives (λ x. x) result (request_at (words_of line.now)) }
+{
+    let (call, rest) = read_call(alloc, line)?;
+    if take_word(rest).is_some() {
+        return Err(Fault::expected(Expected::End, rest));
+    }
+    Ok(call)
+}
+
+/// The call of a line and what it answered, or none if the line has no words: it is blank, or a comment.
+/// `Unreadable`: the line is none. `NoMemory`: no memory for a message, for names or for members.
+pub fn read_line(alloc: Global, line: &[u8]) -> Result<Option<Exchange>, LineFault>
+    ensures only { (x : Exchange) → IsExchange x → line.now ≡ exchange_line x → IsRead result (Some x) }
+    // Whatever stands between the words, and with a comment behind them.
+    ensures spaced { (x : Exchange) → IsExchange x → words_of line.now ≡ exchange_words x → IsRead result (Some x) }
+    ensures blank { words_of line.now ≡ [] → result ≡ Ok None }
+    // Nothing else is read, and nothing that can be read is a fault but of memory.
+    ensures found { IfOk result (λ found. IfSome found (λ x. exchange_at (words_of line.now) ≡ Some x)) }
+    ensures unreadable { IfErr result (λ fault. IsUnreadable fault → exchange_at (words_of line.now) ≡ None) }
+    ensures column { IfErr result (λ fault. IsWithin fault (length line.now)) }
+{
+    let Some(_) = take_word(line) else {
+        return Ok(None);
+    };
+    match read_words(alloc, line) {
+        Ok(exchange) => Ok(Some(exchange)),
+        Err(fault) => Err(line_fault(line, fault)),
+    }
+}
+
+/// The call of a line that tells no answer. `Unreadable`: the line is none, also where it has no words or an answer.
+/// `NoMemory`: no memory for a message.
+pub fn read_request_line(alloc: Global, line: &[u8]) -> Result<Call, LineFault>
+    ensures only { (c : Call) → HasLine c → line.now ≡ call_line c → IsRead result c }
+    ensures spaced { (c : Call) → HasLine c → words_of line.now ≡ call_words c → IsRead result c }
+    ensures found { IfOk result (λ call. request_at (words_of line.now) ≡ Some call) }
+    ensures unreadable { IfErr result (λ fault. IsUnreadable fault → request_at (words_of line.now) ≡ None) }
+    ensures column { IfErr result (λ fault. IsWithin fault (length line.now)) }
+{
+    match read_request_words(alloc, line) {
+        Ok(call) => Ok(call),
+        Err(fault) => Err(line_fault(line, fault)),
+    }
+}
+
+#[tactic(auto, using(crate::proofs::WordsOf::spaced_laws), unfolding(crate::specs::Calls::call_line, crate::specs::Calls::call_words))]
+/// Adds the line of a call, without its answer or an end of line. An `Err` changes nothing.
+pub fn push_call(out: &mut Vec<u8>, call: &Call) -> Result<(), AllocError>
+    ensures ok { OnOk result (out.new.items ≡ out.old.items ++ call_line call.now) }
+    ensures err { OnErr result (out.new.items ≡ out.old.items) }
+{
+    let mut line = Vec::new(*out.allocator());
+    push_call_words(&mut line, call)?;
+    out.extend_from_slice(line.as_slice())
+}
+
+#[tactic(auto, using(crate::proofs::WordsOf::spaced_laws))]
+/// Adds what a call answered, as it stands behind the call in a line: each word has a space in front, and there is
+/// none where the call was done and has no results. An `Err` changes nothing.
+pub fn push_reply(out: &mut Vec<u8>, reply: &Reply) -> Result<(), AllocError>
+    ensures ok { OnOk result (out.new.items ≡ out.old.items ++ reply_line reply.now) }
+    ensures err { OnErr result (out.new.items ≡ out.old.items) }
+{
+    let mut line = Vec::new(*out.allocator());
+    push_reply_words(&mut line, reply)?;
+    out.extend_from_slice(line.as_slice())
+}
+
+#[tactic(auto, using(crate::proofs::WordsOf::spaced_laws), unfolding(crate::specs::Lines::exchange_line, crate::specs::Calls::call_words))]
+/// Adds the line of a call and what it answered, without an end of line. An `Err` changes nothing.
+pub fn push_exchange(out: &mut Vec<u8>, exchange: &Exchange) -> Result<(), AllocError>
+    ensures ok { OnOk result (out.new.items ≡ out.old.items ++ exchange_line exchange.now) }
+    ensures err { OnErr result (out.new.items ≡ out.old.items) }
+{
+    let mut line = Vec::new(*out.allocator());
+    push_call_words(&mut line, &exchange.call)?;
+    push_reply_words(&mut line, &exchange.reply)?;
+    out.extend_from_slice(line.as_slice())
+}

@@ -1,0 +1,194 @@
+ghost use Rattle.std.specs.Prelude.{◌≡◌};
+ghost use Rattle.script.specs.Plain.{three_kinds, kinds_of, plain_call, arguments_at, plain_at};
+ghost use Rattle.script.specs.Reading.{Gives};
+ghost use Rattle.script.specs.Spaced.{words_of};
+
+use crate::fault::{Expected, Fault};
+use crate::kind::Kind;
+use crate::values::read_value;
+use crate::verb::Verb;
+use ipc_model::Call;
+
+/// How the arguments of a call are spelled, `Absent` behind the last.
+#[derive(Clone, Copy)]
+pub(crate) struct Kinds {
+    pub(crate) first: Kind,
+    pub(crate) second: Kind,
+    pub(crate) third: Kind,
+    pub(crate) fourth: Kind,
+    pub(crate) fifth: Kind,
+}
+
+/// The arguments of a call, 0 behind the last.
+#[derive(Clone, Copy)]
+pub(crate) struct Arguments {
+    pub(crate) first: u32,
+    pub(crate) second: u32,
+    pub(crate) third: u32,
+    pub(crate) fourth: u32,
+    pub(crate) fifth: u32,
+}
+
+fn three_kinds(first: Kind, second: Kind, third: Kind) -> Kinds
+    ensures { result ≡ three_kinds first second third }
+{
+    Kinds {
+        first,
+        second,
+        third,
+        fourth: Kind::Absent,
+        fifth: Kind::Absent,
+    }
+}
+
+fn kinds_of_notification() -> Kinds
+    ensures { result ≡ kinds_of Verb.RequestNotification }
+{
+    Kinds {
+        first: Kind::Hexadecimal,
+        second: Kind::Notification,
+        third: Kind::Decimal,
+        fourth: Kind::Hexadecimal,
+        fifth: Kind::Disposition,
+    }
+}
+
+/// The kinds of a call's arguments, of each but those of `mach_msg`.
+fn kinds_of(verb: Verb) -> Kinds
+    ensures { result ≡ kinds_of verb }
+{
+    let (first, second, third) = match verb {
+        Verb::RequestNotification => return kinds_of_notification(),
+        Verb::Attach => (Kind::Decimal, Kind::Absent, Kind::Absent),
+        Verb::Allocate => (Kind::Right, Kind::Absent, Kind::Absent),
+        Verb::Type
+        | Verb::Destroy
+        | Verb::Deallocate
+        | Verb::GetReceiveStatus
+        | Verb::GetSetStatus => (Kind::Hexadecimal, Kind::Absent, Kind::Absent),
+        Verb::Rename | Verb::MoveMember => (Kind::Hexadecimal, Kind::Hexadecimal, Kind::Absent),
+        Verb::AllocateName => (Kind::Right, Kind::Hexadecimal, Kind::Absent),
+        Verb::GetRefs => (Kind::Hexadecimal, Kind::Right, Kind::Absent),
+        Verb::ModRefs => (Kind::Hexadecimal, Kind::Right, Kind::Signed),
+        Verb::SetQlimit | Verb::SetMscount | Verb::SetSeqno => {
+            (Kind::Hexadecimal, Kind::Decimal, Kind::Absent)
+        }
+        Verb::InsertRight => (Kind::Hexadecimal, Kind::Hexadecimal, Kind::Disposition),
+        Verb::ExtractRight | Verb::SpaceCreate => {
+            (Kind::Hexadecimal, Kind::Disposition, Kind::Absent)
+        }
+        Verb::Names | Verb::SpaceDestroy | Verb::Send | Verb::Receive => {
+            (Kind::Absent, Kind::Absent, Kind::Absent)
+        }
+    };
+    three_kinds(first, second, third)
+}
+
+#[tactic(auto, unfolding(crate::specs::Plain::arguments_at))]
+fn read_arguments(kinds: Kinds, text: &[u8]) -> Result<(Arguments, &[u8]), Fault>
+    ensures { Gives (λ r. (r.0, words_of r.1.now)) result (arguments_at kinds (words_of text.now)) }
+{
+    let (first, rest) = read_value(kinds.first, text)?;
+    let (second, rest) = read_value(kinds.second, rest)?;
+    let (third, rest) = read_value(kinds.third, rest)?;
+    let (fourth, rest) = read_value(kinds.fourth, rest)?;
+    let (fifth, rest) = read_value(kinds.fifth, rest)?;
+    let arguments = Arguments {
+        first,
+        second,
+        third,
+        fourth,
+        fifth,
+    };
+    Ok((arguments, rest))
+}
+
+/// The call of a verb with these arguments, of each but those of `mach_msg`.
+fn plain_call(verb: Verb, arguments: Arguments) -> Option<Call>
+    ensures { result ≡ plain_call verb arguments }
+{
+    let Arguments {
+        first,
+        second,
+        third,
+        fourth,
+        fifth,
+    } = arguments;
+    Some(match verb {
+        Verb::Attach => Call::Attach { space: first },
+        Verb::Names => Call::Names,
+        Verb::Type => Call::Type { name: first },
+        Verb::Rename => Call::Rename {
+            from: first,
+            to: second,
+        },
+        Verb::AllocateName => Call::AllocateName {
+            right: first,
+            name: second,
+        },
+        Verb::Allocate => Call::Allocate { right: first },
+        Verb::Destroy => Call::Destroy { name: first },
+        Verb::Deallocate => Call::Deallocate { name: first },
+        Verb::GetRefs => Call::GetRefs {
+            name: first,
+            right: second,
+        },
+        Verb::ModRefs => Call::ModRefs {
+            name: first,
+            right: second,
+            delta: third,
+        },
+        Verb::SetQlimit => Call::SetQlimit {
+            name: first,
+            limit: second,
+        },
+        Verb::SetMscount => Call::SetMscount {
+            name: first,
+            count: second,
+        },
+        Verb::SetSeqno => Call::SetSeqno {
+            name: first,
+            seqno: second,
+        },
+        Verb::GetReceiveStatus => Call::GetReceiveStatus { name: first },
+        Verb::GetSetStatus => Call::GetSetStatus { name: first },
+        Verb::MoveMember => Call::MoveMember {
+            member: first,
+            after: second,
+        },
+        Verb::RequestNotification => Call::RequestNotification {
+            name: first,
+            variant: second,
+            sync: third,
+            notify: fourth,
+            disposition: fifth,
+        },
+        Verb::InsertRight => Call::InsertRight {
+            name: first,
+            right_name: second,
+            disposition: third,
+        },
+        Verb::ExtractRight => Call::ExtractRight {
+            name: first,
+            disposition: second,
+        },
+        Verb::SpaceCreate => Call::SpaceCreate {
+            name: first,
+            disposition: second,
+        },
+        Verb::SpaceDestroy => Call::SpaceDestroy,
+        Verb::Send | Verb::Receive => return None,
+    })
+}
+
+#[tactic(auto, unfolding(crate::specs::Plain::plain_at))]
+/// The call of a verb with the arguments in front of a text, of each but those of `mach_msg`.
+pub(crate) fn read_plain(verb: Verb, text: &[u8]) -> Result<(Call, &[u8]), Fault>
+    ensures { Gives (λ r. (r.0, words_of r.1.now)) result (plain_at verb (words_of text.now)) }
+{
+    let (arguments, rest) = read_arguments(kinds_of(verb), text)?;
+    match plain_call(verb, arguments) {
+        Some(call) => Ok((call, rest)),
+        None => Err(Fault::expected(Expected::CallName, text)),
+    }
+}
