@@ -1,11 +1,13 @@
 //! `rows FILE..` runs scripts of calls against a server, and says where an answer is another than the one written.
 //!
 //! Each script is run straight, on one server; on a store that is stopped and opened again after each call; and on a store
-//! that stops at each device call of each append, after which a call that isn't known is made again.
+//! that stops at each device call of each append, after which a call that isn't known is made again. docs/ARCHITECTURE.md
+//! has the lines of a script that are no calls.
 #![tactic(auto)]
 
 mod connection;
 mod directive;
+mod failure;
 mod passes;
 mod reading;
 mod row;

@@ -1,4 +1,5 @@
-use crate::connection::{Connection, Difference, Failure, Place, Stop, Store, Unanswered, Way};
+use crate::connection::{Connection, Store};
+use crate::failure::{Difference, Failure, Place, Stop, Unanswered, Way};
 use crate::row::{Ask, Row, Script, Step, is_wanted};
 use disk::Torn;
 use std::alloc::Global;

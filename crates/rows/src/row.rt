@@ -1,7 +1,7 @@
 ghost use Rattle.std.specs.Prelude.{◌≡◌, ◌<◌, length, IfSome, IfNone, IsTrue};
 ghost use Rattle.rows.specs.Replies.{HasCode, IsSame, Meets};
 
-use crate::connection::{Place, Way};
+use crate::failure::{Place, Way};
 use ipc_model::Call;
 use words::take_word;
 

@@ -1,4 +1,4 @@
-use crate::connection::{Difference, Failure, Place, Unanswered};
+use crate::failure::{Difference, Failure, Place, Unanswered};
 use crate::reading::ReadFault;
 use crate::row::{Script, Step, code_of};
 use calls::read_recorded_reply;

@@ -1,0 +1,98 @@
+use disk::Torn;
+use journal::StoreFault;
+use std::alloc::AllocError;
+use std::fmt;
+
+/// Why a frame has no reply.
+#[derive(Clone, Copy, Debug, PartialEq, Eq)]
+pub enum Unanswered {
+    /// The server ended in place of it.
+    NoReply,
+    /// The task could not be attached again to the space that it was attached to.
+    Detached,
+}
+
+/// How a script went wrong at a line.
+#[derive(Debug, Drop)]
+pub enum Difference {
+    /// The reply was another frame.
+    Reply(Vec<u8>),
+    /// There was none.
+    Unanswered(Unanswered),
+    /// Segment 0 had another length.
+    Length(u64),
+    /// The store could not be opened.
+    Unopened(StoreFault),
+    /// The store did not have the calls that were answered and at most the one that was being made.
+    Records,
+}
+
+/// A line of a script, and how the script is run.
+#[derive(Clone, Copy, Debug, PartialEq, Eq)]
+pub struct Place {
+    pub line: u32,
+    pub way: Way,
+}
+
+/// How a script is run.
+#[derive(Clone, Copy, Debug, PartialEq, Eq)]
+pub enum Way {
+    /// On one server.
+    Straight,
+    /// On a store that is stopped and opened again after each call.
+    Reopened,
+    /// On a store that stops at a device call of each append.
+    Stopped(Stop),
+}
+
+/// A stop at one of the device calls of an append.
+#[derive(Clone, Copy, Debug, PartialEq, Eq)]
+pub struct Stop {
+    /// Which of them, from 1.
+    pub at: u64,
+    /// What the stop leaves.
+    pub torn: Torn,
+}
+
+impl fmt::Display for Way {
+    fn fmt<W: fmt::Write>(&self, f: &mut fmt::Formatter<W>) -> fmt::Result {
+        match self {
+            Way::Straight => f.write_str("on one server"),
+            Way::Reopened => f.write_str("the store opened again after each call"),
+            Way::Stopped(Stop { at, torn }) => {
+                write!(f, "stopped at device call {at} of each append ({torn:?})")
+            }
+        }
+    }
+}
+
+/// Why a script was not run to its end.
+#[derive(Debug, Drop)]
+pub enum Failure {
+    NoMemory,
+    At {
+        place: Place,
+        difference: Difference,
+    },
+}
+
+impl Place {
+    /// The opening of a script's store.
+    pub fn start(way: Way) -> Place {
+        Place { line: 0, way }
+    }
+
+    /// That something else came here than was wanted.
+    pub fn differs(self, difference: Difference) -> Failure {
+        Failure::At {
+            place: self,
+            difference,
+        }
+    }
+}
+
+impl From<AllocError> for Failure {
+    fn from(_: AllocError) -> Self {
+        Failure::NoMemory
+    }
+}
