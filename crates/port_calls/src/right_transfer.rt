@@ -229,7 +229,12 @@ fn take_extracted(
 
 /// The name under which a right arrives: the wanted one where it may arrive under it, or else the one that it gets by
 /// itself.
-pub(crate) fn arrival_wanted(state: &IpcState, space: u32, right: CarriedRight, wanted: Option<u32>) -> u32
+pub(crate) fn arrival_wanted(
+    state: &IpcState,
+    space: u32,
+    right: CarriedRight,
+    wanted: Option<u32>,
+) -> u32
     ensures may { MayArrive (names_in state.now space) right.kind right.port result }
     ensures wanted { (shown : ℕ) → wanted ≡ Some shown → MayArrive (names_in state.now space) right.kind right.port shown → result ≡ shown }
 {
