@@ -125,7 +125,7 @@ const SPACE_CREATE: Call = Call::SpaceCreate {
     disposition: 20,
 };
 
-// Four spaces hold 16,381 ports. As many calls of a server on a disk in memory take too long.
+// Four spaces hold 16,381 ports. They are made of a kernel alone: a disk in memory copies a slot at each write.
 #[test]
 fn there_are_16384_ports(rt: HostRuntime) -> Result<(), Fail> {
     let mut kernel = Kernel::opening(rt.alloc())?;
