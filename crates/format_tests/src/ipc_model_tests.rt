@@ -1,5 +1,5 @@
-use codes::KernReturn;
-use ipc_model::{Call, MACH_MSG, Message, Reply, RightKind, Sequence};
+use codes::{KernReturn, MACH_MSG};
+use ipc_model::{Call, Message, Reply, RightKind, Sequence};
 use std::test::Fail;
 
 #[test]
