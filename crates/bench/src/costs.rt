@@ -1,248 +1,193 @@
-//! What each kind of call costs beside few and beside many other ports.
+//! What each kind of call costs as what stands beside it grows: ports, names of the same space, and spaces.
 
 use crate::{Fault, per_call};
 use ipc_model::Call;
 use kernel::Kernel;
+use script::read_request_line;
+use std::alloc::Global;
 use std::time::Instant;
 
-/// The spaces that hold the other ports.
-const OTHERS: [u32; 4] = [2, 3, 4, 5];
-
-/// How many ports each of them holds, few or many.
-const FEW: u64 = 2;
-
-const MANY: u64 = 4_000;
-
-/// How often a kind of call is made beside few ports and beside many.
-const ROUNDS_BESIDE_FEW: u64 = 2_000;
-
-const ROUNDS_BESIDE_MANY: u64 = 40;
-
-/// The space in which calls are measured, and its port.
+/// The space in which calls are measured. It holds a port 0x100 by its receive right and a send right, and a set 0x200.
 const HERE: u32 = 1;
 
-const PORT: u32 = 0x100;
+/// What is made before anything is measured.
+const BEFORE: [&str; 4] = [
+    "allocate receive",
+    "insert_right 0x100 0x100 make_send",
+    "allocate_name port_set 0x200",
+    "space_create 0x100 make_send",
+];
 
-const SET: u32 = 0x200;
+/// The space that takes the other ports, and the one that then comes and goes.
+const OTHER_SPACE: u32 = 2;
 
-const UNUSED: u32 = 0x1ff;
+const NEXT_SPACE: u32 = 3;
 
-/// The space that a new one gets beside the others.
-const NEXT_SPACE: u32 = 6;
+/// The calls that are measured: two lines of a script that leave the state as it was, the second one of this space, and
+/// whether they are done.
+const PAIRS: [(&str, u32, &str, bool); 14] = [
+    ("allocate receive", HERE, "destroy 0x101", true),
+    (
+        "insert_right 0x100 0x100 make_send",
+        HERE,
+        "deallocate 0x100",
+        true,
+    ),
+    (
+        "extract_right 0x100 make_send",
+        HERE,
+        "deallocate 0x100",
+        true,
+    ),
+    (
+        "mod_refs 0x100 send 1",
+        HERE,
+        "mod_refs 0x100 send -1",
+        true,
+    ),
+    (
+        "space_create 0x100 make_send",
+        NEXT_SPACE,
+        "space_destroy",
+        true,
+    ),
+    (
+        "request_notification 0x100 dead_name 0 0x0 0",
+        HERE,
+        "type 0x100",
+        true,
+    ),
+    ("deallocate 0x1ff", HERE, "deallocate 0x1ff", false),
+    ("rename 0x100 0x300", HERE, "rename 0x300 0x100", true),
+    (
+        "move_member 0x100 0x200",
+        HERE,
+        "move_member 0x100 0x0",
+        true,
+    ),
+    ("type 0x100", HERE, "get_refs 0x100 send", true),
+    ("set_qlimit 0x100 5", HERE, "set_seqno 0x100 0", true),
+    ("get_receive_status 0x100", HERE, "attach 1", true),
+    ("get_set_status 0x200", HERE, "get_set_status 0x200", true),
+    ("names", HERE, "names", true),
+];
 
-/// A kernel whose space 1 holds one port, by its receive right and a send right, and a set, and whose other spaces hold
-/// so many ports each.
-fn beside(rt: &HostRuntime, ports: u64) -> Result<Kernel, Fault> {
-    let Ok(mut kernel) = Kernel::opening(rt.alloc()) else {
+/// What stands beside: live ports in another space, and dead names in the space of the calls.
+#[derive(Clone, Copy)]
+struct Beside {
+    ports: u32,
+    names: u32,
+}
+
+const ALONE: Beside = Beside { ports: 0, names: 0 };
+
+const PORTS: Beside = Beside {
+    ports: 4_000,
+    names: 0,
+};
+
+const NAMES: Beside = Beside {
+    ports: 0,
+    names: 4_000,
+};
+
+/// The first of the names beside, so that the least unused name is 0x101 all the same.
+const FIRST_OTHER_NAME: u32 = 0x1000;
+
+/// How often a pair is made beside little, and how often beside much.
+const MANY_ROUNDS: u64 = 2_000;
+
+const FEW_ROUNDS: u64 = 40;
+
+/// The call of a line.
+fn call_of(alloc: Global, line: &str) -> Result<Call, Fault> {
+    let Ok(call) = read_request_line(alloc, line.as_bytes()) else {
         return Err(Fault::Call);
     };
-    done(&mut kernel, HERE, &Call::Allocate { right: 1 })?;
-    let send_right = Call::InsertRight {
-        name: PORT,
-        right_name: PORT,
-        disposition: 20,
+    Ok(call)
+}
+
+/// Makes a call, which has to be done or has to be refused.
+fn make(kernel: &mut Kernel, space: u32, call: &Call, is_done: bool) -> Result<(), Fault> {
+    let Ok(reply) = kernel.apply(space, call) else {
+        return Err(Fault::Call);
     };
-    done(&mut kernel, HERE, &send_right)?;
-    done(
+    if reply.is_success() != is_done {
+        return Err(Fault::Call);
+    }
+    Ok(())
+}
+
+/// Makes the call of a line so often, which has to be done.
+fn make_line(
+    alloc: Global,
+    kernel: &mut Kernel,
+    space: u32,
+    line: &str,
+    times: u32,
+) -> Result<(), Fault> {
+    let call = call_of(alloc, line)?;
+    for _ in 0..times {
+        make(kernel, space, &call, true)?;
+    }
+    Ok(())
+}
+
+/// A kernel with what is measured, and with this beside it.
+fn kernel_beside(alloc: Global, beside: Beside) -> Result<Kernel, Fault> {
+    let Ok(mut kernel) = Kernel::opening(alloc) else {
+        return Err(Fault::Call);
+    };
+    for line in BEFORE {
+        make_line(alloc, &mut kernel, HERE, line, 1)?;
+    }
+    make_line(
+        alloc,
         &mut kernel,
-        HERE,
-        &Call::AllocateName {
-            right: 3,
-            name: SET,
-        },
+        OTHER_SPACE,
+        "allocate receive",
+        beside.ports,
     )?;
-    for space in OTHERS {
-        let child = Call::SpaceCreate {
-            name: PORT,
-            disposition: 20,
-        };
-        done(&mut kernel, HERE, &child)?;
-        for _ in 0..ports {
-            done(&mut kernel, space, &Call::Allocate { right: 1 })?;
-        }
+    for number in 0..beside.names {
+        let name = number.saturating_add(FIRST_OTHER_NAME);
+        make(
+            &mut kernel,
+            HERE,
+            &Call::AllocateName { right: 4, name },
+            true,
+        )?;
     }
     Ok(kernel)
 }
 
-/// Makes a call that has to be done.
-fn done(kernel: &mut Kernel, space: u32, call: &Call) -> Result<(), Fault> {
-    match kernel.apply(space, call) {
-        Ok(reply) if reply.is_success() => Ok(()),
-        _ => Err(Fault::Call),
-    }
-}
-
-/// Makes a call that has to be refused.
-fn refused(kernel: &mut Kernel, space: u32, call: &Call) -> Result<(), Fault> {
-    match kernel.apply(space, call) {
-        Ok(reply) if !reply.is_success() => Ok(()),
-        _ => Err(Fault::Call),
-    }
-}
-
-/// How many nanoseconds a call takes beside so many ports, of calls that leave the state as it was.
+/// How many nanoseconds a call of a pair takes beside this.
 fn cost(
     rt: &HostRuntime,
-    ports: u64,
+    beside: Beside,
     rounds: u64,
-    calls: &[(u32, Call)],
-    is_refused: bool,
+    pair: (&str, u32, &str, bool),
 ) -> Result<u64, Fault> {
-    let mut kernel = beside(rt, ports)?;
+    let first = call_of(rt.alloc(), pair.0)?;
+    let second = call_of(rt.alloc(), pair.2)?;
+    let mut kernel = kernel_beside(rt.alloc(), beside)?;
     let start = Instant::now(rt)?;
     for _ in 0..rounds {
-        for (space, call) in calls {
-            if is_refused {
-                refused(&mut kernel, *space, call)?;
-            } else {
-                done(&mut kernel, *space, call)?;
-            }
-        }
+        make(&mut kernel, HERE, &first, pair.3)?;
+        make(&mut kernel, pair.1, &second, pair.3)?;
     }
-    let made = rounds.saturating_mul(calls.len() as u64);
-    Ok(per_call(made, start.elapsed(rt)?))
+    Ok(per_call(rounds.saturating_mul(2), start.elapsed(rt)?))
 }
 
-/// Prints what a kind of call costs beside few and beside many ports.
-fn print_cost(
-    rt: &HostRuntime,
-    name: &str,
-    calls: &[(u32, Call)],
-    is_refused: bool,
-) -> Result<(), Fault> {
-    let few = cost(rt, FEW, ROUNDS_BESIDE_FEW, calls, is_refused)?;
-    let many = cost(rt, MANY, ROUNDS_BESIDE_MANY, calls, is_refused)?;
-    let _ = println!(rt; "{name}: {few} ns beside 8 ports, {many} ns beside 16,000");
-    Ok(())
-}
-
-/// Prints the costs of the calls that leave the state as it was, alone or in pairs.
+/// Prints what a call of each pair costs beside little, and as ports and names grow.
 pub(crate) fn print_costs(rt: &HostRuntime) -> Result<(), Fault> {
-    let _ = println!(rt; "a call in memory, in nanoseconds:");
-    print_changes(rt)?;
-    print_rights(rt)?;
-    print_reads(rt)?;
-    let unused = [(HERE, Call::Deallocate { name: UNUSED })];
-    print_cost(rt, "deallocate, refused", &unused, true)
-}
-
-/// The calls that make and remove names, spaces and members.
-fn print_changes(rt: &HostRuntime) -> Result<(), Fault> {
-    let port = [
-        (HERE, Call::Allocate { right: 1 }),
-        (HERE, Call::Destroy { name: 0x101 }),
-    ];
-    print_cost(rt, "allocate, destroy", &port, false)?;
-    let names = [
-        (
-            HERE,
-            Call::Rename {
-                from: PORT,
-                to: 0x300,
-            },
-        ),
-        (
-            HERE,
-            Call::Rename {
-                from: 0x300,
-                to: PORT,
-            },
-        ),
-    ];
-    print_cost(rt, "rename", &names, false)?;
-    let member = [
-        (
-            HERE,
-            Call::MoveMember {
-                member: PORT,
-                after: SET,
-            },
-        ),
-        (
-            HERE,
-            Call::MoveMember {
-                member: PORT,
-                after: 0,
-            },
-        ),
-    ];
-    print_cost(rt, "move_member", &member, false)?;
-    let space = [
-        (
-            HERE,
-            Call::SpaceCreate {
-                name: PORT,
-                disposition: 20,
-            },
-        ),
-        (NEXT_SPACE, Call::SpaceDestroy),
-    ];
-    print_cost(rt, "space_create, space_destroy", &space, false)
-}
-
-/// The calls that move rights and count references.
-fn print_rights(rt: &HostRuntime) -> Result<(), Fault> {
-    let inserted = [
-        (
-            HERE,
-            Call::InsertRight {
-                name: PORT,
-                right_name: PORT,
-                disposition: 20,
-            },
-        ),
-        (HERE, Call::Deallocate { name: PORT }),
-    ];
-    print_cost(rt, "insert_right, deallocate", &inserted, false)?;
-    let extracted = [
-        (
-            HERE,
-            Call::ExtractRight {
-                name: PORT,
-                disposition: 20,
-            },
-        ),
-        (HERE, Call::Deallocate { name: PORT }),
-    ];
-    print_cost(rt, "extract_right, deallocate", &extracted, false)?;
-    let counted = [
-        (
-            HERE,
-            Call::ModRefs {
-                name: PORT,
-                right: 0,
-                delta: 1,
-            },
-        ),
-        (
-            HERE,
-            Call::ModRefs {
-                name: PORT,
-                right: 0,
-                delta: u32::MAX,
-            },
-        ),
-    ];
-    print_cost(rt, "mod_refs", &counted, false)?;
-    let cancelled = [(
-        HERE,
-        Call::RequestNotification {
-            name: PORT,
-            variant: 72,
-            sync: 0,
-            notify: 0,
-            disposition: 0,
-        },
-    )];
-    print_cost(rt, "request_notification, cancelled", &cancelled, false)
-}
-
-/// The calls that only read.
-fn print_reads(rt: &HostRuntime) -> Result<(), Fault> {
-    print_cost(rt, "type", &[(HERE, Call::Type { name: PORT })], false)?;
-    print_cost(rt, "names of 2 names", &[(HERE, Call::Names)], false)?;
-    let status = [(HERE, Call::GetReceiveStatus { name: PORT })];
-    print_cost(rt, "get_receive_status", &status, false)?;
-    let members = [(HERE, Call::GetSetStatus { name: SET })];
-    print_cost(rt, "get_set_status", &members, false)
+    let _ = println!(rt;
+        "nanoseconds a call: alone, beside 4,000 ports, beside 4,000 names of its space"
+    );
+    for pair in PAIRS {
+        let alone = cost(rt, ALONE, MANY_ROUNDS, pair)?;
+        let ports = cost(rt, PORTS, FEW_ROUNDS, pair)?;
+        let names = cost(rt, NAMES, FEW_ROUNDS, pair)?;
+        let _ = println!(rt; "{} / {}: {alone}, {ports}, {names}", pair.0, pair.2);
+    }
+    Ok(())
 }
