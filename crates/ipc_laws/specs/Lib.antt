@@ -10,6 +10,7 @@ pub mod EffectWeights
 pub mod EffectsKeep
 pub mod EntryChanges
 pub mod Hands
+pub mod HistoryLaws
 pub mod ImageLaws
 pub mod ItemLaws
 pub mod LawfulLaws
@@ -50,3 +51,4 @@ pub mod Untouched
 pub mod UntouchedMessages
 pub mod Weights
 pub mod WorldLaws
+pub mod WorldRuns

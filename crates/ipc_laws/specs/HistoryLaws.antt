@@ -1,0 +1,151 @@
+-- What a legal session knows of its history: its places rise and hold its own calls, and it stays legal as others add to
+-- the history.
+use Rattle.std.specs.Prelude.{◌≡◌, ◌⊎◌, ℕ, zero, suc, ◌+◌, ◌<◌, ◌≤◌, max, Bool, true, false, List, [], ◌∷◌, ◌++◌, length, take, map, Option, None, Some, option_map, slice_get, if◌then◌else◌, refl}
+use Rattle.std.proofs.Common.{inl, inr, sym, ◌∙◌, ap, subst, arith, length-append}
+use Rattle.std.proofs.lemmas.List.{append-nil, append_assoc, map-append, take-append-le}
+use Rattle.ipc_model.specs.declared.call.Call.{Call}
+use Rattle.ipc_model.specs.declared.call.Reply.{Reply}
+use Rattle.ipc_model.specs.declared.record.Record.{Record}
+use Rattle.ipc_model.specs.calls.Step.{Run, has_record}
+use Rattle.ipc_model.specs.state.State.{State}
+use Rattle.ipc_model.specs.history.History.{Session, Deed, called, redeemed, looked, HasPlace, IsAnswered, Leads, After, Lives, IsNew, Legal}
+
+-- places rise, from a least one on, and lie below a number
+abbrev pub RiseWithin : ℕ → ℕ → List ℕ → Type 0
+RiseWithin least end [] = least ≤ end
+RiseWithin least end (place ∷ places) = (least ≤ place) × RiseWithin (place + 1) end places
+
+rise_further : (least end further : ℕ) (places : List ℕ) → end ≤ further → RiseWithin least end places → RiseWithin least further places
+rise_further least end further [] le rise = omega (arith, le, rise)
+rise_further least end further (place ∷ places) le rise = (rise.0, rise_further (place + 1) end further places le rise.1)
+
+rise_more : (least end further place : ℕ) (places : List ℕ) → end ≤ place → place < further → RiseWithin least end places → RiseWithin least further (places ++ place ∷ [])
+rise_more least end further place [] le below rise = (omega (arith, le, rise), omega (arith, below))
+rise_more least end further place (first ∷ places) le below rise = (rise.0, rise_more (first + 1) end further place places le below rise.1)
+
+-- What holds of every legal session: it has seen a beginning of the history, was told within what it saw, and its places
+-- rise among the new records that it saw.
+pub record IsInOrder (opened : ℕ) (history : List Record) (session : Session) : Type 0 where
+  pub seen : session.seen ≤ length history
+  pub told : session.told ≤ session.seen
+  pub places : RiseWithin opened session.seen session.places
+
+led_order : (base : State) (opened : ℕ) (history : List Record) (old : Session) (deed : Deed) (new : Session) → old.seen ≤ new.seen → new.seen ≤ length history → Leads base history old deed new
+    → IsInOrder opened history old → IsInOrder opened history new
+led_order base opened history old (called c answer) new more within (inl at) order = subst (IsInOrder opened history) (sym at.after) (record {
+  seen = within;
+  told = omega (arith, more, order.told);
+  places = rise_more opened old.seen new.seen at.place old.places at.unseen at.seen order.places;
+})
+led_order base opened history old (called c answer) new more within (inr is) order =
+    subst (IsInOrder opened history) (sym is.after) (record { seen = within; told = omega (arith, more, order.told); places = rise_further opened old.seen new.seen old.places more order.places })
+led_order base opened history old (redeemed seen) new more within led order =
+    subst (IsInOrder opened history) (sym led.1) (record { seen = within; told = omega (arith, more, order.told, led.0); places = rise_further opened old.seen new.seen old.places more order.places })
+led_order base opened history old looked new more within led order =
+    subst (IsInOrder opened history) (sym led) (record { seen = within; told = omega (arith, more, order.told); places = rise_further opened old.seen new.seen old.places more order.places })
+
+lived_order : (base : State) (opened : ℕ) (history : List Record) (old : Session) (deeds : List Deed) (new : Session) → Lives base history old deeds new → IsInOrder opened history old → IsInOrder opened history new
+lived_order base opened history old [] new lives order = subst (IsInOrder opened history) (sym lives) order
+lived_order base opened history old (deed ∷ deeds) new (mid, after, rest) order =
+    lived_order base opened history mid deeds new rest (led_order base opened history old deed mid after.more after.within after.leads order)
+
+new_order : (opened : ℕ) (history : List Record) (session : Session) → IsNew opened history session → IsInOrder opened history session
+new_order opened history session new =
+    record { seen = new.within; told = omega (arith, new.told); places = subst (RiseWithin opened session.seen) (sym new.places) new.least }
+
+-- A legal session has seen a beginning of the history, was told within what it saw, and its places rise.
+abbrev pub LegalIsInOrder : Type 0
+LegalIsInOrder = (base : State) (opened : ℕ) (history : List Record) (deeds : List Deed) (session : Session) → Legal base opened history deeds session → IsInOrder opened history session
+
+pub legal_is_in_order : LegalIsInOrder
+legal_is_in_order base opened history deeds session legal = lived_order base opened history legal.start deeds session legal.life (new_order opened history legal.start legal.new)
+
+-- the calls with records among a session's deeds
+abbrev pub recorded_calls : List Deed → List (Call × Reply)
+recorded_calls [] = []
+recorded_calls (called c answer ∷ deeds) = if has_record c answer then (c, answer) ∷ recorded_calls deeds else recorded_calls deeds
+recorded_calls (redeemed seen ∷ deeds) = recorded_calls deeds
+recorded_calls (looked ∷ deeds) = recorded_calls deeds
+
+-- the call and reply that stand at a place
+abbrev pub call_at : List Record → ℕ → Option (Call × Reply)
+call_at history place = option_map (λ (entry : Record). (entry.call, entry.reply)) (slice_get history place)
+
+call_of : Option Record → Option (Call × Reply)
+call_of o = option_map (λ (entry : Record). (entry.call, entry.reply)) o
+
+abbrev Holds : List Record → List ℕ → List (Call × Reply) → Type 0
+Holds history places calls = map (call_at history) places ≡ map (λ (c : Call × Reply). Some c) calls
+
+abbrev some_calls : List (Call × Reply) → List (Option (Call × Reply))
+some_calls calls = map (λ (c : Call × Reply). Some c) calls
+
+-- what a session's life adds to its places
+lived_calls : (base : State) (history : List Record) (old : Session) (deeds : List Deed) (new : Session) → Lives base history old deeds new
+    → map (call_at history) new.places ≡ map (call_at history) old.places ++ some_calls (recorded_calls deeds)
+lived_calls base history old [] new lives = ap (λ (s : Session). map (call_at history) s.places) lives ∙ sym (append-nil (map (call_at history) old.places))
+lived_calls base history old (called c answer ∷ deeds) new (mid, after, rest) =
+    let later : map (call_at history) new.places ≡ map (call_at history) mid.places ++ some_calls (recorded_calls deeds) = lived_calls base history mid deeds new rest in
+    elim after.leads as (λ _. map (call_at history) new.places ≡ map (call_at history) old.places ++ some_calls (if has_record c answer then (c, answer) ∷ recorded_calls deeds else recorded_calls deeds)) [
+      | inl at ↦
+        let here : call_at history at.place ≡ Some (c, answer) = ap (λ (o : Option Record). option_map (λ (entry : Record). (entry.call, entry.reply)) o) at.there in
+        let added : map (call_at history) mid.places ≡ map (call_at history) old.places ++ Some (c, answer) ∷ [] =
+        ap (λ (s : Session). map (call_at history) s.places) at.after ∙ map-append (call_at history) old.places (at.place ∷ []) ∙ ap (λ (o : Option (Call × Reply)). map (call_at history) old.places ++ o ∷ []) here in
+        later ∙ ap (λ (l : List (Option (Call × Reply))). l ++ some_calls (recorded_calls deeds)) added
+        ∙ append_assoc (map (call_at history) old.places) (Some (c, answer) ∷ []) (some_calls (recorded_calls deeds))
+        ∙ ap (λ (b : Bool). map (call_at history) old.places ++ some_calls (if b then (c, answer) ∷ recorded_calls deeds else recorded_calls deeds)) (sym at.recorded)
+      | inr is ↦
+        later ∙ ap (λ (s : Session). map (call_at history) s.places ++ some_calls (recorded_calls deeds)) is.after
+        ∙ ap (λ (b : Bool). map (call_at history) old.places ++ some_calls (if b then (c, answer) ∷ recorded_calls deeds else recorded_calls deeds)) (sym is.unrecorded)
+    ]
+lived_calls base history old (redeemed seen ∷ deeds) new (mid, after, rest) =
+    lived_calls base history mid deeds new rest ∙ ap (λ (s : Session). map (call_at history) s.places ++ some_calls (recorded_calls deeds)) after.leads.1
+lived_calls base history old (looked ∷ deeds) new (mid, after, rest) =
+    lived_calls base history mid deeds new rest ∙ ap (λ (s : Session). map (call_at history) s.places ++ some_calls (recorded_calls deeds)) after.leads
+
+-- At a legal session's places stand its calls with records, in their order, and nothing else.
+abbrev pub PlacesHoldCalls : Type 0
+PlacesHoldCalls = (base : State) (opened : ℕ) (history : List Record) (deeds : List Deed) (session : Session) → Legal base opened history deeds session
+    → map (call_at history) session.places ≡ map (λ (c : Call × Reply). Some c) (recorded_calls deeds)
+
+pub places_hold_calls : PlacesHoldCalls
+places_hold_calls base opened history deeds session legal =
+    lived_calls base history legal.start deeds session legal.life ∙ ap (λ (places : List ℕ). map (call_at history) places ++ some_calls (recorded_calls deeds)) legal.new.places
+
+-- what stands in a list stands there still once it is longer
+there_still : (history more : List Record) (place : ℕ) (entry : Record) → slice_get history place ≡ Some entry → slice_get (history ++ more) place ≡ Some entry
+there_still [] more place entry is = absurd (cc is)
+there_still (first ∷ history) more zero entry is = is
+there_still (first ∷ history) more (suc place) entry is = there_still history more place entry is
+
+led_further : (base : State) (history more : List Record) (old : Session) (deed : Deed) (new : Session) → new.seen ≤ length history → Leads base history old deed new → Leads base (history ++ more) old deed new
+led_further base history more old (called c answer) new within (inl at) =
+    inl (record { recorded = at.recorded; place = at.place; unseen = at.unseen; there = there_still history more at.place _ at.there; seen = at.seen; after = at.after })
+led_further base history more old (called c answer) new within (inr is) = inr (record {
+  unrecorded = is.unrecorded;
+  beginning = is.beginning;
+  unseen = is.unseen;
+  state = is.state;
+  run = subst (λ (l : List Record). Run base l is.state) (sym (take-append-le is.beginning history more (omega (arith, is.seen, within)))) is.run;
+  answered = is.answered;
+  seen = is.seen;
+  after = is.after;
+})
+led_further base history more old (redeemed seen) new within led = led
+led_further base history more old looked new within led = led
+
+lived_further : (base : State) (history more : List Record) (old : Session) (deeds : List Deed) (new : Session) → Lives base history old deeds new → Lives base (history ++ more) old deeds new
+lived_further base history more old [] new lives = lives
+lived_further base history more old (deed ∷ deeds) new (mid, after, rest) =
+    (mid, record { leads = led_further base history more old deed mid after.within after.leads; more = after.more; within = omega (arith, after.within, length-append history more) }, lived_further base history more mid deeds new rest)
+
+-- A legal session stays legal when the history grows.
+abbrev pub LegalStaysLegal : Type 0
+LegalStaysLegal = (base : State) (opened : ℕ) (history more : List Record) (deeds : List Deed) (session : Session) → Legal base opened history deeds session → Legal base opened (history ++ more) deeds session
+
+pub legal_stays_legal : LegalStaysLegal
+legal_stays_legal base opened history more deeds session legal = record {
+  start = legal.start;
+  new = record { space = legal.new.space; least = legal.new.least; within = omega (arith, legal.new.within, length-append history more); told = legal.new.told; places = legal.new.places };
+  life = lived_further base history more legal.start deeds session legal.life;
+}
