@@ -13,8 +13,9 @@ use Rattle.ipc_model.specs.calls.Step.{Step, Answer, ActsFrom}
 use Rattle.ipc_model.specs.effects.Effects.{Effect, settled}
 use Rattle.ipc_model.specs.state.State.{State, Names, opening_state}
 use Rattle.ipc_model.specs.store.Faults as fault
-use Rattle.ipc_model.specs.world.World.{Event, Outcome, Ticket, World, Worlds, After, MayGive, IsPossible, submit, take_batch, append, durable, ask_reply, cut, roll_close, roll_open, piece, finish, given, replied, done, not_now, epoch_full, no_memory, store, first_world, told, row_length, after_submit, after_take, after_append, after_durable, after_cut, with_answered}
+use Rattle.ipc_model.specs.world.World.{Event, Outcome, Ticket, Receipt, of_finish, World, Worlds, After, MayGive, IsPossible, submit, take_batch, append, durable, ask_reply, cut, roll_close, roll_head, roll_open, image_close, piece, finish, given, replied, done, not_now, epoch_full, no_memory, store, first_world, told, row_length, pieces_of, after_submit, after_take, after_append, after_durable, after_cut, with_answered}
 use Rattle.ipc_laws.specs.MapLaws.{map_rules}
+use Rattle.ipc_laws.specs.OpeningLaws.{opening-image}
 use Rattle.ipc_rows.specs.RowRules.{rows}
 use Rattle.ipc_rows.specs.RowsSteps.{allocate-step}
 
@@ -122,6 +123,41 @@ early-finish possible = absurd (omega (arith, possible.0))
 
 pub last-piece : IsPossible cut_early piece
 last-piece = (omega arith, omega arith)
+
+-- A whole checkpoint of a new store: the steps of rolling and of the image in their order, and the receipt of its finish. It
+-- leaves an empty row in the next epoch.
+abbrev pub checkpoint_events : List (Event × Outcome)
+checkpoint_events = (cut, done) ∷ (roll_close, done) ∷ (roll_head, done) ∷ (roll_open, done) ∷ (image_close, done) ∷ (piece, done) ∷ (finish, done) ∷ (durable, done) ∷ []
+
+abbrev checkpointing : ℕ → ℕ → Bool → List Receipt → World
+checkpointing rolled imaged finished receipts =
+    record (first_world 1 0) { checkpoint = Some (record { rolled = rolled; imaged = imaged; pieces = 1; finished = finished }); receipts = receipts }
+
+pub opening-cut : checkpointing 0 0 false [] ≡ after_cut (first_world 0 0) opening_state
+opening-cut = ap (λ (text : List ℕ). record (first_world 1 0) { checkpoint = Some (record { rolled = 0; imaged = 0; pieces = pieces_of text; finished = false }) }) (sym opening-image)
+
+pub checkpoint-leaves : Worlds opening_state (first_world 0 0) checkpoint_events (first_world 1 0)
+checkpoint-leaves = (
+  checkpointing 0 0 false [],
+  (refl, (omega arith, refl), (opening_state, refl, opening-cut)),
+  (
+    checkpointing 1 0 false [],
+    (refl, refl, refl),
+    (
+      checkpointing 2 0 false [],
+      (refl, refl, refl),
+      (
+        checkpointing 3 0 false [],
+        (refl, (refl, omega arith), refl),
+        (
+          checkpointing 3 1 false [],
+          (refl, refl, refl),
+          (checkpointing 3 2 false [], (refl, (omega arith, omega arith), refl), (checkpointing 3 2 true (of_finish ∷ []), (refl, (refl, refl, refl), refl), (first_world 1 0, (refl, omega arith, refl), refl))),
+        ),
+      ),
+    ),
+  ),
+)
 
 -- What an event that isn't possible answers: not now, and nothing else; not even want of memory.
 pub no_batch-now : After opening_state (first_world 0 0) take_batch not_now (first_world 0 0)
