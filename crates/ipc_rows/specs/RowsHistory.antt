@@ -12,7 +12,7 @@ use Rattle.ipc_model.specs.calls.Actions.{Done}
 use Rattle.ipc_model.specs.calls.PortCalls.{tests_of}
 use Rattle.ipc_model.specs.calls.Step.{Step, Answer, ActsFrom, Run}
 use Rattle.ipc_model.specs.effects.Effects.{Effect, settled}
-use Rattle.ipc_model.specs.history.History.{Session, Deed, Sessions, called, redeemed, looked, HasPlace, IsAnswered, After, Lives, IsNew, Legal, AreApart, AreAll, IsLegalHistory}
+use Rattle.ipc_model.specs.history.History.{Session, Operation, Sessions, called, redeemed, looked, HasPlace, IsAnswered, After, AfterAll, IsNew, Legal, AreApart, AreAll, IsLegalHistory}
 use Rattle.ipc_model.specs.state.State.{State, opening_state}
 use Rattle.ipc_laws.specs.OpeningLaws.{opening_is_lawful}
 use Rattle.ipc_laws.specs.StepsKeep.{one_run}
@@ -31,15 +31,15 @@ abbrev pub new_session : Session
 new_session = record { space = 1; seen = 0; told = 0; places = [] }
 
 -- The first session allocates, asks for the type of the other's name, and is told.
-abbrev pub first_deeds : List Deed
-first_deeds = called allocation (reply.Allocate 0x100) ∷ called (call.Type 0x101) (reply.Type 0x20000) ∷ redeemed 2 ∷ []
+abbrev pub first_operations : List Operation
+first_operations = called allocation (reply.Allocate 0x100) ∷ called (call.Type 0x101) (reply.Type 0x20000) ∷ redeemed 2 ∷ []
 
 abbrev pub first_session : Session
 first_session = record { space = 1; seen = 2; told = 2; places = 0 ∷ [] }
 
 -- The other allocates, and isn't told.
-abbrev pub other_deeds : List Deed
-other_deeds = called allocation (reply.Allocate 0x101) ∷ []
+abbrev pub other_operations : List Operation
+other_operations = called allocation (reply.Allocate 0x101) ∷ []
 
 abbrev pub other_session : Session
 other_session = record { space = 1; seen = 2; told = 0; places = 1 ∷ [] }
@@ -54,11 +54,11 @@ two_records-run = (one_allocated, allocate-step, (two_allocated, second-step, re
 pub new-session : IsNew 0 two_records new_session
 new-session = record { space = refl; least = omega arith; within = omega arith; told = refl; places = refl }
 
-pub first-legal : Legal opening_state 0 two_records first_deeds first_session
+pub first-legal : Legal opening_state 0 two_records first_operations first_session
 first-legal = record {
   start = new_session;
   new = new-session;
-  life = (
+  after = (
     record { space = 1; seen = 1; told = 0; places = 0 ∷ [] },
     record { leads = inl (record { recorded = refl; place = 0; unseen = omega arith; there = refl; seen = omega arith; after = refl }); more = omega arith; within = omega arith },
     (
@@ -73,11 +73,11 @@ first-legal = record {
   );
 }
 
-pub other-legal : Legal opening_state 0 two_records other_deeds other_session
+pub other-legal : Legal opening_state 0 two_records other_operations other_session
 other-legal = record {
   start = new_session;
   new = new-session;
-  life = (
+  after = (
     other_session,
     record { leads = inl (record { recorded = refl; place = 1; unseen = omega arith; there = refl; seen = omega arith; after = refl }); more = omega arith; within = omega arith },
     refl,
@@ -85,7 +85,7 @@ other-legal = record {
 }
 
 abbrev pub both : Sessions
-both = (first_deeds, first_session) ∷ (other_deeds, other_session) ∷ []
+both = (first_operations, first_session) ∷ (other_operations, other_session) ∷ []
 
 -- two different places are apart
 pub apart-two : (i j : ℕ) (d : ℕ) → i < j → j < 2 → slice_index_or (0 ∷ 1 ∷ []) i d ≢ slice_index_or (0 ∷ 1 ∷ []) j d
@@ -96,7 +96,7 @@ apart-two (suc i) zero d below end = absurd (omega (arith, below))
 apart-two (suc i) (suc j) d below end = absurd (omega (arith, below, end))
 
 pub both-legal : IsLegalHistory opening_state 0 two_records both
-both-legal = record { end = two_allocated; run = two_records-run; whole = omega arith; legal = (first-legal, (other-legal, tt)); apart = apart-two }
+both-legal = record { end = two_allocated; run = two_records-run; read = omega arith; legal = (first-legal, (other-legal, tt)); apart = apart-two }
 
 pub both-all : AreAll 0 two_records (first_session ∷ other_session ∷ [])
 both-all = refl
@@ -104,29 +104,29 @@ both-all = refl
 -- Histories that aren't legal.
 
 -- two sessions at one place
-pub one_place-twice : (deeds others : List Deed) → IsLegalHistory opening_state 0 two_records ((deeds, first_session) ∷ (others, first_session) ∷ []) → ⊥
-one_place-twice deeds others legal = legal.apart 0 1 0 (omega arith) (omega arith) refl
+pub one_place-twice : (operations others : List Operation) → IsLegalHistory opening_state 0 two_records ((operations, first_session) ∷ (others, first_session) ∷ []) → ⊥
+one_place-twice operations others legal = legal.apart 0 1 0 (omega arith) (omega arith) refl
 
 -- a place before what was seen: the opening read the record already
 pub place-before : (session : Session) → Legal opening_state 1 (allocated_name 0x100 ∷ []) (called allocation (reply.Allocate 0x100) ∷ []) session → ⊥
-place-before session legal = elim legal.life.1.leads as (λ _. ⊥) [
-  | inl at ↦ absurd (omega (arith, legal.new.least, at.unseen, at.seen, legal.life.1.within))
+place-before session legal = elim legal.after.1.leads as (λ _. ⊥) [
+  | inl at ↦ absurd (omega (arith, legal.new.least, at.unseen, at.seen, legal.after.1.within))
   | inr is ↦ absurd (cc is.unrecorded)
 ]
 
 -- a call with a record that stands nowhere
 pub place-nowhere : (session : Session) → Legal opening_state 0 [] (called allocation (reply.Allocate 0x100) ∷ []) session → ⊥
-place-nowhere session legal = elim legal.life.1.leads as (λ _. ⊥) [
-  | inl at ↦ absurd (omega (arith, at.seen, legal.life.1.within))
+place-nowhere session legal = elim legal.after.1.leads as (λ _. ⊥) [
+  | inl at ↦ absurd (omega (arith, at.seen, legal.after.1.within))
   | inr is ↦ absurd (cc is.unrecorded)
 ]
 
 -- a reply that no state gives
 pub no_answer : (session : Session) → Legal opening_state 0 [] (called (call.Type 0x200) (reply.Type 0x20000) ∷ []) session → ⊥
-no_answer session legal = elim legal.life.1.leads as (λ _. ⊥) [
+no_answer session legal = elim legal.after.1.leads as (λ _. ⊥) [
   | inl at ↦ absurd (cc at.recorded)
   | inr is ↦
-    let none : is.beginning ≡ 0 = omega (arith, is.seen, legal.life.1.within) in
+    let none : is.beginning ≡ 0 = omega (arith, is.seen, legal.after.1.within) in
     let at_start : Run opening_state (take 0 []) is.state = subst (λ (n : ℕ). Run opening_state (take n []) is.state) none is.run in
     let in_space : Answer is.state 1 (call.Type 0x200) (reply.Type 0x20000) = subst (λ (n : ℕ). Answer is.state n (call.Type 0x200) (reply.Type 0x20000)) legal.new.space is.answered in
     let answered : Step opening_state 1 (call.Type 0x200) (reply.Type 0x20000) is.state = subst (λ (s : State). Step s 1 (call.Type 0x200) (reply.Type 0x20000) is.state) at_start in_space in
@@ -147,16 +147,16 @@ unfolding Step Done tests_of
 was-unknown = (opening_state, [], simp rows (refl, refl, refl), settled)
 
 pub older_answer : (session : Session) → Legal opening_state 0 (allocated_name 0x100 ∷ []) (called allocation (reply.Allocate 0x100) ∷ called (call.Type 0x100) (reply.Refused 2 InvalidName) ∷ []) session → ⊥
-older_answer session legal = elim legal.life.1.leads as (λ _. ⊥) [
+older_answer session legal = elim legal.after.1.leads as (λ _. ⊥) [
   | inr is ↦ absurd (cc is.unrecorded)
   | inl at ↦
-    elim legal.life.2.1.leads as (λ _. ⊥) [
+    elim legal.after.2.1.leads as (λ _. ⊥) [
       | inl other ↦ absurd (cc other.recorded)
       | inr is ↦
-        let all : is.beginning ≡ 1 = omega (arith, at.seen, is.unseen, is.seen, legal.life.2.1.within) in
+        let all : is.beginning ≡ 1 = omega (arith, at.seen, is.unseen, is.seen, legal.after.2.1.within) in
         let whole : Run opening_state (allocated_name 0x100 ∷ []) is.state = subst (λ (n : ℕ). Run opening_state (take n (allocated_name 0x100 ∷ [])) is.state) all is.run in
         let one : is.state ≡ one_allocated = one_run opening_state (allocated_name 0x100 ∷ []) is.state one_allocated (omega arith, tt) opening_is_lawful.0 opening_is_lawful.1 whole (one_allocated, allocate-step, refl) in
-        let space : legal.life.0.space ≡ 1 = ap (λ (s : Session). s.space) at.after ∙ legal.new.space in
+        let space : legal.after.0.space ≡ 1 = ap (λ (s : Session). s.space) at.after ∙ legal.new.space in
         let in_space : Answer is.state 1 (call.Type 0x100) (reply.Refused 2 InvalidName) = subst (λ (n : ℕ). Answer is.state n (call.Type 0x100) (reply.Refused 2 InvalidName)) space is.answered in
         absurd (cc (known-type (reply.Refused 2 InvalidName) is.state (subst (λ (s : State). Step s 1 (call.Type 0x100) (reply.Refused 2 InvalidName) is.state) one in_space)))
     ]
@@ -167,7 +167,7 @@ pub older-was_legal : Legal opening_state 0 [] (called (call.Type 0x100) (reply.
 older-was_legal = record {
   start = new_session;
   new = record { space = refl; least = omega arith; within = omega arith; told = refl; places = refl };
-  life = (
+  after = (
     new_session,
     record {
       leads = inr (record { unrecorded = refl; beginning = 0; unseen = omega arith; state = opening_state; run = refl; answered = was-unknown; seen = omega arith; after = refl });
@@ -180,7 +180,7 @@ older-was_legal = record {
 
 -- told of more than there is
 pub told-too_much : (session : Session) → Legal opening_state 0 [] (redeemed 1 ∷ []) session → ⊥
-told-too_much session legal = absurd (omega (arith, legal.life.1.leads.0, legal.life.1.within))
+told-too_much session legal = absurd (omega (arith, legal.after.1.leads.0, legal.after.1.within))
 
 -- an invented record: the records aren't a run
 unallocated-acts : (acted : State) (effects : List Effect) → ActsFrom opening_state 1 (finmap.get opening_state.spaces 1) (call.Deallocate 0x100) (reply.Done 7) acted effects → reply.Done 7 ≡ reply.Refused 7 InvalidName

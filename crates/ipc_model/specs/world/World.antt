@@ -295,15 +295,15 @@ AfterPossible base world event (store fault.device) new = (is_of_store event ≡
 AfterPossible base world _ _ new = ⊥
 
 -- Once its device failed, every event of the store answers that it failed, also one that isn't possible.
-abbrev pub is_refused : World → Event → Bool
-is_refused world event = world.failed && is_of_store event
+abbrev pub fails_first : World → Event → Bool
+fails_first world event = world.failed && is_of_store event
 
 -- The world after an event with its outcome: that the store failed, exactly where it did; else not now, exactly where the
 -- event isn't possible; else what a possible event may answer.
 abbrev pub After : State → World → Event → Outcome → World → Type 0
-After base world event (store fault.failed) new = (is_refused world event ≡ true) × (new ≡ world)
-After base world event not_now new = (is_refused world event ≡ false) × (IsPossible world event → ⊥) × (new ≡ world)
-After base world event outcome new = (is_refused world event ≡ false) × IsPossible world event × AfterPossible base world event outcome new
+After base world event (store fault.failed) new = (fails_first world event ≡ true) × (new ≡ world)
+After base world event not_now new = (fails_first world event ≡ false) × (IsPossible world event → ⊥) × (new ≡ world)
+After base world event outcome new = (fails_first world event ≡ false) × IsPossible world event × AfterPossible base world event outcome new
 
 -- The world that a list of events leaves.
 abbrev pub Worlds : State → World → List (Event × Outcome) → World → Type 0
