@@ -22,6 +22,7 @@ pub mod NameChanges
 pub mod OpeningLaws
 pub mod OtherSpaces
 pub mod Others
+pub mod OwnedPlaces
 pub mod PortChanges
 pub mod PortItems
 pub mod Ranks

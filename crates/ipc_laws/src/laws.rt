@@ -2,12 +2,13 @@
 ghost use Rattle.ipc_laws.specs.StepsKeep.{OneRun, RunsKeepLawful, StepsKeepLawful};
 ghost use Rattle.ipc_laws.specs.EffectRanks.{EffectsKeepGrounded, SettledIsLawful};
 ghost use Rattle.ipc_laws.specs.EffectsKeep.{EffectsKeepLawful};
-ghost use Rattle.ipc_laws.specs.HistoryLaws.{LegalIsInOrder, LegalStaysLegal, PlacesHoldCalls};
+ghost use Rattle.ipc_laws.specs.HistoryLaws.{LegalIsInOrder, LegalStaysLegal, MeetingIsLegal, PlacesHoldCalls};
 ghost use Rattle.ipc_laws.specs.ImageLaws.{ImagesHaveOneText};
 ghost use Rattle.ipc_laws.specs.NameChanges.{NamesMoveLawfully};
 ghost use Rattle.ipc_laws.specs.LawfulLaws.{LawfulIsAtRest};
 ghost use Rattle.ipc_laws.specs.OpeningLaws.{OpeningIsLawful};
 ghost use Rattle.ipc_laws.specs.OtherSpaces.{OthersFade, SpacesAreMade};
+ghost use Rattle.ipc_laws.specs.OwnedPlaces.{NewRecordsAreOwned};
 ghost use Rattle.ipc_laws.specs.PortChanges.{PortMovesLawfully};
 ghost use Rattle.ipc_laws.specs.RecoveryLaws.{RecoversLawful, RecoversOnce, RecoversVersionOne, SpellsOnce};
 ghost use Rattle.ipc_laws.specs.Spelling.{LawfulIsSpellable};
@@ -182,4 +183,14 @@ pub fn places_hold_calls()
 /// It stays legal when others add to the history.
 pub fn legal_stays_legal()
     ensures { LegalStaysLegal }
+{}
+
+/// Two legal sessions of one history are legal where they have met.
+pub fn meeting_is_legal()
+    ensures { MeetingIsLegal }
+{}
+
+/// Where the sessions are all that there were, each new record of a legal history stands at a place of one of them.
+pub fn new_records_are_owned()
+    ensures { NewRecordsAreOwned }
 {}
