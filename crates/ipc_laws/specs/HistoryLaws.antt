@@ -1,6 +1,6 @@
 -- What a legal session knows of its history: its places rise and hold its own calls, and it stays legal as others add to
 -- the history.
-use Rattle.std.specs.Prelude.{◌≡◌, ◌⊎◌, ℕ, zero, suc, ◌+◌, ◌<◌, ◌≤◌, max, Bool, true, false, List, [], ◌∷◌, ◌++◌, length, take, map, Option, None, Some, option_map, slice_get, if◌then◌else◌, refl}
+use Rattle.std.specs.Prelude.{◌≡◌, ℕ, zero, suc, ◌+◌, ◌<◌, ◌≤◌, max, Bool, List, [], ◌∷◌, ◌++◌, length, map, Option, Some, option_map, slice_get, if◌then◌else◌, refl}
 use Rattle.std.proofs.Common.{inl, inr, sym, ◌∙◌, ap, subst, arith, length-append}
 use Rattle.std.proofs.lemmas.List.{append-nil, append_assoc, map-append, take-append-le}
 use Rattle.ipc_model.specs.declared.call.Call.{Call}
@@ -8,7 +8,7 @@ use Rattle.ipc_model.specs.declared.call.Reply.{Reply}
 use Rattle.ipc_model.specs.declared.record.Record.{Record}
 use Rattle.ipc_model.specs.calls.Step.{Run, has_record}
 use Rattle.ipc_model.specs.state.State.{State}
-use Rattle.ipc_model.specs.history.History.{Session, Operation, called, redeemed, looked, HasPlace, IsAnswered, Leads, After, AfterAll, IsNew, Legal, Meet}
+use Rattle.ipc_model.specs.history.History.{Session, Operation, called, redeemed, looked, Leads, After, AfterAll, IsNew, Legal, Meet}
 
 -- places rise, from a least one on, and lie below a number
 abbrev pub RiseWithin : ℕ → ℕ → List ℕ → Type 0
@@ -88,15 +88,15 @@ lived_calls base history old (called c answer ∷ operations) new (mid, after, r
     let later : map (call_at history) new.places ≡ map (call_at history) mid.places ++ some_calls (recorded_calls operations) = lived_calls base history mid operations new rest in
     elim after.leads as (λ _. map (call_at history) new.places ≡ map (call_at history) old.places ++ some_calls (if has_record c answer then (c, answer) ∷ recorded_calls operations else recorded_calls operations)) [
       | inl at ↦
-        let here : call_at history at.place ≡ Some (c, answer) = ap (λ (o : Option Record). option_map (λ (entry : Record). (entry.call, entry.reply)) o) at.there in
-        let added : map (call_at history) mid.places ≡ map (call_at history) old.places ++ Some (c, answer) ∷ [] =
-        ap (λ (s : Session). map (call_at history) s.places) at.after ∙ map-append (call_at history) old.places (at.place ∷ []) ∙ ap (λ (o : Option (Call × Reply)). map (call_at history) old.places ++ o ∷ []) here in
-        later ∙ ap (λ (l : List (Option (Call × Reply))). l ++ some_calls (recorded_calls operations)) added
-        ∙ append_assoc (map (call_at history) old.places) (Some (c, answer) ∷ []) (some_calls (recorded_calls operations))
-        ∙ ap (λ (b : Bool). map (call_at history) old.places ++ some_calls (if b then (c, answer) ∷ recorded_calls operations else recorded_calls operations)) (sym at.recorded)
+          let here : call_at history at.place ≡ Some (c, answer) = ap (λ (o : Option Record). option_map (λ (entry : Record). (entry.call, entry.reply)) o) at.there in
+          let added : map (call_at history) mid.places ≡ map (call_at history) old.places ++ Some (c, answer) ∷ [] =
+          ap (λ (s : Session). map (call_at history) s.places) at.after ∙ map-append (call_at history) old.places (at.place ∷ []) ∙ ap (λ (o : Option (Call × Reply)). map (call_at history) old.places ++ o ∷ []) here in
+          later ∙ ap (λ (l : List (Option (Call × Reply))). l ++ some_calls (recorded_calls operations)) added
+          ∙ append_assoc (map (call_at history) old.places) (Some (c, answer) ∷ []) (some_calls (recorded_calls operations))
+          ∙ ap (λ (b : Bool). map (call_at history) old.places ++ some_calls (if b then (c, answer) ∷ recorded_calls operations else recorded_calls operations)) (sym at.recorded)
       | inr is ↦
-        later ∙ ap (λ (s : Session). map (call_at history) s.places ++ some_calls (recorded_calls operations)) is.after
-        ∙ ap (λ (b : Bool). map (call_at history) old.places ++ some_calls (if b then (c, answer) ∷ recorded_calls operations else recorded_calls operations)) (sym is.unrecorded)
+          later ∙ ap (λ (s : Session). map (call_at history) s.places ++ some_calls (recorded_calls operations)) is.after
+          ∙ ap (λ (b : Bool). map (call_at history) old.places ++ some_calls (if b then (c, answer) ∷ recorded_calls operations else recorded_calls operations)) (sym is.unrecorded)
     ]
 lived_calls base history old (redeemed seen ∷ operations) new (mid, after, rest) =
     lived_calls base history mid operations new rest ∙ ap (λ (s : Session). map (call_at history) s.places ++ some_calls (recorded_calls operations)) after.leads.1
@@ -171,8 +171,7 @@ MeetingIsLegal = (base : State) (opened : ℕ) (history : List Record) (first se
 pub meeting_is_legal : MeetingIsLegal
 meeting_is_legal base opened history first second one other one_after other_after legal legal_too meet =
     let one_seen : one.seen ≤ length history = (legal_is_in_order base opened history first one legal).seen in
-    let other_seen : other.seen ≤ length history = (legal_is_in_order base opened history second other legal_too).seen in
-    (
+    let other_seen : other.seen ≤ length history = (legal_is_in_order base opened history second other legal_too).seen in (
       seen_more base opened history first one one_after (max one.seen other.seen) legal meet.one_sees (omega arith) (omega (arith, one_seen, other_seen)),
       seen_more base opened history second other other_after (max one.seen other.seen) legal_too meet.other_sees (omega arith) (omega (arith, one_seen, other_seen)),
     )

@@ -2,7 +2,7 @@
 use Rattle.std.specs.Prelude.{◌≡◌, ◌≢◌, ℕ, zero, suc, ◌+◌, ◌<◌, ◌≤◌, Bool, true, false, ◌||◌, List, [], ◌∷◌, ◌++◌, length, map, Contains, AllPairs, eqb, slice_index_or, refl}
 use Rattle.std.specs.List.{IsDistinct, list_any}
 use Rattle.std.specs.Cmp.{nat_eq_equiv}
-use Rattle.std.proofs.Common.{sym, ◌∙◌, ap, subst, arith}
+use Rattle.std.proofs.Common.{ap, arith}
 use Rattle.std.proofs.lemmas.Bool.{eqb-true, eqb-false, eq-eqb, ne_eqb}
 use Rattle.std.proofs.lemmas.List.Folds.{list_any_at}
 use Rattle.std.proofs.lemmas.Map.Keys.{IsDistinct-from_apart}
@@ -10,7 +10,7 @@ use Rattle.std.proofs.lemmas.Map.Made.{length-le_from_is_member}
 use Rattle.std.proofs.lemmas.Map.Views.{Contains-from_any}
 use Rattle.ipc_model.specs.declared.record.Record.{Record}
 use Rattle.ipc_model.specs.state.State.{State}
-use Rattle.ipc_model.specs.history.History.{Session, Sessions, Legal, AllLegal, AreAll, IsLegalHistory, places_of}
+use Rattle.ipc_model.specs.history.History.{Sessions, AllLegal, AreAll, IsLegalHistory, places_of}
 use Rattle.ipc_laws.specs.HistoryLaws.{RiseWithin, legal_is_in_order}
 
 -- all of these numbers are in a range
@@ -83,11 +83,11 @@ owned : (opened most place : ℕ) (places : List ℕ) → AllIn opened most plac
 owned opened most place places all apart many least below = elim (list_any (eqb place) places) as (λ (b : Bool). list_any (eqb place) places ≡ b → b ≡ true) [
   | true ↦ λ (_ : _). refl
   | false ↦ λ (absent : _).
-    (let distinct : IsDistinct eqb (place ∷ places) = IsDistinct-from_apart eqb (place ∷ places) (differ_more place places absent apart) in
-    let few : length (place ∷ places) ≤ length (range opened (length places)) =
-    length-le_from_is_member nat_eq_equiv (place ∷ places) (range opened (length places)) distinct (λ q is.
-        (let bounds = member_in opened most q (place ∷ places) (least, below, all) is in in_range opened (length places) q bounds.0 (omega (arith, bounds.1, many)))) in
-    absurd (omega (arith, few, length-range opened (length places))))
+      (let distinct : IsDistinct eqb (place ∷ places) = IsDistinct-from_apart eqb (place ∷ places) (differ_more place places absent apart) in
+      let few : length (place ∷ places) ≤ length (range opened (length places)) =
+      length-le_from_is_member nat_eq_equiv (place ∷ places) (range opened (length places)) distinct (λ q is.
+      (let bounds = member_in opened most q (place ∷ places) (least, below, all) is in in_range opened (length places) q bounds.0 (omega (arith, bounds.1, many)))) in
+      absurd (omega (arith, few, length-range opened (length places))))
 ] refl
 
 -- Where the sessions are all that there were, each new record of a legal history stands at a place of one of them.

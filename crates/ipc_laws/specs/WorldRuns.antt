@@ -10,7 +10,7 @@ use Rattle.ipc_model.specs.declared.record.Record.{Record}
 use Rattle.ipc_model.specs.calls.Step.{Step, Run, has_record}
 use Rattle.ipc_model.specs.state.State.{State}
 use Rattle.ipc_model.specs.store.Faults as fault
-use Rattle.ipc_model.specs.world.World.{Event, Outcome, Ticket, Batch, Receipt, Checkpoint, World, Worlds, After, AfterPossible, AfterDone, MayGive, IsStep, IsPossible, submit, take_batch, append, durable, ask_reply, cut, roll_close, roll_head, roll_open, image_close, piece, finish, given, replied, done, not_now, epoch_full, no_memory, store, of_append, of_finish, first_world, row_length, is_of_store, fails_first, told, record_of, after_submit, after_append, after_durable, with_answered, with_checkpoint}
+use Rattle.ipc_model.specs.world.World.{Event, Outcome, Ticket, Batch, Receipt, Checkpoint, World, Worlds, After, AfterPossible, AfterDone, MayGive, IsStep, submit, take_batch, append, durable, ask_reply, cut, roll_close, roll_head, roll_open, image_close, piece, finish, given, replied, done, not_now, epoch_full, no_memory, store, of_append, of_finish, first_world, row_length, is_of_store, told, record_of, after_submit, after_append, after_durable, with_answered, with_checkpoint}
 use Rattle.ipc_laws.specs.RunLaws.{run-push}
 use Rattle.ipc_laws.specs.WorldLaws.{told_is_stored}
 

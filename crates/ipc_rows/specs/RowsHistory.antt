@@ -1,9 +1,8 @@
 -- Worked examples of legal histories: two sessions with a record each and a read, and histories that aren't legal.
-use Rattle.std.specs.Prelude.{◌≡◌, ◌≢◌, ◌⊎◌, ℕ, zero, suc, ◌+◌, ◌<◌, ◌≤◌, Bool, true, false, List, [], ◌∷◌, length, take, map, slice_get, slice_index_or, refl}
+use Rattle.std.specs.Prelude.{◌≡◌, ◌≢◌, ℕ, zero, suc, ◌<◌, List, [], ◌∷◌, take, slice_index_or, refl}
 use Rattle.std.specs.FinMap as finmap
-use Rattle.std.proofs.Common.{inl, inr, sym, ◌∙◌, ap, subst, arith}
-use Rattle.codes.specs.declared.kern_return.KernReturn.TheVariants.{InvalidName}
-use Rattle.ipc_model.specs.declared.call.Call.{Call}
+use Rattle.std.proofs.Common.{inl, inr, ◌∙◌, ap, subst, arith}
+use Rattle.codes.specs.declared.kern_return.KernReturn.TheVariants.{InvalidName, InvalidTask}
 use Rattle.ipc_model.specs.declared.call.Call.TheVariants as call
 use Rattle.ipc_model.specs.declared.call.Reply.{Reply}
 use Rattle.ipc_model.specs.declared.call.Reply.TheVariants as reply
@@ -12,7 +11,7 @@ use Rattle.ipc_model.specs.calls.Actions.{Done}
 use Rattle.ipc_model.specs.calls.PortCalls.{tests_of}
 use Rattle.ipc_model.specs.calls.Step.{Step, Answer, ActsFrom, Run}
 use Rattle.ipc_model.specs.effects.Effects.{Effect, settled}
-use Rattle.ipc_model.specs.history.History.{Session, Operation, Sessions, called, redeemed, looked, HasPlace, IsAnswered, After, AfterAll, IsNew, Legal, AreApart, AreAll, IsLegalHistory}
+use Rattle.ipc_model.specs.history.History.{Session, Operation, Sessions, called, redeemed, IsNew, Legal, AreAll, IsLegalHistory, space_after}
 use Rattle.ipc_model.specs.state.State.{State, opening_state}
 use Rattle.ipc_laws.specs.OpeningLaws.{opening_is_lawful}
 use Rattle.ipc_laws.specs.StepsKeep.{one_run}
@@ -51,7 +50,7 @@ type-answer = (two_allocated, [], simp rows (refl, refl, refl), settled)
 pub two_records-run : Run opening_state two_records two_allocated
 two_records-run = (one_allocated, allocate-step, (two_allocated, second-step, refl))
 
-pub new-session : IsNew 0 two_records new_session
+new-session : IsNew 0 two_records new_session
 new-session = record { space = refl; least = omega arith; within = omega arith; told = refl; places = refl }
 
 pub first-legal : Legal opening_state 0 two_records first_operations first_session
@@ -88,7 +87,7 @@ abbrev pub both : Sessions
 both = (first_operations, first_session) ∷ (other_operations, other_session) ∷ []
 
 -- two different places are apart
-pub apart-two : (i j : ℕ) (d : ℕ) → i < j → j < 2 → slice_index_or (0 ∷ 1 ∷ []) i d ≢ slice_index_or (0 ∷ 1 ∷ []) j d
+apart-two : (i j : ℕ) (d : ℕ) → i < j → j < 2 → slice_index_or (0 ∷ 1 ∷ []) i d ≢ slice_index_or (0 ∷ 1 ∷ []) j d
 apart-two zero zero d below end = absurd (omega (arith, below))
 apart-two zero (suc zero) d below end = λ (e : 0 ≡ 1). absurd (omega (arith, e))
 apart-two zero (suc (suc j)) d below end = absurd (omega (arith, end))
@@ -100,6 +99,10 @@ both-legal = record { end = two_allocated; run = two_records-run; read = omega a
 
 pub both-all : AreAll 0 two_records (first_session ∷ other_session ∷ [])
 both-all = refl
+
+-- a task that attaches itself is in that space from then on, where it is done
+pub attach-moves : (space_after 1 (call.Attach 2) (reply.Done 0) ≡ 2) × (space_after 1 (call.Attach 2) (reply.Refused 0 InvalidTask) ≡ 1)
+attach-moves = (refl, refl)
 
 -- Histories that aren't legal.
 
@@ -126,11 +129,11 @@ pub no_answer : (session : Session) → Legal opening_state 0 [] (called (call.T
 no_answer session legal = elim legal.after.1.leads as (λ _. ⊥) [
   | inl at ↦ absurd (cc at.recorded)
   | inr is ↦
-    let none : is.beginning ≡ 0 = omega (arith, is.seen, legal.after.1.within) in
-    let at_start : Run opening_state (take 0 []) is.state = subst (λ (n : ℕ). Run opening_state (take n []) is.state) none is.run in
-    let in_space : Answer is.state 1 (call.Type 0x200) (reply.Type 0x20000) = subst (λ (n : ℕ). Answer is.state n (call.Type 0x200) (reply.Type 0x20000)) legal.new.space is.answered in
-    let answered : Step opening_state 1 (call.Type 0x200) (reply.Type 0x20000) is.state = subst (λ (s : State). Step s 1 (call.Type 0x200) (reply.Type 0x20000) is.state) at_start in_space in
-    absurd (cc (unknown-refused (reply.Type 0x20000) is.state answered))
+      let none : is.beginning ≡ 0 = omega (arith, is.seen, legal.after.1.within) in
+      let at_start : Run opening_state (take 0 []) is.state = subst (λ (n : ℕ). Run opening_state (take n []) is.state) none is.run in
+      let in_space : Answer is.state 1 (call.Type 0x200) (reply.Type 0x20000) = subst (λ (n : ℕ). Answer is.state n (call.Type 0x200) (reply.Type 0x20000)) legal.new.space is.answered in
+      let answered : Step opening_state 1 (call.Type 0x200) (reply.Type 0x20000) is.state = subst (λ (s : State). Step s 1 (call.Type 0x200) (reply.Type 0x20000) is.state) at_start in_space in
+      absurd (cc (unknown-refused (reply.Type 0x20000) is.state answered))
 ]
 
 -- an answer from an older beginning: the session allocated the name itself, and is told that there is none
@@ -138,7 +141,7 @@ known-acts : (answer : Reply) (acted : State) (effects : List Effect) → ActsFr
 unfolding Done tests_of
 known-acts answer acted effects = simp rows (λ (acts : _). acts.0)
 
-pub known-type : (answer : Reply) (new : State) → Step one_allocated 1 (call.Type 0x100) answer new → answer ≡ reply.Type 0x20000
+known-type : (answer : Reply) (new : State) → Step one_allocated 1 (call.Type 0x100) answer new → answer ≡ reply.Type 0x20000
 unfolding Step
 known-type answer new step = known-acts answer step.0 step.1 step.2
 
@@ -150,16 +153,16 @@ pub older_answer : (session : Session) → Legal opening_state 0 (allocated_name
 older_answer session legal = elim legal.after.1.leads as (λ _. ⊥) [
   | inr is ↦ absurd (cc is.unrecorded)
   | inl at ↦
-    elim legal.after.2.1.leads as (λ _. ⊥) [
-      | inl other ↦ absurd (cc other.recorded)
-      | inr is ↦
-        let all : is.beginning ≡ 1 = omega (arith, at.seen, is.unseen, is.seen, legal.after.2.1.within) in
-        let whole : Run opening_state (allocated_name 0x100 ∷ []) is.state = subst (λ (n : ℕ). Run opening_state (take n (allocated_name 0x100 ∷ [])) is.state) all is.run in
-        let one : is.state ≡ one_allocated = one_run opening_state (allocated_name 0x100 ∷ []) is.state one_allocated (omega arith, tt) opening_is_lawful.0 opening_is_lawful.1 whole (one_allocated, allocate-step, refl) in
-        let space : legal.after.0.space ≡ 1 = ap (λ (s : Session). s.space) at.after ∙ legal.new.space in
-        let in_space : Answer is.state 1 (call.Type 0x100) (reply.Refused 2 InvalidName) = subst (λ (n : ℕ). Answer is.state n (call.Type 0x100) (reply.Refused 2 InvalidName)) space is.answered in
-        absurd (cc (known-type (reply.Refused 2 InvalidName) is.state (subst (λ (s : State). Step s 1 (call.Type 0x100) (reply.Refused 2 InvalidName) is.state) one in_space)))
-    ]
+      elim legal.after.2.1.leads as (λ _. ⊥) [
+        | inl other ↦ absurd (cc other.recorded)
+        | inr is ↦
+            let all : is.beginning ≡ 1 = omega (arith, at.seen, is.unseen, is.seen, legal.after.2.1.within) in
+            let whole : Run opening_state (allocated_name 0x100 ∷ []) is.state = subst (λ (n : ℕ). Run opening_state (take n (allocated_name 0x100 ∷ [])) is.state) all is.run in
+            let one : is.state ≡ one_allocated = one_run opening_state (allocated_name 0x100 ∷ []) is.state one_allocated (omega arith, tt) opening_is_lawful.0 opening_is_lawful.1 whole (one_allocated, allocate-step, refl) in
+            let space : legal.after.0.space ≡ 1 = ap (λ (s : Session). s.space) at.after ∙ legal.new.space in
+            let in_space : Answer is.state 1 (call.Type 0x100) (reply.Refused 2 InvalidName) = subst (λ (n : ℕ). Answer is.state n (call.Type 0x100) (reply.Refused 2 InvalidName)) space is.answered in
+            absurd (cc (known-type (reply.Refused 2 InvalidName) is.state (subst (λ (s : State). Step s 1 (call.Type 0x100) (reply.Refused 2 InvalidName) is.state) one in_space)))
+      ]
 ]
 
 -- it would be legal without the record that the session has seen

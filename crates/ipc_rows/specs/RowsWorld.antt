@@ -1,7 +1,7 @@
 -- Worked examples of lists of events: two calls in one batch, a full row, a fault of the device, and lists that are none.
-use Rattle.std.specs.Prelude.{◌≡◌, ℕ, ◌+◌, ◌<◌, ◌≤◌, Bool, true, false, List, [], ◌∷◌, Option, None, Some, slice_get, refl}
+use Rattle.std.specs.Prelude.{◌≡◌, ℕ, ◌<◌, Bool, true, false, List, [], ◌∷◌, Option, None, Some, refl}
 use Rattle.std.specs.FinMap as finmap
-use Rattle.std.proofs.Common.{sym, ◌∙◌, ap, subst, arith}
+use Rattle.std.proofs.Common.{inl, inr, sym, ◌∙◌, ap, subst, arith}
 use Rattle.ipc_model.specs.declared.call.Call.{Call}
 use Rattle.ipc_model.specs.declared.call.Call.TheVariants as call
 use Rattle.ipc_model.specs.declared.call.Reply.{Reply}
@@ -32,7 +32,7 @@ names_of_one = finmap.insert finmap.empty 0x100 (allocated_entry 1 1)
 abbrev pub two_allocated : State
 two_allocated = allocated one_allocated 1 names_of_one 1 0x101
 
-pub second-acts : ActsFrom one_allocated 1 (finmap.get one_allocated.spaces 1) allocation (reply.Allocate 0x101) two_allocated []
+second-acts : ActsFrom one_allocated 1 (finmap.get one_allocated.spaces 1) allocation (reply.Allocate 0x101) two_allocated []
 unfolding Done tests_of
 second-acts = simp rows (0x101, record { least = omega arith; below_dead = omega arith; free = simp map_rules }, refl, refl, refl)
 
@@ -56,10 +56,10 @@ two_appended = after_append two_taken two_taken.batch
 abbrev pub two_durable : World
 two_durable = after_durable two_appended two_appended.receipts
 
-pub may-first : MayGive opening_state (first_world 0 0) 1 allocation (reply.Allocate 0x100)
+may-first : MayGive opening_state (first_world 0 0) 1 allocation (reply.Allocate 0x100)
 may-first = ((opening_state, one_allocated, refl, allocate-step), (λ (_ : _). omega arith))
 
-pub may-second : MayGive opening_state one_submitted 1 allocation (reply.Allocate 0x101)
+may-second : MayGive opening_state one_submitted 1 allocation (reply.Allocate 0x101)
 may-second = ((one_allocated, two_allocated, (one_allocated, allocate-step, refl), second-step), (λ (_ : _). omega arith))
 
 -- the events in their order, with what they answer
@@ -124,6 +124,20 @@ early-finish possible = absurd (omega (arith, possible.0))
 pub last-piece : IsPossible cut_early piece
 last-piece = (omega arith, omega arith)
 
+-- no image is closed twice, no step of rolling made twice, and no batch of the new epoch appended before its segment is open
+pub twice-closed : IsPossible cut_early image_close → ⊥
+twice-closed possible = absurd (omega (arith, possible))
+
+pub twice-rolled : IsPossible cut_early roll_close → ⊥
+twice-rolled possible = absurd (omega (arith, possible))
+
+pub segment-closed : IsPossible (record cut_early { batch = Some (record { epoch = 1; size = 1; appended = false }) }) append → ⊥
+segment-closed possible = elim possible.1 as (λ _. ⊥) [ inl older ↦ absurd (omega (arith, older)) | inr rolled ↦ absurd (omega (arith, rolled)) ]
+
+-- the last epoch isn't left
+pub last-epoch : IsPossible (first_world 0xffffffffffffffff 0) cut → ⊥
+last-epoch possible = absurd (omega (arith, possible.0))
+
 -- A whole checkpoint of a new store: the steps of rolling and of the image in their order, and the receipt of its finish. It
 -- leaves an empty row in the next epoch.
 abbrev pub checkpoint_events : List (Event × Outcome)
@@ -133,7 +147,7 @@ abbrev checkpointing : ℕ → ℕ → Bool → List Receipt → World
 checkpointing rolled imaged finished receipts =
     record (first_world 1 0) { checkpoint = Some (record { rolled = rolled; imaged = imaged; pieces = 1; finished = finished }); receipts = receipts }
 
-pub opening-cut : checkpointing 0 0 false [] ≡ after_cut (first_world 0 0) opening_state
+opening-cut : checkpointing 0 0 false [] ≡ after_cut (first_world 0 0) opening_state
 opening-cut = ap (λ (text : List ℕ). record (first_world 1 0) { checkpoint = Some (record { rolled = 0; imaged = 0; pieces = pieces_of text; finished = false }) }) (sym opening-image)
 
 pub checkpoint-leaves : Worlds opening_state (first_world 0 0) checkpoint_events (first_world 1 0)

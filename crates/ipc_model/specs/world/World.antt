@@ -179,7 +179,7 @@ IsPossible world image_close = HasImaged world.checkpoint 0
 IsPossible world piece = HasPieceLeft world.checkpoint
 IsPossible world finish = CanFinish world.checkpoint
 
--- What an event changes that answered so.
+-- What an event changes that is done.
 
 -- the record of an answered call, if it has one
 abbrev pub record_of : ℕ → Call → Reply → List Record
@@ -242,15 +242,15 @@ AfterDone base world image_close new = new ≡ one_imaged world
 AfterDone base world piece new = new ≡ one_imaged world
 AfterDone base world finish new = new ≡ record (with_checkpoint world (λ checkpoint. record checkpoint { finished = true }) world.checkpoint) { receipts = world.receipts ++ of_finish ∷ [] }
 
--- Of a call: a step of the machine from the state after all records that were applied, whose base this is, answers so.
+-- The machine may answer a call so in the state after all that was applied, which is a run from this base.
 abbrev pub IsStep : State → World → ℕ → Call → Reply → Type 0
 IsStep base world space call answer = (old : State) × (new : State) × Run base world.applied old × Step old space call answer new
 
--- a ticket keeps the reply of such a step; a full row takes no record
+-- A ticket keeps such a reply; and a full row takes no record.
 abbrev pub MayGive : State → World → ℕ → Call → Reply → Type 0
 MayGive base world space call answer = IsStep base world space call answer × ((has_record call answer ≡ true) → row_length world < MAX_RECORDS)
 
--- the row is full, and a step of the call has a record
+-- The epoch is full for a call: its row is, and a step of the call has a record.
 abbrev pub HasNoRoom : State → World → ℕ → Call → Type 0
 HasNoRoom base world space call = IsRowFull world × (answer : Reply) × IsStep base world space call answer × (has_record call answer ≡ true)
 
@@ -259,7 +259,7 @@ abbrev pub AfterReply : World → ℕ → Reply → World → Type 0
 AfterReply world ticket answer new =
     (kept : Ticket) × (slice_get world.tickets ticket ≡ Some kept) × (kept.answer ≡ answer) × (new ≡ record world { tickets = with_answered world.tickets ticket })
 
--- the events by which the store is written, and so those that meet its faults
+-- the events that write the store, and so meet its faults
 abbrev pub is_of_store : Event → Bool
 is_of_store append = true
 is_of_store roll_close = true
@@ -270,7 +270,7 @@ is_of_store piece = true
 is_of_store finish = true
 is_of_store _ = false
 
--- the events that take memory: of the core's own, and of the store's
+-- the events that take memory, and so may be refused for want of it: the core's own, and the store's
 abbrev pub core_takes_memory : Event → Bool
 core_takes_memory (submit space call) = true
 core_takes_memory take_batch = true
@@ -282,8 +282,8 @@ store_takes_memory append = true
 store_takes_memory image_close = true
 store_takes_memory _ = false
 
--- What an event may answer that is possible, and the world after it. Only what was done changes the world, and a fault of
--- the device, behind which nothing is stored any more.
+-- What an event may answer that is possible, and the world after it. A refusal changes nothing; a fault of the device
+-- leaves the batch as it is, not stored.
 abbrev pub AfterPossible : State → World → Event → Outcome → World → Type 0
 AfterPossible base world (submit space call) (given answer) new = MayGive base world space call answer × (new ≡ after_submit world space call answer)
 AfterPossible base world (submit space call) epoch_full new = HasNoRoom base world space call × (new ≡ world)
@@ -294,12 +294,12 @@ AfterPossible base world event (store fault.no_memory) new = (store_takes_memory
 AfterPossible base world event (store fault.device) new = (is_of_store event ≡ true) × (new ≡ record world { failed = true })
 AfterPossible base world _ _ new = ⊥
 
--- Once its device failed, every event of the store answers that it failed, also one that isn't possible.
+-- Once the device failed, every event of the store answers that it failed, also one that isn't possible.
 abbrev pub fails_first : World → Event → Bool
 fails_first world event = world.failed && is_of_store event
 
--- The world after an event with its outcome: that the store failed, exactly where it did; else not now, exactly where the
--- event isn't possible; else what a possible event may answer.
+-- The world after an event with its outcome. It is "failed" exactly where the device failed before; else "not now" exactly
+-- where the event isn't possible; else one that a possible event may have.
 abbrev pub After : State → World → Event → Outcome → World → Type 0
 After base world event (store fault.failed) new = (fails_first world event ≡ true) × (new ≡ world)
 After base world event not_now new = (fails_first world event ≡ false) × (IsPossible world event → ⊥) × (new ≡ world)
