@@ -1,12 +1,12 @@
 -- Whatever events come: what is told is stored, what is stored was applied, and what was applied is a run of the machine.
-use Rattle.std.specs.Prelude.{◌≡◌, ℕ, zero, suc, ◌+◌, ◌-◌, ◌≤◌, max, Bool, true, false, List, [], ◌∷◌, ◌++◌, length, Option, None, Some, slice_get, if◌then◌else◌, refl}
+use Rattle.std.specs.Prelude.{◌≡◌, ℕ, zero, suc, ◌+◌, ◌-◌, ◌≤◌, max, Bool, true, false, List, [], ◌∷◌, ◌++◌, length, Option, None, Some, slice_get, if◌then◌else◌, refl, ◌↔◌}
 use Rattle.std.proofs.Common.{sym, ◌∙◌, ap, subst, arith, length-append}
 use Rattle.std.proofs.lemmas.Bool.{ltb-true}
 use Rattle.ipc_model.specs.declared.call.Call.{Call}
 use Rattle.ipc_model.specs.declared.call.Reply.{Reply}
 use Rattle.ipc_model.specs.state.State.{State}
 use Rattle.ipc_model.specs.store.Faults as fault
-use Rattle.ipc_model.specs.world.World.{Event, Outcome, Ticket, Batch, Receipt, Checkpoint, World, Worlds, After, AfterPossible, AfterDone, CanAppend, CanReply, IsPossible, submit, take_batch, append, durable, ask_reply, cut, roll_close, roll_head, roll_open, image_close, piece, finish, given, replied, done, not_now, epoch_full, no_memory, store, of_append, of_finish, first_world, told, greatest_seen, is_behind, next_batch, record_of, after_submit, after_take, after_append, after_durable, with_answered, after_cut, with_checkpoint}
+use Rattle.ipc_model.specs.world.World.{Event, fails_first, Outcome, Ticket, Batch, Receipt, Checkpoint, World, Worlds, After, AfterPossible, AfterDone, CanAppend, CanReply, IsPossible, submit, take_batch, append, durable, ask_reply, cut, roll_close, roll_head, roll_open, image_close, piece, finish, given, replied, done, not_now, epoch_full, no_memory, store, of_append, of_finish, first_world, told, greatest_seen, is_behind, next_batch, record_of, after_submit, after_take, after_append, after_durable, with_answered, after_cut, with_checkpoint}
 
 -- how many records of a batch that is out aren't appended yet
 abbrev waiting : Option Batch → ℕ
@@ -267,3 +267,12 @@ told_within_applied base epoch opened events world worlds =
     let order = worlds_order base (first_world epoch opened) events world worlds (first_order epoch opened) in
     let stored : world.stored ≤ length world.applied = omega (arith, order.stored, order.taken) in
     (omega (arith, stored, told_is_stored base epoch opened events world worlds), stored)
+
+-- Where the device hasn't failed, an event answers "not now" exactly where it isn't possible.
+abbrev pub NotNowExactly : Type 0
+NotNowExactly = (base : State) (world new : World) (event : Event) (outcome : Outcome) → After base world event outcome new → fails_first world event ≡ false → (IsPossible world event → ⊥) ↔ (outcome ≡ not_now)
+
+pub not_now_exactly : NotNowExactly
+not_now_exactly base world new event (store fault.failed) after works = absurd (cc (after.0, works))
+not_now_exactly base world new event not_now after works = ((λ (_ : _). refl), (λ (_ : _). after.1))
+not_now_exactly base world new event outcome after works = ((λ (never : _). absurd (never after.1)), (λ (is : _). absurd (cc is)))

@@ -15,7 +15,7 @@ ghost use Rattle.ipc_laws.specs.Spelling.{LawfulIsSpellable};
 ghost use Rattle.ipc_laws.specs.Settling.{AlwaysSettles, EffectsLower};
 ghost use Rattle.ipc_laws.specs.TextLaws.{RecordsHaveOneText};
 ghost use Rattle.ipc_laws.specs.StepLaws.{OneEnd, OneNewState};
-ghost use Rattle.ipc_laws.specs.WorldLaws.{ToldIsStored, ToldWithinApplied};
+ghost use Rattle.ipc_laws.specs.WorldLaws.{NotNowExactly, ToldIsStored, ToldWithinApplied};
 ghost use Rattle.ipc_laws.specs.WorldRuns.{AppliedIsRun, NothingNewIsTold, RowsFit, TicketsAreSteps};
 
 /// A reply shows each choice that the machine made: from a lawful state, a call of a task that is answered so
@@ -146,6 +146,11 @@ pub fn told_within_applied()
 /// And what is told is stored: each reply that was given saw stored records alone.
 pub fn told_is_stored()
     ensures { ToldIsStored }
+{}
+
+/// Where the device hasn't failed, an event answers "not now" exactly where it isn't possible.
+pub fn not_now_exactly()
+    ensures { NotNowExactly }
 {}
 
 /// What was applied is a run of the machine from the state that the opening gave.

@@ -11,7 +11,7 @@ use Rattle.ipc_model.specs.calls.Actions.{Done}
 use Rattle.ipc_model.specs.calls.PortCalls.{tests_of}
 use Rattle.ipc_model.specs.calls.Step.{Step, Answer, ActsFrom, Run}
 use Rattle.ipc_model.specs.effects.Effects.{Effect, settled}
-use Rattle.ipc_model.specs.history.History.{Session, Operation, Sessions, called, redeemed, IsNew, Legal, AreAll, IsLegalHistory, space_after}
+use Rattle.ipc_model.specs.history.History.{Session, Operation, Sessions, called, redeemed, IsNew, Legal, AreAll, Meet, IsLegalHistory, space_after}
 use Rattle.ipc_model.specs.state.State.{State, opening_state}
 use Rattle.ipc_laws.specs.OpeningLaws.{opening_is_lawful}
 use Rattle.ipc_laws.specs.StepsKeep.{one_run}
@@ -99,6 +99,16 @@ both-legal = record { end = two_allocated; run = two_records-run; read = omega a
 
 pub both-all : AreAll 0 two_records (first_session ∷ other_session ∷ [])
 both-all = refl
+
+-- where one has seen less, the two have seen the same once they met
+abbrev pub sees_one : Session
+sees_one = record { space = 1; seen = 1; told = 0; places = 0 ∷ [] }
+
+pub both-meet : Meet sees_one other_session (record sees_one { seen = 2 }) other_session
+both-meet = record { one_sees = refl; other_sees = refl; apart = apart-two }
+
+pub same_place-no_meeting : (one other : Session) → Meet first_session sees_one one other → ⊥
+same_place-no_meeting one other meet = meet.apart 0 1 0 (omega arith) (omega arith) refl
 
 -- a task that attaches itself is in that space from then on, where it is done
 pub attach-moves : (space_after 1 (call.Attach 2) (reply.Done 0) ≡ 2) × (space_after 1 (call.Attach 2) (reply.Refused 0 InvalidTask) ≡ 1)

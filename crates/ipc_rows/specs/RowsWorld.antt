@@ -1,5 +1,5 @@
 -- Worked examples of lists of events: two calls in one batch, a full row, a fault of the device, and lists that are none.
-use Rattle.std.specs.Prelude.{◌≡◌, ℕ, ◌<◌, Bool, true, false, List, [], ◌∷◌, Option, None, Some, refl}
+use Rattle.std.specs.Prelude.{◌≡◌, ℕ, ◌<◌, Bool, true, false, List, [], ◌∷◌, ◌++◌, Option, None, Some, refl}
 use Rattle.std.specs.FinMap as finmap
 use Rattle.std.proofs.Common.{inl, inr, sym, ◌∙◌, ap, subst, arith}
 use Rattle.ipc_model.specs.declared.call.Call.{Call}
@@ -243,6 +243,18 @@ failed-not_now new after = absurd (cc after.0)
 pub failed-done : (new : World) → After opening_state failed_world append done new → ⊥
 failed-done new after = absurd (cc after.0)
 
+-- then no receipt is out, and no reply is given
+pub fault-goes_on : Worlds opening_state two_taken ((append, store fault.device) ∷ (append, store fault.failed) ∷ (durable, not_now) ∷ (ask_reply 0, not_now) ∷ []) failed_world
+fault-goes_on = (
+  failed_world,
+  fault-changes,
+  (failed_world, failed-append, (failed_world, (refl, (λ (possible : _). absurd (omega (arith, possible))), refl), (failed_world, (refl, (λ (possible : _). absurd (omega (arith, possible.1))), refl), refl))),
+)
+
+-- a call is given its ticket as ever
+pub failed-submit : After opening_state (record (first_world 0 0) { failed = true }) (submit 1 allocation) (given (reply.Allocate 0x100)) (record one_submitted { failed = true })
+failed-submit = (refl, tt, (((opening_state, one_allocated, refl, allocate-step), (λ (_ : _). omega arith)), refl))
+
 -- what isn't an event of the store goes on, and doesn't fail
 pub failed-take : (new : World) → After opening_state failed_world take_batch (store fault.failed) new → ⊥
 failed-take new after = absurd (cc after.0)
@@ -267,10 +279,18 @@ reply_before_append answer new (one, submitted, (two, taken, (three, asked, end)
     let early : IsPossible (after_take one_submitted) (ask_reply 0) = subst (λ (w : World). IsPossible w (ask_reply 0)) world asked.1 in
     absurd (omega (arith, early.1))
 
--- the ticket answered twice, once all is stored
-pub answered_twice : (first second : Reply) (new : World) → Worlds opening_state two_durable ((ask_reply 0, replied first) ∷ (ask_reply 0, replied second) ∷ []) new → ⊥
-answered_twice first second new (one, asked, (two, again, end)) =
-    let kept : IsPossible (record two_durable { tickets = with_answered two_durable.tickets 0 }) (ask_reply 0) = subst (λ (w : World). IsPossible w (ask_reply 0)) asked.2.3 again.1 in
+-- what comes behind the two calls begins where both are durable
+behind_two : (events : List (Event × Outcome)) (new : World) → Worlds opening_state (first_world 0 0) (two_calls ++ events) new → Worlds opening_state two_durable events new
+behind_two events new (one, first, (two, second, (three, taken, (four, appended, (five, handed, rest))))) =
+    let submitted : two ≡ two_submitted = second.2.1 ∙ ap (λ (w : World). after_submit w 1 allocation (reply.Allocate 0x101)) first.2.1 in
+    let stored : four ≡ two_appended = appended.2 ∙ ap (λ (w : World). after_append w w.batch) (taken.2 ∙ ap after_take submitted) in
+    subst (λ (w : World). Worlds opening_state w events new) (handed.2 ∙ ap (λ (w : World). after_durable w w.receipts) stored) rest
+
+-- the ticket answered twice
+pub answered_twice : (answer again : Reply) (new : World) → Worlds opening_state (first_world 0 0) (two_calls ++ (ask_reply 0, replied answer) ∷ (ask_reply 0, replied again) ∷ []) new → ⊥
+answered_twice answer again new worlds =
+    let (one, first, (two, second, end)) = behind_two ((ask_reply 0, replied answer) ∷ (ask_reply 0, replied again) ∷ []) new worlds in
+    let kept : IsPossible (record two_durable { tickets = with_answered two_durable.tickets 0 }) (ask_reply 0) = subst (λ (w : World). IsPossible w (ask_reply 0)) first.2.3 second.1 in
     absurd (cc kept.0)
 
 -- another reply than the ticket's
@@ -278,8 +298,9 @@ abbrev name_given : Reply → ℕ
 name_given (reply.Allocate name) = name
 name_given answer = 0
 
-pub other_reply : (new : World) → Worlds opening_state two_durable ((ask_reply 0, replied (reply.Allocate 0x101)) ∷ []) new → ⊥
-other_reply new (one, asked, end) =
+pub other_reply : (new : World) → Worlds opening_state (first_world 0 0) (two_calls ++ (ask_reply 0, replied (reply.Allocate 0x101)) ∷ []) new → ⊥
+other_reply new worlds =
+    let (one, asked, end) = behind_two ((ask_reply 0, replied (reply.Allocate 0x101)) ∷ []) new worlds in
     let kept : reply.Allocate 0x100 ≡ asked.2.0.answer = ap (λ (o : Option Ticket). elim o as (λ _. Reply) [ None ↦ reply.Allocate 0x100 | Some ticket ↦ ticket.answer ]) asked.2.1 in
     let names : 0x100 ≡ 0x101 = ap {B = ℕ} name_given (kept ∙ asked.2.2) in
     absurd (omega (arith, names))
