@@ -11,8 +11,8 @@ use Rattle.ipc_model.specs.calls.Step.{Run, Answer, has_record, succeeded}
 -- The history is the records that the opening read, and behind them the new ones. A record's place is how many stand
 -- before it.
 
--- A session: the space that its task is attached to; how many records of the history it has seen; how many the replies saw,
--- at most, that were redeemed; and the places of its own records.
+-- A session: the space that its task is attached to; how many records of the history it has seen; of how many it was told,
+-- which is the most that a reply saw which it redeemed; and the places of its own records.
 pub record Session : Type 0 where
   pub space : ℕ
   pub seen : ℕ
