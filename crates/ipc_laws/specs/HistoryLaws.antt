@@ -8,7 +8,7 @@ use Rattle.ipc_model.specs.declared.call.Reply.{Reply}
 use Rattle.ipc_model.specs.declared.record.Record.{Record}
 use Rattle.ipc_model.specs.calls.Step.{Run, has_record}
 use Rattle.ipc_model.specs.state.State.{State}
-use Rattle.ipc_model.specs.history.History.{Session, Operation, called, redeemed, looked, Leads, After, AfterAll, IsNew, Legal, Meet}
+use Rattle.ipc_model.specs.history.History.{Session, Operation, called, redeemed, looked, IsAnswered, Leads, After, AfterAll, IsNew, Legal, Meet}
 
 -- places rise, from a least one on, and lie below a number
 abbrev pub RiseWithin : ℕ → ℕ → List ℕ → Type 0
@@ -59,6 +59,17 @@ LegalIsInOrder = (base : State) (opened : ℕ) (history : List Record) (operatio
 
 pub legal_is_in_order : LegalIsInOrder
 legal_is_in_order base opened history operations session legal = lived_order base opened history legal.start operations session legal.after (new_order opened history legal.start legal.new)
+
+-- A session reads its own writes: each answer without a record is from a state behind all records of its session, and behind
+-- all that its session was told of.
+abbrev pub ReadsOwnWrites : Type 0
+ReadsOwnWrites = (base : State) (opened : ℕ) (history : List Record) (operations : List Operation) (old : Session) (c : Call) (answer : Reply) (new : Session) → Legal base opened history operations old
+    → (answered : IsAnswered base history old c answer new) → RiseWithin opened answered.beginning old.places × (old.told ≤ answered.beginning)
+
+pub reads_own_writes : ReadsOwnWrites
+reads_own_writes base opened history operations old c answer new legal answered =
+    let order = legal_is_in_order base opened history operations old legal in
+    (rise_further opened old.seen answered.beginning old.places answered.unseen order.places, omega (arith, answered.unseen, order.told))
 
 -- the calls with records among a session's operations
 abbrev pub recorded_calls : List Operation → List (Call × Reply)

@@ -2,7 +2,7 @@
 ghost use Rattle.ipc_laws.specs.StepsKeep.{OneRun, RunsKeepLawful, StepsKeepLawful};
 ghost use Rattle.ipc_laws.specs.EffectRanks.{EffectsKeepGrounded, SettledIsLawful};
 ghost use Rattle.ipc_laws.specs.EffectsKeep.{EffectsKeepLawful};
-ghost use Rattle.ipc_laws.specs.HistoryLaws.{LegalIsInOrder, LegalStaysLegal, MeetingIsLegal, PlacesHoldCalls};
+ghost use Rattle.ipc_laws.specs.HistoryLaws.{LegalIsInOrder, LegalStaysLegal, MeetingIsLegal, PlacesHoldCalls, ReadsOwnWrites};
 ghost use Rattle.ipc_laws.specs.ImageLaws.{ImagesHaveOneText};
 ghost use Rattle.ipc_laws.specs.NameChanges.{NamesMoveLawfully};
 ghost use Rattle.ipc_laws.specs.LawfulLaws.{LawfulIsAtRest};
@@ -178,6 +178,11 @@ pub fn nothing_new_is_told()
 /// records that it saw.
 pub fn legal_is_in_order()
     ensures { LegalIsInOrder }
+{}
+
+/// A session reads its own writes: each answer is from a state behind all its records and all that it was told of.
+pub fn reads_own_writes()
+    ensures { ReadsOwnWrites }
 {}
 
 /// At its places stand its calls with records, in their order, and nothing else.

@@ -197,11 +197,11 @@ full-no_ticket new after = let below : 65536 < 65536 = after.2.0.1 refl in absur
 pub full-emptied : row_length (after_cut full_world opening_state) ≡ 0
 full-emptied = refl
 
+-- in a new store a name has no type, and this is all that can be answered
 unknown-acts : (answer : Reply) (acted : State) (effects : List Effect) → ActsFrom opening_state 1 (finmap.get opening_state.spaces 1) (call.Type 0x200) answer acted effects → answer ≡ reply.Refused 2 InvalidName
 unfolding Done tests_of
 unknown-acts answer acted effects = simp rows (λ (acts : _). acts.0)
 
--- in a new store a name has no type, and an allocation isn't refused
 pub unknown-refused : (answer : Reply) (new : State) → Step opening_state 1 (call.Type 0x200) answer new → answer ≡ reply.Refused 2 InvalidName
 unfolding Step
 unknown-refused answer new step = unknown-acts answer step.0 step.1 step.2
@@ -318,6 +318,7 @@ invented_reply new (one, submitted, end) =
     let from_start : Step opening_state 1 (call.Type 0x200) (reply.Type 0x20000) step.1 = subst (λ (s : State). Step s 1 (call.Type 0x200) (reply.Type 0x20000) step.1) step.2 step.3 in
     absurd (cc (unknown-refused (reply.Type 0x20000) step.1 from_start))
 
+-- a new store doesn't refuse an allocation
 allocation-acts : (acted : State) (effects : List Effect) → ActsFrom opening_state 1 (finmap.get opening_state.spaces 1) allocation (reply.Refused 5 NoSpace) acted effects → ⊥
 unfolding Done tests_of
 allocation-acts acted effects = simp rows (λ (acts : _). absurd (cc acts.2))
