@@ -10,6 +10,7 @@ pub mod EffectWeights
 pub mod EffectsKeep
 pub mod EntryChanges
 pub mod Hands
+pub mod HistoryLaws
 pub mod ImageLaws
 pub mod ItemLaws
 pub mod LawfulLaws
@@ -21,6 +22,7 @@ pub mod NameChanges
 pub mod OpeningLaws
 pub mod OtherSpaces
 pub mod Others
+pub mod OwnedPlaces
 pub mod PortChanges
 pub mod PortItems
 pub mod Ranks
@@ -50,3 +52,4 @@ pub mod Untouched
 pub mod UntouchedMessages
 pub mod Weights
 pub mod WorldLaws
+pub mod WorldRuns

@@ -2,18 +2,21 @@
 ghost use Rattle.ipc_laws.specs.StepsKeep.{OneRun, RunsKeepLawful, StepsKeepLawful};
 ghost use Rattle.ipc_laws.specs.EffectRanks.{EffectsKeepGrounded, SettledIsLawful};
 ghost use Rattle.ipc_laws.specs.EffectsKeep.{EffectsKeepLawful};
+ghost use Rattle.ipc_laws.specs.HistoryLaws.{LegalIsInOrder, LegalStaysLegal, MeetingIsLegal, PlacesHoldCalls, ReadsOwnWrites};
 ghost use Rattle.ipc_laws.specs.ImageLaws.{ImagesHaveOneText};
 ghost use Rattle.ipc_laws.specs.NameChanges.{NamesMoveLawfully};
 ghost use Rattle.ipc_laws.specs.LawfulLaws.{LawfulIsAtRest};
 ghost use Rattle.ipc_laws.specs.OpeningLaws.{OpeningIsLawful};
 ghost use Rattle.ipc_laws.specs.OtherSpaces.{OthersFade, SpacesAreMade};
+ghost use Rattle.ipc_laws.specs.OwnedPlaces.{NewRecordsAreOwned};
 ghost use Rattle.ipc_laws.specs.PortChanges.{PortMovesLawfully};
 ghost use Rattle.ipc_laws.specs.RecoveryLaws.{RecoversLawful, RecoversOnce, RecoversVersionOne, SpellsOnce};
 ghost use Rattle.ipc_laws.specs.Spelling.{LawfulIsSpellable};
 ghost use Rattle.ipc_laws.specs.Settling.{AlwaysSettles, EffectsLower};
 ghost use Rattle.ipc_laws.specs.TextLaws.{RecordsHaveOneText};
 ghost use Rattle.ipc_laws.specs.StepLaws.{OneEnd, OneNewState};
-ghost use Rattle.ipc_laws.specs.WorldLaws.{ToldWithinApplied};
+ghost use Rattle.ipc_laws.specs.WorldLaws.{NotNowExactly, ToldIsStored, ToldWithinApplied};
+ghost use Rattle.ipc_laws.specs.WorldRuns.{AppliedIsRun, NothingNewIsTold, RowsFit, TicketsAreSteps};
 
 /// A reply shows each choice that the machine made: from a lawful state, a call of a task that is answered so
 /// leaves one state, sends and receipts too.
@@ -138,4 +141,66 @@ pub fn recovers_version_one()
 /// Whatever events come after an opening, no more is told than was applied, and no more is stored.
 pub fn told_within_applied()
     ensures { ToldWithinApplied }
+{}
+
+/// And what is told is stored: each reply that was given saw stored records alone.
+pub fn told_is_stored()
+    ensures { ToldIsStored }
+{}
+
+/// Where the device hasn't failed, an event answers "not now" exactly where it isn't possible.
+pub fn not_now_exactly()
+    ensures { NotNowExactly }
+{}
+
+/// What was applied is a run of the machine from the state that the opening gave.
+pub fn applied_is_run()
+    ensures { AppliedIsRun }
+{}
+
+/// Each ticket keeps the reply of a step from the state after a beginning of what was applied; it saw this beginning, and
+/// the call's own record behind it.
+pub fn tickets_are_steps()
+    ensures { TicketsAreSteps }
+{}
+
+/// No epoch's row outgrows its segment, where the row that was opened didn't.
+pub fn rows_fit()
+    ensures { RowsFit }
+{}
+
+/// Once the device failed, nothing more is stored, and nothing newer is told.
+pub fn nothing_new_is_told()
+    ensures { NothingNewIsTold }
+{}
+
+/// A legal session has seen a beginning of its history, was told within what it saw, and its places rise among the new
+/// records that it saw.
+pub fn legal_is_in_order()
+    ensures { LegalIsInOrder }
+{}
+
+/// A session reads its own writes: each answer is from a state behind all its records and all that it was told of.
+pub fn reads_own_writes()
+    ensures { ReadsOwnWrites }
+{}
+
+/// At its places stand its calls with records, in their order, and nothing else.
+pub fn places_hold_calls()
+    ensures { PlacesHoldCalls }
+{}
+
+/// It stays legal when others add to the history.
+pub fn legal_stays_legal()
+    ensures { LegalStaysLegal }
+{}
+
+/// Two legal sessions of one history are legal where they have met.
+pub fn meeting_is_legal()
+    ensures { MeetingIsLegal }
+{}
+
+/// Where the sessions are all that there were, each new record of a legal history stands at a place of one of them.
+pub fn new_records_are_owned()
+    ensures { NewRecordsAreOwned }
 {}

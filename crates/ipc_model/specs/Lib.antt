@@ -1,5 +1,6 @@
 pub mod calls
 pub mod effects
+pub mod history
 pub mod messages
 pub mod rights
 pub mod state

@@ -2,6 +2,7 @@ pub mod RowRules
 pub mod RowStates
 pub mod RowsCalls
 pub mod RowsDeaths
+pub mod RowsHistory
 pub mod RowsMessages
 pub mod RowsNames
 pub mod RowsReceipts

@@ -1,11 +1,15 @@
--- The core as a list of events with their outcomes: which calls were applied, stored and told, and which event is possible.
-use Rattle.std.specs.Prelude.{◌≡◌, ◌⊎◌, ℕ, zero, suc, ◌+◌, ◌-◌, ◌/◌, ◌^◌, ◌<◌, ◌≤◌, max, Bool, true, false, nat_lt, List, [], ◌∷◌, ◌++◌, length, Option, None, Some, slice_get, if◌then◌else◌}
+-- The core as a list of events with their outcomes: which event is possible, what it may answer, and which calls were
+-- applied, stored and told.
+use Rattle.std.specs.Prelude.{◌≡◌, ◌⊎◌, ℕ, zero, suc, ◌+◌, ◌-◌, ◌/◌, ◌^◌, ◌<◌, ◌≤◌, max, Bool, true, false, ◌&&◌, nat_lt, List, [], ◌∷◌, ◌++◌, length, Option, None, Some, slice_get, if◌then◌else◌}
+use Rattle.codes.specs.declared.limits.TheConstants.{MAX_RECORDS}
 use Rattle.ipc_model.specs.declared.call.Call.{Call}
 use Rattle.ipc_model.specs.declared.call.Reply.{Reply}
 use Rattle.ipc_model.specs.declared.record.Record.{Record}
 use Rattle.ipc_model.specs.texts.Images.{image_text}
 use Rattle.ipc_model.specs.state.State.{State}
-use Rattle.ipc_model.specs.calls.Step.{Run, has_record}
+use Rattle.ipc_model.specs.store.Faults as fault
+use Rattle.ipc_model.specs.store.Faults.{StoreFault}
+use Rattle.ipc_model.specs.calls.Step.{Step, Run, has_record}
 
 -- What can happen: a call is submitted; records are taken as a batch, appended, and their receipt is handed in; a ticket's
 -- reply is asked for; and the steps of a checkpoint, by which the core goes over to the next epoch.
@@ -23,13 +27,16 @@ pub data Event : Type 0 where
   piece : Event
   finish : Event
 
--- What an event answered: a ticket, which keeps the call's reply; a reply; done; or nothing happened, whatever the reason
--- (not now, the row is full, a fault of the store, no memory).
+-- What an event answered: a ticket, which keeps the call's reply; a reply; done; or why it wasn't done. That is: it isn't
+-- possible now; the epoch's row takes no more records; a growth was refused; or a fault of the store.
 pub data Outcome : Type 0 where
   given : Reply → Outcome
   replied : Reply → Outcome
   done : Outcome
-  nothing : Outcome
+  not_now : Outcome
+  epoch_full : Outcome
+  no_memory : Outcome
+  store : StoreFault → Outcome
 
 -- a ticket: the reply that it keeps, how many records it saw, and whether its reply was given
 pub record Ticket : Type 0 where
@@ -59,6 +66,8 @@ pub record Checkpoint : Type 0 where
 -- What has come of the events so far. Records are counted from the opening of the store on.
 pub record World : Type 0 where
   pub epoch : ℕ
+  -- how many records of this epoch's row the opening read
+  pub opened : ℕ
   pub applied : List Record
   -- how many records were applied in epochs before this one
   pub earlier : ℕ
@@ -70,11 +79,14 @@ pub record World : Type 0 where
   -- how many records are stored whose receipt was handed in
   pub handed : ℕ
   pub checkpoint : Option Checkpoint
+  -- whether the store's device failed
+  pub failed : Bool
 
--- at first nothing was applied
-abbrev pub first_world : ℕ → World
-first_world epoch = record {
+-- At first nothing was applied, and the row holds what the opening read.
+abbrev pub first_world : ℕ → ℕ → World
+first_world epoch opened = record {
   epoch = epoch;
+  opened = opened;
   applied = [];
   earlier = 0;
   tickets = [];
@@ -84,6 +96,7 @@ first_world epoch = record {
   receipts = [];
   handed = 0;
   checkpoint = None;
+  failed = false;
 }
 
 -- What a task was told of: the records that are stored, and those that a ticket saw whose reply was given.
@@ -93,6 +106,13 @@ greatest_seen (ticket ∷ tickets) = if ticket.answered then max ticket.seen (gr
 
 abbrev pub told : World → ℕ
 told world = max world.stored (greatest_seen world.tickets)
+
+-- how many records the row of this epoch has: those that the opening read, and those applied since it began
+abbrev pub row_length : World → ℕ
+row_length world = world.opened + (length world.applied - world.earlier)
+
+abbrev pub IsRowFull : World → Type 0
+IsRowFull world = MAX_RECORDS ≤ row_length world
 
 -- the bytes of an image's piece
 abbrev pub piece_length : ℕ
@@ -144,7 +164,7 @@ abbrev pub CanReply : World → Option Ticket → Type 0
 CanReply world None = ⊥
 CanReply world (Some ticket) = (ticket.answered ≡ false) × (ticket.seen ≤ world.handed)
 
--- Which events are possible; every other answers that it isn't now.
+-- Which events are possible.
 abbrev pub IsPossible : World → Event → Type 0
 IsPossible world (submit space call) = Unit {0}
 IsPossible world take_batch = (world.taken < length world.applied) × (world.batch ≡ None)
@@ -159,7 +179,7 @@ IsPossible world image_close = HasImaged world.checkpoint 0
 IsPossible world piece = HasPieceLeft world.checkpoint
 IsPossible world finish = CanFinish world.checkpoint
 
--- What an event changes that answered so.
+-- What an event changes that is done.
 
 -- the record of an answered call, if it has one
 abbrev pub record_of : ℕ → Call → Reply → List Record
@@ -192,6 +212,7 @@ with_answered (ticket ∷ tickets) (suc n) = ticket ∷ with_answered tickets n
 abbrev pub after_cut : World → State → World
 after_cut world state = record world {
   epoch = world.epoch + 1;
+  opened = 0;
   earlier = length world.applied;
   checkpoint = Some (record { rolled = 0; imaged = 0; pieces = pieces_of (image_text state); finished = false });
 }
@@ -221,14 +242,68 @@ AfterDone base world image_close new = new ≡ one_imaged world
 AfterDone base world piece new = new ≡ one_imaged world
 AfterDone base world finish new = new ≡ record (with_checkpoint world (λ checkpoint. record checkpoint { finished = true }) world.checkpoint) { receipts = world.receipts ++ of_finish ∷ [] }
 
--- The world after an event with its outcome. A ticket comes of a submit alone, and a reply of a ticket's that was asked for.
-abbrev pub After : State → World → Event → Outcome → World → Type 0
-After base world (submit space call) (given answer) new = new ≡ after_submit world space call answer
-After base world (ask_reply ticket) (replied answer) new =
+-- The machine may answer a call so in the state after all that was applied, which is a run from this base.
+abbrev pub IsStep : State → World → ℕ → Call → Reply → Type 0
+IsStep base world space call answer = (old : State) × (new : State) × Run base world.applied old × Step old space call answer new
+
+-- A ticket keeps such a reply; and a full row takes no record.
+abbrev pub MayGive : State → World → ℕ → Call → Reply → Type 0
+MayGive base world space call answer = IsStep base world space call answer × ((has_record call answer ≡ true) → row_length world < MAX_RECORDS)
+
+-- The epoch is full for a call: its row is, and a step of the call has a record.
+abbrev pub HasNoRoom : State → World → ℕ → Call → Type 0
+HasNoRoom base world space call = IsRowFull world × (answer : Reply) × IsStep base world space call answer × (has_record call answer ≡ true)
+
+-- a ticket's reply is given once
+abbrev pub AfterReply : World → ℕ → Reply → World → Type 0
+AfterReply world ticket answer new =
     (kept : Ticket) × (slice_get world.tickets ticket ≡ Some kept) × (kept.answer ≡ answer) × (new ≡ record world { tickets = with_answered world.tickets ticket })
-After base world event done new = IsPossible world event × AfterDone base world event new
-After base world event nothing new = new ≡ world
-After base world _ _ new = ⊥
+
+-- the events that write the store, and so meet its faults
+abbrev pub is_of_store : Event → Bool
+is_of_store append = true
+is_of_store roll_close = true
+is_of_store roll_head = true
+is_of_store roll_open = true
+is_of_store image_close = true
+is_of_store piece = true
+is_of_store finish = true
+is_of_store _ = false
+
+-- the events that take memory, and so may be refused for want of it: the core's own, and the store's
+abbrev pub core_takes_memory : Event → Bool
+core_takes_memory (submit space call) = true
+core_takes_memory take_batch = true
+core_takes_memory cut = true
+core_takes_memory _ = false
+
+abbrev pub store_takes_memory : Event → Bool
+store_takes_memory append = true
+store_takes_memory image_close = true
+store_takes_memory _ = false
+
+-- What an event may answer that is possible, and the world after it. A refusal changes nothing; a fault of the device
+-- leaves the batch as it is, not stored.
+abbrev pub AfterPossible : State → World → Event → Outcome → World → Type 0
+AfterPossible base world (submit space call) (given answer) new = MayGive base world space call answer × (new ≡ after_submit world space call answer)
+AfterPossible base world (submit space call) epoch_full new = HasNoRoom base world space call × (new ≡ world)
+AfterPossible base world (ask_reply ticket) (replied answer) new = AfterReply world ticket answer new
+AfterPossible base world event done new = AfterDone base world event new
+AfterPossible base world event no_memory new = (core_takes_memory event ≡ true) × (new ≡ world)
+AfterPossible base world event (store fault.no_memory) new = (store_takes_memory event ≡ true) × (new ≡ world)
+AfterPossible base world event (store fault.device) new = (is_of_store event ≡ true) × (new ≡ record world { failed = true })
+AfterPossible base world _ _ new = ⊥
+
+-- Once the device failed, every event of the store answers that it failed, also one that isn't possible.
+abbrev pub fails_first : World → Event → Bool
+fails_first world event = world.failed && is_of_store event
+
+-- The world after an event with its outcome. It is "failed" exactly where the device failed before; else "not now" exactly
+-- where the event isn't possible; else one that a possible event may have.
+abbrev pub After : State → World → Event → Outcome → World → Type 0
+After base world event (store fault.failed) new = (fails_first world event ≡ true) × (new ≡ world)
+After base world event not_now new = (fails_first world event ≡ false) × (IsPossible world event → ⊥) × (new ≡ world)
+After base world event outcome new = (fails_first world event ≡ false) × IsPossible world event × AfterPossible base world event outcome new
 
 -- The world that a list of events leaves.
 abbrev pub Worlds : State → World → List (Event × Outcome) → World → Type 0

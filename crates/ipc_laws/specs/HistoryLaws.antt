@@ -1,0 +1,188 @@
+-- What a legal session knows of its history: its places rise and hold its own calls, and it stays legal as others add to
+-- the history.
+use Rattle.std.specs.Prelude.{◌≡◌, ℕ, zero, suc, ◌+◌, ◌<◌, ◌≤◌, max, Bool, List, [], ◌∷◌, ◌++◌, length, map, Option, Some, option_map, slice_get, if◌then◌else◌, refl}
+use Rattle.std.proofs.Common.{inl, inr, sym, ◌∙◌, ap, subst, arith, length-append}
+use Rattle.std.proofs.lemmas.List.{append-nil, append_assoc, map-append, take-append-le}
+use Rattle.ipc_model.specs.declared.call.Call.{Call}
+use Rattle.ipc_model.specs.declared.call.Reply.{Reply}
+use Rattle.ipc_model.specs.declared.record.Record.{Record}
+use Rattle.ipc_model.specs.calls.Step.{Run, has_record}
+use Rattle.ipc_model.specs.state.State.{State}
+use Rattle.ipc_model.specs.history.History.{Session, Operation, called, redeemed, looked, IsAnswered, Leads, After, AfterAll, IsNew, Legal, Meet}
+
+-- places rise, from a least one on, and lie below a number
+abbrev pub RiseWithin : ℕ → ℕ → List ℕ → Type 0
+RiseWithin least end [] = least ≤ end
+RiseWithin least end (place ∷ places) = (least ≤ place) × RiseWithin (place + 1) end places
+
+rise_further : (least end further : ℕ) (places : List ℕ) → end ≤ further → RiseWithin least end places → RiseWithin least further places
+rise_further least end further [] le rise = omega (arith, le, rise)
+rise_further least end further (place ∷ places) le rise = (rise.0, rise_further (place + 1) end further places le rise.1)
+
+rise_more : (least end further place : ℕ) (places : List ℕ) → end ≤ place → place < further → RiseWithin least end places → RiseWithin least further (places ++ place ∷ [])
+rise_more least end further place [] le below rise = (omega (arith, le, rise), omega (arith, below))
+rise_more least end further place (first ∷ places) le below rise = (rise.0, rise_more (first + 1) end further place places le below rise.1)
+
+-- What holds of every legal session: it has seen a beginning of the history, was told within what it saw, and its places
+-- rise among the new records that it saw.
+pub record IsInOrder (opened : ℕ) (history : List Record) (session : Session) : Type 0 where
+  pub seen : session.seen ≤ length history
+  pub told : session.told ≤ session.seen
+  pub places : RiseWithin opened session.seen session.places
+
+led_order : (base : State) (opened : ℕ) (history : List Record) (old : Session) (operation : Operation) (new : Session) → old.seen ≤ new.seen → new.seen ≤ length history → Leads base history old operation new
+    → IsInOrder opened history old → IsInOrder opened history new
+led_order base opened history old (called c answer) new more within (inl at) order = subst (IsInOrder opened history) (sym at.after) (record {
+  seen = within;
+  told = omega (arith, more, order.told);
+  places = rise_more opened old.seen new.seen at.place old.places at.unseen at.seen order.places;
+})
+led_order base opened history old (called c answer) new more within (inr is) order =
+    subst (IsInOrder opened history) (sym is.after) (record { seen = within; told = omega (arith, more, order.told); places = rise_further opened old.seen new.seen old.places more order.places })
+led_order base opened history old (redeemed seen) new more within led order =
+    subst (IsInOrder opened history) (sym led.1) (record { seen = within; told = omega (arith, more, order.told, led.0); places = rise_further opened old.seen new.seen old.places more order.places })
+led_order base opened history old looked new more within led order =
+    subst (IsInOrder opened history) (sym led) (record { seen = within; told = omega (arith, more, order.told); places = rise_further opened old.seen new.seen old.places more order.places })
+
+lived_order : (base : State) (opened : ℕ) (history : List Record) (old : Session) (operations : List Operation) (new : Session) → AfterAll base history old operations new → IsInOrder opened history old → IsInOrder opened history new
+lived_order base opened history old [] new after order = subst (IsInOrder opened history) (sym after) order
+lived_order base opened history old (operation ∷ operations) new (mid, after, rest) order =
+    lived_order base opened history mid operations new rest (led_order base opened history old operation mid after.more after.within after.leads order)
+
+new_order : (opened : ℕ) (history : List Record) (session : Session) → IsNew opened history session → IsInOrder opened history session
+new_order opened history session new =
+    record { seen = new.within; told = omega (arith, new.told); places = subst (RiseWithin opened session.seen) (sym new.places) new.least }
+
+-- A legal session has seen a beginning of the history, was told within what it saw, and its places rise.
+abbrev pub LegalIsInOrder : Type 0
+LegalIsInOrder = (base : State) (opened : ℕ) (history : List Record) (operations : List Operation) (session : Session) → Legal base opened history operations session → IsInOrder opened history session
+
+pub legal_is_in_order : LegalIsInOrder
+legal_is_in_order base opened history operations session legal = lived_order base opened history legal.start operations session legal.after (new_order opened history legal.start legal.new)
+
+-- A session reads its own writes: each answer without a record is from a state behind all records of its session, and behind
+-- all that its session was told of.
+abbrev pub ReadsOwnWrites : Type 0
+ReadsOwnWrites = (base : State) (opened : ℕ) (history : List Record) (operations : List Operation) (old : Session) (c : Call) (answer : Reply) (new : Session) → Legal base opened history operations old
+    → (answered : IsAnswered base history old c answer new) → RiseWithin opened answered.beginning old.places × (old.told ≤ answered.beginning)
+
+pub reads_own_writes : ReadsOwnWrites
+reads_own_writes base opened history operations old c answer new legal answered =
+    let order = legal_is_in_order base opened history operations old legal in
+    (rise_further opened old.seen answered.beginning old.places answered.unseen order.places, omega (arith, answered.unseen, order.told))
+
+-- the calls with records among a session's operations
+abbrev pub recorded_calls : List Operation → List (Call × Reply)
+recorded_calls [] = []
+recorded_calls (called c answer ∷ operations) = if has_record c answer then (c, answer) ∷ recorded_calls operations else recorded_calls operations
+recorded_calls (redeemed seen ∷ operations) = recorded_calls operations
+recorded_calls (looked ∷ operations) = recorded_calls operations
+
+-- the call and reply that stand at a place
+abbrev pub call_at : List Record → ℕ → Option (Call × Reply)
+call_at history place = option_map (λ (entry : Record). (entry.call, entry.reply)) (slice_get history place)
+
+call_of : Option Record → Option (Call × Reply)
+call_of o = option_map (λ (entry : Record). (entry.call, entry.reply)) o
+
+abbrev Holds : List Record → List ℕ → List (Call × Reply) → Type 0
+Holds history places calls = map (call_at history) places ≡ map (λ (c : Call × Reply). Some c) calls
+
+abbrev some_calls : List (Call × Reply) → List (Option (Call × Reply))
+some_calls calls = map (λ (c : Call × Reply). Some c) calls
+
+-- what a session's life adds to its places
+lived_calls : (base : State) (history : List Record) (old : Session) (operations : List Operation) (new : Session) → AfterAll base history old operations new
+    → map (call_at history) new.places ≡ map (call_at history) old.places ++ some_calls (recorded_calls operations)
+lived_calls base history old [] new after = ap (λ (s : Session). map (call_at history) s.places) after ∙ sym (append-nil (map (call_at history) old.places))
+lived_calls base history old (called c answer ∷ operations) new (mid, after, rest) =
+    let later : map (call_at history) new.places ≡ map (call_at history) mid.places ++ some_calls (recorded_calls operations) = lived_calls base history mid operations new rest in
+    elim after.leads as (λ _. map (call_at history) new.places ≡ map (call_at history) old.places ++ some_calls (if has_record c answer then (c, answer) ∷ recorded_calls operations else recorded_calls operations)) [
+      | inl at ↦
+          let here : call_at history at.place ≡ Some (c, answer) = ap (λ (o : Option Record). option_map (λ (entry : Record). (entry.call, entry.reply)) o) at.there in
+          let added : map (call_at history) mid.places ≡ map (call_at history) old.places ++ Some (c, answer) ∷ [] =
+          ap (λ (s : Session). map (call_at history) s.places) at.after ∙ map-append (call_at history) old.places (at.place ∷ []) ∙ ap (λ (o : Option (Call × Reply)). map (call_at history) old.places ++ o ∷ []) here in
+          later ∙ ap (λ (l : List (Option (Call × Reply))). l ++ some_calls (recorded_calls operations)) added
+          ∙ append_assoc (map (call_at history) old.places) (Some (c, answer) ∷ []) (some_calls (recorded_calls operations))
+          ∙ ap (λ (b : Bool). map (call_at history) old.places ++ some_calls (if b then (c, answer) ∷ recorded_calls operations else recorded_calls operations)) (sym at.recorded)
+      | inr is ↦
+          later ∙ ap (λ (s : Session). map (call_at history) s.places ++ some_calls (recorded_calls operations)) is.after
+          ∙ ap (λ (b : Bool). map (call_at history) old.places ++ some_calls (if b then (c, answer) ∷ recorded_calls operations else recorded_calls operations)) (sym is.unrecorded)
+    ]
+lived_calls base history old (redeemed seen ∷ operations) new (mid, after, rest) =
+    lived_calls base history mid operations new rest ∙ ap (λ (s : Session). map (call_at history) s.places ++ some_calls (recorded_calls operations)) after.leads.1
+lived_calls base history old (looked ∷ operations) new (mid, after, rest) =
+    lived_calls base history mid operations new rest ∙ ap (λ (s : Session). map (call_at history) s.places ++ some_calls (recorded_calls operations)) after.leads
+
+-- At a legal session's places stand its calls with records, in their order, and nothing else.
+abbrev pub PlacesHoldCalls : Type 0
+PlacesHoldCalls = (base : State) (opened : ℕ) (history : List Record) (operations : List Operation) (session : Session) → Legal base opened history operations session
+    → map (call_at history) session.places ≡ map (λ (c : Call × Reply). Some c) (recorded_calls operations)
+
+pub places_hold_calls : PlacesHoldCalls
+places_hold_calls base opened history operations session legal =
+    lived_calls base history legal.start operations session legal.after ∙ ap (λ (places : List ℕ). map (call_at history) places ++ some_calls (recorded_calls operations)) legal.new.places
+
+-- what stands in a list stands there still once it is longer
+there_still : (history more : List Record) (place : ℕ) (entry : Record) → slice_get history place ≡ Some entry → slice_get (history ++ more) place ≡ Some entry
+there_still [] more place entry is = absurd (cc is)
+there_still (first ∷ history) more zero entry is = is
+there_still (first ∷ history) more (suc place) entry is = there_still history more place entry is
+
+led_further : (base : State) (history more : List Record) (old : Session) (operation : Operation) (new : Session) → new.seen ≤ length history → Leads base history old operation new → Leads base (history ++ more) old operation new
+led_further base history more old (called c answer) new within (inl at) =
+    inl (record { recorded = at.recorded; place = at.place; unseen = at.unseen; there = there_still history more at.place _ at.there; seen = at.seen; after = at.after })
+led_further base history more old (called c answer) new within (inr is) = inr (record {
+  unrecorded = is.unrecorded;
+  beginning = is.beginning;
+  unseen = is.unseen;
+  state = is.state;
+  run = subst (λ (l : List Record). Run base l is.state) (sym (take-append-le is.beginning history more (omega (arith, is.seen, within)))) is.run;
+  answered = is.answered;
+  seen = is.seen;
+  after = is.after;
+})
+led_further base history more old (redeemed seen) new within led = led
+led_further base history more old looked new within led = led
+
+lived_further : (base : State) (history more : List Record) (old : Session) (operations : List Operation) (new : Session) → AfterAll base history old operations new → AfterAll base (history ++ more) old operations new
+lived_further base history more old [] new after = after
+lived_further base history more old (operation ∷ operations) new (mid, after, rest) =
+    (mid, record { leads = led_further base history more old operation mid after.within after.leads; more = after.more; within = omega (arith, after.within, length-append history more) }, lived_further base history more mid operations new rest)
+
+-- A legal session stays legal when the history grows.
+abbrev pub LegalStaysLegal : Type 0
+LegalStaysLegal = (base : State) (opened : ℕ) (history more : List Record) (operations : List Operation) (session : Session) → Legal base opened history operations session → Legal base opened (history ++ more) operations session
+
+pub legal_stays_legal : LegalStaysLegal
+legal_stays_legal base opened history more operations session legal = record {
+  start = legal.start;
+  new = record { space = legal.new.space; least = legal.new.least; within = omega (arith, legal.new.within, length-append history more); told = legal.new.told; places = legal.new.places };
+  after = lived_further base history more legal.start operations session legal.after;
+}
+
+-- one operation more
+after_more : (base : State) (history : List Record) (old : Session) (operations : List Operation) (mid : Session) (operation : Operation) (new : Session) → AfterAll base history old operations mid → After base history mid operation new
+    → AfterAll base history old (operations ++ operation ∷ []) new
+after_more base history old [] mid operation new all next = (new, subst (λ (s : Session). After base history s operation new) all next, refl)
+after_more base history old (first ∷ operations) mid operation new all next = (all.0, all.1, after_more base history all.0 operations mid operation new all.2 next)
+
+seen_more : (base : State) (opened : ℕ) (history : List Record) (operations : List Operation) (session after : Session) (seen : ℕ) → Legal base opened history operations session → after ≡ record session { seen = seen } → session.seen ≤ seen → seen ≤ length history
+    → Legal base opened history (operations ++ looked ∷ []) after
+seen_more base opened history operations session after seen legal is more within =
+    let looks : After base history session looked (record session { seen = seen }) = record { leads = refl; more = more; within = within } in
+    record { start = legal.start; new = legal.new; after = after_more base history legal.start operations session looked after legal.after (subst (After base history session looked) (sym is) looks) }
+
+-- Two legal sessions of one history are legal where they have met.
+abbrev pub MeetingIsLegal : Type 0
+MeetingIsLegal = (base : State) (opened : ℕ) (history : List Record) (first second : List Operation) (one other one_after other_after : Session)
+    → Legal base opened history first one → Legal base opened history second other → Meet one other one_after other_after
+    → Legal base opened history (first ++ looked ∷ []) one_after × Legal base opened history (second ++ looked ∷ []) other_after
+
+pub meeting_is_legal : MeetingIsLegal
+meeting_is_legal base opened history first second one other one_after other_after legal legal_too meet =
+    let one_seen : one.seen ≤ length history = (legal_is_in_order base opened history first one legal).seen in
+    let other_seen : other.seen ≤ length history = (legal_is_in_order base opened history second other legal_too).seen in (
+      seen_more base opened history first one one_after (max one.seen other.seen) legal meet.one_sees (omega arith) (omega (arith, one_seen, other_seen)),
+      seen_more base opened history second other other_after (max one.seen other.seen) legal_too meet.other_sees (omega arith) (omega (arith, one_seen, other_seen)),
+    )

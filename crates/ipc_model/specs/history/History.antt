@@ -1,0 +1,124 @@
+-- Legal histories: several sessions, each with the calls of a task, and the one list of records that their calls make.
+use Rattle.std.specs.Prelude.{◌≡◌, ◌≢◌, ◌⊎◌, ℕ, ◌+◌, ◌<◌, ◌≤◌, max, true, false, List, [], ◌∷◌, ◌++◌, length, take, map, flat_map, AllPairs, Some, slice_get, if◌then◌else◌}
+use Rattle.codes.specs.declared.name.TheConstants.{FIRST_SPACE}
+use Rattle.ipc_model.specs.declared.call.Call.{Call}
+use Rattle.ipc_model.specs.declared.call.Call.TheVariants as call
+use Rattle.ipc_model.specs.declared.call.Reply.{Reply}
+use Rattle.ipc_model.specs.declared.record.Record.{Record}
+use Rattle.ipc_model.specs.state.State.{State}
+use Rattle.ipc_model.specs.calls.Step.{Run, Answer, has_record, succeeded}
+
+-- The history is the records that the opening read, and behind them the new ones. A record's place is how many stand
+-- before it.
+
+-- A session: the space that its task is attached to; how many records of the history it has seen; of how many it was told,
+-- which is the most that a reply saw which it redeemed; and the places of its own records.
+pub record Session : Type 0 where
+  pub space : ℕ
+  pub seen : ℕ
+  pub told : ℕ
+  pub places : List ℕ
+
+-- What a session does: a call of its task is answered by a ticket; a ticket is redeemed, whose reply saw so many records; or
+-- the session only sees more of the history, as where a call isn't taken, or where two sessions meet.
+pub data Operation : Type 0 where
+  called : Call → Reply → Operation
+  redeemed : (seen : ℕ) → Operation
+  looked : Operation
+
+-- the space that a call attaches its task to, where it is done
+abbrev pub attached_by : ℕ → Call → ℕ
+attached_by space (call.Attach other) = other
+attached_by space c = space
+
+-- the space that a task is attached to after a call that was answered so
+abbrev pub space_after : ℕ → Call → Reply → ℕ
+space_after space c answer = if succeeded c answer then attached_by space c else space
+
+-- A call with a record stands at one place, at or past what its session had seen before, with the session's space, the
+-- call and the reply. The session has then seen it.
+pub record HasPlace (history : List Record) (old : Session) (c : Call) (answer : Reply) (new : Session) : Type 0 where
+  pub recorded : has_record c answer ≡ true
+  pub place : ℕ
+  pub unseen : old.seen ≤ place
+  pub there : slice_get history place ≡ Some (record { space = old.space; call = c; reply = answer })
+  pub seen : place < new.seen
+  pub after : new ≡ record old { seen = new.seen; places = old.places ++ place ∷ [] }
+
+-- Every other reply is an answer in the state after some beginning of the history, which is no shorter than what its
+-- session had seen before. The session has then seen this beginning.
+pub record IsAnswered (base : State) (history : List Record) (old : Session) (c : Call) (answer : Reply) (new : Session) : Type 0 where
+  pub unrecorded : has_record c answer ≡ false
+  pub beginning : ℕ
+  pub unseen : old.seen ≤ beginning
+  pub state : State
+  pub run : Run base (take beginning history) state
+  pub answered : Answer state old.space c answer
+  pub seen : beginning ≤ new.seen
+  pub after : new ≡ record old { space = space_after old.space c answer; seen = new.seen }
+
+-- what an operation makes of a session; no reply is redeemed that saw more than the session has then seen
+abbrev pub Leads : State → List Record → Session → Operation → Session → Type 0
+Leads base history old (called c answer) new = HasPlace history old c answer new ⊎ IsAnswered base history old c answer new
+Leads base history old (redeemed seen) new = (seen ≤ new.seen) × (new ≡ record old { seen = new.seen; told = max old.told seen })
+Leads base history old looked new = new ≡ record old { seen = new.seen }
+
+-- A session after one operation more: it forgets nothing that it saw, and sees no more than there is.
+pub record After (base : State) (history : List Record) (old : Session) (operation : Operation) (new : Session) : Type 0 where
+  pub leads : Leads base history old operation new
+  pub more : old.seen ≤ new.seen
+  pub within : new.seen ≤ length history
+
+-- and after several, one after another
+abbrev pub AfterAll : State → List Record → Session → List Operation → Session → Type 0
+AfterAll base history old [] new = new ≡ old
+AfterAll base history old (first ∷ operations) new = (mid : Session) × After base history old first mid × AfterAll base history mid operations new
+
+-- A new session is attached to the first space, and was told nothing. It has seen a beginning of the history, and in it all
+-- that the opening read.
+pub record IsNew (opened : ℕ) (history : List Record) (session : Session) : Type 0 where
+  pub space : session.space ≡ FIRST_SPACE
+  pub least : opened ≤ session.seen
+  pub within : session.seen ≤ length history
+  pub told : session.told ≡ 0
+  pub places : session.places ≡ []
+
+-- A session is legal in a history that runs from this base, and of which the opening read so many records, where these
+-- operations made it of a new one.
+pub record Legal (base : State) (opened : ℕ) (history : List Record) (operations : List Operation) (session : Session) : Type 0 where
+  pub start : Session
+  pub new : IsNew opened history start
+  pub after : AfterAll base history start operations session
+
+-- several sessions, each with its operations
+abbrev pub Sessions : Type 0
+Sessions = List (List Operation × Session)
+
+abbrev pub AllLegal : State → ℕ → List Record → Sessions → Type 0
+AllLegal base opened history [] = Unit {0}
+AllLegal base opened history (first ∷ sessions) = Legal base opened history first.0 first.1 × AllLegal base opened history sessions
+
+abbrev pub places_of : List Session → List ℕ
+places_of sessions = flat_map (λ session. session.places) sessions
+
+-- No place belongs to two of these sessions.
+abbrev pub AreApart : List Session → Type 0
+AreApart sessions = AllPairs (λ place other. place ≢ other) (places_of sessions)
+
+-- A legal history: its records are a run from the base, each session is legal, and no place belongs to two.
+pub record IsLegalHistory (base : State) (opened : ℕ) (history : List Record) (sessions : Sessions) : Type 0 where
+  pub end : State
+  pub run : Run base history end
+  pub read : opened ≤ length history
+  pub legal : AllLegal base opened history sessions
+  pub apart : AreApart (map (λ session. session.1) sessions)
+
+-- These are all the sessions that there were: the new records are as many as their places together.
+abbrev pub AreAll : ℕ → List Record → List Session → Type 0
+AreAll opened history sessions = opened + length (places_of sessions) ≡ length history
+
+-- Two sessions that meet have then both seen the longer beginning, and no place belongs to both.
+pub record Meet (one other one_after other_after : Session) : Type 0 where
+  pub one_sees : one_after ≡ record one { seen = max one.seen other.seen }
+  pub other_sees : other_after ≡ record other { seen = max one.seen other.seen }
+  pub apart : AreApart (one ∷ other ∷ [])

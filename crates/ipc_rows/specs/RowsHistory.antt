@@ -1,0 +1,208 @@
+-- Worked examples of legal histories: two sessions with a record each and a read, and histories that aren't legal.
+use Rattle.std.specs.Prelude.{◌≡◌, ◌≢◌, ℕ, zero, suc, ◌<◌, List, [], ◌∷◌, take, slice_index_or, refl}
+use Rattle.std.specs.FinMap as finmap
+use Rattle.std.proofs.Common.{inl, inr, ◌∙◌, ap, subst, arith}
+use Rattle.codes.specs.declared.kern_return.KernReturn.TheVariants.{InvalidName, InvalidTask}
+use Rattle.ipc_model.specs.declared.call.Call.TheVariants as call
+use Rattle.ipc_model.specs.declared.call.Reply.{Reply}
+use Rattle.ipc_model.specs.declared.call.Reply.TheVariants as reply
+use Rattle.ipc_model.specs.declared.record.Record.{Record}
+use Rattle.ipc_model.specs.calls.Actions.{Done}
+use Rattle.ipc_model.specs.calls.PortCalls.{tests_of}
+use Rattle.ipc_model.specs.calls.Step.{Step, Answer, ActsFrom, Run}
+use Rattle.ipc_model.specs.effects.Effects.{Effect, settled}
+use Rattle.ipc_model.specs.history.History.{Session, Operation, Sessions, called, redeemed, IsNew, Legal, AreAll, Meet, IsLegalHistory, space_after}
+use Rattle.ipc_model.specs.state.State.{State, opening_state}
+use Rattle.ipc_laws.specs.OpeningLaws.{opening_is_lawful}
+use Rattle.ipc_laws.specs.StepsKeep.{one_run}
+use Rattle.ipc_rows.specs.RowRules.{rows}
+use Rattle.ipc_rows.specs.RowsSteps.{allocate-step}
+use Rattle.ipc_rows.specs.RowsWorld.{allocation, one_allocated, two_allocated, second-step, unknown-refused}
+
+abbrev pub allocated_name : ℕ → Record
+allocated_name name = record { space = 1; call = allocation; reply = reply.Allocate name }
+
+-- a new store, with an allocation of each of two sessions
+abbrev pub two_records : List Record
+two_records = allocated_name 0x100 ∷ allocated_name 0x101 ∷ []
+
+abbrev pub new_session : Session
+new_session = record { space = 1; seen = 0; told = 0; places = [] }
+
+-- The first session allocates, asks for the type of the other's name, and is told.
+abbrev pub first_operations : List Operation
+first_operations = called allocation (reply.Allocate 0x100) ∷ called (call.Type 0x101) (reply.Type 0x20000) ∷ redeemed 2 ∷ []
+
+abbrev pub first_session : Session
+first_session = record { space = 1; seen = 2; told = 2; places = 0 ∷ [] }
+
+-- The other allocates, and isn't told.
+abbrev pub other_operations : List Operation
+other_operations = called allocation (reply.Allocate 0x101) ∷ []
+
+abbrev pub other_session : Session
+other_session = record { space = 1; seen = 2; told = 0; places = 1 ∷ [] }
+
+pub type-answer : Answer two_allocated 1 (call.Type 0x101) (reply.Type 0x20000)
+unfolding Step Done tests_of
+type-answer = (two_allocated, [], simp rows (refl, refl, refl), settled)
+
+pub two_records-run : Run opening_state two_records two_allocated
+two_records-run = (one_allocated, allocate-step, (two_allocated, second-step, refl))
+
+new-session : IsNew 0 two_records new_session
+new-session = record { space = refl; least = omega arith; within = omega arith; told = refl; places = refl }
+
+pub first-legal : Legal opening_state 0 two_records first_operations first_session
+first-legal = record {
+  start = new_session;
+  new = new-session;
+  after = (
+    record { space = 1; seen = 1; told = 0; places = 0 ∷ [] },
+    record { leads = inl (record { recorded = refl; place = 0; unseen = omega arith; there = refl; seen = omega arith; after = refl }); more = omega arith; within = omega arith },
+    (
+      record { space = 1; seen = 2; told = 0; places = 0 ∷ [] },
+      record {
+        leads = inr (record { unrecorded = refl; beginning = 2; unseen = omega arith; state = two_allocated; run = two_records-run; answered = type-answer; seen = omega arith; after = refl });
+        more = omega arith;
+        within = omega arith;
+      },
+      (first_session, record { leads = (omega arith, refl); more = omega arith; within = omega arith }, refl),
+    ),
+  );
+}
+
+pub other-legal : Legal opening_state 0 two_records other_operations other_session
+other-legal = record {
+  start = new_session;
+  new = new-session;
+  after = (
+    other_session,
+    record { leads = inl (record { recorded = refl; place = 1; unseen = omega arith; there = refl; seen = omega arith; after = refl }); more = omega arith; within = omega arith },
+    refl,
+  );
+}
+
+abbrev pub both : Sessions
+both = (first_operations, first_session) ∷ (other_operations, other_session) ∷ []
+
+-- two different places are apart
+apart-two : (i j : ℕ) (d : ℕ) → i < j → j < 2 → slice_index_or (0 ∷ 1 ∷ []) i d ≢ slice_index_or (0 ∷ 1 ∷ []) j d
+apart-two zero zero d below end = absurd (omega (arith, below))
+apart-two zero (suc zero) d below end = λ (e : 0 ≡ 1). absurd (omega (arith, e))
+apart-two zero (suc (suc j)) d below end = absurd (omega (arith, end))
+apart-two (suc i) zero d below end = absurd (omega (arith, below))
+apart-two (suc i) (suc j) d below end = absurd (omega (arith, below, end))
+
+pub both-legal : IsLegalHistory opening_state 0 two_records both
+both-legal = record { end = two_allocated; run = two_records-run; read = omega arith; legal = (first-legal, (other-legal, tt)); apart = apart-two }
+
+pub both-all : AreAll 0 two_records (first_session ∷ other_session ∷ [])
+both-all = refl
+
+-- where one has seen less, the two have seen the same once they met
+abbrev pub sees_one : Session
+sees_one = record { space = 1; seen = 1; told = 0; places = 0 ∷ [] }
+
+pub both-meet : Meet sees_one other_session (record sees_one { seen = 2 }) other_session
+both-meet = record { one_sees = refl; other_sees = refl; apart = apart-two }
+
+pub same_place-no_meeting : (one other : Session) → Meet first_session sees_one one other → ⊥
+same_place-no_meeting one other meet = meet.apart 0 1 0 (omega arith) (omega arith) refl
+
+-- a task that attaches itself is in that space from then on, where it is done
+pub attach-moves : (space_after 1 (call.Attach 2) (reply.Done 0) ≡ 2) × (space_after 1 (call.Attach 2) (reply.Refused 0 InvalidTask) ≡ 1)
+attach-moves = (refl, refl)
+
+-- Histories that aren't legal.
+
+-- two sessions at one place
+pub one_place-twice : (operations others : List Operation) → IsLegalHistory opening_state 0 two_records ((operations, first_session) ∷ (others, first_session) ∷ []) → ⊥
+one_place-twice operations others legal = legal.apart 0 1 0 (omega arith) (omega arith) refl
+
+-- a place before what was seen: the opening read the record already
+pub place-before : (session : Session) → Legal opening_state 1 (allocated_name 0x100 ∷ []) (called allocation (reply.Allocate 0x100) ∷ []) session → ⊥
+place-before session legal = elim legal.after.1.leads as (λ _. ⊥) [
+  | inl at ↦ absurd (omega (arith, legal.new.least, at.unseen, at.seen, legal.after.1.within))
+  | inr is ↦ absurd (cc is.unrecorded)
+]
+
+-- a call with a record that stands nowhere
+pub place-nowhere : (session : Session) → Legal opening_state 0 [] (called allocation (reply.Allocate 0x100) ∷ []) session → ⊥
+place-nowhere session legal = elim legal.after.1.leads as (λ _. ⊥) [
+  | inl at ↦ absurd (omega (arith, at.seen, legal.after.1.within))
+  | inr is ↦ absurd (cc is.unrecorded)
+]
+
+-- a reply that no state gives
+pub no_answer : (session : Session) → Legal opening_state 0 [] (called (call.Type 0x200) (reply.Type 0x20000) ∷ []) session → ⊥
+no_answer session legal = elim legal.after.1.leads as (λ _. ⊥) [
+  | inl at ↦ absurd (cc at.recorded)
+  | inr is ↦
+      let none : is.beginning ≡ 0 = omega (arith, is.seen, legal.after.1.within) in
+      let at_start : Run opening_state (take 0 []) is.state = subst (λ (n : ℕ). Run opening_state (take n []) is.state) none is.run in
+      let in_space : Answer is.state 1 (call.Type 0x200) (reply.Type 0x20000) = subst (λ (n : ℕ). Answer is.state n (call.Type 0x200) (reply.Type 0x20000)) legal.new.space is.answered in
+      let answered : Step opening_state 1 (call.Type 0x200) (reply.Type 0x20000) is.state = subst (λ (s : State). Step s 1 (call.Type 0x200) (reply.Type 0x20000) is.state) at_start in_space in
+      absurd (cc (unknown-refused (reply.Type 0x20000) is.state answered))
+]
+
+-- an answer from an older beginning: the session allocated the name itself, and is told that there is none
+known-acts : (answer : Reply) (acted : State) (effects : List Effect) → ActsFrom one_allocated 1 (finmap.get one_allocated.spaces 1) (call.Type 0x100) answer acted effects → answer ≡ reply.Type 0x20000
+unfolding Done tests_of
+known-acts answer acted effects = simp rows (λ (acts : _). acts.0)
+
+known-type : (answer : Reply) (new : State) → Step one_allocated 1 (call.Type 0x100) answer new → answer ≡ reply.Type 0x20000
+unfolding Step
+known-type answer new step = known-acts answer step.0 step.1 step.2
+
+pub was-unknown : Answer opening_state 1 (call.Type 0x100) (reply.Refused 2 InvalidName)
+unfolding Step Done tests_of
+was-unknown = (opening_state, [], simp rows (refl, refl, refl), settled)
+
+pub older_answer : (session : Session) → Legal opening_state 0 (allocated_name 0x100 ∷ []) (called allocation (reply.Allocate 0x100) ∷ called (call.Type 0x100) (reply.Refused 2 InvalidName) ∷ []) session → ⊥
+older_answer session legal = elim legal.after.1.leads as (λ _. ⊥) [
+  | inr is ↦ absurd (cc is.unrecorded)
+  | inl at ↦
+      elim legal.after.2.1.leads as (λ _. ⊥) [
+        | inl other ↦ absurd (cc other.recorded)
+        | inr is ↦
+            let all : is.beginning ≡ 1 = omega (arith, at.seen, is.unseen, is.seen, legal.after.2.1.within) in
+            let whole : Run opening_state (allocated_name 0x100 ∷ []) is.state = subst (λ (n : ℕ). Run opening_state (take n (allocated_name 0x100 ∷ [])) is.state) all is.run in
+            let one : is.state ≡ one_allocated = one_run opening_state (allocated_name 0x100 ∷ []) is.state one_allocated (omega arith, tt) opening_is_lawful.0 opening_is_lawful.1 whole (one_allocated, allocate-step, refl) in
+            let space : legal.after.0.space ≡ 1 = ap (λ (s : Session). s.space) at.after ∙ legal.new.space in
+            let in_space : Answer is.state 1 (call.Type 0x100) (reply.Refused 2 InvalidName) = subst (λ (n : ℕ). Answer is.state n (call.Type 0x100) (reply.Refused 2 InvalidName)) space is.answered in
+            absurd (cc (known-type (reply.Refused 2 InvalidName) is.state (subst (λ (s : State). Step s 1 (call.Type 0x100) (reply.Refused 2 InvalidName) is.state) one in_space)))
+      ]
+]
+
+-- it would be legal without the record that the session has seen
+pub older-was_legal : Legal opening_state 0 [] (called (call.Type 0x100) (reply.Refused 2 InvalidName) ∷ []) new_session
+older-was_legal = record {
+  start = new_session;
+  new = record { space = refl; least = omega arith; within = omega arith; told = refl; places = refl };
+  after = (
+    new_session,
+    record {
+      leads = inr (record { unrecorded = refl; beginning = 0; unseen = omega arith; state = opening_state; run = refl; answered = was-unknown; seen = omega arith; after = refl });
+      more = omega arith;
+      within = omega arith;
+    },
+    refl,
+  );
+}
+
+-- told of more than there is
+pub told-too_much : (session : Session) → Legal opening_state 0 [] (redeemed 1 ∷ []) session → ⊥
+told-too_much session legal = absurd (omega (arith, legal.after.1.leads.0, legal.after.1.within))
+
+-- an invented record: the records aren't a run
+unallocated-acts : (acted : State) (effects : List Effect) → ActsFrom opening_state 1 (finmap.get opening_state.spaces 1) (call.Deallocate 0x100) (reply.Done 7) acted effects → reply.Done 7 ≡ reply.Refused 7 InvalidName
+unfolding Done tests_of
+unallocated-acts acted effects = simp rows (λ (acts : _). acts.0)
+
+unallocated-step : (new : State) → Step opening_state 1 (call.Deallocate 0x100) (reply.Done 7) new → reply.Done 7 ≡ reply.Refused 7 InvalidName
+unfolding Step
+unallocated-step new step = unallocated-acts step.0 step.1 step.2
+
+pub invented_record : (sessions : Sessions) → IsLegalHistory opening_state 0 (record { space = 1; call = call.Deallocate 0x100; reply = reply.Done 7 } ∷ []) sessions → ⊥
+invented_record sessions legal = absurd (cc (unallocated-step legal.run.0 legal.run.1))
