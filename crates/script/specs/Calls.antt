@@ -1,5 +1,5 @@
 -- Calls in words.
-use Rattle.std.specs.Prelude.{ℕ, Bool, List, [], ◌∷◌, ◌++◌, find, Option, None, Some, codes}
+use Rattle.std.specs.Prelude.{ℕ, Bool, List, [], ◌∷◌, ◌++◌, find, Ok, codes}
 use Rattle.std.specs.Str.{bytes_eq}
 use Rattle.ipc_model.specs.declared.call.Call.{Call}
 use Rattle.ipc_model.specs.declared.call.Call.TheVariants as call
@@ -11,7 +11,8 @@ use Rattle.script.specs.declared.verb.Verb.TheVariants as verb
 use Rattle.script.specs.Kinds.{value_word}
 use Rattle.script.specs.Messages.{message_words, message_at, flag_words}
 use Rattle.script.specs.Plain.{plain_at}
-use Rattle.script.specs.Reading.{◌>>=◌, value_at, labelled_at, flag_at}
+use Rattle.script.specs.declared.fault.Expected.TheVariants as expected
+use Rattle.script.specs.Reading.{Reading, ◌>>=◌, stop, wanted, value_at, labelled_at, flag_at}
 use Rattle.script.specs.Spaced.{line_of}
 use Rattle.script.specs.Verbs.{verb_word, all_verbs}
 
@@ -97,24 +98,24 @@ abbrev pub HasLine : Call → Type 0
 HasLine (call.Send message) = AreBytes message
 HasLine c = FitsCall c
 
-unfoldable pub receive_at : List (List ℕ) → Option (Call × List (List ℕ))
+unfoldable pub receive_at : List (List ℕ) → Reading (Call × List (List ℕ))
 receive_at words = do
   name ← value_at Hexadecimal words
   limit ← labelled_at (codes "limit") Decimal name.1
-  Some (
+  Ok (
     call.Receive limit.0 (flag_at (codes "large") limit.1).0 name.0 (flag_at (codes "waited") (flag_at (codes "large") limit.1).1).0,
     (flag_at (codes "waited") (flag_at (codes "large") limit.1).1).1,
   )
 
-unfoldable pub send_at : List (List ℕ) → Option (Call × List (List ℕ))
-send_at words = message_at words >>= λ m. Some (call.Send m.0, m.1)
+unfoldable pub send_at : List (List ℕ) → Reading (Call × List (List ℕ))
+send_at words = message_at words >>= λ m. Ok (call.Send m.0, m.1)
 
-unfoldable pub behind_at : Verb → List (List ℕ) → Option (Call × List (List ℕ))
+unfoldable pub behind_at : Verb → List (List ℕ) → Reading (Call × List (List ℕ))
 behind_at verb.Send words = send_at words
 behind_at verb.Receive words = receive_at words
 behind_at v words = plain_at v words
 
 -- the call in front
-unfoldable pub call_at : List (List ℕ) → Option (Call × List (List ℕ))
-call_at [] = None
-call_at (word ∷ words) = find (λ v. bytes_eq (verb_word v) word) all_verbs >>= λ v. behind_at v words
+unfoldable pub call_at : List (List ℕ) → Reading (Call × List (List ℕ))
+call_at [] = stop expected.CallName []
+call_at (word ∷ words) = wanted expected.CallName (word ∷ words) (find (λ v. bytes_eq (verb_word v) word) all_verbs) >>= λ v. behind_at v words

@@ -1,5 +1,5 @@
 -- Reading the calls whose arguments are numbers.
-use Rattle.std.specs.Prelude.{ℕ, List, Option, None, Some}
+use Rattle.std.specs.Prelude.{ℕ, List, Option, None, Some, Ok}
 use Rattle.ipc_model.specs.declared.call.Call.{Call}
 use Rattle.ipc_model.specs.declared.call.Call.TheVariants as call
 use Rattle.script.specs.declared.kind.Kind.{Kind}
@@ -8,7 +8,8 @@ use Rattle.script.specs.declared.plain.Arguments.{Arguments}
 use Rattle.script.specs.declared.plain.Kinds.{Kinds}
 use Rattle.script.specs.declared.verb.Verb.{Verb}
 use Rattle.script.specs.declared.verb.Verb.TheVariants as verb
-use Rattle.script.specs.Reading.{value_at, ◌>>=◌}
+use Rattle.script.specs.declared.fault.Expected.TheVariants.{CallName}
+use Rattle.script.specs.Reading.{Reading, ◌>>=◌, wanted, value_at}
 
 abbrev pub three_kinds : Kind → Kind → Kind → Kinds
 three_kinds a b c = record { first = a; second = b; third = c; fourth = Absent; fifth = Absent }
@@ -66,18 +67,18 @@ plain_call verb.SpaceCreate a = Some (call.SpaceCreate a.first a.second)
 plain_call verb.SpaceDestroy a = Some call.SpaceDestroy
 
 -- the arguments in front of words
-unfoldable pub arguments_at : Kinds → List (List ℕ) → Option (Arguments × List (List ℕ))
+unfoldable pub arguments_at : Kinds → List (List ℕ) → Reading (Arguments × List (List ℕ))
 arguments_at kinds words = do
   a ← value_at kinds.first words
   b ← value_at kinds.second a.1
   c ← value_at kinds.third b.1
   d ← value_at kinds.fourth c.1
   e ← value_at kinds.fifth d.1
-  Some (record { first = a.0; second = b.0; third = c.0; fourth = d.0; fifth = e.0 }, e.1)
+  Ok (record { first = a.0; second = b.0; third = c.0; fourth = d.0; fifth = e.0 }, e.1)
 
 -- the call that they make
-unfoldable pub plain_at : Verb → List (List ℕ) → Option (Call × List (List ℕ))
+unfoldable pub plain_at : Verb → List (List ℕ) → Reading (Call × List (List ℕ))
 plain_at v words = do
   a ← arguments_at (kinds_of v) words
-  made ← plain_call v a.0
-  Some (made, a.1)
+  made ← wanted CallName words (plain_call v a.0)
+  Ok (made, a.1)

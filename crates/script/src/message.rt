@@ -9,7 +9,9 @@ use crate::bytes::{push_bytes, read_bytes, read_optional_bytes};
 use crate::fault::{Expected, Fault};
 use crate::kind::{Kind, push_value};
 use crate::spaced::push_spaced;
-use crate::values::{behind_label, push_two, read_flag, read_labelled, read_optional, read_value};
+use crate::values::{
+    behind_label, push_two, read_flag, read_labelled, read_optional, read_value, take_number,
+};
 use byteorder::{ByteOrder, LittleEndian};
 use std::alloc::{AllocError, Global};
 use words::push_word;
@@ -171,15 +173,22 @@ pub(crate) fn push_flag(line: &mut Vec<u8>, label: &[u8], holds: bool) -> Result
 
 #[tactic(auto, unfolding(crate::specs::Messages::bounded_at))]
 /// The number in front, which is below a bound, and the text behind it.
-fn read_bounded(kind: Kind, bound: u32, text: &[u8]) -> Result<(u32, &[u8]), Fault>
-    ensures read { Gives (λ r. (r.0, words_of r.1.now)) result (bounded_at kind bound (words_of text.now)) }
+fn read_bounded(
+    expected: Expected,
+    kind: Kind,
+    bound: u32,
+    text: &[u8],
+) -> Result<(u32, &[u8]), Fault>
+    ensures read { Gives (λ r. (r.0, words_of r.1.now)) result (bounded_at expected kind bound (words_of text.now)) }
     ensures small { IfOk result (λ r. r.0 < bound) }
 {
-    let (number, rest) = read_value(kind, text)?;
+    let Some((number, rest)) = take_number(kind, text) else {
+        return Err(Fault::expected(expected, text));
+    };
     if number < bound {
         Ok((number, rest))
     } else {
-        Err(Fault::expected(Expected::Number, text))
+        Err(Fault::expected(expected, text))
     }
 }
 
@@ -190,7 +199,7 @@ fn read_further(text: &[u8]) -> Result<(u32, &[u8]), Fault>
     ensures small { IfOk result (λ r. r.0 < 0x8000) }
 {
     match behind_label(b"bits", text) {
-        Some(rest) => read_bounded(Kind::Hexadecimal, 0x8000, rest),
+        Some(rest) => read_bounded(Expected::Number, Kind::Hexadecimal, 0x8000, rest),
         None => Ok((0, text)),
     }
 }
@@ -204,7 +213,8 @@ fn read_local(text: &[u8]) -> Result<(u32, u32, &[u8]), Fault>
     let Some(text) = behind_label(b"local", text) else {
         return Ok((0, 0, text));
     };
-    let (disposition, rest) = read_bounded(Kind::Disposition, 0x100, text)?;
+    let (disposition, rest) =
+        read_bounded(Expected::Number, Kind::Disposition, 0x100, text)?;
     let (name, rest) = read_value(Kind::Hexadecimal, rest)?;
     Ok((disposition, name, rest))
 }
@@ -215,7 +225,8 @@ fn read_rights(text: &[u8]) -> Result<(Rights, &[u8]), Fault>
     ensures read { Gives (λ r. (r.0, words_of r.1.now)) result (rights_at (words_of text.now)) }
     ensures small { IfOk result (λ r. (r.0.remote_disposition < 0x100) × (r.0.local_disposition < 0x100)) }
 {
-    let (remote_disposition, rest) = read_bounded(Kind::Disposition, 0x100, text)?;
+    let (remote_disposition, rest) =
+        read_bounded(Expected::Message, Kind::Disposition, 0x100, text)?;
     let (remote, rest) = read_value(Kind::Hexadecimal, rest)?;
     let (local_disposition, local, rest) = read_local(rest)?;
     let rights = Rights {
