@@ -87,8 +87,8 @@ receive_again limit name large waited ws fits fits_name no_label =
     let grouped : argument_words (call.Receive limit large name waited) ++ ws ≡ value_word Hexadecimal name ∷ w1 = simp append_assoc in
     ap receive_at grouped
     ∙ receive_parts (value_word Hexadecimal name ∷ w1) w1 w2 w3 ws limit name large waited (hex name w1 fits_name) (labelled_again (codes "limit") Decimal limit w2 tt fits)
-    (flag_again (codes "large") large w3 (past_flag (codes "large") (codes "waited") waited ws refl (no_label (codes "large") refl)))
-    (flag_again (codes "waited") waited ws (no_label (codes "waited") refl))
+    (flag_again (codes "large") large w3 (past_flag (codes "large") (codes "waited") waited ws refl (no_label.0 (codes "large") refl)))
+    (flag_again (codes "waited") waited ws (no_label.0 (codes "waited") refl))
 
 send_parts : (m : List ℕ) (words ws : List (List ℕ)) → message_at words ≡ Ok (m, ws) → send_at words ≡ Ok (call.Send m, ws)
 unfolding send_at

@@ -15,22 +15,16 @@ use Rattle.script.specs.declared.kind.Kind.{Kind}
 use Rattle.script.specs.declared.kind.Kind.TheVariants as kind
 use Rattle.script.specs.declared.kind.Kind.TheVariants.{Hexadecimal, Decimal, Disposition}
 use Rattle.script.specs.declared.message.Header.{Header}
-use Rattle.script.specs.Bytes.{bytes_word, optional_bytes_at}
+use Rattle.script.specs.Bytes.{bytes_word}
+use Rattle.script.specs.Items.{body_words, body_at}
 use Rattle.script.specs.Kinds.{value_word, read_word}
-use Rattle.script.specs.Messages.{optional_words, flag_words, optional_bytes, local_words, header_of, header_text, header_words, message_words, if_below, bounded_at, further_at, local_at, rights_at, header_at, message_at}
-use Rattle.script.specs.declared.fault.Expected.{Expected}
+use Rattle.script.specs.Messages.{optional_words, flag_words, local_words, header_of, header_text, header_words, message_words, further_at, local_at, rights_at, header_at, message_at}
 use Rattle.script.specs.declared.fault.Expected.TheVariants as expected
-use Rattle.script.specs.Reading.{Reading, ◌>>=◌, wanted, value_at, label_at, labelled_at, optional_at, flag_at}
+use Rattle.script.specs.Reading.{Reading, ◌>>=◌, value_at, bounded_at, label_at, labelled_at, optional_at, flag_at}
+use Rattle.script.proofs.ItemsAgain.{bytes_behind, past_body, body_again}
+use Rattle.script.proofs.ReadingAgain.{bounded_again}
 use Rattle.script.proofs.ReadingAgain.{number_again, value_again, label_again, other_label, labelled_again, optional_again, flag_again, past_optional, past_bytes, IsNumber, bytes_at_again, optional_bytes_again, NoLabel}
 use Rattle.script.proofs.ValuesAgain.{word_again}
-
-pub bounded_again : (e : Expected) (k : Kind) (bound n : ℕ) (ws : List (List ℕ)) → IsNumber k → n < bound → bound ≤ 2 ^ 32
-    → bounded_at e k bound (value_word k n ∷ ws) ≡ Ok (n, ws)
-unfolding bounded_at
-bounded_again e k bound n ws number small fits =
-    let less : nat_lt n bound ≡ true = grind (arith, nat_tests) in
-    ap (λ (o : Option (ℕ × List (List ℕ))). wanted e (value_word k n ∷ ws) (if_below bound o)) (number_again k n ws number (omega arith))
-    ∙ ap (λ (b : Bool). wanted e (value_word k n ∷ ws) (cond b (Some (n, ws)) None)) less
 
 pub further_again : (n : ℕ) (ws : List (List ℕ)) → n < 0x8000 → label_at (codes "bits") ws ≡ None
     → further_at (optional_words (codes "bits") Hexadecimal n ++ ws) ≡ Ok (n, ws)
@@ -123,11 +117,6 @@ header_again h ws fits no_complex no_bits no_size no_seqno =
     ∙ header_parts start remote local id complex further size seqno ws h e_rd e_remote e_local e_id e_complex e_further e_size e_seqno
     ∙ ap (λ (n : ℕ). Ok (record h { bits = n }, ws)) (bits_joined h.bits fits.bits)
 
-pub bytes_behind : (n : ℕ) (bytes : List ℕ) → AreBytes bytes → AreBytes (drop n bytes)
-bytes_behind zero bytes fits = fits
-bytes_behind (suc n) [] fits = fits
-bytes_behind (suc n) (b ∷ bytes) fits = bytes_behind n bytes (λ (k : ℕ). fits (suc k))
-
 -- a word in front of a message, and the rest of it
 front_word : (n : ℕ) (m rest : List ℕ) → AreBytes m → n + 4 ≤ length m → word (little_number 4 (drop n m)) ++ drop (n + 4) m ≡ drop n m
 front_word n m rest fits long =
@@ -182,29 +171,29 @@ unfolding header_words
 header_first h = (_, refl)
 
 message_parts : (start rest ws : List (List ℕ)) (h : Header) (body : List ℕ) → label_at (codes "bytes") start ≡ None → header_at start ≡ Ok (h, rest)
-    → optional_bytes_at (codes "data") rest ≡ Ok (body, ws) → message_at start ≡ Ok (header_text h body, ws)
+    → body_at rest ≡ Ok (body, ws) → message_at start ≡ Ok (header_text h body, ws)
 unfolding message_at
 message_parts start rest ws h body e1 e2 e3 = rw (e1, message_at) (rw (e2, e3) refl)
 
 pub message_again : (m : List ℕ) (ws : List (List ℕ)) → AreBytes m → NoLabel ws → message_at (message_words m ++ ws) ≡ Ok (m, ws)
 unfolding message_at message_words
 message_again m ws fits none = elim (nat_lt (length m) 24) as (λ (b : Bool). nat_lt (length m) 24 ≡ b →
-    message_at (cond b (codes "bytes" ∷ bytes_word m ∷ []) (header_words (header_of m) ++ optional_bytes (codes "data") (drop 24 m)) ++ ws) ≡ Ok (m, ws)) [
+    message_at (cond b (codes "bytes" ∷ bytes_word m ∷ []) (header_words (header_of m) ++ body_words (drop 24 m)) ++ ws) ≡ Ok (m, ws)) [
       | true ↦ λ (_ : _). rw (label_again (codes "bytes") (bytes_word m ∷ ws), message_at) (bytes_at_again m ws fits)
       | false ↦ λ (is : _).
           let long : 24 ≤ length m = grind (arith, nat_tests) in
           let h : Header = header_of m in
           let body : List ℕ = drop 24 m in
-          let rest : List (List ℕ) = optional_bytes (codes "data") body ++ ws in
-          let past : (label : List ℕ) → bytes_eq (codes "data") label ≡ false → label_at label ws ≡ None → label_at label rest ≡ None
-          = λ label apart no. past_bytes label (codes "data") body ws apart no in
-          let e_header = header_again h rest (fits_header m fits) (past (codes "complex") refl (none (codes "complex") refl)) (past (codes "bits") refl (none (codes "bits") refl))
-          (past (codes "size") refl (none (codes "size") refl)) (past (codes "seqno") refl (none (codes "seqno") refl)) in
-          let e_body = optional_bytes_again (codes "data") body ws (bytes_behind 24 m fits) (none (codes "data") refl) in
+          let rest : List (List ℕ) = body_words body ++ ws in
+          let past : (label : List ℕ) → bytes_eq (codes "item") label ≡ false → bytes_eq (codes "data") label ≡ false → label_at label ws ≡ None → label_at label rest ≡ None
+          = λ label item data_apart no. past_body label body ws (bytes_behind 24 m fits) item data_apart no in
+          let e_header = header_again h rest (fits_header m fits) (past (codes "complex") refl refl (none.0 (codes "complex") refl)) (past (codes "bits") refl refl (none.0 (codes "bits") refl))
+          (past (codes "size") refl refl (none.0 (codes "size") refl)) (past (codes "seqno") refl refl (none.0 (codes "seqno") refl)) in
+          let e_body = body_again body ws (bytes_behind 24 m fits) none in
           let first = header_first h in
           let e_label : label_at (codes "bytes") (header_words h ++ rest) ≡ None =
           ap (λ (l : List (List ℕ)). label_at (codes "bytes") (l ++ rest)) first.1
           ∙ other_label (codes "bytes") (value_word Disposition (h.bits % 0x100)) (first.0 ++ rest) (no_bytes_label (h.bits % 0x100) (omega arith)) in
-          ap message_at (append_assoc (header_words h) (optional_bytes (codes "data") body) ws)
+          ap message_at (append_assoc (header_words h) (body_words body) ws)
           ∙ message_parts (header_words h ++ rest) rest ws h body e_label e_header e_body ∙ ap (λ (l : List ℕ). Ok (l, ws)) (message_is m fits long)
     ] refl

@@ -1,5 +1,6 @@
 -- Words are read as what they were printed for.
-use Rattle.std.proofs.Common.{◌≡◌, ℕ, ◌^◌, ◌<◌, Bool, true, false, ◌==◌, List, [], ◌∷◌, ◌++◌, cond, refl, sym, ap, ◌∙◌, arith, Option, Some, None, Ok}
+use Rattle.std.proofs.Common.{◌≡◌, ℕ, ◌^◌, ◌<◌, ◌≤◌, Bool, true, false, ◌==◌, List, [], ◌∷◌, ◌++◌, cond, refl, sym, ap, ◌∙◌, arith, Option, Some, None, Ok}
+use Rattle.std.specs.Prelude.{nat_lt}
 use Rattle.std.specs.Str.{bytes_eq}
 use Rattle.std.proofs.lemmas.Bool.{eqb-true}
 use Rattle.std.proofs.lemmas.Bool.Decides.{nat_tests}
@@ -7,12 +8,13 @@ use Rattle.std.proofs.lemmas.Slice.Eq.{bytes_eq-Decides}
 use Rattle.words.specs.Words.{AreBytes}
 use Rattle.script.specs.declared.kind.Kind.{Kind}
 use Rattle.script.specs.declared.kind.Kind.TheVariants as kind
-use Rattle.script.specs.Bytes.{bytes_word, bytes_at, optional_bytes_at}
-use Rattle.script.specs.Kinds.{value_word, begins_with_letter}
-use Rattle.script.specs.Messages.{optional_words, flag_words, optional_bytes}
+use Rattle.script.specs.Bytes.{bytes_word, bytes_at, optional_bytes, optional_bytes_at}
+use Rattle.script.specs.Items.{numbers_at}
+use Rattle.script.specs.Kinds.{value_word, read_word, begins_with_letter}
+use Rattle.script.specs.Messages.{optional_words, flag_words}
 use Rattle.script.specs.declared.fault.Expected.{Expected}
 use Rattle.script.specs.declared.fault.Expected.TheVariants.{Number, Label, Bytes}
-use Rattle.script.specs.Reading.{Reading, ◌>>=◌, wanted, number_at, value_at, label_at, labelled_at, optional_at, flag_at}
+use Rattle.script.specs.Reading.{Reading, ◌>>=◌, wanted, number_at, value_at, if_below, bounded_at, label_at, labelled_at, optional_at, flag_at}
 use Rattle.script.proofs.ValuesAgain.{word_again, bytes_again}
 
 -- what a number's word is read as
@@ -28,6 +30,14 @@ number_again k n ws number fits = ap (λ (o : Option ℕ). elim o as (λ _. Opti
 pub value_again : (k : Kind) (n : ℕ) (ws : List (List ℕ)) → IsNumber k → n < 2 ^ 32 → value_at k (value_word k n ∷ ws) ≡ Ok (n, ws)
 unfolding value_at
 value_again k n ws number fits = ap (wanted Number (value_word k n ∷ ws)) (number_again k n ws number fits)
+
+pub bounded_again : (e : Expected) (k : Kind) (bound n : ℕ) (ws : List (List ℕ)) → IsNumber k → n < bound → bound ≤ 2 ^ 32
+    → bounded_at e k bound (value_word k n ∷ ws) ≡ Ok (n, ws)
+unfolding bounded_at
+bounded_again e k bound n ws number small fits =
+    let less : nat_lt n bound ≡ true = grind (arith, nat_tests) in
+    ap (λ (o : Option (ℕ × List (List ℕ))). wanted e (value_word k n ∷ ws) (if_below bound o)) (number_again k n ws number (omega arith))
+    ∙ ap (λ (b : Bool). wanted e (value_word k n ∷ ws) (cond b (Some (n, ws)) None)) less
 
 pub same_bytes : (bytes : List ℕ) → bytes_eq bytes bytes ≡ true
 same_bytes bytes = (bytes_eq-Decides bytes bytes).1 refl
@@ -89,14 +99,26 @@ unfolding optional_bytes_at optional_bytes
 optional_bytes_again label [] ws fits none = rw (none, optional_bytes_at) refl
 optional_bytes_again label (b ∷ bytes) ws fits none = rw (label_again label (bytes_word (b ∷ bytes) ∷ ws), optional_bytes_at) (bytes_at_again (b ∷ bytes) ws fits)
 
--- words that begin with none that a letter begins
+-- words that begin with none that a letter begins, and with no number
 abbrev pub NoLabel : List (List ℕ) → Type 0
-NoLabel ws = (label : List ℕ) → begins_with_letter label ≡ true → label_at label ws ≡ None
+NoLabel ws = ((label : List ℕ) → begins_with_letter label ≡ true → label_at label ws ≡ None) × (numbers_at ws ≡ ([], ws))
 
 pub no_label_end : NoLabel []
-unfolding label_at
-no_label_end label letter = refl
+unfolding label_at numbers_at
+no_label_end = (λ (label : List ℕ) (letter : begins_with_letter label ≡ true). refl, refl)
 
-pub no_label_sign : (c : ℕ) (cs : List ℕ) (ws : List (List ℕ)) → c < 97 → NoLabel ((c ∷ cs) ∷ ws)
-no_label_sign c cs ws sign [] letter = other_label [] (c ∷ cs) ws refl
-no_label_sign c cs ws sign (d ∷ ds) letter = other_label (d ∷ ds) (c ∷ cs) ws (grind (arith, nat_tests))
+sign_apart : (c : ℕ) (cs : List ℕ) (ws : List (List ℕ)) → c < 97 → (label : List ℕ) → begins_with_letter label ≡ true → label_at label ((c ∷ cs) ∷ ws) ≡ None
+sign_apart c cs ws sign [] letter = other_label [] (c ∷ cs) ws refl
+sign_apart c cs ws sign (d ∷ ds) letter = other_label (d ∷ ds) (c ∷ cs) ws (grind (arith, nat_tests))
+
+-- a word that is no number ends a row of them
+pub numbers_end : (word : List ℕ) (ws : List (List ℕ)) → read_word kind.Hexadecimal word ≡ None → numbers_at (word ∷ ws) ≡ ([], word ∷ ws)
+unfolding numbers_at
+numbers_end word ws none = ap (λ (o : Option ℕ). elim o as (λ _. List ℕ × List (List ℕ)) [ None ↦ ([], word ∷ ws) | Some n ↦ (n ∷ (numbers_at ws).0, (numbers_at ws).1) ]) none
+
+pub no_label_sign : (c : ℕ) (cs : List ℕ) (ws : List (List ℕ)) → c < 97 → read_word kind.Hexadecimal (c ∷ cs) ≡ None → NoLabel ((c ∷ cs) ∷ ws)
+no_label_sign c cs ws sign none = (sign_apart c cs ws sign, numbers_end (c ∷ cs) ws none)
+
+pub no_number_sign : (read_word kind.Hexadecimal (33 ∷ []) ≡ None) × (read_word kind.Hexadecimal (61 ∷ []) ≡ None)
+unfolding read_word
+no_number_sign = (refl, refl)

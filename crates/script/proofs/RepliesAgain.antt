@@ -24,7 +24,7 @@ use Rattle.script.specs.declared.fault.Expected.TheVariants.{Results}
 use Rattle.script.specs.Reading.{Reading, stop, label_at, optional_at, last}
 use Rattle.script.specs.Replies.{yes_or_no, kind_word, count_words, status_words, names_words, members_words, outcome_words, received_words, message_reply_words, result_words, reply_words, yes_or_no_at, answer_at, kind_at, counts_at, status_at, in_front_of, names_at, members_at, received_at, message_reply_at, last_value, extracted_at, space_created_at, last_status_at, results_at, has_results, silence, refusal_at, reply_at, IsOwn}
 use Rattle.script.proofs.MessagesAgain.{message_again}
-use Rattle.script.proofs.ReadingAgain.{IsNumber, value_again, label_again, labelled_again, optional_again, past_optional, NoLabel, no_label_end, no_label_sign}
+use Rattle.script.proofs.ReadingAgain.{IsNumber, value_again, label_again, labelled_again, optional_again, past_optional, NoLabel, no_label_end, no_label_sign, no_number_sign}
 
 code_again : (c : KernReturn) → find (λ (d : KernReturn). bytes_eq (code_word d) (code_word c)) all_codes ≡ Some c
 code_again code.Success = refl
@@ -198,13 +198,13 @@ reply_again (reply.SpaceCreated space name) fits own = space_created_again space
 -- nothing that a label begins stands behind a call
 pub reply_no_label : (r : Reply) → NoLabel (reply_words r)
 unfolding message_reply_words outcome_words
-reply_no_label (reply.Refused n c) = no_label_sign 33 [] (code_word c ∷ []) (omega arith)
+reply_no_label (reply.Refused n c) = no_label_sign 33 [] (code_word c ∷ []) (omega arith) no_number_sign.0
 reply_no_label (reply.Done n) = no_label_end
 reply_no_label (reply.Message code.Success size member message) = elim (size == 0 && member == 0 && length message == 0)
     as (λ (b : Bool). (size == 0 && member == 0 && length message == 0) ≡ b
     → NoLabel (((cond b [] (codes "=" ∷ []) ++ optional_words (codes "size") Decimal size) ++ optional_words (codes "member") Hexadecimal member) ++ received_words message)) [
       | true ↦ λ (is : _). silent_no_label size member message is
-      | false ↦ λ (_ : _). no_label_sign 61 [] _ (omega arith)
+      | false ↦ λ (_ : _). no_label_sign 61 [] _ (omega arith) no_number_sign.1
     ] refl
-reply_no_label (reply.Message c size member message) = no_label_sign 33 [] _ (omega arith)
-reply_no_label r = no_label_sign 61 [] (result_words r) (omega arith)
+reply_no_label (reply.Message c size member message) = no_label_sign 33 [] _ (omega arith) no_number_sign.0
+reply_no_label r = no_label_sign 61 [] (result_words r) (omega arith) no_number_sign.1

@@ -91,7 +91,7 @@ wanted_some : {A : Type 0} (o : Option A) (words : List (List ℕ)) (x : A) → 
 wanted_some None words x e = absurd (cc)
 wanted_some (Some y) words x e = cc
 
-number_less : (words : List (List ℕ)) (p : ℕ × List (List ℕ)) → number_at Hexadecimal words ≡ Some p → length p.1 < length words
+pub number_less : (words : List (List ℕ)) (p : ℕ × List (List ℕ)) → number_at Hexadecimal words ≡ Some p → length p.1 < length words
 unfolding number_at
 number_less [] p e = absurd (cc)
 number_less (w ∷ words) p e = elim (read_word Hexadecimal w) as (λ (o : Option ℕ). elim o as (λ _. Option (ℕ × List (List ℕ))) [ None ↦ None | Some n ↦ Some (n, words) ] ≡ Some p → length p.1 < suc (length words)) [

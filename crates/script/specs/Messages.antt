@@ -5,11 +5,11 @@ use Rattle.script.specs.declared.kind.Kind.{Kind}
 use Rattle.script.specs.declared.kind.Kind.TheVariants.{Hexadecimal, Decimal, Disposition}
 use Rattle.script.specs.declared.message.Header.{Header}
 use Rattle.script.specs.declared.message.Rights.{Rights}
-use Rattle.script.specs.Bytes.{bytes_word, bytes_at, optional_bytes_at}
+use Rattle.script.specs.Bytes.{bytes_word, bytes_at}
+use Rattle.script.specs.Items.{body_words, body_at}
 use Rattle.script.specs.Kinds.{value_word}
-use Rattle.script.specs.declared.fault.Expected.{Expected}
 use Rattle.script.specs.declared.fault.Expected.TheVariants as expected
-use Rattle.script.specs.Reading.{Reading, ◌>>=◌, wanted, number_at, value_at, label_at, labelled_at, optional_at, flag_at}
+use Rattle.script.specs.Reading.{Reading, ◌>>=◌, value_at, bounded_at, label_at, labelled_at, optional_at, flag_at}
 use Rattle.words.specs.Words.{word}
 
 -- a number behind its label, where it isn't 0
@@ -23,11 +23,6 @@ flag_words label holds = if holds then label ∷ [] else []
 -- the right to reply by, where there is something of it
 unfoldable pub local_words : ℕ → ℕ → List (List ℕ)
 local_words disposition name = if disposition == 0 && name == 0 then [] else codes "local" ∷ value_word Disposition disposition ∷ value_word Hexadecimal name ∷ []
-
--- bytes behind their label, where there are some
-unfoldable pub optional_bytes : List ℕ → List ℕ → List (List ℕ)
-optional_bytes label [] = []
-optional_bytes label (b ∷ bytes) = label ∷ bytes_word (b ∷ bytes) ∷ []
 
 -- the six words that a message begins with
 abbrev pub header_of : List ℕ → Header
@@ -55,15 +50,7 @@ header_words h =
 unfoldable pub message_words : List ℕ → List (List ℕ)
 message_words message =
     if nat_lt (length message) 24 then codes "bytes" ∷ bytes_word message ∷ []
-    else header_words (header_of message) ++ optional_bytes (codes "data") (drop 24 message)
-
-abbrev pub if_below : ℕ → Option (ℕ × List (List ℕ)) → Option (ℕ × List (List ℕ))
-if_below bound None = None
-if_below bound (Some n) = if nat_lt n.0 bound then Some n else None
-
--- a number below a bound
-unfoldable pub bounded_at : Expected → Kind → ℕ → List (List ℕ) → Reading (ℕ × List (List ℕ))
-bounded_at expected k bound words = wanted expected words (if_below bound (number_at k words))
+    else header_words (header_of message) ++ body_words (drop 24 message)
 
 -- the bits that stand for nothing
 unfoldable pub further_at : List (List ℕ) → Reading (ℕ × List (List ℕ))
@@ -107,5 +94,5 @@ header_at words = do
 unfoldable pub message_at : List (List ℕ) → Reading (List ℕ × List (List ℕ))
 message_at words = elim (label_at (codes "bytes") words) [
   | Some rest ↦ bytes_at rest
-  | None ↦ header_at words >>= λ h. optional_bytes_at (codes "data") h.1 >>= λ b. Ok (header_text h.0 b.0, b.1)
+  | None ↦ header_at words >>= λ h. body_at h.1 >>= λ b. Ok (header_text h.0 b.0, b.1)
 ]

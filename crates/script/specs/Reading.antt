@@ -1,5 +1,5 @@
 -- Reading words: what they are read as and the words left, or what was expected in front of which words.
-use Rattle.std.specs.Prelude.{◌≡◌, ℕ, Bool, true, false, List, [], ◌∷◌, length, Option, None, Some, Result, Ok, Err, if◌then◌else◌}
+use Rattle.std.specs.Prelude.{◌≡◌, ℕ, Bool, true, false, nat_lt, List, [], ◌∷◌, length, Option, None, Some, Result, Ok, Err, if◌then◌else◌}
 use Rattle.std.specs.Str.{bytes_eq}
 use Rattle.script.specs.declared.fault.Expected.{Expected}
 use Rattle.script.specs.declared.fault.Expected.TheVariants.{Number, Label, End}
@@ -50,6 +50,14 @@ number_at k (word ∷ words) = elim (read_word k word) [ None ↦ None | Some n 
 -- a number
 unfoldable pub value_at : Kind → List (List ℕ) → Reading (ℕ × List (List ℕ))
 value_at k words = wanted Number words (number_at k words)
+
+abbrev pub if_below : ℕ → Option (ℕ × List (List ℕ)) → Option (ℕ × List (List ℕ))
+if_below bound None = None
+if_below bound (Some n) = if nat_lt n.0 bound then Some n else None
+
+-- a number below a bound
+unfoldable pub bounded_at : Expected → Kind → ℕ → List (List ℕ) → Reading (ℕ × List (List ℕ))
+bounded_at expected k bound words = wanted expected words (if_below bound (number_at k words))
 
 -- what stands behind a label
 unfoldable pub label_at : List ℕ → List (List ℕ) → Option (List (List ℕ))

@@ -17,6 +17,8 @@ pub enum Expected {
     Bytes,
     /// A message: the disposition of its remote right, or `bytes`.
     Message,
+    /// An item of at most 4095 elements: its type, or `bytes`.
+    Item,
     /// The name of a return code.
     Code,
     /// `=` and the results of the call, or `!` and a return code.
@@ -38,6 +40,7 @@ impl fmt::Display for Expected {
             Expected::Number => "a number or a word for one",
             Expected::Bytes => "bytes, two hexadecimal digits each, or none",
             Expected::Message => "a message",
+            Expected::Item => "an item of at most 4095 elements",
             Expected::Code => "a return code",
             Expected::Results => "what the call answered",
             Expected::Label => "the word for what follows",

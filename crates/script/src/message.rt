@@ -1,16 +1,18 @@
 ghost use Rattle.std.specs.Prelude.{◌≡◌, ◌≤◌, ◌<◌, ◌++◌, [], ◌∷◌, length, drop, OnOk, IfOk, codes};
 ghost use Rattle.script.specs.Bytes.{bytes_word};
+ghost use Rattle.script.specs.Items.{body_words};
 ghost use Rattle.script.specs.Kinds.{value_word};
-ghost use Rattle.script.specs.Messages.{header_of, header_text, message_words, header_words, local_words, optional_words, flag_words, optional_bytes, bounded_at, further_at, rights_at, local_at, bits_of, message_at, header_at};
+ghost use Rattle.script.specs.Messages.{header_of, header_text, message_words, header_words, local_words, optional_words, flag_words, further_at, rights_at, local_at, bits_of, message_at, header_at};
 ghost use Rattle.script.specs.Reading.{Gives};
 ghost use Rattle.script.specs.Spaced.{words_of, spaced};
 
-use crate::bytes::{push_bytes, read_bytes, read_optional_bytes};
+use crate::bytes::{push_bytes, read_bytes};
 use crate::fault::{Expected, Fault};
+use crate::item::{push_body, read_body};
 use crate::kind::{Kind, push_value};
 use crate::spaced::push_spaced;
 use crate::values::{
-    behind_label, push_two, read_flag, read_labelled, read_optional, read_value, take_number,
+    behind_label, push_two, read_bounded, read_flag, read_labelled, read_optional, read_value,
 };
 use byteorder::{ByteOrder, LittleEndian};
 use std::alloc::{AllocError, Global};
@@ -58,11 +60,11 @@ fn header_of(message: &[u8]) -> Header
 /// Adds the words of a message that has a whole header.
 fn push_whole(line: &mut Vec<u8>, message: &[u8]) -> Result<(), AllocError>
     requires { 24 ≤ length message.now }
-    ensures { OnOk result (line.new.items ≡ line.old.items ++ spaced (header_words (header_of message.now) ++ optional_bytes (codes "data") (drop 24 message.now))) }
+    ensures { OnOk result (line.new.items ≡ line.old.items ++ spaced (header_words (header_of message.now) ++ body_words (drop 24 message.now))) }
 {
     let header = header_of(message);
     push_header(line, &header)?;
-    push_optional_bytes(line, b"data", &message[HEADER_LENGTH..])
+    push_body(line, &message[HEADER_LENGTH..])
 }
 
 #[tactic(auto, using(crate::proofs::WordsOf::spaced_laws))]
@@ -84,18 +86,6 @@ pub(crate) fn push_message(line: &mut Vec<u8>, message: &[u8]) -> Result<(), All
     } else {
         push_whole(line, message)
     }
-}
-
-#[tactic(auto, using(crate::proofs::WordsOf::spaced_laws), unfolding(crate::specs::Messages::optional_bytes))]
-/// Adds bytes behind a word, if there are some.
-fn push_optional_bytes(line: &mut Vec<u8>, label: &[u8], bytes: &[u8]) -> Result<(), AllocError>
-    ensures { OnOk result (line.new.items ≡ line.old.items ++ spaced (optional_bytes label.now bytes.now)) }
-{
-    if bytes.is_empty() {
-        return Ok(());
-    }
-    push_spaced(line, label)?;
-    push_bytes(line, bytes)
 }
 
 #[tactic(auto, using(crate::proofs::WordsOf::spaced_laws), unfolding(crate::specs::Messages::header_words))]
@@ -168,27 +158,6 @@ pub(crate) fn push_flag(line: &mut Vec<u8>, label: &[u8], holds: bool) -> Result
         push_spaced(line, label)
     } else {
         Ok(())
-    }
-}
-
-#[tactic(auto, unfolding(crate::specs::Messages::bounded_at))]
-/// The number in front, which is below a bound, and the text behind it.
-fn read_bounded(
-    expected: Expected,
-    kind: Kind,
-    bound: u32,
-    text: &[u8],
-) -> Result<(u32, &[u8]), Fault>
-    ensures read { Gives (λ r. (r.0, words_of r.1.now)) result (bounded_at expected kind bound (words_of text.now)) }
-    ensures small { IfOk result (λ r. r.0 < bound) }
-{
-    let Some((number, rest)) = take_number(kind, text) else {
-        return Err(Fault::expected(expected, text));
-    };
-    if number < bound {
-        Ok((number, rest))
-    } else {
-        Err(Fault::expected(expected, text))
     }
 }
 
@@ -296,7 +265,7 @@ pub(crate) fn read_message(alloc: Global, text: &[u8]) -> Result<(Vec<u8>, &[u8]
         return read_bytes(alloc, rest);
     }
     let (header, rest) = read_header(text)?;
-    let (body, rest) = read_optional_bytes(alloc, b"data", rest)?;
+    let (body, rest) = read_body(alloc, rest)?;
     let Ok(message) = message_of(alloc, &header, body.as_slice()) else {
         return Err(Fault::NoMemory);
     };
