@@ -52,21 +52,21 @@ unfolding number_at numbers_at
 number_read done [] rest n is = absurd (cc)
 number_read done (w ∷ words) rest n is = elim (read_word Hexadecimal w) as (λ (o : Option ℕ). elim o as (λ _. Option (ℕ × List (List ℕ))) [ None ↦ None | Some m ↦ Some (m, words) ] ≡ Some (n, rest)
     → with_done (done ++ n ∷ []) (numbers_at rest) ≡ with_done done (or_number w words o)) [
-  | None ↦ λ (wrong : _). absurd (cc)
-  | Some m ↦ λ (same : _).
-      let pair : (m, words) ≡ (n, rest) = cc in
-      ap (λ (l : List ℕ). with_done [] (l, (numbers_at rest).1)) (append_assoc done (n ∷ []) (numbers_at rest).0)
-      ∙ sym (ap (λ (q : ℕ × List (List ℕ)). with_done done (q.0 ∷ (numbers_at q.1).0, (numbers_at q.1).1)) pair)
-] is
+      | None ↦ λ (wrong : _). absurd (cc)
+      | Some m ↦ λ (same : _).
+          let pair : (m, words) ≡ (n, rest) = cc in
+          ap (λ (l : List ℕ). with_done [] (l, (numbers_at rest).1)) (append_assoc done (n ∷ []) (numbers_at rest).0)
+          ∙ sym (ap (λ (q : ℕ × List (List ℕ)). with_done done (q.0 ∷ (numbers_at q.1).0, (numbers_at q.1).1)) pair)
+    ] is
 
 pub numbers_stop : (words : List (List ℕ)) → number_at Hexadecimal words ≡ None → numbers_at words ≡ ([], words)
 unfolding number_at numbers_at
 numbers_stop [] is = refl
 numbers_stop (w ∷ words) is = elim (read_word Hexadecimal w) as (λ (o : Option ℕ). elim o as (λ _. Option (ℕ × List (List ℕ))) [ None ↦ None | Some m ↦ Some (m, words) ] ≡ None
     → elim o as (λ _. List ℕ × List (List ℕ)) [ None ↦ ([], w ∷ words) | Some m ↦ (m ∷ (numbers_at words).0, (numbers_at words).1) ] ≡ ([], w ∷ words)) [
-  | None ↦ λ (_ : _). refl
-  | Some m ↦ λ (wrong : _). absurd (cc)
-] is
+      | None ↦ λ (_ : _). refl
+      | Some m ↦ λ (wrong : _). absurd (cc)
+    ] is
 
 pub numbers_done : (done : List ℕ) (words : List (List ℕ)) (all : List ℕ × List (List ℕ)) → number_at Hexadecimal words ≡ None
     → (done ++ (numbers_at words).0, (numbers_at words).1) ≡ all → all ≡ (done, words)

@@ -317,19 +317,19 @@ within_again (suc m) zero body ws fits none =
 within_again (suc m) (suc n) body ws fits none =
     item_cases (λ (front : Option (List (List ℕ) × List ℕ)). length (words_behind_item m body front) ≤ suc n → parts_at (suc n) (words_behind_item m body front ++ ws) ≡ Ok (body, ws)) body fits
     (λ (w : ℕ × List ℕ × List ℕ) (parts : WordsFront body w) (enough : _).
-        let numbers : List (List ℕ) = map (value_word (element_kind w.0)) (numbers_in w.1) in
-        let more : List (List ℕ) = body_within m w.2 in
-        let few : length more ≤ n = omega (arith, enough, length-append numbers more) in
-        ap (λ (l : List (List ℕ)). parts_at (suc n) (codes "item" ∷ value_word kind.Element w.0 ∷ l)) (append_assoc numbers more ws)
-        ∙ item_more n _ (more ++ ws) ws (item_text (words_item w.0 (numbers_in w.1))) w.2
-        (words_item_again w.0 (numbers_in w.1) (more ++ ws) parts.small parts.fit parts.few (body_no_number m w.2 ws parts.behind none.1)) (within_again m n w.2 ws parts.behind none few)
-        ∙ ap (λ (l : List ℕ). Ok (l, ws)) parts.is)
+    let numbers : List (List ℕ) = map (value_word (element_kind w.0)) (numbers_in w.1) in
+    let more : List (List ℕ) = body_within m w.2 in
+    let few : length more ≤ n = omega (arith, enough, length-append numbers more) in
+    ap (λ (l : List (List ℕ)). parts_at (suc n) (codes "item" ∷ value_word kind.Element w.0 ∷ l)) (append_assoc numbers more ws)
+    ∙ item_more n _ (more ++ ws) ws (item_text (words_item w.0 (numbers_in w.1))) w.2
+    (words_item_again w.0 (numbers_in w.1) (more ++ ws) parts.small parts.fit parts.few (body_no_number m w.2 ws parts.behind none.1)) (within_again m n w.2 ws parts.behind none few)
+    ∙ ap (λ (l : List ℕ). Ok (l, ws)) parts.is)
     (λ (b : List ℕ × List ℕ) (parts : BytesFront body b) (enough : _).
-        let more : List (List ℕ) = body_within m b.1 in
-        let few : length more ≤ n = omega (arith, enough) in
-        item_more n _ (more ++ ws) ws (item_text (bytes_item b.0)) b.1
-        (bytes_item_parts (bytes_word b.0 ∷ more ++ ws) (more ++ ws) b.0 (bytes_at_again b.0 (more ++ ws) parts.bytes) (below_is _ _ parts.few)) (within_again m n b.1 ws parts.behind none few)
-        ∙ ap (λ (l : List ℕ). Ok (l, ws)) parts.is)
+    let more : List (List ℕ) = body_within m b.1 in
+    let few : length more ≤ n = omega (arith, enough) in
+    item_more n _ (more ++ ws) ws (item_text (bytes_item b.0)) b.1
+    (bytes_item_parts (bytes_word b.0 ∷ more ++ ws) (more ++ ws) b.0 (bytes_at_again b.0 (more ++ ws) parts.bytes) (below_is _ _ parts.few)) (within_again m n b.1 ws parts.behind none few)
+    ∙ ap (λ (l : List ℕ). Ok (l, ws)) parts.is)
     (λ (enough : _). data_again (suc n) body ws fits none)
 
 -- every body is read from its words

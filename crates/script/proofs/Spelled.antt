@@ -202,8 +202,8 @@ within_spelled zero body fits = optional_bytes_spelled (codes "data") body refl 
 within_spelled (suc m) body fits =
     item_cases (λ (front : Option (List (List ℕ) × List ℕ)). are_words (words_behind_item m body front) ≡ true) body fits
     (λ (w : ℕ × List ℕ × List ℕ) (parts : WordsFront body w).
-        both _ _ refl (both _ _ (value_spelled kind.Element w.0 (omega (arith, parts.small)))
-        (spelled_both (map (value_word (element_kind w.0)) (numbers_in w.1)) (body_within m w.2) (numbers_spelled (element_kind w.0) (numbers_in w.1) parts.fit) (within_spelled m w.2 parts.behind))))
+    both _ _ refl (both _ _ (value_spelled kind.Element w.0 (omega (arith, parts.small)))
+    (spelled_both (map (value_word (element_kind w.0)) (numbers_in w.1)) (body_within m w.2) (numbers_spelled (element_kind w.0) (numbers_in w.1) parts.fit) (within_spelled m w.2 parts.behind))))
     (λ (b : List ℕ × List ℕ) (parts : BytesFront body b). both _ _ refl (both _ _ refl (both _ _ (bytes_spelled b.0 parts.bytes) (within_spelled m b.1 parts.behind))))
     (optional_bytes_spelled (codes "data") body refl fits)
 

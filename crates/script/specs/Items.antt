@@ -67,7 +67,7 @@ words_front body = word_front body >>? λ w.
 unfoldable pub bytes_front : List ℕ → Option (List ℕ × List ℕ)
 bytes_front body = word_front body >>? λ w.
     if w.0 == descriptor 9 8 (number_told w.0) then (
-      split_front (number_told w.0) w.1 >>? λ b. split_front (length (zeros (number_told w.0))) b.1 >>? λ z. if bytes_eq z.0 (zeros (number_told w.0)) then Some (b.0, z.1) else None
+    split_front (number_told w.0) w.1 >>? λ b. split_front (length (zeros (number_told w.0))) b.1 >>? λ z. if bytes_eq z.0 (zeros (number_told w.0)) then Some (b.0, z.1) else None
     ) else None
 
 -- the words of the item in front, if it has a form, and the bytes behind it

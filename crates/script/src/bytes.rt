@@ -56,7 +56,11 @@ pub(crate) fn push_bytes(line: &mut Vec<u8>, bytes: &[u8]) -> Result<(), AllocEr
 
 #[tactic(auto, using(crate::proofs::WordsOf::spaced_laws), unfolding(crate::specs::Bytes::optional_bytes))]
 /// Adds bytes behind a word, if there are some.
-pub(crate) fn push_optional_bytes(line: &mut Vec<u8>, label: &[u8], bytes: &[u8]) -> Result<(), AllocError>
+pub(crate) fn push_optional_bytes(
+    line: &mut Vec<u8>,
+    label: &[u8],
+    bytes: &[u8],
+) -> Result<(), AllocError>
     ensures { OnOk result (line.new.items ≡ line.old.items ++ spaced (optional_bytes label.now bytes.now)) }
 {
     if bytes.is_empty() {

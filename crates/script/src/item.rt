@@ -23,6 +23,7 @@ const ELEMENTS_END: usize = 0x1000;
 
 /// The type and the bits of an element of an item of bytes.
 const BYTE_TYPE: u32 = 9;
+
 const BYTE_BITS: u32 = 8;
 
 /// The bits of an element of an item of words.
@@ -224,7 +225,10 @@ fn words_item(alloc: Global, type_name: u32, numbers: &[u32]) -> Result<Vec<u8>,
     ensures { IfOk result (λ item. item.items ≡ item_text (words_item type_name numbers.now)) }
 {
     let mut item = Vec::new(alloc);
-    push_word(&mut item, descriptor(type_name, WORD_BITS, numbers.len() as u32))?;
+    push_word(
+        &mut item,
+        descriptor(type_name, WORD_BITS, numbers.len() as u32),
+    )?;
     push_words(&mut item, numbers)?;
     Ok(item)
 }
@@ -235,7 +239,10 @@ fn bytes_item(alloc: Global, bytes: &[u8]) -> Result<Vec<u8>, AllocError>
     ensures { IfOk result (λ item. item.items ≡ item_text (bytes_item bytes.now)) }
 {
     let mut item = Vec::new(alloc);
-    push_word(&mut item, descriptor(BYTE_TYPE, BYTE_BITS, bytes.len() as u32))?;
+    push_word(
+        &mut item,
+        descriptor(BYTE_TYPE, BYTE_BITS, bytes.len() as u32),
+    )?;
     item.extend_from_slice(bytes)?;
     item.extend_from_slice(zeros(bytes.len()))?;
     Ok(item)

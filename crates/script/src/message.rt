@@ -182,8 +182,7 @@ fn read_local(text: &[u8]) -> Result<(u32, u32, &[u8]), Fault>
     let Some(text) = behind_label(b"local", text) else {
         return Ok((0, 0, text));
     };
-    let (disposition, rest) =
-        read_bounded(Expected::Number, Kind::Disposition, 0x100, text)?;
+    let (disposition, rest) = read_bounded(Expected::Number, Kind::Disposition, 0x100, text)?;
     let (name, rest) = read_value(Kind::Hexadecimal, rest)?;
     Ok((disposition, name, rest))
 }
@@ -194,8 +193,12 @@ fn read_rights(text: &[u8]) -> Result<(Rights, &[u8]), Fault>
     ensures read { Gives (λ r. (r.0, words_of r.1.now)) result (rights_at (words_of text.now)) }
     ensures small { IfOk result (λ r. (r.0.remote_disposition < 0x100) × (r.0.local_disposition < 0x100)) }
 {
-    let (remote_disposition, rest) =
-        read_bounded(Expected::Message, Kind::Disposition, 0x100, text)?;
+    let (remote_disposition, rest) = read_bounded(
+        Expected::Message,
+        Kind::Disposition,
+        0x100,
+        text,
+    )?;
     let (remote, rest) = read_value(Kind::Hexadecimal, rest)?;
     let (local_disposition, local, rest) = read_local(rest)?;
     let rights = Rights {

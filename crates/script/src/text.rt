@@ -44,7 +44,12 @@ fn first_line(text: &[u8]) -> (&[u8], &[u8])
 }
 
 /// Adds the call of a line, if it holds one.
-fn add_line(alloc: Global, lines: &mut Vec<Line>, number: usize, line: &[u8]) -> Result<(), LineFault>
+fn add_line(
+    alloc: Global,
+    lines: &mut Vec<Line>,
+    number: usize,
+    line: &[u8],
+) -> Result<(), LineFault>
     ensures { MatchResult result (λ _. Adds lines.old.items lines.new.items number (line_read line.now)) (λ fault. IsFault fault fault (line_read line.now)) }
 {
     let found = read_line(alloc, line)?;
