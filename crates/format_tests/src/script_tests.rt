@@ -141,16 +141,37 @@ fn messages(rt: HostRuntime) -> Result<(), Fail> {
 }
 
 #[test]
+fn items_of_a_body(rt: HostRuntime) -> Result<(), Fail> {
+    let message = b"\x14\0\0\x80\0\0\0\0\0\x01\0\0\0\0\0\0\0\0\0\0\x07\0\0\0\
+        \x14\x20\x02\x10\x01\x01\0\0\x02\x01\0\0\
+        \x09\x08\x03\x10\x44\x33\x22\0\
+        \x02\x20\x01\x10\x0a\0\0\0\xff";
+    let send = Exchange {
+        call: Call::Send {
+            message: Sequence::new(Vec::from_slice(rt.alloc(), message)?),
+        },
+        reply: Reply::without_message(rt.alloc(), KernReturn::Success, 0, 0),
+    };
+    let line = b"send make_send 0x100 id 7 complex item make_send 0x101 0x102 item bytes 443322 item words 10 data ff";
+    assert_eq!(rt; printed_and_read(&rt, &send, line)?, [true, true]);
+    Ok(())
+}
+
+#[test]
 fn what_is_no_line(rt: HostRuntime) -> Result<(), Fail> {
     let fault = read_line(rt.alloc(), b"allocate  nine # no right");
     let end = read_request_line(rt.alloc(), b"names =");
     let unreadable = |column, expected| LineFault::Unreadable { column, expected };
+    let items = read_request_line(rt.alloc(), b"send make_send 0x100 id 7 item words 1 make_send");
+    let message = read_request_line(rt.alloc(), b"send message");
     let seen = [
+        matches!(items, Err(f) if f == unreadable(39, Expected::End)),
+        matches!(message, Err(f) if f == unreadable(5, Expected::Message)),
         matches!(fault, Err(f) if f == unreadable(10, Expected::Number)),
         matches!(end, Err(f) if f == unreadable(6, Expected::End)),
         matches!(read_line(rt.alloc(), b"  # names"), Ok(None)),
     ];
-    assert_eq!(rt; seen, [true, true, true]);
+    assert_eq!(rt; seen, [true; 5]);
     Ok(())
 }
 

@@ -1,4 +1,6 @@
 pub mod CallsAgain
+pub mod ItemLoops
+pub mod ItemsAgain
 pub mod LinesAgain
 pub mod MessagesAgain
 pub mod NumbersAgain

@@ -1,5 +1,5 @@
 -- Lines are read as they are printed.
-use Rattle.std.proofs.Common.{◌≡◌, ℕ, List, [], refl, sym, ap, subst, ◌∙◌, Option, Some, None, append-nil}
+use Rattle.std.proofs.Common.{◌≡◌, ℕ, List, [], refl, sym, ap, ◌∙◌, Option, ◌∷◌, ◌++◌, Some, None, Result, Ok, Err, append-nil}
 use Rattle.ipc_model.specs.declared.call.Call.{Call}
 use Rattle.ipc_model.specs.calls.Step.{number_of_call}
 use Rattle.script.specs.declared.fault.Fault.{Fault}
@@ -7,26 +7,27 @@ use Rattle.script.specs.declared.fault.Fault.TheVariants as fault
 use Rattle.script.specs.declared.fault.LineFault.{LineFault}
 use Rattle.script.specs.declared.fault.LineFault.TheVariants as line_fault
 use Rattle.script.specs.declared.line.Exchange.{Exchange}
-use Rattle.script.specs.Calls.{call_words, call_line, call_at, HasLine}
-use Rattle.script.specs.Lines.{IsExchange, exchange_words, exchange_line, exchange_at, request_at, IsUnreadable}
-use Rattle.script.specs.Reading.{Fails}
+use Rattle.script.specs.Calls.{verb_of, argument_words, call_words, call_line, call_at, HasLine}
+use Rattle.script.specs.Lines.{IsExchange, exchange_words, exchange_line, exchange_at, request_at, fault_of, on_line, words_read, line_read, request_read, IsRead, UnlessMemory}
+use Rattle.script.specs.Reading.{Reading, ◌>>=◌, Fails}
 use Rattle.script.specs.Replies.{reply_words, reply_at}
 use Rattle.script.specs.Spaced.{words_of}
+use Rattle.script.specs.Verbs.{verb_word}
 use Rattle.script.proofs.CallsAgain.{call_again}
 use Rattle.script.proofs.ReadingAgain.{no_label_end}
 use Rattle.script.proofs.RepliesAgain.{reply_again, reply_no_label}
 use Rattle.script.proofs.Spelled.{call_spelled, reply_spelled, spelled_both}
 use Rattle.script.proofs.WordsOf.{line_again}
 
-pub request_again : (c : Call) → HasLine c → request_at (call_words c) ≡ Some c
+pub request_again : (c : Call) → HasLine c → request_at (call_words c) ≡ Ok c
 unfolding request_at
 request_again c fits = rw (sym (append-nil (call_words c))) (rw (call_again c [] fits no_label_end) refl)
 
-exchange_parts : (words rest : List (List ℕ)) (x : Exchange) → call_at words ≡ Some (x.call, rest) → reply_at (number_of_call x.call) rest ≡ Some x.reply → exchange_at words ≡ Some x
+exchange_parts : (words rest : List (List ℕ)) (x : Exchange) → call_at words ≡ Ok (x.call, rest) → reply_at (number_of_call x.call) rest ≡ Ok x.reply → exchange_at words ≡ Ok x
 unfolding exchange_at
 exchange_parts words rest x first second = rw (first, second) refl
 
-pub exchange_again : (x : Exchange) → IsExchange x → exchange_at (exchange_words x) ≡ Some x
+pub exchange_again : (x : Exchange) → IsExchange x → exchange_at (exchange_words x) ≡ Ok x
 exchange_again x is =
     exchange_parts (exchange_words x) (reply_words x.reply) x (call_again x.call (reply_words x.reply) is.call (reply_no_label x.reply))
     (ap (λ (n : ℕ). reply_at n (reply_words x.reply)) (sym is.of_one_call) ∙ reply_again x.reply is.reply is.own)
@@ -39,26 +40,45 @@ pub words_of_exchange : (x : Exchange) → IsExchange x → words_of (exchange_l
 unfolding exchange_line
 words_of_exchange x is = line_again (exchange_words x) (spelled_both (call_words x.call) (reply_words x.reply) (call_spelled x.call is.call) (reply_spelled x.reply is.reply))
 
-some_none : {X : Type 0} (x : X) → Some x ≡ None → ⊥
-some_none x e = cc
+-- a line is read as its words are
+abbrev whole : List ℕ → Reading Exchange → Result (Option Exchange) LineFault
+whole line read = on_line line read >>= λ x. Ok (Some x)
 
--- what is read is no fault but of memory
-pub no_fault : {X : Type 0} (f : Fault) (read : Option X) (x : X) → Fails f read → read ≡ Some x → f ≡ fault.NoMemory
-no_fault fault.NoMemory read x fails is = refl
-no_fault (fault.Unreadable left expected) read x fails is = absurd (some_none x (sym is ∙ fails))
+some_line : (line word : List ℕ) (words : List (List ℕ)) → words_of line ≡ word ∷ words → line_read line ≡ whole line (exchange_at (words_of line))
+unfolding line_read
+some_line line word words is = ap (words_read line) is ∙ sym (ap (λ (l : List (List ℕ)). whole line (exchange_at l)) is)
 
-pub same_some : {X : Type 0} (x y : X) → Some x ≡ Some y → x ≡ y
-same_some x y e = cc
+pub line_ok : (line word : List ℕ) (words : List (List ℕ)) (x : Exchange) → words_of line ≡ word ∷ words → exchange_at (words_of line) ≡ Ok x → line_read line ≡ Ok (Some x)
+line_ok line word words x is read = some_line line word words is ∙ ap (whole line) read
+
+pub line_blank : (line : List ℕ) → words_of line ≡ [] → line_read line ≡ Ok None
+unfolding line_read
+line_blank line is = ap (words_read line) is
+
+-- one that can't be read
+pub line_fails : (f : Fault) (line word : List ℕ) (words : List (List ℕ)) → words_of line ≡ word ∷ words → Fails f (exchange_at (words_of line)) → UnlessMemory (Err (fault_of line f)) (line_read line)
+line_fails fault.NoMemory line word words is fails = tt
+line_fails (fault.Unreadable place) line word words is fails = some_line line word words is ∙ ap (whole line) fails
+
+pub request_fails : (f : Fault) (line : List ℕ) → Fails f (request_at (words_of line)) → UnlessMemory (Err (fault_of line f)) (request_read line)
+request_fails fault.NoMemory line fails = tt
+request_fails (fault.Unreadable place) line fails = ap (λ (read : Reading Call). on_line line read) fails
+
+-- what is printed is read again
+pub line_read_again : (line : List ℕ) (x : Exchange) → words_of line ≡ exchange_words x → IsExchange x → line_read line ≡ Ok (Some x)
+unfolding call_words
+line_read_again line x is fits = line_ok line (verb_word (verb_of x.call)) (argument_words x.call ++ reply_words x.reply) x is (ap exchange_at is ∙ exchange_again x fits)
+
+-- what is said of a line that can be read is no fault but of memory
+pub is_read : {X : Type 0} (r : Result X LineFault) (said : Result X LineFault) (x : X) → UnlessMemory r said → said ≡ Ok x → IsRead r x
+is_read (Ok y) said x unless is = let same : Ok y ≡ Ok x = sym unless ∙ is in cc
+is_read (Err (line_fault.Unreadable column expected)) said x unless is = absurd (let wrong : Err (line_fault.Unreadable column expected) ≡ Ok x = sym unless ∙ is in cc)
+is_read (Err line_fault.NoMemory) said x unless is = refl
+
+pub request_read_again : (line : List ℕ) (c : Call) → words_of line ≡ call_words c → HasLine c → request_read line ≡ Ok c
+request_read_again line c is fits = ap (λ (read : Reading Call). on_line line read) (ap request_at is ∙ request_again c fits)
 
 -- a line of a call has words
 pub some_words : (x : Exchange) → exchange_words x ≡ [] → ⊥
 unfolding call_words
 some_words x e = cc
-
--- what can't be read
-pub fails_none : {X : Type 0} (f : Fault) (read : Option X) → (f ≡ fault.NoMemory → ⊥) → Fails f read → read ≡ None
-fails_none fault.NoMemory read unreadable fails = absurd (unreadable refl)
-fails_none (fault.Unreadable left expected) read unreadable fails = fails
-
-pub unreadable_none : {X : Type 0} (f : Fault) (told : LineFault) (read : Option X) → (f ≡ fault.NoMemory → told ≡ line_fault.NoMemory) → Fails f read → IsUnreadable told → read ≡ None
-unreadable_none f told read memory fails is = fails_none f read (λ (e : _). subst IsUnreadable (memory e) is) fails

@@ -1,92 +1,112 @@
 -- Rows that are read one after another.
-use Rattle.std.proofs.Common.{◌≡◌, ℕ, ◌<◌, List, [], ◌∷◌, ◌++◌, length, refl, sym, ap, ◌∙◌, arith, Option, Some, None, append_assoc, append-nil}
+use Rattle.std.proofs.Common.{◌≡◌, ℕ, suc, ◌<◌, List, [], ◌∷◌, ◌++◌, length, refl, sym, ap, ◌∙◌, arith, Option, Some, None, Ok, Err, append_assoc, append-nil}
 use Rattle.ipc_model.specs.declared.call.NamedType.{NamedType}
 use Rattle.script.specs.declared.kind.Kind.TheVariants.{Hexadecimal}
-use Rattle.script.specs.Kinds.{read_word}
 use Rattle.script.specs.declared.fault.Fault.{Fault}
 use Rattle.script.specs.declared.fault.Fault.TheVariants as fault
-use Rattle.script.specs.Reading.{◌>>=◌, value_at, Fails}
+use Rattle.script.specs.declared.fault.Expected.TheVariants.{Number}
+use Rattle.script.specs.declared.fault.Stop.{Stop}
+use Rattle.script.specs.Reading.{Reading, ◌>>=◌, stop, wanted, number_at, value_at, Fails}
+use Rattle.script.specs.Kinds.{read_word}
 use Rattle.script.specs.Replies.{in_front_of, named_at, member_at, names_at, members_at, names_words, members_words}
 
 -- what is read, behind what was read before
-abbrev pub behind_all : {A : Type 0} → List A → Option (List A) → Option (List A)
-behind_all done read = read >>= λ rest. Some (done ++ rest)
+abbrev pub behind_all : {A : Type 0} → List A → Reading (List A) → Reading (List A)
+behind_all done read = read >>= λ rest. Ok (done ++ rest)
 
-abbrev pub after_one : {A : Type 0} → (List (List ℕ) → Option (List A)) → Option (Option (A × List (List ℕ))) → Option (List A)
-after_one all None = None
-after_one all (Some None) = Some []
-after_one all (Some (Some (x, words))) = in_front_of x (all words)
+abbrev pub after_one : {A : Type 0} → (List (List ℕ) → Reading (List A)) → Reading (Option (A × List (List ℕ))) → Reading (List A)
+after_one all (Err place) = Err place
+after_one all (Ok None) = Ok []
+after_one all (Ok (Some (x, words))) = in_front_of x (all words)
 
-abbrev typed_name : ℕ → ℕ → NamedType
-typed_name n b = record { name = n; bits = b }
+abbrev typed : ℕ → ℕ × List (List ℕ) → Reading (Option (NamedType × List (List ℕ)))
+typed n b = Ok (Some (record { name = n; bits = b.0 }, b.1))
 
-with_rest : List (List ℕ) → ℕ → Option (ℕ × List (List ℕ))
-with_rest rest n = Some (n, rest)
-
-abbrev typed : ℕ → ℕ × List (List ℕ) → Option (Option (NamedType × List (List ℕ)))
-typed n b = Some (Some (record { name = n; bits = b.0 }, b.1))
-
-abbrev named : ℕ × List (List ℕ) → Option (Option (NamedType × List (List ℕ)))
+abbrev named : ℕ × List (List ℕ) → Reading (Option (NamedType × List (List ℕ)))
 named n = value_at Hexadecimal n.1 >>= typed n.0
 
-abbrev one : ℕ × List (List ℕ) → Option (Option (ℕ × List (List ℕ)))
-one n = Some (Some n)
+abbrev one : ℕ × List (List ℕ) → Reading (Option (ℕ × List (List ℕ)))
+one n = Ok (Some n)
+
+-- a number takes the first word
+value_front : (w : List ℕ) (words : List (List ℕ)) → value_at Hexadecimal (w ∷ words) ≡ (wanted Number (w ∷ words) (read_word Hexadecimal w) >>= λ (n : ℕ). Ok (n, words))
+unfolding value_at number_at
+value_front w words = elim (read_word Hexadecimal w) as (λ (o : Option ℕ). wanted Number (w ∷ words) (elim o as (λ _. Option (ℕ × List (List ℕ))) [ None ↦ None | Some n ↦ Some (n, words) ])
+    ≡ (wanted Number (w ∷ words) o >>= λ (n : ℕ). Ok (n, words))) [ None ↦ refl | Some n ↦ refl ]
+
+none_left : value_at Hexadecimal [] ≡ stop Number []
+unfolding value_at number_at
+none_left = refl
 
 names_unroll : (words : List (List ℕ)) → names_at words ≡ after_one names_at (named_at words)
-unfolding names_at named_at value_at with_rest
+unfolding names_at named_at
 names_unroll [] = refl
-names_unroll (w ∷ []) = elim (read_word Hexadecimal w) as (λ (o : Option ℕ). None ≡ after_one names_at ((o >>= with_rest []) >>= named)) [ None ↦ refl | Some n ↦ refl ]
-names_unroll (w ∷ s ∷ words) = elim (read_word Hexadecimal w) as (λ (o : Option ℕ). (o >>= λ (n : ℕ). read_word Hexadecimal s >>= λ (b : ℕ). in_front_of (typed_name n b) (names_at words))
-    ≡ after_one names_at ((o >>= with_rest (s ∷ words)) >>= named)) [
-      | None ↦ refl
-      | Some n ↦ elim (read_word Hexadecimal s) as (λ (o : Option ℕ). (o >>= λ (b : ℕ). in_front_of (typed_name n b) (names_at words))
-          ≡ after_one names_at ((o >>= with_rest words) >>= typed n)) [ None ↦ refl | Some b ↦ refl ]
-    ]
+names_unroll (w ∷ []) = rw (value_front w []) (elim (wanted Number (w ∷ []) (read_word Hexadecimal w)) as (λ (o : Reading ℕ). ((o >>= λ (n : ℕ). Ok (n, [])) >>= λ (n : ℕ × List (List ℕ)). stop Number [])
+    ≡ after_one names_at ((o >>= λ (n : ℕ). Ok (n, [])) >>= named)) [ Err place ↦ refl | Ok n ↦ rw none_left refl ])
+names_unroll (w ∷ s ∷ words) = rw (value_front w (s ∷ words)) (elim (wanted Number (w ∷ s ∷ words) (read_word Hexadecimal w)) as (λ (o : Reading ℕ).
+    ((o >>= λ (n : ℕ). Ok (n, s ∷ words)) >>= λ (n : ℕ × List (List ℕ)). value_at Hexadecimal (s ∷ words) >>= λ (b : ℕ × List (List ℕ)). in_front_of (record { name = n.0; bits = b.0 }) (names_at words))
+    ≡ after_one names_at ((o >>= λ (n : ℕ). Ok (n, s ∷ words)) >>= named)) [
+      | Err place ↦ refl
+      | Ok n ↦ rw (value_front s words) (elim (wanted Number (s ∷ words) (read_word Hexadecimal s)) as (λ (o : Reading ℕ).
+          ((o >>= λ (b : ℕ). Ok (b, words)) >>= λ (b : ℕ × List (List ℕ)). in_front_of (record { name = n; bits = b.0 }) (names_at words))
+          ≡ after_one names_at ((o >>= λ (b : ℕ). Ok (b, words)) >>= typed n)) [ Err place ↦ refl | Ok b ↦ refl ])
+    ])
 
 members_unroll : (words : List (List ℕ)) → members_at words ≡ after_one members_at (member_at words)
-unfolding members_at member_at value_at with_rest
+unfolding members_at member_at
 members_unroll [] = refl
-members_unroll (w ∷ words) = elim (read_word Hexadecimal w) as (λ (o : Option ℕ). (o >>= λ (n : ℕ). in_front_of n (members_at words)) ≡ after_one members_at ((o >>= with_rest words) >>= one)) [ None ↦ refl | Some n ↦ refl ]
+members_unroll (w ∷ words) = rw (value_front w words) (elim (wanted Number (w ∷ words) (read_word Hexadecimal w)) as (λ (o : Reading ℕ).
+    ((o >>= λ (n : ℕ). Ok (n, words)) >>= λ (n : ℕ × List (List ℕ)). in_front_of n.0 (members_at words)) ≡ after_one members_at ((o >>= λ (n : ℕ). Ok (n, words)) >>= one)) [ Err place ↦ refl | Ok n ↦ refl ])
 
-more : {A : Type 0} (all : List (List ℕ) → Option (List A)) (done : List A) (x : A) (rest : Option (List A)) → behind_all (done ++ x ∷ []) rest ≡ behind_all done (in_front_of x rest)
-more all done x None = refl
-more all done x (Some xs) = ap Some (append_assoc done (x ∷ []) xs)
+more : {A : Type 0} (done : List A) (x : A) (rest : Reading (List A)) → behind_all (done ++ x ∷ []) rest ≡ behind_all done (in_front_of x rest)
+more done x (Err place) = refl
+more done x (Ok xs) = ap Ok (append_assoc done (x ∷ []) xs)
 
-pub names_more : (done : List NamedType) (x : NamedType) (words rest : List (List ℕ)) → named_at words ≡ Some (Some (x, rest))
+pub names_more : (done : List NamedType) (x : NamedType) (words rest : List (List ℕ)) → named_at words ≡ Ok (Some (x, rest))
     → behind_all (done ++ x ∷ []) (names_at rest) ≡ behind_all done (names_at words)
-names_more done x words rest e = more names_at done x (names_at rest) ∙ sym (ap (behind_all done) (names_unroll words ∙ ap (after_one names_at) e))
+names_more done x words rest e = more done x (names_at rest) ∙ sym (ap (behind_all done) (names_unroll words ∙ ap (after_one names_at) e))
 
-pub names_end : (done : List NamedType) (words : List (List ℕ)) → named_at words ≡ Some None → behind_all done (names_at words) ≡ Some done
-names_end done words e = ap (behind_all done) (names_unroll words ∙ ap (after_one names_at) e) ∙ ap Some (append-nil done)
+pub names_end : (done : List NamedType) (words : List (List ℕ)) → named_at words ≡ Ok None → behind_all done (names_at words) ≡ Ok done
+names_end done words e = ap (behind_all done) (names_unroll words ∙ ap (after_one names_at) e) ∙ ap Ok (append-nil done)
 
-pub names_stop : (done : List NamedType) (words : List (List ℕ)) → named_at words ≡ None → behind_all done (names_at words) ≡ None
-names_stop done words e = ap (behind_all done) (names_unroll words ∙ ap (after_one names_at) e)
+pub names_stop : (done : List NamedType) (words : List (List ℕ)) (place : Stop) → named_at words ≡ Err place → behind_all done (names_at words) ≡ Err place
+names_stop done words place e = ap (behind_all done) (names_unroll words ∙ ap (after_one names_at) e)
 
-pub members_more : (done : List ℕ) (x : ℕ) (words rest : List (List ℕ)) → member_at words ≡ Some (Some (x, rest))
+pub members_more : (done : List ℕ) (x : ℕ) (words rest : List (List ℕ)) → member_at words ≡ Ok (Some (x, rest))
     → behind_all (done ++ x ∷ []) (members_at rest) ≡ behind_all done (members_at words)
-members_more done x words rest e = more members_at done x (members_at rest) ∙ sym (ap (behind_all done) (members_unroll words ∙ ap (after_one members_at) e))
+members_more done x words rest e = more done x (members_at rest) ∙ sym (ap (behind_all done) (members_unroll words ∙ ap (after_one members_at) e))
 
-pub members_end : (done : List ℕ) (words : List (List ℕ)) → member_at words ≡ Some None → behind_all done (members_at words) ≡ Some done
-members_end done words e = ap (behind_all done) (members_unroll words ∙ ap (after_one members_at) e) ∙ ap Some (append-nil done)
+pub members_end : (done : List ℕ) (words : List (List ℕ)) → member_at words ≡ Ok None → behind_all done (members_at words) ≡ Ok done
+members_end done words e = ap (behind_all done) (members_unroll words ∙ ap (after_one members_at) e) ∙ ap Ok (append-nil done)
 
-pub members_stop : (done : List ℕ) (words : List (List ℕ)) → member_at words ≡ None → behind_all done (members_at words) ≡ None
-members_stop done words e = ap (behind_all done) (members_unroll words ∙ ap (after_one members_at) e)
+pub members_stop : (done : List ℕ) (words : List (List ℕ)) (place : Stop) → member_at words ≡ Err place → behind_all done (members_at words) ≡ Err place
+members_stop done words place e = ap (behind_all done) (members_unroll words ∙ ap (after_one members_at) e)
 
 -- each takes words
-bind_some : {A B : Type 0} (o : Option A) (f : A → Option B) (y : B) → (o >>= f) ≡ Some y → (x : A) × (o ≡ Some x) × (f x ≡ Some y)
-bind_some None f y e = absurd (cc)
-bind_some (Some x) f y e = (x, refl, e)
+bind_some : {A B : Type 0} (o : Reading A) (f : A → Reading B) (y : B) → (o >>= f) ≡ Ok y → (x : A) × (o ≡ Ok x) × (f x ≡ Ok y)
+bind_some (Err place) f y e = absurd (cc)
+bind_some (Ok x) f y e = (x, refl, e)
 
-value_less : (words : List (List ℕ)) (p : ℕ × List (List ℕ)) → value_at Hexadecimal words ≡ Some p → length p.1 < length words
-unfolding value_at with_rest
-value_less [] p e = absurd (cc)
-value_less (w ∷ words) p e =
-    let found = bind_some (read_word Hexadecimal w) (with_rest words) p e in
-    let same : (found.0, words) ≡ p = cc in
-    let rest : words ≡ p.1 = ap (λ (q : ℕ × List (List ℕ)). q.1) same in
-    omega (arith, ap length rest)
+wanted_some : {A : Type 0} (o : Option A) (words : List (List ℕ)) (x : A) → wanted Number words o ≡ Ok x → o ≡ Some x
+wanted_some None words x e = absurd (cc)
+wanted_some (Some y) words x e = cc
 
-pub member_less : (words rest : List (List ℕ)) (n : ℕ) → member_at words ≡ Some (Some (n, rest)) → length rest < length words
+pub number_less : (words : List (List ℕ)) (p : ℕ × List (List ℕ)) → number_at Hexadecimal words ≡ Some p → length p.1 < length words
+unfolding number_at
+number_less [] p e = absurd (cc)
+number_less (w ∷ words) p e = elim (read_word Hexadecimal w) as (λ (o : Option ℕ). elim o as (λ _. Option (ℕ × List (List ℕ))) [ None ↦ None | Some n ↦ Some (n, words) ] ≡ Some p → length p.1 < suc (length words)) [
+  | None ↦ λ (wrong : _). absurd (cc)
+  | Some n ↦ λ (is : _).
+      let same : (n, words) ≡ p = cc in
+      let rest : words ≡ p.1 = ap (λ (q : ℕ × List (List ℕ)). q.1) same in
+      omega (arith, ap length rest)
+] e
+
+value_less : (words : List (List ℕ)) (p : ℕ × List (List ℕ)) → value_at Hexadecimal words ≡ Ok p → length p.1 < length words
+unfolding value_at
+value_less words p e = number_less words p (wanted_some (number_at Hexadecimal words) words p e)
+
+pub member_less : (words rest : List (List ℕ)) (n : ℕ) → member_at words ≡ Ok (Some (n, rest)) → length rest < length words
 unfolding member_at
 member_less [] rest n e = absurd (cc)
 member_less (w ∷ words) rest n e =
@@ -95,13 +115,13 @@ member_less (w ∷ words) rest n e =
     let is : found.0.1 ≡ rest = ap (λ (q : ℕ × List (List ℕ)). q.1) same in
     omega (arith, value_less (w ∷ words) found.0 found.1, ap length is)
 
-abbrev some_pair : NamedType → List (List ℕ) → Option (Option (NamedType × List (List ℕ)))
-some_pair m a = Some (Some (m, a))
+abbrev some_pair : NamedType → List (List ℕ) → Reading (Option (NamedType × List (List ℕ)))
+some_pair m a = Ok (Some (m, a))
 
 typed_rest : (m n : NamedType) (a rest : List (List ℕ)) → some_pair m a ≡ some_pair n rest → a ≡ rest
 typed_rest m n a rest e = let inner : (m, a) ≡ (n, rest) = cc in ap (λ (q : NamedType × List (List ℕ)). q.1) inner
 
-pub named_less : (words rest : List (List ℕ)) (n : NamedType) → named_at words ≡ Some (Some (n, rest)) → length rest < length words
+pub named_less : (words rest : List (List ℕ)) (n : NamedType) → named_at words ≡ Ok (Some (n, rest)) → length rest < length words
 unfolding named_at
 named_less [] rest n e = absurd (cc)
 named_less (w ∷ words) rest n e =
@@ -110,13 +130,13 @@ named_less (w ∷ words) rest n e =
     let is : second.0.1 ≡ rest = typed_rest (record { name = first.0.0; bits = second.0.0 }) n second.0.1 rest second.2 in
     omega (arith, value_less (w ∷ words) first.0 first.1, value_less first.0.1 second.0 second.1, ap length is)
 
-pub names_fault : (e : Fault) (done : List NamedType) (words : List (List ℕ)) (all : Option (List NamedType)) → Fails e (named_at words) → behind_all done (names_at words) ≡ all → Fails e all
-names_fault fault.NoMemory done words all stop is = tt
-names_fault (fault.Unreadable left expected) done words all stop is = sym is ∙ names_stop done words stop
+pub names_fault : (e : Fault) (done : List NamedType) (words : List (List ℕ)) (all : Reading (List NamedType)) → Fails e (named_at words) → behind_all done (names_at words) ≡ all → Fails e all
+names_fault fault.NoMemory done words all fails is = tt
+names_fault (fault.Unreadable place) done words all fails is = sym is ∙ names_stop done words place fails
 
-pub members_fault : (e : Fault) (done : List ℕ) (words : List (List ℕ)) (all : Option (List ℕ)) → Fails e (member_at words) → behind_all done (members_at words) ≡ all → Fails e all
-members_fault fault.NoMemory done words all stop is = tt
-members_fault (fault.Unreadable left expected) done words all stop is = sym is ∙ members_stop done words stop
+pub members_fault : (e : Fault) (done : List ℕ) (words : List (List ℕ)) (all : Reading (List ℕ)) → Fails e (member_at words) → behind_all done (members_at words) ≡ all → Fails e all
+members_fault fault.NoMemory done words all fails is = tt
+members_fault (fault.Unreadable place) done words all fails is = sym is ∙ members_stop done words place fails
 
 -- no words are left of no rows
 pub names_gone : (names : List NamedType) → length names ≡ 0 → names_words names ≡ []

@@ -1,18 +1,24 @@
 -- Scripts are read as they are printed.
-use Rattle.std.proofs.Common.{◌≡◌, ℕ, suc, ◌+◌, ◌<◌, Bool, true, ◌&&◌, List, [], ◌∷◌, ◌++◌, length, take, drop, cond, one-add, refl, sym, ap, ◌∙◌, arith, append_assoc}
+use Rattle.std.proofs.Common.{◌≡◌, ℕ, suc, ◌+◌, Bool, true, false, not, ◌&&◌, ◌==◌, Option, Some, None, List, [], ◌∷◌, ◌++◌, length, take, drop, cond, one-add, refl, sym, ap, ◌∙◌, arith, append_assoc}
+use Rattle.std.specs.Prelude.{Result, Ok, Err}
 use Rattle.std.specs.List.{prefix_len}
 use Rattle.std.proofs.Math.Seq.{take-append_seam}
 use Rattle.std.proofs.lemmas.Bool.{and_parts}
 use Rattle.std.proofs.lemmas.Bool.Decides.{nat_tests}
 use Rattle.std.proofs.lemmas.List.{append-nil}
 use Rattle.std.proofs.lemmas.List.Elements.{All-head, All-tail}
+use Rattle.script.specs.declared.fault.LineFault.{LineFault}
+use Rattle.script.specs.declared.fault.LineFault.TheVariants as line_fault
+use Rattle.script.specs.declared.fault.ScriptFault.{ScriptFault}
 use Rattle.script.specs.declared.line.Exchange.{Exchange}
 use Rattle.script.specs.declared.text.Line.{Line}
 use Rattle.script.specs.Calls.{call_words}
-use Rattle.script.specs.Lines.{exchange_line, exchange_words, IsExchange}
+use Rattle.script.specs.Lines.{exchange_line, exchange_words, line_read, IsExchange}
+use Rattle.script.specs.Reading.{◌>>=◌}
 use Rattle.script.specs.Replies.{reply_words}
-use Rattle.script.specs.Scripts.{in_line, script_text, numbered, AreExchanges}
-use Rattle.script.specs.Spaced.{is_word_byte, spaced, line_of}
+use Rattle.script.specs.Scripts.{in_line, script_text, numbered, lines_of, and_below, lines_read, script_read, Adds, IsFault, AreExchanges}
+use Rattle.script.specs.Spaced.{is_word_byte, in_front, spaced, line_of}
+use Rattle.script.proofs.LinesAgain.{words_of_exchange, line_read_again}
 use Rattle.script.proofs.Spelled.{call_spelled, reply_spelled, spelled_both}
 use Rattle.script.proofs.WordsOf.{are_word_bytes, is_word, are_words}
 
@@ -82,17 +88,6 @@ rest_is x xs text fits is =
     ∙ ap (λ (n : ℕ). drop 1 (drop n (exchange_line x ++ 10 ∷ script_text xs))) (line_length (exchange_line x) (script_text xs) (exchange_in_line x fits))
     ∙ ap (λ (l : List ℕ). drop 1 l) (drop_seam (exchange_line x) (10 ∷ script_text xs))
 
--- what is left of a script, of which so many lines were read
-pub record Left (xs : List Exchange) (number : ℕ) (lines : List Line) (rest : List ℕ) : Type 0 where
-  pub left : List Exchange
-  pub fit : AreExchanges left
-  pub is : rest ≡ script_text left
-  pub done : lines ++ numbered (number + 1) left ≡ numbered 1 xs
-  pub count : number + length left ≡ length xs
-
-pub left_first : (xs : List Exchange) (text : List ℕ) → AreExchanges xs → text ≡ script_text xs → Left xs 0 [] text
-left_first xs text fit is = record { left = xs; fit = fit; is = is; done = refl; count = omega arith }
-
 end_behind : (line rest : List ℕ) → line ++ 10 ∷ rest ≡ [] → ⊥
 end_behind [] rest e = cc
 end_behind (c ∷ cs) rest e = cc
@@ -100,35 +95,71 @@ end_behind (c ∷ cs) rest e = cc
 not_empty : (x : Exchange) (xs : List Exchange) → script_text (x ∷ xs) ≡ [] → ⊥
 not_empty x xs e = end_behind (exchange_line x) (script_text xs) (sym (script_starts x xs) ∙ e)
 
--- nothing is left
-pub left_none : (xs : List Exchange) (number : ℕ) (lines : List Line) (rest : List ℕ) → Left xs number lines rest → rest ≡ [] → lines ≡ numbered 1 xs
-unfolding numbered script_text
-left_none xs number lines rest state none = elim state.left as (λ (left : List Exchange). rest ≡ script_text left → lines ++ numbered (number + 1) left ≡ numbered 1 xs → lines ≡ numbered 1 xs) [
-  | [] ↦ λ (is : _) (done : _). sym (append-nil lines) ∙ done
-  | x ∷ left ↦ λ (is : _) (done : _). absurd (not_empty x left (sym is ∙ none))
-] state.is state.done
+-- the lines of a text: its first, and those behind it
+pub lines_front : (c : ℕ) (cs : List ℕ) → lines_of (c ∷ cs) ≡ take (prefix_len in_line (c ∷ cs)) (c ∷ cs) ∷ lines_of (drop 1 (drop (prefix_len in_line (c ∷ cs)) (c ∷ cs)))
+unfolding lines_of
+lines_front c [] = elim (c == 10) as (λ (b : Bool). cond b ([] ∷ lines_of []) (in_front c (lines_of [])) ≡ take (cond (not b) (1 + 0) 0) (c ∷ []) ∷ lines_of (drop 1 (drop (cond (not b) (1 + 0) 0) (c ∷ [])))) [ true ↦ refl | false ↦ refl ]
+lines_front c (d ∷ ds) = elim (c == 10) as (λ (b : Bool). cond b ([] ∷ lines_of (d ∷ ds)) (in_front c (lines_of (d ∷ ds)))
+    ≡ take (cond (not b) (1 + prefix_len in_line (d ∷ ds)) 0) (c ∷ d ∷ ds) ∷ lines_of (drop 1 (drop (cond (not b) (1 + prefix_len in_line (d ∷ ds)) 0) (c ∷ d ∷ ds)))) [
+      | true ↦ refl
+      | false ↦ rw one-add (ap (in_front c) (lines_front d ds))
+    ]
 
--- the next of what is left
-pub record Next (xs : List Exchange) (number : ℕ) (lines : List Line) (rest : List ℕ) : Type 0 where
-  pub first : Exchange
-  pub others : List Exchange
-  pub fits : IsExchange first
-  pub fit : AreExchanges others
-  pub is : rest ≡ script_text (first ∷ others)
-  pub done : (lines ++ record { number = number + 1; exchange = first } ∷ []) ++ numbered (number + 1 + 1) others ≡ numbered 1 xs
-  pub count : number + 1 + length others ≡ length xs
+pub lines_next : (text line behind : List ℕ) → (text ≡ [] → ⊥) → line ≡ take (prefix_len in_line text) text → behind ≡ drop 1 (drop (prefix_len in_line text) text)
+    → lines_of text ≡ line ∷ lines_of behind
+lines_next [] line behind some first rest = absurd (some refl)
+lines_next (c ∷ cs) line behind some first rest = rw (first, rest) (lines_front c cs)
 
-pub left_next : (xs : List Exchange) (number : ℕ) (lines : List Line) (rest : List ℕ) → Left xs number lines rest → 0 < length rest → Next xs number lines rest
-unfolding numbered script_text
-left_next xs number lines rest state some = elim state.left as (λ (left : List Exchange). AreExchanges left → rest ≡ script_text left → lines ++ numbered (number + 1) left ≡ numbered 1 xs → number + length left ≡ length xs → Next xs number lines rest) [
-  | [] ↦ λ (fit : _) (is : _) (done : _) (count : _). absurd (omega (arith, ap length is))
-  | x ∷ left ↦ λ (fit : _) (is : _) (done : _) (count : _). record {
-    first = x;
-    others = left;
-    fits = All-head IsExchange x left fit;
-    fit = All-tail IsExchange x left fit;
-    is = is;
-    done = append_assoc lines (record { number = number + 1; exchange = x } ∷ []) (numbered (number + 1 + 1) left) ∙ done;
-    count = omega (arith, count);
-  }
-] state.fit state.is state.done state.count
+-- what is said below calls that were read
+abbrev pub behind_lines : List Line → Result (List Line) ScriptFault → Result (List Line) ScriptFault
+behind_lines done below = below >>= λ lines. Ok (done ++ lines)
+
+pub next_line : (old new : List Line) (n : ℕ) (said : Result (Option Exchange) LineFault) (below : Result (List Line) ScriptFault) → Adds old new n said
+    → behind_lines new below ≡ behind_lines old (and_below n said below)
+next_line old new n (Ok (Some x)) (Ok lines) added = ap (λ (l : List Line). Ok (l ++ lines)) added ∙ ap Ok (append_assoc old (record { number = n; exchange = x } ∷ []) lines)
+next_line old new n (Ok (Some x)) (Err fault) added = refl
+next_line old new n (Ok None) below added = ap (λ (l : List Line). behind_lines l below) added
+next_line old new n (Err fault) below added = absurd added
+
+pub next_read : (old new : List Line) (n : ℕ) (text line behind : List ℕ) → lines_of text ≡ line ∷ lines_of behind → Adds old new (n + 1) (line_read line)
+    → behind_lines new (lines_read (n + 1 + 1) (lines_of behind)) ≡ behind_lines old (lines_read (n + 1) (lines_of text))
+unfolding lines_read
+next_read old new n text line behind is added = rw is (next_line old new (n + 1) (line_read line) (lines_read (n + 1 + 1) (lines_of behind)) added)
+
+-- the fault of the next line is the script's
+pub next_fault : (fault : LineFault) (old : List Line) (n : ℕ) (text line behind : List ℕ) (all : Result (List Line) ScriptFault) → lines_of text ≡ line ∷ lines_of behind
+    → IsFault fault fault (line_read line) → behind_lines old (lines_read (n + 1) (lines_of text)) ≡ all → IsFault fault (record { line = n + 1; fault = fault }) all
+unfolding lines_read
+next_fault line_fault.NoMemory old n text line behind all is said same = tt
+next_fault (line_fault.Unreadable column expected) old n text line behind all is said same = sym same ∙ rw is (rw said refl)
+
+pub none_left : (lines : List Line) (n : ℕ) (text : List ℕ) → text ≡ [] → behind_lines lines (lines_read n (lines_of text)) ≡ Ok lines
+unfolding lines_read lines_of
+none_left lines n text is = rw is (ap Ok (append-nil lines))
+
+pub all_left : (n : ℕ) (lines : List (List ℕ)) → behind_lines [] (lines_read n lines) ≡ lines_read n lines
+all_left n lines = elim (lines_read n lines) as (λ (read : Result (List Line) ScriptFault). behind_lines [] read ≡ read) [ Ok found ↦ refl | Err fault ↦ refl ]
+
+-- a script that was printed says what it was printed for
+pub script_again : (n : ℕ) (xs : List Exchange) → AreExchanges xs → lines_read n (lines_of (script_text xs)) ≡ Ok (numbered n xs)
+unfolding lines_read lines_of script_text numbered
+script_again n [] are = refl
+script_again n (x ∷ xs) are =
+    let fits : IsExchange x = All-head IsExchange x xs are in
+    let others : AreExchanges xs = All-tail IsExchange x xs are in
+    let text : List ℕ = script_text (x ∷ xs) in
+    let first = line_is x xs text fits refl in
+    let rest = rest_is x xs text fits refl in
+    let is : lines_of text ≡ exchange_line x ∷ lines_of (script_text xs) = lines_next text (exchange_line x) (script_text xs) (not_empty x xs) (sym first) (sym rest) in
+    ap (lines_read n) is
+    ∙ ap (λ (r : Result (Option Exchange) LineFault). and_below n r (lines_read (n + 1) (lines_of (script_text xs)))) (line_read_again (exchange_line x) x (words_of_exchange x fits) fits)
+    ∙ ap (λ (r : Result (List Line) ScriptFault). and_below n (Ok (Some x)) r) (script_again (n + 1) xs others)
+
+-- what is said of a script that was printed is no fault but of memory
+pub printed_ok : (xs : List Exchange) (text : List ℕ) (lines : List Line) → AreExchanges xs → text ≡ script_text xs → script_read text ≡ Ok lines → lines ≡ numbered 1 xs
+printed_ok xs text lines are is read = let same : Ok lines ≡ Ok (numbered 1 xs) = sym read ∙ ap script_read is ∙ script_again 1 xs are in cc
+
+pub printed_fault : (fault : LineFault) (n : ℕ) (xs : List Exchange) (text : List ℕ) → AreExchanges xs → text ≡ script_text xs → IsFault fault (record { line = n; fault = fault }) (script_read text) → fault ≡ line_fault.NoMemory
+printed_fault line_fault.NoMemory n xs text are is said = refl
+printed_fault (line_fault.Unreadable column expected) n xs text are is said =
+    absurd (let wrong : Err (record { line = n; fault = line_fault.Unreadable column expected }) ≡ Ok (numbered 1 xs) = sym said ∙ ap script_read is ∙ script_again 1 xs are in cc)

@@ -1,6 +1,6 @@
 -- What is printed are words: none is empty, and none has a space or begins a comment.
 use Rattle.std.proofs.Common.{◌≡◌, ℕ, zero, suc, ◌-◌, ◌%◌, ◌/◌, ◌^◌, ◌<◌, ◌≤◌, Bool, true, false, ◌&&◌, ◌==◌, List, [], ◌∷◌, ◌++◌, length, drop, cond, refl, arith, Option, Some, None}
-use Rattle.std.specs.Prelude.{nat_lt, nat_le, codes, decimal, slice_index, unwrap_or, All}
+use Rattle.std.specs.Prelude.{nat_lt, nat_le, codes, decimal, slice_index, unwrap_or, map, All}
 use Rattle.std.specs.Char.{digit_value}
 use Rattle.std.specs.Fmt.{digits}
 use Rattle.std.specs.Str.Parse.{AllDigits}
@@ -27,16 +27,18 @@ use Rattle.script.specs.declared.kind.Kind.TheVariants.{Hexadecimal, Decimal, Si
 use Rattle.script.specs.declared.message.Header.{Header}
 use Rattle.script.specs.declared.verb.Verb.{Verb}
 use Rattle.script.specs.declared.verb.Verb.TheVariants as verb
-use Rattle.script.specs.Bytes.{bytes_word}
+use Rattle.script.specs.Bytes.{bytes_word, optional_bytes}
+use Rattle.script.specs.Items.{element_kind, words_item_words, bytes_item_words, numbers_in, body_within, body_words}
 use Rattle.script.specs.Calls.{verb_of, argument_words, call_words, HasLine}
 use Rattle.script.specs.Codes.{code_word}
 use Rattle.script.specs.Kinds.{value_word}
-use Rattle.script.specs.Messages.{optional_words, flag_words, local_words, optional_bytes, header_of, header_words, message_words}
+use Rattle.script.specs.Messages.{optional_words, flag_words, local_words, header_of, header_words, message_words}
 use Rattle.script.specs.Numbers.{hexadecimal, signed}
 use Rattle.script.specs.Replies.{yes_or_no, kind_word, count_words, status_words, names_words, members_words, outcome_words, received_words, message_reply_words, reply_words}
 use Rattle.script.specs.Spaced.{is_word_byte}
 use Rattle.script.specs.Verbs.{verb_word}
-use Rattle.script.proofs.MessagesAgain.{FitsHeader, fits_header, bytes_behind}
+use Rattle.script.proofs.ItemsAgain.{bytes_behind, item_cases, AreNumbers, WordsFront, BytesFront}
+use Rattle.script.proofs.MessagesAgain.{FitsHeader, fits_header}
 use Rattle.script.proofs.NumbersAgain.{decimal_fits}
 use Rattle.script.proofs.WordsOf.{are_word_bytes, is_word, are_words}
 
@@ -95,6 +97,9 @@ value_spelled kind.Disposition n fits =
     (named Spells (n == 19) _ _ _ refl (named Spells (n == 20) _ _ _ refl (named Spells (n == 21) _ None _ refl (decimal_word n fits))))))
 value_spelled kind.Notification n fits =
     named Spells (n == 69) _ _ _ refl (named Spells (n == 70) _ _ _ refl (named Spells (n == 72) _ None _ refl (decimal_word n fits)))
+value_spelled kind.Element n fits =
+    named Spells (n == 2) _ _ _ refl (named Spells (n == 16) _ _ _ refl (named Spells (n == 17) _ _ _ refl (named Spells (n == 18) _ _ _ refl
+    (named Spells (n == 19) _ _ _ refl (named Spells (n == 20) _ _ _ refl (named Spells (n == 21) _ None _ refl (decimal_word n fits)))))))
 value_spelled kind.Absent n fits = decimal_word n fits
 
 -- the digits of bytes
@@ -184,11 +189,33 @@ header_spelled h fits =
     let seqno : AreWords (optional_words (codes "seqno") Decimal h.seqno) = record { is = optional_spelled (codes "seqno") kind.Decimal h.seqno refl fits.seqno } in
     (join (join (join (join (join (join rights local) id) complex) further) size) seqno).is
 
+numbers_spelled : (k : Kind) (ns : List ℕ) → AreNumbers ns → are_words (map (value_word k) ns) ≡ true
+numbers_spelled k [] fit = refl
+numbers_spelled k (n ∷ ns) fit = both _ _ (value_spelled k n fit.0) (numbers_spelled k ns fit.1)
+
+abbrev words_behind_item : ℕ → List ℕ → Option (List (List ℕ) × List ℕ) → List (List ℕ)
+words_behind_item m body front = elim front [ None ↦ optional_bytes (codes "data") body | Some i ↦ i.0 ++ body_within m i.1 ]
+
+within_spelled : (m : ℕ) (body : List ℕ) → AreBytes body → are_words (body_within m body) ≡ true
+unfolding body_within words_item_words bytes_item_words
+within_spelled zero body fits = optional_bytes_spelled (codes "data") body refl fits
+within_spelled (suc m) body fits =
+    item_cases (λ (front : Option (List (List ℕ) × List ℕ)). are_words (words_behind_item m body front) ≡ true) body fits
+    (λ (w : ℕ × List ℕ × List ℕ) (parts : WordsFront body w).
+    both _ _ refl (both _ _ (value_spelled kind.Element w.0 (omega (arith, parts.small)))
+    (spelled_both (map (value_word (element_kind w.0)) (numbers_in w.1)) (body_within m w.2) (numbers_spelled (element_kind w.0) (numbers_in w.1) parts.fit) (within_spelled m w.2 parts.behind))))
+    (λ (b : List ℕ × List ℕ) (parts : BytesFront body b). both _ _ refl (both _ _ refl (both _ _ (bytes_spelled b.0 parts.bytes) (within_spelled m b.1 parts.behind))))
+    (optional_bytes_spelled (codes "data") body refl fits)
+
+body_spelled : (body : List ℕ) → AreBytes body → are_words (body_words body) ≡ true
+unfolding body_words
+body_spelled body fits = within_spelled (length body) body fits
+
 pub message_spelled : (m : List ℕ) → AreBytes m → are_words (message_words m) ≡ true
 unfolding message_words
-message_spelled m fits = elim (nat_lt (length m) 24) as (λ (b : Bool). are_words (cond b (codes "bytes" ∷ bytes_word m ∷ []) (header_words (header_of m) ++ optional_bytes (codes "data") (drop 24 m))) ≡ true) [
+message_spelled m fits = elim (nat_lt (length m) 24) as (λ (b : Bool). are_words (cond b (codes "bytes" ∷ bytes_word m ∷ []) (header_words (header_of m) ++ body_words (drop 24 m))) ≡ true) [
   | true ↦ two (codes "bytes") (bytes_word m) refl (bytes_spelled m fits)
-  | false ↦ spelled_both (header_words (header_of m)) (optional_bytes (codes "data") (drop 24 m)) (header_spelled (header_of m) (fits_header m fits)) (optional_bytes_spelled (codes "data") (drop 24 m) refl (bytes_behind 24 m fits))
+  | false ↦ spelled_both (header_words (header_of m)) (body_words (drop 24 m)) (header_spelled (header_of m) (fits_header m fits)) (body_spelled (drop 24 m) (bytes_behind 24 m fits))
 ]
 
 -- the words of a call

@@ -39,7 +39,7 @@ spelled : (k : Kind) (n : ℕ) (word : List ℕ) → begins_with_letter word ≡
 unfolding read_word
 spelled k n word plain again = ap (λ (b : Bool). cond b (find (is_name k word) all_named) (number_of_word word)) plain ∙ again
 
-in_decimal : (k : Kind) (n : ℕ) → n < 2 ^ 32 → read_word k (decimal n) ≡ Some n
+pub in_decimal : (k : Kind) (n : ℕ) → n < 2 ^ 32 → read_word k (decimal n) ≡ Some n
 in_decimal k n fits = spelled k n (decimal n) (decimal_no_letter n fits) (decimal_again n fits)
 
 -- a number that is one of the named ones or isn't
@@ -70,6 +70,12 @@ unfolding read_word
 notification_again n fits =
     split (Again kind.Notification) 69 n _ _ refl (split (Again kind.Notification) 70 n _ _ refl (split (Again kind.Notification) 72 n _ None refl (in_decimal kind.Notification n fits)))
 
+element_again : (n : ℕ) → n < 2 ^ 32 → Again kind.Element n (name_of kind.Element n)
+unfolding read_word
+element_again n fits =
+    split (Again kind.Element) 2 n _ _ refl (split (Again kind.Element) 16 n _ _ refl (split (Again kind.Element) 17 n _ _ refl
+    (split (Again kind.Element) 18 n _ _ refl (split (Again kind.Element) 19 n _ _ refl (split (Again kind.Element) 20 n _ _ refl (split (Again kind.Element) 21 n _ None refl (in_decimal kind.Element n fits)))))))
+
 -- every number is read from its word
 pub word_again : (k : Kind) (n : ℕ) → n < 2 ^ 32 → read_word k (value_word k n) ≡ Some n
 unfolding value_word
@@ -79,6 +85,7 @@ word_again kind.Signed n fits = spelled kind.Signed n (signed n) (signed_no_lett
 word_again kind.Right n fits = right_again n fits
 word_again kind.Disposition n fits = disposition_again n fits
 word_again kind.Notification n fits = notification_again n fits
+word_again kind.Element n fits = element_again n fits
 word_again kind.Absent n fits = in_decimal kind.Absent n fits
 
 -- every byte string is read from its word

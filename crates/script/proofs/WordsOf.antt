@@ -1,5 +1,5 @@
 -- The words of a line, one after another.
-use Rattle.std.proofs.Common.{◌≡◌, ℕ, suc, ◌+◌, Bool, true, false, ◌&&◌, ◌==◌, List, [], ◌∷◌, ◌++◌, length, take, drop, cond, refl, sym, ap, ◌∙◌, arith, one-add, append_assoc}
+use Rattle.std.proofs.Common.{◌≡◌, ℕ, zero, suc, ◌+◌, ◌-◌, ◌<◌, ◌≤◌, Bool, true, false, ◌&&◌, ◌==◌, List, [], ◌∷◌, ◌++◌, length, take, drop, cond, refl, sym, ap, ◌∙◌, arith, one-add, append_assoc}
 use Rattle.std.specs.Prelude.{Result, Ok, Err, OnOk, ⊤}
 use Rattle.std.specs.List.{prefix_len}
 use Rattle.std.proofs.Math.Seq.{take-append_seam}
@@ -7,7 +7,7 @@ use Rattle.std.proofs.lemmas.Bool.{and_parts}
 use Rattle.std.proofs.lemmas.Bool.Decides.{nat_tests}
 use Rattle.std.proofs.lemmas.Grind.{flat_map-append}
 use Rattle.std.proofs.lemmas.List.{append-nil}
-use Rattle.script.specs.Spaced.{is_space, is_word_byte, begins_word, in_front, words_of, spaced, line_of}
+use Rattle.script.specs.Spaced.{is_space, is_word_byte, begins_word, in_front, words_of, word_end, column_of, spaced, line_of}
 
 -- a byte that is no space and doesn't begin a comment is of a word
 word_byte : (c : ℕ) → is_space c ≡ false → (c == 35) ≡ false → is_word_byte c ≡ true
@@ -150,3 +150,32 @@ pushed_three r old first second third a b c one two three = pushed_two r old sec
 -- nothing is left to add
 pub rest_none : (line old : List ℕ) (rest all : List (List ℕ)) → rest ≡ [] → line ++ spaced rest ≡ old ++ spaced all → line ≡ old ++ spaced all
 rest_none line old rest all none is = sym (spaced_none line) ∙ ap (λ (l : List (List ℕ)). line ++ spaced l) (sym none) ∙ is
+
+in_front_fits : (c : ℕ) (ws : List (List ℕ)) (n : ℕ) → length ws ≤ n → length (in_front c ws) ≤ suc n
+in_front_fits c [] n fit = omega arith
+in_front_fits c (w ∷ ws) n fit = omega (arith, fit)
+
+-- a line has no more words than bytes
+pub words_fit : (s : List ℕ) → length (words_of s) ≤ length s
+unfolding words_of
+words_fit [] = omega arith
+words_fit (c ∷ cs) = elim (is_space c) as (λ (b : Bool). length (cond b (words_of cs) (cond (c == 35) [] (cond (begins_word cs) (in_front c (words_of cs)) ((c ∷ []) ∷ words_of cs)))) ≤ suc (length cs)) [
+  | true ↦ omega (arith, words_fit cs)
+  | false ↦ elim (c == 35) as (λ (b : Bool). length (cond b [] (cond (begins_word cs) (in_front c (words_of cs)) ((c ∷ []) ∷ words_of cs))) ≤ suc (length cs)) [
+    | true ↦ omega arith
+    | false ↦ elim (begins_word cs) as (λ (b : Bool). length (cond b (in_front c (words_of cs)) ((c ∷ []) ∷ words_of cs)) ≤ suc (length cs)) [
+      | true ↦ in_front_fits c (words_of cs) (length cs) (words_fit cs)
+      | false ↦ omega (arith, words_fit cs)
+    ]
+  ]
+]
+
+-- one word more is passed
+pub column_next : (column left : ℕ) (rest : List ℕ) → 0 < left → (column + word_end rest) + column_of (left - 1) (drop (word_end rest) rest) ≡ column + column_of left rest
+unfolding column_of
+column_next column zero rest some = absurd (omega arith)
+column_next column (suc n) rest some = let e : suc n - 1 ≡ n = omega arith in rw e (omega arith)
+
+pub column_end : (column : ℕ) (rest : List ℕ) (left : ℕ) → left ≡ 0 → column + prefix_len is_space rest ≡ column + column_of left rest
+unfolding column_of
+column_end column rest left none = rw none refl

@@ -1,5 +1,5 @@
 -- Calls in words.
-use Rattle.std.specs.Prelude.{ℕ, Bool, List, [], ◌∷◌, ◌++◌, find, Option, None, Some, codes}
+use Rattle.std.specs.Prelude.{ℕ, Bool, List, [], ◌∷◌, ◌++◌, find, Ok, codes}
 use Rattle.std.specs.Str.{bytes_eq}
 use Rattle.ipc_model.specs.declared.call.Call.{Call}
 use Rattle.ipc_model.specs.declared.call.Call.TheVariants as call
@@ -11,7 +11,8 @@ use Rattle.script.specs.declared.verb.Verb.TheVariants as verb
 use Rattle.script.specs.Kinds.{value_word}
 use Rattle.script.specs.Messages.{message_words, message_at, flag_words}
 use Rattle.script.specs.Plain.{plain_at}
-use Rattle.script.specs.Reading.{◌>>=◌, value_at, labelled_at, flag_at}
+use Rattle.script.specs.declared.fault.Expected.TheVariants as expected
+use Rattle.script.specs.Reading.{Reading, ◌>>=◌, stop, wanted, value_at, labelled_at, flag_at}
 use Rattle.script.specs.Spaced.{line_of}
 use Rattle.script.specs.Verbs.{verb_word, all_verbs}
 
@@ -57,32 +58,37 @@ abbrev pub receive_words : ℕ → Bool → ℕ → Bool → List (List ℕ)
 receive_words limit large name waited =
     (name_word name ∷ codes "limit" ∷ count_word limit ∷ []) ++ flag_words (codes "large") large ++ flag_words (codes "waited") waited
 
+-- the arguments of the calls that have two, a name in front
+abbrev pub pair_words : Call → List (List ℕ)
+pair_words (call.Rename from to) = name_word from ∷ name_word to ∷ []
+pair_words (call.GetRefs name right) = name_word name ∷ right_word right ∷ []
+pair_words (call.SetQlimit name limit) = name_word name ∷ count_word limit ∷ []
+pair_words (call.SetMscount name count) = name_word name ∷ count_word count ∷ []
+pair_words (call.SetSeqno name seqno) = name_word name ∷ count_word seqno ∷ []
+pair_words (call.MoveMember member after) = name_word member ∷ name_word after ∷ []
+pair_words (call.ExtractRight name disposition) = name_word name ∷ disposition_word disposition ∷ []
+pair_words (call.SpaceCreate name disposition) = name_word name ∷ disposition_word disposition ∷ []
+pair_words c = []
+
 -- the arguments of a call
 abbrev pub argument_words : Call → List (List ℕ)
 argument_words (call.Attach space) = count_word space ∷ []
 argument_words call.Names = []
 argument_words (call.Type name) = name_word name ∷ []
-argument_words (call.Rename from to) = name_word from ∷ name_word to ∷ []
 argument_words (call.AllocateName right name) = right_word right ∷ name_word name ∷ []
 argument_words (call.Allocate right) = right_word right ∷ []
 argument_words (call.Destroy name) = name_word name ∷ []
 argument_words (call.Deallocate name) = name_word name ∷ []
-argument_words (call.GetRefs name right) = name_word name ∷ right_word right ∷ []
 argument_words (call.ModRefs name right delta) = name_word name ∷ right_word right ∷ value_word Signed delta ∷ []
-argument_words (call.SetQlimit name limit) = name_word name ∷ count_word limit ∷ []
-argument_words (call.SetMscount name count) = name_word name ∷ count_word count ∷ []
-argument_words (call.SetSeqno name seqno) = name_word name ∷ count_word seqno ∷ []
 argument_words (call.GetReceiveStatus name) = name_word name ∷ []
 argument_words (call.GetSetStatus name) = name_word name ∷ []
-argument_words (call.MoveMember member after) = name_word member ∷ name_word after ∷ []
 argument_words (call.RequestNotification name variant sync notify disposition) =
     name_word name ∷ value_word Notification variant ∷ count_word sync ∷ name_word notify ∷ disposition_word disposition ∷ []
 argument_words (call.InsertRight name right_name disposition) = name_word name ∷ name_word right_name ∷ disposition_word disposition ∷ []
-argument_words (call.ExtractRight name disposition) = name_word name ∷ disposition_word disposition ∷ []
 argument_words (call.Send message) = message_words message
 argument_words (call.Receive limit large name waited) = receive_words limit large name waited
-argument_words (call.SpaceCreate name disposition) = name_word name ∷ disposition_word disposition ∷ []
 argument_words call.SpaceDestroy = []
+argument_words c = pair_words c
 
 -- the words of a call: its name and its arguments
 unfoldable pub call_words : Call → List (List ℕ)
@@ -97,24 +103,24 @@ abbrev pub HasLine : Call → Type 0
 HasLine (call.Send message) = AreBytes message
 HasLine c = FitsCall c
 
-unfoldable pub receive_at : List (List ℕ) → Option (Call × List (List ℕ))
+unfoldable pub receive_at : List (List ℕ) → Reading (Call × List (List ℕ))
 receive_at words = do
   name ← value_at Hexadecimal words
   limit ← labelled_at (codes "limit") Decimal name.1
-  Some (
+  Ok (
     call.Receive limit.0 (flag_at (codes "large") limit.1).0 name.0 (flag_at (codes "waited") (flag_at (codes "large") limit.1).1).0,
     (flag_at (codes "waited") (flag_at (codes "large") limit.1).1).1,
   )
 
-unfoldable pub send_at : List (List ℕ) → Option (Call × List (List ℕ))
-send_at words = message_at words >>= λ m. Some (call.Send m.0, m.1)
+unfoldable pub send_at : List (List ℕ) → Reading (Call × List (List ℕ))
+send_at words = message_at words >>= λ m. Ok (call.Send m.0, m.1)
 
-unfoldable pub behind_at : Verb → List (List ℕ) → Option (Call × List (List ℕ))
+unfoldable pub behind_at : Verb → List (List ℕ) → Reading (Call × List (List ℕ))
 behind_at verb.Send words = send_at words
 behind_at verb.Receive words = receive_at words
 behind_at v words = plain_at v words
 
 -- the call in front
-unfoldable pub call_at : List (List ℕ) → Option (Call × List (List ℕ))
-call_at [] = None
-call_at (word ∷ words) = find (λ v. bytes_eq (verb_word v) word) all_verbs >>= λ v. behind_at v words
+unfoldable pub call_at : List (List ℕ) → Reading (Call × List (List ℕ))
+call_at [] = stop expected.CallName []
+call_at (word ∷ words) = wanted expected.CallName (word ∷ words) (find (λ v. bytes_eq (verb_word v) word) all_verbs) >>= λ v. behind_at v words

@@ -16,6 +16,10 @@ name_of kind.Disposition n =
     else if n == 19 then Some (codes "copy_send") else if n == 20 then Some (codes "make_send") else if n == 21 then Some (codes "make_send_once") else None
 name_of kind.Notification n =
     if n == 69 then Some (codes "port_destroyed") else if n == 70 then Some (codes "no_senders") else if n == 72 then Some (codes "dead_name") else None
+name_of kind.Element n =
+    if n == 2 then Some (codes "words") else if n == 16 then Some (codes "move_receive") else if n == 17 then Some (codes "move_send")
+    else if n == 18 then Some (codes "move_send_once") else if n == 19 then Some (codes "copy_send") else if n == 20 then Some (codes "make_send")
+    else if n == 21 then Some (codes "make_send_once") else None
 name_of k n = None
 
 -- a number that no word stands for

@@ -1,6 +1,7 @@
 pub mod Bytes
 pub mod Calls
 pub mod Codes
+pub mod Items
 pub mod Kinds
 pub mod Lines
 pub mod Messages

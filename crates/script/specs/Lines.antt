@@ -1,16 +1,20 @@
 -- Lines.
-use Rattle.std.specs.Prelude.{◌≡◌, ℕ, ◌≤◌, List, [], ◌∷◌, ◌++◌, Option, None, Some, Result, Ok, Err}
+use Rattle.std.specs.Prelude.{◌≡◌, ℕ, ◌-◌, List, [], ◌∷◌, ◌++◌, length, Option, None, Some, Result, Ok, Err}
 use Rattle.ipc_model.specs.calls.Step.{number_of_call}
 use Rattle.ipc_model.specs.texts.Texts.{number_of_reply, FitsReply}
 use Rattle.ipc_model.specs.declared.call.Call.{Call}
+use Rattle.script.specs.declared.fault.Expected.TheVariants.{End}
+use Rattle.script.specs.declared.fault.Fault.{Fault}
+use Rattle.script.specs.declared.fault.Fault.TheVariants as fault
 use Rattle.script.specs.declared.fault.LineFault.{LineFault}
 use Rattle.script.specs.declared.fault.LineFault.TheVariants as line_fault
 use Rattle.ipc_model.specs.declared.call.Reply.{Reply}
+use Rattle.script.specs.declared.fault.Stop.{Stop}
 use Rattle.script.specs.declared.line.Exchange.{Exchange}
 use Rattle.script.specs.Calls.{call_words, call_at, HasLine}
-use Rattle.script.specs.Reading.{◌>>=◌}
+use Rattle.script.specs.Reading.{Reading, ◌>>=◌, stop}
 use Rattle.script.specs.Replies.{reply_words, reply_at, IsOwn}
-use Rattle.script.specs.Spaced.{line_of, spaced}
+use Rattle.script.specs.Spaced.{words_of, column_of, line_of, spaced}
 
 -- A call and what it answered have a line.
 pub record IsExchange (x : Exchange) : Type 0 where
@@ -31,25 +35,48 @@ exchange_line x = line_of (exchange_words x)
 abbrev pub reply_line : Reply → List ℕ
 reply_line r = spaced (reply_words r)
 
-unfoldable pub exchange_at : List (List ℕ) → Option Exchange
+-- the call of a line and what it answered
+unfoldable pub exchange_at : List (List ℕ) → Reading Exchange
 exchange_at words = do
   c ← call_at words
   r ← reply_at (number_of_call c.0) c.1
-  Some (record { call = c.0; reply = r })
+  Ok (record { call = c.0; reply = r })
 
-unfoldable pub request_at : List (List ℕ) → Option Call
-request_at words = call_at words >>= λ c. elim c.1 [ [] ↦ Some c.0 | word ∷ rest ↦ None ]
+-- the call of a line that tells no answer
+unfoldable pub request_at : List (List ℕ) → Reading Call
+request_at words = call_at words >>= λ c. elim c.1 [ [] ↦ Ok c.0 | word ∷ rest ↦ stop End (word ∷ rest) ]
+
+-- the fault of a line: how many bytes stand in front of the first word that isn't understood, and what was expected
+abbrev pub fault_at : List ℕ → Stop → LineFault
+fault_at line place = line_fault.Unreadable (column_of (length (words_of line) - place.left) line) place.expected
+
+abbrev pub fault_of : List ℕ → Fault → LineFault
+fault_of line (fault.Unreadable place) = fault_at line place
+fault_of line fault.NoMemory = line_fault.NoMemory
+
+abbrev pub on_line : {X : Type 0} → List ℕ → Reading X → Result X LineFault
+on_line line (Ok x) = Ok x
+on_line line (Err place) = Err (fault_at line place)
+
+abbrev pub words_read : List ℕ → List (List ℕ) → Result (Option Exchange) LineFault
+words_read line [] = Ok None
+words_read line (word ∷ words) = on_line line (exchange_at (word ∷ words)) >>= λ x. Ok (Some x)
+
+-- what a line says: nothing, where it has no words, else a call with its answer; or its fault
+unfoldable pub line_read : List ℕ → Result (Option Exchange) LineFault
+line_read line = words_read line (words_of line)
+
+-- the same of a line that is to hold a call alone
+abbrev pub request_read : List ℕ → Result Call LineFault
+request_read line = on_line line (request_at (words_of line))
+
+-- It is what is said, or memory ran out.
+abbrev pub UnlessMemory : {X : Type 0} → Result X LineFault → Result X LineFault → Type 0
+UnlessMemory (Ok x) said = said ≡ Ok x
+UnlessMemory (Err (line_fault.Unreadable column expected)) said = said ≡ Err (line_fault.Unreadable column expected)
+UnlessMemory (Err line_fault.NoMemory) said = Unit {0}
 
 -- It is read, unless memory runs out.
 abbrev pub IsRead : {X : Type 0} → Result X LineFault → X → Type 0
 IsRead (Ok found) x = found ≡ x
 IsRead (Err fault) x = fault ≡ line_fault.NoMemory
-
--- The place of a fault is within the line.
-abbrev pub IsWithin : LineFault → ℕ → Type 0
-IsWithin (line_fault.Unreadable column expected) n = column ≤ n
-IsWithin line_fault.NoMemory n = Unit {0}
-
-abbrev pub IsUnreadable : LineFault → Type 0
-IsUnreadable (line_fault.Unreadable column expected) = Unit {0}
-IsUnreadable line_fault.NoMemory = ⊥

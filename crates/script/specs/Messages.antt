@@ -1,13 +1,15 @@
 -- Messages in words.
-use Rattle.std.specs.Prelude.{ℕ, ◌+◌, ◌*◌, ◌/◌, ◌%◌, nat_lt, nat_le, Bool, ◌==◌, ◌&&◌, List, [], ◌∷◌, ◌++◌, length, drop, Option, None, Some, codes, if◌then◌else◌}
+use Rattle.std.specs.Prelude.{ℕ, ◌+◌, ◌*◌, ◌/◌, ◌%◌, nat_lt, nat_le, Bool, ◌==◌, ◌&&◌, List, [], ◌∷◌, ◌++◌, length, drop, Option, None, Some, Ok, codes, if◌then◌else◌}
 use Rattle.byteorder.specs.Endian.{little_number}
 use Rattle.script.specs.declared.kind.Kind.{Kind}
 use Rattle.script.specs.declared.kind.Kind.TheVariants.{Hexadecimal, Decimal, Disposition}
 use Rattle.script.specs.declared.message.Header.{Header}
 use Rattle.script.specs.declared.message.Rights.{Rights}
-use Rattle.script.specs.Bytes.{bytes_word, bytes_at, optional_bytes_at}
+use Rattle.script.specs.Bytes.{bytes_word, bytes_at}
+use Rattle.script.specs.Items.{body_words, body_at}
 use Rattle.script.specs.Kinds.{value_word}
-use Rattle.script.specs.Reading.{◌>>=◌, value_at, label_at, labelled_at, optional_at, flag_at}
+use Rattle.script.specs.declared.fault.Expected.TheVariants as expected
+use Rattle.script.specs.Reading.{Reading, ◌>>=◌, value_at, bounded_at, label_at, labelled_at, optional_at, flag_at}
 use Rattle.words.specs.Words.{word}
 
 -- a number behind its label, where it isn't 0
@@ -21,11 +23,6 @@ flag_words label holds = if holds then label ∷ [] else []
 -- the right to reply by, where there is something of it
 unfoldable pub local_words : ℕ → ℕ → List (List ℕ)
 local_words disposition name = if disposition == 0 && name == 0 then [] else codes "local" ∷ value_word Disposition disposition ∷ value_word Hexadecimal name ∷ []
-
--- bytes behind their label, where there are some
-unfoldable pub optional_bytes : List ℕ → List ℕ → List (List ℕ)
-optional_bytes label [] = []
-optional_bytes label (b ∷ bytes) = label ∷ bytes_word (b ∷ bytes) ∷ []
 
 -- the six words that a message begins with
 abbrev pub header_of : List ℕ → Header
@@ -53,40 +50,36 @@ header_words h =
 unfoldable pub message_words : List ℕ → List (List ℕ)
 message_words message =
     if nat_lt (length message) 24 then codes "bytes" ∷ bytes_word message ∷ []
-    else header_words (header_of message) ++ optional_bytes (codes "data") (drop 24 message)
-
--- a number below a bound
-unfoldable pub bounded_at : Kind → ℕ → List (List ℕ) → Option (ℕ × List (List ℕ))
-bounded_at k bound words = value_at k words >>= λ n. if nat_lt n.0 bound then Some n else None
+    else header_words (header_of message) ++ body_words (drop 24 message)
 
 -- the bits that stand for nothing
-unfoldable pub further_at : List (List ℕ) → Option (ℕ × List (List ℕ))
-further_at words = elim (label_at (codes "bits") words) [ None ↦ Some (0, words) | Some rest ↦ bounded_at Hexadecimal 0x8000 rest ]
+unfoldable pub further_at : List (List ℕ) → Reading (ℕ × List (List ℕ))
+further_at words = elim (label_at (codes "bits") words) [ None ↦ Ok (0, words) | Some rest ↦ bounded_at expected.Number Hexadecimal 0x8000 rest ]
 
-unfoldable pub local_at : List (List ℕ) → Option (ℕ × ℕ × List (List ℕ))
+unfoldable pub local_at : List (List ℕ) → Reading (ℕ × ℕ × List (List ℕ))
 local_at words = elim (label_at (codes "local") words) [
-  | None ↦ Some (0, 0, words)
-  | Some rest ↦ bounded_at Disposition 0x100 rest >>= λ d. value_at Hexadecimal d.1 >>= λ n. Some (d.0, n.0, n.1)
+  | None ↦ Ok (0, 0, words)
+  | Some rest ↦ bounded_at expected.Number Disposition 0x100 rest >>= λ d. value_at Hexadecimal d.1 >>= λ n. Ok (d.0, n.0, n.1)
 ]
 
-unfoldable pub rights_at : List (List ℕ) → Option (Rights × List (List ℕ))
+unfoldable pub rights_at : List (List ℕ) → Reading (Rights × List (List ℕ))
 rights_at words = do
-  d ← bounded_at Disposition 0x100 words
+  d ← bounded_at expected.Message Disposition 0x100 words
   remote ← value_at Hexadecimal d.1
   local ← local_at remote.1
-  Some (record { remote_disposition = d.0; remote = remote.0; local_disposition = local.0; local = local.1 }, local.2)
+  Ok (record { remote_disposition = d.0; remote = remote.0; local_disposition = local.0; local = local.1 }, local.2)
 
 abbrev pub bits_of : Rights → ℕ → Bool → ℕ
 bits_of rights further complex = rights.remote_disposition + rights.local_disposition * 0x100 + further * 0x1_0000 + (if complex then 0x8000_0000 else 0)
 
-unfoldable pub header_at : List (List ℕ) → Option (Header × List (List ℕ))
+unfoldable pub header_at : List (List ℕ) → Reading (Header × List (List ℕ))
 header_at words = do
   rights ← rights_at words
   id ← labelled_at (codes "id") Decimal rights.1
   further ← further_at (flag_at (codes "complex") id.1).1
   size ← optional_at (codes "size") Decimal further.1
   seqno ← optional_at (codes "seqno") Decimal size.1
-  Some (
+  Ok (
     record {
       bits = bits_of rights.0 further.0 (flag_at (codes "complex") id.1).0;
       size = size.0;
@@ -98,8 +91,8 @@ header_at words = do
     seqno.1,
   )
 
-unfoldable pub message_at : List (List ℕ) → Option (List ℕ × List (List ℕ))
+unfoldable pub message_at : List (List ℕ) → Reading (List ℕ × List (List ℕ))
 message_at words = elim (label_at (codes "bytes") words) [
   | Some rest ↦ bytes_at rest
-  | None ↦ header_at words >>= λ h. optional_bytes_at (codes "data") h.1 >>= λ b. Some (header_text h.0 b.0, b.1)
+  | None ↦ header_at words >>= λ h. body_at h.1 >>= λ b. Ok (header_text h.0 b.0, b.1)
 ]

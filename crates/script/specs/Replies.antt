@@ -1,5 +1,5 @@
 -- What calls answered, in words.
-use Rattle.std.specs.Prelude.{◌≢◌, ℕ, Bool, true, false, ◌==◌, ◌&&◌, ◌||◌, not, IsTrue, List, [], ◌∷◌, ◌++◌, length, flat_map, map, find, Option, None, Some, codes, if◌then◌else◌}
+use Rattle.std.specs.Prelude.{◌≢◌, ℕ, Bool, true, false, ◌==◌, ◌&&◌, ◌||◌, not, IsTrue, List, [], ◌∷◌, ◌++◌, length, flat_map, map, find, Option, None, Some, Ok, codes, if◌then◌else◌}
 use Rattle.std.specs.Str.{bytes_eq}
 use Rattle.codes.specs.declared.kern_return.KernReturn.{KernReturn}
 use Rattle.codes.specs.declared.kern_return.KernReturn.TheVariants.{Success}
@@ -13,9 +13,9 @@ use Rattle.script.specs.declared.kind.Kind.{Kind}
 use Rattle.script.specs.declared.kind.Kind.TheVariants.{Hexadecimal, Decimal}
 use Rattle.script.specs.Calls.{name_word, count_word}
 use Rattle.script.specs.Codes.{code_word, all_codes}
-use Rattle.script.specs.Kinds.{read_word}
 use Rattle.script.specs.Messages.{message_words, message_at, optional_words}
-use Rattle.script.specs.Reading.{◌>>=◌, value_at, label_at, labelled_at, optional_at, last}
+use Rattle.script.specs.declared.fault.Expected.TheVariants as expected
+use Rattle.script.specs.Reading.{Reading, ◌>>=◌, stop, wanted, value_at, label_at, labelled_at, optional_at, last}
 
 unfoldable pub yes_or_no : Bool → List ℕ
 yes_or_no b = if b then codes "yes" else codes "no"
@@ -81,25 +81,25 @@ reply_words (reply.Done number) = []
 reply_words (reply.Message code size member message) = message_reply_words code size member message
 reply_words answer = codes "=" ∷ result_words answer
 
-unfoldable pub yes_or_no_at : List (List ℕ) → Option (Bool × List (List ℕ))
+unfoldable pub yes_or_no_at : List (List ℕ) → Reading (Bool × List (List ℕ))
 yes_or_no_at words = elim (label_at (codes "yes") words) [
-  | Some rest ↦ Some (true, rest)
-  | None ↦ label_at (codes "no") words >>= λ rest. Some (false, rest)
+  | Some rest ↦ Ok (true, rest)
+  | None ↦ wanted expected.YesOrNo words (label_at (codes "no") words) >>= λ rest. Ok (false, rest)
 ]
 
-unfoldable pub answer_at : List ℕ → List (List ℕ) → Option (Bool × List (List ℕ))
-answer_at label words = label_at label words >>= λ rest. yes_or_no_at rest
+unfoldable pub answer_at : List ℕ → List (List ℕ) → Reading (Bool × List (List ℕ))
+answer_at label words = wanted expected.Label words (label_at label words) >>= λ rest. yes_or_no_at rest
 
-unfoldable pub kind_at : List (List ℕ) → Option (RightKind × List (List ℕ))
+unfoldable pub kind_at : List (List ℕ) → Reading (RightKind × List (List ℕ))
 kind_at words = elim (label_at (codes "receive") words) [
-  | Some rest ↦ Some (right.Receive, rest)
+  | Some rest ↦ Ok (right.Receive, rest)
   | None ↦ elim (label_at (codes "send") words) [
-    | Some rest ↦ Some (right.Send, rest)
-    | None ↦ label_at (codes "send_once") words >>= λ rest. Some (right.SendOnce, rest)
+    | Some rest ↦ Ok (right.Send, rest)
+    | None ↦ wanted expected.RightKind words (label_at (codes "send_once") words) >>= λ rest. Ok (right.SendOnce, rest)
   ]
 ]
 
-unfoldable pub counts_at : List (List ℕ) → Option (ReceiveStatus × List (List ℕ))
+unfoldable pub counts_at : List (List ℕ) → Reading (ReceiveStatus × List (List ℕ))
 counts_at words = do
   set ← labelled_at (codes "set") Hexadecimal words
   seqno ← labelled_at (codes "seqno") Decimal set.1
@@ -107,7 +107,7 @@ counts_at words = do
   qlimit ← labelled_at (codes "qlimit") Decimal mscount.1
   messages ← labelled_at (codes "messages") Decimal qlimit.1
   send_once ← labelled_at (codes "send_once") Decimal messages.1
-  Some (
+  Ok (
     record {
       set = set.0;
       sequence_number = seqno.0;
@@ -122,98 +122,98 @@ counts_at words = do
     send_once.1,
   )
 
-unfoldable pub status_at : List (List ℕ) → Option (ReceiveStatus × List (List ℕ))
+unfoldable pub status_at : List (List ℕ) → Reading (ReceiveStatus × List (List ℕ))
 status_at words = do
   counts ← counts_at words
   senders ← answer_at (codes "senders") counts.1
   port_destroyed ← answer_at (codes "port_destroyed") senders.1
   no_senders ← answer_at (codes "no_senders") port_destroyed.1
-  Some (record counts.0 { has_senders = senders.0; has_port_destroyed_request = port_destroyed.0; has_no_senders_request = no_senders.0 }, no_senders.1)
+  Ok (record counts.0 { has_senders = senders.0; has_port_destroyed_request = port_destroyed.0; has_no_senders_request = no_senders.0 }, no_senders.1)
 
-abbrev pub in_front_of : {X : Type 0} → X → Option (List X) → Option (List X)
-in_front_of x read = read >>= λ xs. Some (x ∷ xs)
+abbrev pub in_front_of : {X : Type 0} → X → Reading (List X) → Reading (List X)
+in_front_of x read = read >>= λ xs. Ok (x ∷ xs)
 
 -- a name and its type, if a word is left
-unfoldable pub named_at : List (List ℕ) → Option (Option (NamedType × List (List ℕ)))
-named_at [] = Some None
-named_at (word ∷ words) = value_at Hexadecimal (word ∷ words) >>= λ n. value_at Hexadecimal n.1 >>= λ b. Some (Some (record { name = n.0; bits = b.0 }, b.1))
+unfoldable pub named_at : List (List ℕ) → Reading (Option (NamedType × List (List ℕ)))
+named_at [] = Ok None
+named_at (word ∷ words) = value_at Hexadecimal (word ∷ words) >>= λ n. value_at Hexadecimal n.1 >>= λ b. Ok (Some (record { name = n.0; bits = b.0 }, b.1))
 
-unfoldable pub member_at : List (List ℕ) → Option (Option (ℕ × List (List ℕ)))
-member_at [] = Some None
-member_at (word ∷ words) = value_at Hexadecimal (word ∷ words) >>= λ n. Some (Some (n.0, n.1))
+unfoldable pub member_at : List (List ℕ) → Reading (Option (ℕ × List (List ℕ)))
+member_at [] = Ok None
+member_at (word ∷ words) = value_at Hexadecimal (word ∷ words) >>= λ n. Ok (Some (n.0, n.1))
 
 -- all words, in pairs
-unfoldable pub names_at : List (List ℕ) → Option (List NamedType)
-names_at [] = Some []
-names_at (word ∷ []) = None
-names_at (word ∷ second ∷ words) = read_word Hexadecimal word >>= λ n. read_word Hexadecimal second >>= λ b. in_front_of (record { name = n; bits = b }) (names_at words)
+unfoldable pub names_at : List (List ℕ) → Reading (List NamedType)
+names_at [] = Ok []
+names_at (word ∷ []) = value_at Hexadecimal (word ∷ []) >>= λ n. stop expected.Number []
+names_at (word ∷ second ∷ words) = value_at Hexadecimal (word ∷ second ∷ words) >>= λ n. value_at Hexadecimal (second ∷ words) >>= λ b. in_front_of (record { name = n.0; bits = b.0 }) (names_at words)
 
-unfoldable pub members_at : List (List ℕ) → Option (List ℕ)
-members_at [] = Some []
-members_at (word ∷ words) = read_word Hexadecimal word >>= λ n. in_front_of n (members_at words)
+unfoldable pub members_at : List (List ℕ) → Reading (List ℕ)
+members_at [] = Ok []
+members_at (word ∷ words) = value_at Hexadecimal (word ∷ words) >>= λ n. in_front_of n.0 (members_at words)
 
-unfoldable pub received_at : List (List ℕ) → Option (List ℕ × List (List ℕ))
-received_at words = elim (label_at (codes "message") words) [ None ↦ Some ([], words) | Some rest ↦ message_at rest ]
+unfoldable pub received_at : List (List ℕ) → Reading (List ℕ × List (List ℕ))
+received_at words = elim (label_at (codes "message") words) [ None ↦ Ok ([], words) | Some rest ↦ message_at rest ]
 
-unfoldable pub message_reply_at : KernReturn → List (List ℕ) → Option Reply
+unfoldable pub message_reply_at : KernReturn → List (List ℕ) → Reading Reply
 message_reply_at code words = do
   size ← optional_at (codes "size") Decimal words
   member ← optional_at (codes "member") Hexadecimal size.1
   message ← received_at member.1
   last (reply.Message code size.0 member.0 message.0, message.1)
 
-unfoldable pub last_value : Kind → List (List ℕ) → Option ℕ
+unfoldable pub last_value : Kind → List (List ℕ) → Reading ℕ
 last_value k words = value_at k words >>= λ n. last n
 
-unfoldable pub extracted_at : List (List ℕ) → Option Reply
+unfoldable pub extracted_at : List (List ℕ) → Reading Reply
 extracted_at words = do
   name ← value_at Hexadecimal words
   kind ← kind_at name.1
   last (reply.Extracted name.0 kind.0, kind.1)
 
-unfoldable pub space_created_at : List (List ℕ) → Option Reply
+unfoldable pub space_created_at : List (List ℕ) → Reading Reply
 space_created_at words = do
   space ← labelled_at (codes "space") Decimal words
   name ← labelled_at (codes "name") Hexadecimal space.1
   last (reply.SpaceCreated space.0 name.0, name.1)
 
-unfoldable pub last_status_at : List (List ℕ) → Option Reply
+unfoldable pub last_status_at : List (List ℕ) → Reading Reply
 last_status_at words = status_at words >>= λ status. last (reply.ReceiveStatus status.0, status.1)
 
 -- the results of a call of this number
-unfoldable pub results_at : ℕ → List (List ℕ) → Option Reply
+unfoldable pub results_at : ℕ → List (List ℕ) → Reading Reply
 results_at n words =
-    if n == 1 then (names_at words >>= λ names. Some (reply.Names names))
-    else if n == 2 then (last_value Hexadecimal words >>= λ bits. Some (reply.Type bits))
-    else if n == 5 then (last_value Hexadecimal words >>= λ name. Some (reply.Allocate name))
-    else if n == 8 then (last_value Decimal words >>= λ count. Some (reply.References count))
+    if n == 1 then (names_at words >>= λ names. Ok (reply.Names names))
+    else if n == 2 then (last_value Hexadecimal words >>= λ bits. Ok (reply.Type bits))
+    else if n == 5 then (last_value Hexadecimal words >>= λ name. Ok (reply.Allocate name))
+    else if n == 8 then (last_value Decimal words >>= λ count. Ok (reply.References count))
     else if n == 13 then last_status_at words
-    else if n == 14 then (members_at words >>= λ members. Some (reply.SetStatus members))
-    else if n == 16 then (last_value Hexadecimal words >>= λ name. Some (reply.PreviousTarget name))
+    else if n == 14 then (members_at words >>= λ members. Ok (reply.SetStatus members))
+    else if n == 16 then (last_value Hexadecimal words >>= λ name. Ok (reply.PreviousTarget name))
     else if n == 18 then extracted_at words
     else if n == 19 then message_reply_at Success words
     else if n == 20 then space_created_at words
-    else None
+    else stop expected.End words
 
 -- a call of this number has results
 abbrev pub has_results : ℕ → Bool
 has_results n = n == 1 || n == 2 || n == 5 || n == 8 || n == 13 || n == 14 || n == 16 || n == 18 || n == 20
 
 -- what it is to tell nothing
-unfoldable pub silence : ℕ → Option Reply
-silence n = if has_results n then None else if n == 19 then Some (reply.Message Success 0 0 []) else Some (reply.Done n)
+unfoldable pub silence : ℕ → List (List ℕ) → Reading Reply
+silence n words = if has_results n then stop expected.Results words else if n == 19 then Ok (reply.Message Success 0 0 []) else Ok (reply.Done n)
 
-unfoldable pub refusal_at : ℕ → List (List ℕ) → Option Reply
-refusal_at n [] = None
-refusal_at n (word ∷ words) = find (λ code. bytes_eq (code_word code) word) all_codes >>= λ code. if n == 19 then message_reply_at code words else last (reply.Refused n code, words)
+unfoldable pub refusal_at : ℕ → List (List ℕ) → Reading Reply
+refusal_at n [] = stop expected.Code []
+refusal_at n (word ∷ words) = wanted expected.Code (word ∷ words) (find (λ code. bytes_eq (code_word code) word) all_codes) >>= λ code. if n == 19 then message_reply_at code words else last (reply.Refused n code, words)
 
 -- what a call of this number answered
-unfoldable pub reply_at : ℕ → List (List ℕ) → Option Reply
-reply_at n [] = silence n
+unfoldable pub reply_at : ℕ → List (List ℕ) → Reading Reply
+reply_at n [] = silence n []
 reply_at n (word ∷ words) =
     if bytes_eq word (codes "=") then results_at n words
     else if bytes_eq word (codes "!") then refusal_at n words
-    else None
+    else stop expected.Results (word ∷ words)
 
 -- the reply is one of a call of its own number
 abbrev pub IsOwn : Reply → Type 0

@@ -1,8 +1,13 @@
 -- Scripts: lines one under another.
-use Rattle.std.specs.Prelude.{ℕ, ◌+◌, Bool, not, ◌==◌, List, [], ◌∷◌, ◌++◌, All, flat_map}
+use Rattle.std.specs.Prelude.{◌≡◌, ℕ, ◌+◌, Bool, not, ◌==◌, List, [], ◌∷◌, ◌++◌, All, flat_map, Option, None, Some, Result, Ok, Err, if◌then◌else◌}
+use Rattle.script.specs.declared.fault.LineFault.{LineFault}
+use Rattle.script.specs.declared.fault.LineFault.TheVariants as line_fault
+use Rattle.script.specs.declared.fault.ScriptFault.{ScriptFault}
 use Rattle.script.specs.declared.line.Exchange.{Exchange}
 use Rattle.script.specs.declared.text.Line.{Line}
-use Rattle.script.specs.Lines.{exchange_line, IsExchange}
+use Rattle.script.specs.Lines.{exchange_line, line_read, IsExchange}
+use Rattle.script.specs.Reading.{◌>>=◌}
+use Rattle.script.specs.Spaced.{in_front}
 
 -- a byte of a line
 abbrev pub in_line : ℕ → Bool
@@ -19,3 +24,35 @@ numbered n (x ∷ xs) = record { number = n; exchange = x } ∷ numbered (n + 1)
 
 abbrev pub AreExchanges : List Exchange → Type 0
 AreExchanges xs = All IsExchange xs
+
+-- the lines of a text without their ends; behind the last end there is none
+unfoldable pub lines_of : List ℕ → List (List ℕ)
+lines_of [] = []
+lines_of (c ∷ cs) = if c == 10 then [] ∷ lines_of cs else in_front c (lines_of cs)
+
+-- what a line of a number says, in front of what those below it say
+abbrev pub and_below : ℕ → Result (Option Exchange) LineFault → Result (List Line) ScriptFault → Result (List Line) ScriptFault
+and_below n (Err fault) below = Err (record { line = n; fault = fault })
+and_below n (Ok None) below = below
+and_below n (Ok (Some x)) below = below >>= λ lines. Ok (record { number = n; exchange = x } ∷ lines)
+
+-- what lines say, of which the first has this number: each call with its line's number, or the fault of the first
+-- line that has one
+unfoldable pub lines_read : ℕ → List (List ℕ) → Result (List Line) ScriptFault
+lines_read n [] = Ok []
+lines_read n (line ∷ lines) = and_below n (line_read line) (lines_read (n + 1) lines)
+
+-- what a script says, line by line
+abbrev pub script_read : List ℕ → Result (List Line) ScriptFault
+script_read text = lines_read 1 (lines_of text)
+
+-- A line's call is added, if it has one.
+abbrev pub Adds : List Line → List Line → ℕ → Result (Option Exchange) LineFault → Type 0
+Adds old new n (Ok (Some x)) = new ≡ old ++ record { number = n; exchange = x } ∷ []
+Adds old new n (Ok None) = new ≡ old
+Adds old new n (Err fault) = ⊥
+
+-- A fault that isn't of memory is what is said.
+abbrev pub IsFault : {X F : Type 0} → LineFault → F → Result X F → Type 0
+IsFault (line_fault.Unreadable column expected) fault said = said ≡ Err fault
+IsFault line_fault.NoMemory fault said = Unit {0}

@@ -1,5 +1,5 @@
 ghost use Rattle.std.specs.Prelude.{◌≡◌, ◌++◌, [], ◌∷◌, OnOk};
-ghost use Rattle.script.specs.Bytes.{bytes_word, read_bytes, bytes_at, optional_bytes_at};
+ghost use Rattle.script.specs.Bytes.{bytes_word, read_bytes, bytes_at, optional_bytes, optional_bytes_at};
 ghost use Rattle.script.specs.Reading.{Gives};
 ghost use Rattle.script.specs.Spaced.{words_of, spaced};
 
@@ -52,4 +52,20 @@ pub(crate) fn push_bytes(line: &mut Vec<u8>, bytes: &[u8]) -> Result<(), AllocEr
     }
     let text = hex::encode(*line.allocator(), bytes)?;
     push_spaced(line, text.as_bytes())
+}
+
+#[tactic(auto, using(crate::proofs::WordsOf::spaced_laws), unfolding(crate::specs::Bytes::optional_bytes))]
+/// Adds bytes behind a word, if there are some.
+pub(crate) fn push_optional_bytes(
+    line: &mut Vec<u8>,
+    label: &[u8],
+    bytes: &[u8],
+) -> Result<(), AllocError>
+    ensures { OnOk result (line.new.items ≡ line.old.items ++ spaced (optional_bytes label.now bytes.now)) }
+{
+    if bytes.is_empty() {
+        return Ok(());
+    }
+    push_spaced(line, label)?;
+    push_bytes(line, bytes)
 }

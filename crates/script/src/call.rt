@@ -1,6 +1,7 @@
-ghost use Rattle.std.specs.Prelude.{◌≡◌, ◌++◌, OnOk};
+ghost use Rattle.std.specs.Prelude.{◌≡◌, ◌++◌, ◌∷◌, [], OnOk};
 ghost use Rattle.ipc_model.specs.declared.call.Call.TheVariants as call_variants;
-ghost use Rattle.script.specs.Calls.{verb_of, receive_words, argument_words, receive_at, send_at, behind_at, call_at};
+ghost use Rattle.script.specs.Calls.{verb_of, receive_words, pair_words, argument_words, receive_at, send_at, behind_at, call_at};
+ghost use Rattle.script.specs.Kinds.{value_word};
 ghost use Rattle.script.specs.Reading.{Gives};
 ghost use Rattle.script.specs.Spaced.{words_of, spaced};
 ghost use Rattle.script.specs.Verbs.{verb_word};
@@ -88,6 +89,48 @@ fn push_notification(
     )
 }
 
+/// Adds a name and another number.
+fn push_name_and(line: &mut Vec<u8>, name: u32, kind: Kind, number: u32) -> Result<(), AllocError>
+    ensures { OnOk result (line.new.items ≡ line.old.items ++ spaced (value_word Kind.Hexadecimal name ∷ value_word kind number ∷ [])) }
+{
+    push_two(line, (Kind::Hexadecimal, name), (kind, number))
+}
+
+#[tactic(auto, using(crate::proofs::WordsOf::spaced_laws))]
+/// Adds the words of the arguments of a call that has two, a name in front.
+fn push_pair(line: &mut Vec<u8>, call: &Call) -> Result<(), AllocError>
+    ensures { OnOk result (line.new.items ≡ line.old.items ++ spaced (pair_words call.now)) }
+{
+    match call {
+        Call::Rename { from, to } => push_name_and(line, *from, Kind::Hexadecimal, *to),
+        Call::GetRefs { name, right } => push_name_and(line, *name, Kind::Right, *right),
+        Call::SetQlimit { name, limit } => push_name_and(line, *name, Kind::Decimal, *limit),
+        Call::SetMscount { name, count } => push_name_and(line, *name, Kind::Decimal, *count),
+        Call::SetSeqno { name, seqno } => push_name_and(line, *name, Kind::Decimal, *seqno),
+        Call::MoveMember { member, after } => {
+            push_name_and(line, *member, Kind::Hexadecimal, *after)
+        }
+        Call::ExtractRight { name, disposition } | Call::SpaceCreate { name, disposition } => {
+            push_name_and(line, *name, Kind::Disposition, *disposition)
+        }
+        _ => Ok(()),
+    }
+}
+
+#[tactic(auto, using(crate::proofs::WordsOf::spaced_laws))]
+/// Adds the words of the arguments of an insertion of a right.
+fn push_insertion(
+    line: &mut Vec<u8>,
+    name: u32,
+    right_name: u32,
+    disposition: u32,
+) -> Result<(), AllocError>
+    ensures { OnOk result (line.new.items ≡ line.old.items ++ spaced (argument_words (call_variants.InsertRight name right_name disposition))) }
+{
+    push_name_and(line, name, Kind::Hexadecimal, right_name)?;
+    push_value(line, Kind::Disposition, disposition)
+}
+
 #[tactic(auto, using(crate::proofs::WordsOf::spaced_laws))]
 /// Adds the words of a call's arguments.
 fn push_arguments(line: &mut Vec<u8>, call: &Call) -> Result<(), AllocError>
@@ -102,34 +145,12 @@ fn push_arguments(line: &mut Vec<u8>, call: &Call) -> Result<(), AllocError>
         | Call::Deallocate { name }
         | Call::GetReceiveStatus { name }
         | Call::GetSetStatus { name } => push_value(line, Kind::Hexadecimal, *name),
-        Call::Rename { from, to } => {
-            push_two(line, (Kind::Hexadecimal, *from), (Kind::Hexadecimal, *to))
-        }
-        Call::MoveMember { member, after } => push_two(
-            line,
-            (Kind::Hexadecimal, *member),
-            (Kind::Hexadecimal, *after),
-        ),
         Call::AllocateName { right, name } => {
             push_two(line, (Kind::Right, *right), (Kind::Hexadecimal, *name))
         }
-        Call::GetRefs { name, right } => {
-            push_two(line, (Kind::Hexadecimal, *name), (Kind::Right, *right))
-        }
-        Call::ModRefs { name, right, delta } => push_three(
-            line,
-            (Kind::Hexadecimal, *name),
-            (Kind::Right, *right),
-            (Kind::Signed, *delta),
-        ),
-        Call::SetQlimit { name, limit } => {
-            push_two(line, (Kind::Hexadecimal, *name), (Kind::Decimal, *limit))
-        }
-        Call::SetMscount { name, count } => {
-            push_two(line, (Kind::Hexadecimal, *name), (Kind::Decimal, *count))
-        }
-        Call::SetSeqno { name, seqno } => {
-            push_two(line, (Kind::Hexadecimal, *name), (Kind::Decimal, *seqno))
+        Call::ModRefs { name, right, delta } => {
+            push_name_and(line, *name, Kind::Right, *right)?;
+            push_value(line, Kind::Signed, *delta)
         }
         Call::RequestNotification {
             name,
@@ -142,19 +163,7 @@ fn push_arguments(line: &mut Vec<u8>, call: &Call) -> Result<(), AllocError>
             name,
             right_name,
             disposition,
-        } => push_three(
-            line,
-            (Kind::Hexadecimal, *name),
-            (Kind::Hexadecimal, *right_name),
-            (Kind::Disposition, *disposition),
-        ),
-        Call::ExtractRight { name, disposition } | Call::SpaceCreate { name, disposition } => {
-            push_two(
-                line,
-                (Kind::Hexadecimal, *name),
-                (Kind::Disposition, *disposition),
-            )
-        }
+        } => push_insertion(line, *name, *right_name, *disposition),
         Call::Send { message } => push_message(line, message.as_slice()),
         Call::Receive {
             limit,
@@ -162,6 +171,7 @@ fn push_arguments(line: &mut Vec<u8>, call: &Call) -> Result<(), AllocError>
             name,
             waited,
         } => push_receive(line, *limit, *large, *name, *waited),
+        _ => push_pair(line, call),
     }
 }
 

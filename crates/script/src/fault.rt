@@ -1,3 +1,8 @@
+ghost use Rattle.std.specs.Prelude.{◌≡◌};
+ghost use Rattle.script.specs.Reading.{stop_at};
+ghost use Rattle.script.specs.Spaced.{words_of};
+
+use crate::spaced::count_words;
 use std::error::Error;
 use std::fmt;
 
@@ -10,8 +15,10 @@ pub enum Expected {
     Number,
     /// The bytes of a message, two hexadecimal digits each, or `none`.
     Bytes,
-    /// A message: its remote right's disposition, or `bytes`.
+    /// A message: the disposition of its remote right, or `bytes`.
     Message,
+    /// An item of at most 4095 elements: its type, or `bytes`.
+    Item,
     /// The name of a return code.
     Code,
     /// `=` and the results of the call, or `!` and a return code.
@@ -33,6 +40,7 @@ impl fmt::Display for Expected {
             Expected::Number => "a number or a word for one",
             Expected::Bytes => "bytes, two hexadecimal digits each, or none",
             Expected::Message => "a message",
+            Expected::Item => "an item of at most 4095 elements",
             Expected::Code => "a return code",
             Expected::Results => "what the call answered",
             Expected::Label => "the word for what follows",
@@ -48,8 +56,8 @@ impl fmt::Display for Expected {
 pub enum LineFault {
     /// Behind so many bytes of the line something else was expected.
     Unreadable {
-        /// How many bytes stand in front of it, at most as many as the line has.
-        column: u32,
+        /// How many bytes stand in front of it.
+        column: usize,
         /// What was expected there.
         expected: Expected,
     },
@@ -74,7 +82,7 @@ impl Error for LineFault {}
 #[derive(Clone, Copy, Debug, PartialEq, Eq)]
 pub struct ScriptFault {
     /// The number of the line, from 1.
-    pub line: u32,
+    pub line: usize,
     /// Why the line can't be read.
     pub fault: LineFault,
 }
@@ -89,21 +97,32 @@ impl fmt::Display for ScriptFault {
 
 impl Error for ScriptFault {}
 
-/// Why words can't be read, in front of what is left of the line.
+/// Where words can't be read.
+#[derive(Clone, Copy, Debug, PartialEq, Eq)]
+pub(crate) struct Stop {
+    /// How many words of the line are left there.
+    pub(crate) left: usize,
+    /// What was expected in front of them.
+    pub(crate) expected: Expected,
+}
+
+/// Why words can't be read.
 #[derive(Clone, Copy, Debug, PartialEq, Eq)]
 pub(crate) enum Fault {
-    /// Where so many bytes of the line were left, something else was expected.
-    Unreadable { left: usize, expected: Expected },
+    /// Something else was expected.
+    Unreadable(Stop),
     /// No memory for what is read.
     NoMemory,
 }
 
 impl Fault {
     /// That something else was expected in front of this text.
-    pub(crate) fn expected(expected: Expected, text: &[u8]) -> Fault {
-        Fault::Unreadable {
-            left: text.len(),
+    pub(crate) fn expected(expected: Expected, text: &[u8]) -> Fault
+        ensures { result ≡ Fault.Unreadable (stop_at expected (words_of text.now)) }
+    {
+        Fault::Unreadable(Stop {
+            left: count_words(text),
             expected,
-        }
+        })
     }
 }

@@ -23,6 +23,8 @@ pub(crate) enum Kind {
     Disposition,
     /// The number of a notification's variant, by its word.
     Notification,
+    /// The number of the type of an item of words, by its word.
+    Element,
     /// No number, which is read as 0 and takes no word.
     Absent,
 }
@@ -39,6 +41,7 @@ impl Kind {
             Kind::Right => right_name(number),
             Kind::Disposition => disposition_name(number),
             Kind::Notification => notification_name(number),
+            Kind::Element => element_name(number),
             _ => None,
         }
     }
@@ -104,6 +107,21 @@ fn disposition_name(number: u32) -> Option<&'static [u8]>
     ensures { option_copied result ≡ name_of Kind.Disposition number }
 {
     match number {
+        16 => Some(b"move_receive"),
+        17 => Some(b"move_send"),
+        18 => Some(b"move_send_once"),
+        19 => Some(b"copy_send"),
+        20 => Some(b"make_send"),
+        21 => Some(b"make_send_once"),
+        _ => None,
+    }
+}
+
+fn element_name(number: u32) -> Option<&'static [u8]>
+    ensures { option_copied result ≡ name_of Kind.Element number }
+{
+    match number {
+        2 => Some(b"words"),
         16 => Some(b"move_receive"),
         17 => Some(b"move_send"),
         18 => Some(b"move_send_once"),

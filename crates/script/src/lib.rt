@@ -5,6 +5,7 @@ mod bytes;
 mod call;
 mod code;
 mod fault;
+mod item;
 mod kind;
 mod line;
 mod message;

@@ -1,15 +1,15 @@
-ghost use Rattle.std.specs.Prelude.{◌≡◌, ◌++◌, [], length, None, Some, OnOk, OnErr, IfOk, IfErr, IfSome};
+ghost use Rattle.std.specs.Prelude.{◌≡◌, ◌++◌, [], None, Some, OnOk, OnErr};
 ghost use Rattle.ipc_model.specs.declared.call.Call.{Call};
 ghost use Rattle.script.specs.declared.line.Exchange.{Exchange};
 ghost use Rattle.script.specs.Calls.{call_words, call_line, HasLine};
-ghost use Rattle.script.specs.Lines.{exchange_words, exchange_line, exchange_at, request_at, reply_line, IsExchange, IsRead, IsUnreadable, IsWithin};
+ghost use Rattle.script.specs.Lines.{exchange_words, exchange_line, exchange_at, request_at, fault_of, line_read, request_read, reply_line, IsExchange, IsRead, UnlessMemory};
 ghost use Rattle.script.specs.Reading.{Gives};
 ghost use Rattle.script.specs.Spaced.{words_of};
 
 use crate::call::{push_call_words, read_call};
 use crate::fault::{Expected, Fault, LineFault};
 use crate::reply::{push_reply_words, read_reply};
-use crate::spaced::{column_of, take_word};
+use crate::spaced::{column_of, count_words, take_word};
 use ipc_model::{Call, Reply};
 use std::alloc::{AllocError, Global};
 
@@ -24,13 +24,12 @@ pub struct Exchange {
 
 /// The fault of a line.
 fn line_fault(line: &[u8], fault: Fault) -> LineFault
-    ensures column { IsWithin result (length line.now) }
-    ensures memory { fault ≡ Fault.NoMemory → result ≡ LineFault.NoMemory }
+    ensures { result ≡ fault_of line.now fault }
 {
     match fault {
-        Fault::Unreadable { left, expected } => LineFault::Unreadable {
-            column: column_of(line, left),
-            expected,
+        Fault::Unreadable(place) => LineFault::Unreadable {
+            column: column_of(line, count_words(line).saturating_sub(place.left)),
+            expected: place.expected,
         },
         Fault::NoMemory => LineFault::NoMemory,
     }
@@ -65,10 +64,8 @@ pub fn read_line(alloc: Global, line: &[u8]) -> Result<Option<Exchange>, LineFau
     // Whatever stands between the words, and with a comment behind them.
     ensures spaced { (x : Exchange) → IsExchange x → words_of line.now ≡ exchange_words x → IsRead result (Some x) }
     ensures blank { words_of line.now ≡ [] → result ≡ Ok None }
-    // Nothing else is read, and nothing that can be read is a fault but of memory.
-    ensures found { IfOk result (λ found. IfSome found (λ x. exchange_at (words_of line.now) ≡ Some x)) }
-    ensures unreadable { IfErr result (λ fault. IsUnreadable fault → exchange_at (words_of line.now) ≡ None) }
-    ensures column { IfErr result (λ fault. IsWithin fault (length line.now)) }
+    // Any other line too says what the grammar says of its words, or where it stops to be one and what it lacks there.
+    ensures read { UnlessMemory result (line_read line.now) }
 {
     let Some(_) = take_word(line) else {
         return Ok(None);
@@ -84,9 +81,7 @@ pub fn read_line(alloc: Global, line: &[u8]) -> Result<Option<Exchange>, LineFau
 pub fn read_request_line(alloc: Global, line: &[u8]) -> Result<Call, LineFault>
     ensures only { (c : Call) → HasLine c → line.now ≡ call_line c → IsRead result c }
     ensures spaced { (c : Call) → HasLine c → words_of line.now ≡ call_words c → IsRead result c }
-    ensures found { IfOk result (λ call. request_at (words_of line.now) ≡ Some call) }
-    ensures unreadable { IfErr result (λ fault. IsUnreadable fault → request_at (words_of line.now) ≡ None) }
-    ensures column { IfErr result (λ fault. IsWithin fault (length line.now)) }
+    ensures read { UnlessMemory result (request_read line.now) }
 {
     match read_request_words(alloc, line) {
         Ok(call) => Ok(call),

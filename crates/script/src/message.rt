@@ -1,15 +1,19 @@
 ghost use Rattle.std.specs.Prelude.{◌≡◌, ◌≤◌, ◌<◌, ◌++◌, [], ◌∷◌, length, drop, OnOk, IfOk, codes};
 ghost use Rattle.script.specs.Bytes.{bytes_word};
+ghost use Rattle.script.specs.Items.{body_words};
 ghost use Rattle.script.specs.Kinds.{value_word};
-ghost use Rattle.script.specs.Messages.{header_of, header_text, message_words, header_words, local_words, optional_words, flag_words, optional_bytes, bounded_at, further_at, rights_at, local_at, bits_of, message_at, header_at};
+ghost use Rattle.script.specs.Messages.{header_of, header_text, message_words, header_words, local_words, optional_words, flag_words, further_at, rights_at, local_at, bits_of, message_at, header_at};
 ghost use Rattle.script.specs.Reading.{Gives};
 ghost use Rattle.script.specs.Spaced.{words_of, spaced};
 
-use crate::bytes::{push_bytes, read_bytes, read_optional_bytes};
+use crate::bytes::{push_bytes, read_bytes};
 use crate::fault::{Expected, Fault};
+use crate::item::{push_body, read_body};
 use crate::kind::{Kind, push_value};
 use crate::spaced::push_spaced;
-use crate::values::{behind_label, push_two, read_flag, read_labelled, read_optional, read_value};
+use crate::values::{
+    behind_label, push_two, read_bounded, read_flag, read_labelled, read_optional, read_value,
+};
 use byteorder::{ByteOrder, LittleEndian};
 use std::alloc::{AllocError, Global};
 use words::push_word;
@@ -56,11 +60,11 @@ fn header_of(message: &[u8]) -> Header
 /// Adds the words of a message that has a whole header.
 fn push_whole(line: &mut Vec<u8>, message: &[u8]) -> Result<(), AllocError>
     requires { 24 ≤ length message.now }
-    ensures { OnOk result (line.new.items ≡ line.old.items ++ spaced (header_words (header_of message.now) ++ optional_bytes (codes "data") (drop 24 message.now))) }
+    ensures { OnOk result (line.new.items ≡ line.old.items ++ spaced (header_words (header_of message.now) ++ body_words (drop 24 message.now))) }
 {
     let header = header_of(message);
     push_header(line, &header)?;
-    push_optional_bytes(line, b"data", &message[HEADER_LENGTH..])
+    push_body(line, &message[HEADER_LENGTH..])
 }
 
 #[tactic(auto, using(crate::proofs::WordsOf::spaced_laws))]
@@ -82,18 +86,6 @@ pub(crate) fn push_message(line: &mut Vec<u8>, message: &[u8]) -> Result<(), All
     } else {
         push_whole(line, message)
     }
-}
-
-#[tactic(auto, using(crate::proofs::WordsOf::spaced_laws), unfolding(crate::specs::Messages::optional_bytes))]
-/// Adds bytes behind a word, if there are some.
-fn push_optional_bytes(line: &mut Vec<u8>, label: &[u8], bytes: &[u8]) -> Result<(), AllocError>
-    ensures { OnOk result (line.new.items ≡ line.old.items ++ spaced (optional_bytes label.now bytes.now)) }
-{
-    if bytes.is_empty() {
-        return Ok(());
-    }
-    push_spaced(line, label)?;
-    push_bytes(line, bytes)
 }
 
 #[tactic(auto, using(crate::proofs::WordsOf::spaced_laws), unfolding(crate::specs::Messages::header_words))]
@@ -169,20 +161,6 @@ pub(crate) fn push_flag(line: &mut Vec<u8>, label: &[u8], holds: bool) -> Result
     }
 }
 
-#[tactic(auto, unfolding(crate::specs::Messages::bounded_at))]
-/// The number in front, which is below a bound, and the text behind it.
-fn read_bounded(kind: Kind, bound: u32, text: &[u8]) -> Result<(u32, &[u8]), Fault>
-    ensures read { Gives (λ r. (r.0, words_of r.1.now)) result (bounded_at kind bound (words_of text.now)) }
-    ensures small { IfOk result (λ r. r.0 < bound) }
-{
-    let (number, rest) = read_value(kind, text)?;
-    if number < bound {
-        Ok((number, rest))
-    } else {
-        Err(Fault::expected(Expected::Number, text))
-    }
-}
-
 #[tactic(auto, unfolding(crate::specs::Messages::further_at))]
 /// The bits of a header that stand for nothing, or 0.
 fn read_further(text: &[u8]) -> Result<(u32, &[u8]), Fault>
@@ -190,7 +168,7 @@ fn read_further(text: &[u8]) -> Result<(u32, &[u8]), Fault>
     ensures small { IfOk result (λ r. r.0 < 0x8000) }
 {
     match behind_label(b"bits", text) {
-        Some(rest) => read_bounded(Kind::Hexadecimal, 0x8000, rest),
+        Some(rest) => read_bounded(Expected::Number, Kind::Hexadecimal, 0x8000, rest),
         None => Ok((0, text)),
     }
 }
@@ -204,7 +182,7 @@ fn read_local(text: &[u8]) -> Result<(u32, u32, &[u8]), Fault>
     let Some(text) = behind_label(b"local", text) else {
         return Ok((0, 0, text));
     };
-    let (disposition, rest) = read_bounded(Kind::Disposition, 0x100, text)?;
+    let (disposition, rest) = read_bounded(Expected::Number, Kind::Disposition, 0x100, text)?;
     let (name, rest) = read_value(Kind::Hexadecimal, rest)?;
     Ok((disposition, name, rest))
 }
@@ -215,7 +193,12 @@ fn read_rights(text: &[u8]) -> Result<(Rights, &[u8]), Fault>
     ensures read { Gives (λ r. (r.0, words_of r.1.now)) result (rights_at (words_of text.now)) }
     ensures small { IfOk result (λ r. (r.0.remote_disposition < 0x100) × (r.0.local_disposition < 0x100)) }
 {
-    let (remote_disposition, rest) = read_bounded(Kind::Disposition, 0x100, text)?;
+    let (remote_disposition, rest) = read_bounded(
+        Expected::Message,
+        Kind::Disposition,
+        0x100,
+        text,
+    )?;
     let (remote, rest) = read_value(Kind::Hexadecimal, rest)?;
     let (local_disposition, local, rest) = read_local(rest)?;
     let rights = Rights {
@@ -285,7 +268,7 @@ pub(crate) fn read_message(alloc: Global, text: &[u8]) -> Result<(Vec<u8>, &[u8]
         return read_bytes(alloc, rest);
     }
     let (header, rest) = read_header(text)?;
-    let (body, rest) = read_optional_bytes(alloc, b"data", rest)?;
+    let (body, rest) = read_body(alloc, rest)?;
     let Ok(message) = message_of(alloc, &header, body.as_slice()) else {
         return Err(Fault::NoMemory);
     };

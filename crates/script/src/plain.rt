@@ -1,5 +1,5 @@
 ghost use Rattle.std.specs.Prelude.{◌≡◌};
-ghost use Rattle.script.specs.Plain.{three_kinds, kinds_of, plain_call, arguments_at, plain_at};
+ghost use Rattle.script.specs.Plain.{three_kinds, kinds_of, short_call, pair_call, long_call, plain_call, arguments_at, plain_at};
 ghost use Rattle.script.specs.Reading.{Gives};
 ghost use Rattle.script.specs.Spaced.{words_of};
 
@@ -103,82 +103,102 @@ fn read_arguments(kinds: Kinds, text: &[u8]) -> Result<(Arguments, &[u8]), Fault
     Ok((arguments, rest))
 }
 
-/// The call of a verb with these arguments, of each but those of `mach_msg`.
-fn plain_call(verb: Verb, arguments: Arguments) -> Option<Call>
-    ensures { result ≡ plain_call verb arguments }
+/// The call of one argument or none.
+fn short_call(verb: Verb, first: u32) -> Option<Call>
+    ensures { result ≡ short_call verb first }
 {
-    let Arguments {
-        first,
-        second,
-        third,
-        fourth,
-        fifth,
-    } = arguments;
     Some(match verb {
         Verb::Attach => Call::Attach { space: first },
         Verb::Names => Call::Names,
         Verb::Type => Call::Type { name: first },
-        Verb::Rename => Call::Rename {
-            from: first,
-            to: second,
-        },
-        Verb::AllocateName => Call::AllocateName {
-            right: first,
-            name: second,
-        },
         Verb::Allocate => Call::Allocate { right: first },
         Verb::Destroy => Call::Destroy { name: first },
         Verb::Deallocate => Call::Deallocate { name: first },
-        Verb::GetRefs => Call::GetRefs {
-            name: first,
-            right: second,
+        Verb::GetReceiveStatus => Call::GetReceiveStatus { name: first },
+        Verb::GetSetStatus => Call::GetSetStatus { name: first },
+        Verb::SpaceDestroy => Call::SpaceDestroy,
+        _ => return None,
+    })
+}
+
+/// The call of two arguments, the first of which is a name in all but one.
+fn pair_call(verb: Verb, name: u32, second: u32) -> Option<Call>
+    ensures { result ≡ pair_call verb name second }
+{
+    let disposition = second;
+    Some(match verb {
+        Verb::Rename => Call::Rename {
+            from: name,
+            to: second,
         },
-        Verb::ModRefs => Call::ModRefs {
-            name: first,
+        Verb::AllocateName => Call::AllocateName {
+            right: name,
+            name: second,
+        },
+        Verb::GetRefs => Call::GetRefs {
+            name,
             right: second,
-            delta: third,
         },
         Verb::SetQlimit => Call::SetQlimit {
-            name: first,
+            name,
             limit: second,
         },
         Verb::SetMscount => Call::SetMscount {
-            name: first,
+            name,
             count: second,
         },
         Verb::SetSeqno => Call::SetSeqno {
-            name: first,
+            name,
             seqno: second,
         },
-        Verb::GetReceiveStatus => Call::GetReceiveStatus { name: first },
-        Verb::GetSetStatus => Call::GetSetStatus { name: first },
         Verb::MoveMember => Call::MoveMember {
-            member: first,
+            member: name,
             after: second,
         },
+        Verb::ExtractRight => Call::ExtractRight { name, disposition },
+        Verb::SpaceCreate => Call::SpaceCreate { name, disposition },
+        _ => return None,
+    })
+}
+
+/// The call of more arguments.
+fn long_call(verb: Verb, arguments: Arguments) -> Option<Call>
+    ensures { result ≡ long_call verb arguments }
+{
+    let name = arguments.first;
+    Some(match verb {
+        Verb::ModRefs => Call::ModRefs {
+            name,
+            right: arguments.second,
+            delta: arguments.third,
+        },
         Verb::RequestNotification => Call::RequestNotification {
-            name: first,
-            variant: second,
-            sync: third,
-            notify: fourth,
-            disposition: fifth,
+            name,
+            variant: arguments.second,
+            sync: arguments.third,
+            notify: arguments.fourth,
+            disposition: arguments.fifth,
         },
         Verb::InsertRight => Call::InsertRight {
-            name: first,
-            right_name: second,
-            disposition: third,
+            name,
+            right_name: arguments.second,
+            disposition: arguments.third,
         },
-        Verb::ExtractRight => Call::ExtractRight {
-            name: first,
-            disposition: second,
-        },
-        Verb::SpaceCreate => Call::SpaceCreate {
-            name: first,
-            disposition: second,
-        },
-        Verb::SpaceDestroy => Call::SpaceDestroy,
-        Verb::Send | Verb::Receive => return None,
+        _ => return None,
     })
+}
+
+/// The call of a verb with these arguments, of each but those of `mach_msg`.
+fn plain_call(verb: Verb, arguments: Arguments) -> Option<Call>
+    ensures { result ≡ plain_call verb arguments }
+{
+    if let Some(call) = short_call(verb, arguments.first) {
+        return Some(call);
+    }
+    if let Some(call) = pair_call(verb, arguments.first, arguments.second) {
+        return Some(call);
+    }
+    long_call(verb, arguments)
 }
 
 #[tactic(auto, unfolding(crate::specs::Plain::plain_at))]

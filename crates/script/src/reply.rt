@@ -453,7 +453,7 @@ fn read_results(alloc: Global, number: u32, text: &[u8]) -> Result<Reply, Fault>
 #[tactic(auto, unfolding(crate::specs::Replies::silence))]
 /// What the call of a number answered that isn't told.
 fn read_silence(alloc: Global, number: u32, text: &[u8]) -> Result<Reply, Fault>
-    ensures { Gives (λ r. r) result (silence number) }
+    ensures { Gives (λ r. r) result (silence number (words_of text.now)) }
 {
     match number {
         1 | 2 | 5 | 8 | 13 | 14 | 16 | 18 | 20 => Err(Fault::expected(Expected::Results, text)),

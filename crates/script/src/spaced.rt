@@ -1,6 +1,6 @@
 ghost use Rattle.std.specs.Prelude.{◌≡◌, ◌<◌, ◌≤◌, ◌∷◌, [], ◌++◌, OnOk, length, take, drop, MatchOption, Option, None, Some};
 ghost use Rattle.std.specs.List.{prefix_len};
-ghost use Rattle.script.specs.Spaced.{is_space, is_word_byte, words_of, spaced};
+ghost use Rattle.script.specs.Spaced.{is_space, is_word_byte, words_of, word_end, column_of, spaced};
 
 use std::alloc::AllocError;
 
@@ -42,23 +42,42 @@ pub(crate) fn push_spaced(line: &mut Vec<u8>, word: &[u8]) -> Result<(), AllocEr
     line.extend_from_slice(word)
 }
 
-/// Where the first word stands behind so many bytes of a line.
-fn word_start(line: &[u8], front: usize) -> usize
-    requires { front ≤ length line.now }
-    ensures { result ≤ length line.now }
+/// How many words a text has.
+pub(crate) fn count_words(text: &[u8]) -> usize
+    ensures { result ≡ length (words_of text.now) }
 {
-    let (_, rest) = line.split_at(front);
-    front + count_spaces(rest)
+    let mut count = 0;
+    let mut rest = text;
+    while let Some((_, behind)) = take_word(rest) {
+        count += 1;
+        rest = behind;
+    }
+    count
 }
 
-/// How many bytes of a line stand in front of the word before which so many bytes were left.
-pub(crate) fn column_of(line: &[u8], left: usize) -> u32
-    ensures { result ≤ length line.now }
+/// How many bytes the first word has, with the spaces in front of it.
+fn word_end(text: &[u8]) -> usize
+    ensures end { result ≡ word_end text.now }
+    ensures within { result ≤ length text.now }
 {
-    let start = word_start(line, line.len().saturating_sub(left));
-    if start < 0xffff_ffff {
-        start as u32
-    } else {
-        0xffff_ffff
+    let spaces = count_spaces(text);
+    let (_, behind) = text.split_at(spaces);
+    spaces + count_word_bytes(behind)
+}
+
+/// How many bytes of a line stand in front of what follows so many words, its spaces among them.
+pub(crate) fn column_of(line: &[u8], words: usize) -> usize
+    ensures { result ≡ column_of words line.now }
+{
+    let mut column = 0;
+    let mut rest = line;
+    let mut left = words;
+    while left > 0 {
+        let end = word_end(rest);
+        let (_, behind) = rest.split_at(end);
+        column += end;
+        rest = behind;
+        left -= 1;
     }
+    column + count_spaces(rest)
 }

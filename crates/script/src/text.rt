@@ -1,8 +1,8 @@
-ghost use Rattle.std.specs.Prelude.{◌≡◌, ◌<◌, ◌^◌, ◌∷◌, [], ◌++◌, List, length, take, drop, MatchResult};
+ghost use Rattle.std.specs.Prelude.{◌≡◌, List, take, drop, MatchResult};
 ghost use Rattle.std.specs.List.{prefix_len};
 ghost use Rattle.script.specs.declared.line.Exchange.{Exchange};
-ghost use Rattle.script.specs.Lines.{exchange_line, IsExchange};
-ghost use Rattle.script.specs.Scripts.{in_line, script_text, numbered, AreExchanges};
+ghost use Rattle.script.specs.Lines.{line_read};
+ghost use Rattle.script.specs.Scripts.{in_line, script_text, numbered, script_read, Adds, IsFault, AreExchanges};
 
 use crate::fault::{LineFault, ScriptFault};
 use crate::line::{Exchange, read_line};
@@ -12,7 +12,7 @@ use std::alloc::Global;
 #[derive(Debug, Drop)]
 pub struct Line {
     /// The line's number, from 1.
-    pub number: u32,
+    pub number: usize,
     /// The call of the line, and what it answered.
     pub exchange: Exchange,
 }
@@ -44,9 +44,13 @@ fn first_line(text: &[u8]) -> (&[u8], &[u8])
 }
 
 /// Adds the call of a line, if it holds one.
-fn add_line(alloc: Global, lines: &mut Vec<Line>, number: u32, line: &[u8]) -> Result<(), LineFault>
-    ensures { (x : Exchange) → IsExchange x → line.now ≡ exchange_line x
-        → MatchResult result (λ _. lines.new.items ≡ lines.old.items ++ record { number = number; exchange = x } ∷ []) (λ fault. fault ≡ LineFault.NoMemory) }
+fn add_line(
+    alloc: Global,
+    lines: &mut Vec<Line>,
+    number: usize,
+    line: &[u8],
+) -> Result<(), LineFault>
+    ensures { MatchResult result (λ _. Adds lines.old.items lines.new.items number (line_read line.now)) (λ fault. IsFault fault fault (line_read line.now)) }
 {
     let found = read_line(alloc, line)?;
     let Some(exchange) = found else {
@@ -62,14 +66,15 @@ fn add_line(alloc: Global, lines: &mut Vec<Line>, number: u32, line: &[u8]) -> R
 /// `Unreadable`: it isn't blank, a comment or a call with its answer. `NoMemory`: no memory for what it holds or for
 /// the row of lines.
 pub fn read_script(alloc: Global, text: &[u8]) -> Result<Vec<Line>, ScriptFault>
-    ensures { (xs : List Exchange) → AreExchanges xs → length xs < 2 ^ 32 → text.now ≡ script_text xs
+    ensures read { MatchResult result (λ lines. script_read text.now ≡ Ok lines.items) (λ fault. IsFault fault.fault fault (script_read text.now)) }
+    ensures printed { (xs : List Exchange) → AreExchanges xs → text.now ≡ script_text xs
         → MatchResult result (λ lines. lines.items ≡ numbered 1 xs) (λ fault. fault.fault ≡ LineFault.NoMemory) }
 {
     let mut lines = Vec::new(alloc);
     let mut rest = text;
-    let mut number = 0u32;
+    let mut number = 0;
     while !rest.is_empty() {
-        number = number.saturating_add(1);
+        number += 1;
         let (line, behind) = first_line(rest);
         match add_line(alloc, &mut lines, number, line) {
             Ok(()) => rest = behind,

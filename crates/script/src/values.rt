@@ -1,6 +1,6 @@
-ghost use Rattle.std.specs.Prelude.{◌≡◌, ◌<◌, ◌^◌, MatchOption, None, Some, OnOk, ◌++◌, ◌∷◌, []};
+ghost use Rattle.std.specs.Prelude.{◌≡◌, ◌<◌, ◌^◌, MatchOption, None, Some, OnOk, IfOk, ◌++◌, ◌∷◌, []};
 ghost use Rattle.script.specs.Kinds.{value_word};
-ghost use Rattle.script.specs.Reading.{Gives, value_at, label_at, labelled_at, optional_at, flag_at};
+ghost use Rattle.script.specs.Reading.{Gives, number_at, bounded_at, value_at, label_at, labelled_at, optional_at, flag_at};
 ghost use Rattle.script.specs.Spaced.{words_of, spaced};
 
 use crate::fault::{Expected, Fault};
@@ -8,20 +8,49 @@ use crate::kind::{Kind, push_value};
 use crate::spaced::take_word;
 use std::alloc::AllocError;
 
+#[tactic(auto, unfolding(crate::specs::Reading::number_at))]
+/// The number in front and the text behind it, if there is one.
+pub(crate) fn take_number(kind: Kind, text: &[u8]) -> Option<(u32, &[u8])>
+    ensures { MatchOption result (number_at kind (words_of text.now) ≡ None)
+        (λ r. number_at kind (words_of text.now) ≡ Some (r.0, words_of r.1.now)) }
+{
+    if let Kind::Absent = kind {
+        return Some((0, text));
+    }
+    let (word, rest) = take_word(text)?;
+    let number = kind.read_word(word)?;
+    Some((number, rest))
+}
+
 #[tactic(auto, unfolding(crate::specs::Reading::value_at))]
 /// The number in front, and the text behind it.
 pub(crate) fn read_value(kind: Kind, text: &[u8]) -> Result<(u32, &[u8]), Fault>
     ensures { Gives (λ r. (r.0, words_of r.1.now)) result (value_at kind (words_of text.now)) }
 {
-    if let Kind::Absent = kind {
-        return Ok((0, text));
-    }
-    let Some((word, rest)) = take_word(text) else {
-        return Err(Fault::expected(Expected::Number, text));
-    };
-    match kind.read_word(word) {
-        Some(number) => Ok((number, rest)),
+    match take_number(kind, text) {
+        Some(found) => Ok(found),
         None => Err(Fault::expected(Expected::Number, text)),
+    }
+}
+
+#[tactic(auto, unfolding(crate::specs::Reading::bounded_at))]
+/// The number in front, which is below a bound, and the text behind it.
+pub(crate) fn read_bounded(
+    expected: Expected,
+    kind: Kind,
+    bound: u32,
+    text: &[u8],
+) -> Result<(u32, &[u8]), Fault>
+    ensures read { Gives (λ r. (r.0, words_of r.1.now)) result (bounded_at expected kind bound (words_of text.now)) }
+    ensures small { IfOk result (λ r. r.0 < bound) }
+{
+    let Some((number, rest)) = take_number(kind, text) else {
+        return Err(Fault::expected(expected, text));
+    };
+    if number < bound {
+        Ok((number, rest))
+    } else {
+        Err(Fault::expected(expected, text))
     }
 }
 

@@ -1,13 +1,8 @@
-use Rattle.std.proofs.Common.{◌≡◌, ◌+◌, ◌<◌, [], length, length-drop, ap, ◌∙◌, arith}
+use Rattle.std.proofs.Common.{◌≡◌, ◌<◌, ◌∙◌, [], ◌∷◌, length, length-drop, ap, sym, arith}
 use Rattle.std.proofs.lemmas.Grind.{common_steps}
-use Rattle.script.proofs.ScriptsAgain.{left_none, left_next, line_is, rest_is}
+use Rattle.script.specs.Scripts.{lines_of, script_read}
+use Rattle.script.proofs.ScriptsAgain.{lines_next, next_read, next_fault, none_left, printed_ok, printed_fault}
 use Rattle.script.proofs.text.read_script.Goals as goal
-
-pub returns-in-Err : goal.returns-in-Err
-returns-in-Err c = λ xs fit few is.
-    let some : 0 < length c.loop-rest.rest.now = grind (arith, common_steps) in
-    let next = left_next xs c.loop-rest.number c.loop-rest.lines.items c.loop-rest.rest.now (c.loop-rest.invariant xs fit few is) some in
-    c.in-Err.ensures next.first next.fits (c.first_line.ensures.line ∙ line_is next.first next.others c.loop-rest.rest.now next.fits next.is)
 
 pub loop-rest-smaller : goal.loop-rest-smaller
 loop-rest-smaller c =
@@ -15,20 +10,35 @@ loop-rest-smaller c =
     omega (arith, some, simp length-drop at (ap length c.first_line.ensures.rest))
 
 pub loop-rest-preserved : goal.loop-rest-preserved
-loop-rest-preserved c = λ xs fit few is.
+loop-rest-preserved c =
     let some : 0 < length c.loop-rest.rest.now = grind (arith, common_steps) in
-    let next = left_next xs c.loop-rest.number c.loop-rest.lines.items c.loop-rest.rest.now (c.loop-rest.invariant xs fit few is) some in
-    let number : c.saturating_add-number.result ≡ c.loop-rest.number + 1 = omega (arith, next.count, few, c.saturating_add-number.ensures) in
-    let added = c.in-Ok.ensures next.first next.fits (c.first_line.ensures.line ∙ line_is next.first next.others c.loop-rest.rest.now next.fits next.is) in
+    let next : lines_of c.loop-rest.rest.now ≡ c.first_line.result.0.now ∷ lines_of c.first_line.result.1.now =
+    lines_next _ _ _ (λ e. absurd (omega (arith, some, ap length e))) c.first_line.ensures.line c.first_line.ensures.rest in
     record {
-      left = next.others;
-      fit = next.fit;
-      is = c.first_line.ensures.rest ∙ rest_is next.first next.others c.loop-rest.rest.now next.fits next.is;
-      done = rw (added, number) next.done;
-      count = omega (arith, number, next.count);
+      is = next_read _ _ _ _ _ _ next c.in-Ok.ensures ∙ c.loop-rest.invariant.is;
+      in_range = omega (arith, some, c.loop-rest.invariant.in_range, simp length-drop at (ap length c.first_line.ensures.rest));
     }
 
-pub returns : goal.returns
-returns c = λ xs fit few is.
+pub returns-in-Err-clause-read : goal.returns-in-Err-clause-read
+returns-in-Err-clause-read c =
+    let some : 0 < length c.loop-rest.rest.now = grind (arith, common_steps) in
+    let next : lines_of c.loop-rest.rest.now ≡ c.first_line.result.0.now ∷ lines_of c.first_line.result.1.now =
+    lines_next _ _ _ (λ e. absurd (omega (arith, some, ap length e))) c.first_line.ensures.line c.first_line.ensures.rest in
+    next_fault c.in-Err.fault _ _ _ _ _ _ next c.in-Err.ensures c.loop-rest.invariant.is
+
+pub returns-in-Err-clause-printed : goal.returns-in-Err-clause-printed
+returns-in-Err-clause-printed c = λ xs are is.
+    let some : 0 < length c.loop-rest.rest.now = grind (arith, common_steps) in
+    let next : lines_of c.loop-rest.rest.now ≡ c.first_line.result.0.now ∷ lines_of c.first_line.result.1.now =
+    lines_next _ _ _ (λ e. absurd (omega (arith, some, ap length e))) c.first_line.ensures.line c.first_line.ensures.rest in
+    printed_fault c.in-Err.fault _ xs c.args.text.now are is (next_fault c.in-Err.fault _ _ _ _ _ (script_read c.args.text.now) next c.in-Err.ensures c.loop-rest.invariant.is)
+
+pub returns-clause-read : goal.returns-clause-read
+returns-clause-read c =
     let none : c.loop-rest.rest.now ≡ [] = grind (arith, common_steps) in
-    left_none xs c.loop-rest.number c.loop-rest.lines.items c.loop-rest.rest.now (c.loop-rest.invariant xs fit few is) none
+    sym c.loop-rest.invariant.is ∙ none_left _ _ _ none
+
+pub returns-clause-printed : goal.returns-clause-printed
+returns-clause-printed c = λ xs are is.
+    let none : c.loop-rest.rest.now ≡ [] = grind (arith, common_steps) in
+    printed_ok xs c.args.text.now c.loop-rest.lines.items are is (sym c.loop-rest.invariant.is ∙ none_left _ _ _ none)
