@@ -13,7 +13,7 @@ use Rattle.calls.specs.declared.request.CallFault.{CallFault}
 use Rattle.calls.specs.declared.request.CallFault.TheVariants.{NoMemory}
 use Rattle.calls.specs.declared.request.Request.{Request}
 use Rattle.calls.specs.declared.request.Request.TheVariants as request
-use Rattle.calls.specs.Kept.{kept_message}
+use Rattle.ipc_model.specs.messages.Kept.{kept_message}
 use Rattle.calls.specs.Requests.{MachMsg, FitsMachMsg, AsksMachMsg, Asks, FitsRequest, asked, asked_send, asked_receive, message_request, has_option, known_options, send_msg, rcv_msg, rcv_large}
 use Rattle.calls.proofs.Masks.{kept-is_kept}
 

@@ -5,7 +5,7 @@ use Rattle.std.proofs.lemmas.Nat.Bits.{and_pow}
 use Rattle.ipc_model.specs.messages.Messages.{bits_of, is_complex, complex_bit}
 use Rattle.ipc_model.specs.texts.Texts.{IsKeptMessage}
 use Rattle.words.specs.Words.{AreBytes}
-use Rattle.calls.specs.Kept.{masked, used_bits, kept_message}
+use Rattle.ipc_model.specs.messages.Kept.{masked, used_bits, kept_message}
 
 pub length-masked : (masks bytes : List ℕ) → length (masked masks bytes) ≡ length bytes
 length-masked [] bytes = refl

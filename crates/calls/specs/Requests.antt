@@ -10,7 +10,7 @@ use Rattle.words.specs.Words.{AreBytes, word}
 use Rattle.calls.specs.declared.request.MessageRequest.{MessageRequest}
 use Rattle.calls.specs.declared.request.Request.{Request}
 use Rattle.calls.specs.declared.request.Request.TheVariants as request
-use Rattle.calls.specs.Kept.{kept_message}
+use Rattle.ipc_model.specs.messages.Kept.{kept_message}
 
 -- The options of mach_msg that are known: MACH_SEND_MSG, MACH_RCV_MSG, MACH_SEND_TIMEOUT, MACH_RCV_TIMEOUT and
 -- MACH_RCV_LARGE, each a bit. (Kernel Interfaces, mach_msg.)

@@ -1,5 +1,5 @@
 ghost use Rattle.std.specs.Prelude.{◌≡◌, IfOk};
-ghost use Rattle.calls.specs.Kept.{kept_message};
+ghost use Rattle.ipc_model.specs.messages.Kept.{kept_message};
 
 use std::alloc::{AllocError, Global};
 
@@ -9,7 +9,7 @@ const USED_BITS: [u8; 20] = [
     0xff, 0xff, 0, 0x80, 0, 0, 0, 0, 0xff, 0xff, 0xff, 0xff, 0xff, 0xff, 0xff, 0xff, 0, 0, 0, 0,
 ];
 
-#[tactic(auto, unfolding(crate::specs::Kept::kept_message))]
+#[tactic(auto, unfolding(ipc_model::specs::messages::Kept::kept_message))]
 /// The message as a record keeps it: with 0 in place of what a send ignores.
 pub(crate) fn keep_message(alloc: Global, message: &[u8]) -> Result<Vec<u8>, AllocError>
     ensures { IfOk result (λ kept. kept.items ≡ kept_message message.now) }

@@ -13,6 +13,7 @@ pub mod Hands
 pub mod HistoryLaws
 pub mod ImageLaws
 pub mod ItemLaws
+pub mod KeptLaws
 pub mod LawfulLaws
 pub mod ListLaws
 pub mod MapLaws

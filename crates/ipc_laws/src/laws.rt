@@ -4,6 +4,7 @@ ghost use Rattle.ipc_laws.specs.EffectRanks.{EffectsKeepGrounded, SettledIsLawfu
 ghost use Rattle.ipc_laws.specs.EffectsKeep.{EffectsKeepLawful};
 ghost use Rattle.ipc_laws.specs.HistoryLaws.{LegalIsInOrder, LegalStaysLegal, MeetingIsLegal, PlacesHoldCalls, ReadsOwnWrites};
 ghost use Rattle.ipc_laws.specs.ImageLaws.{ImagesHaveOneText};
+ghost use Rattle.ipc_laws.specs.KeptLaws.{MessagesAreSentAsKept};
 ghost use Rattle.ipc_laws.specs.NameChanges.{NamesMoveLawfully};
 ghost use Rattle.ipc_laws.specs.LawfulLaws.{LawfulIsAtRest};
 ghost use Rattle.ipc_laws.specs.OpeningLaws.{OpeningIsLawful};
@@ -100,6 +101,11 @@ pub fn runs_keep_lawful()
 /// And it ends in one state: records determine the state that they lead to.
 pub fn one_run()
     ensures { OneRun }
+{}
+
+/// A message and what a record keeps of it, with 0 in place of what a send ignores, are sent alike.
+pub fn messages_are_sent_as_kept()
+    ensures { MessagesAreSentAsKept }
 {}
 
 /// A record has one text: what begins with the texts of two records begins with one record, of one number.

@@ -1,5 +1,6 @@
 -- Messages and their items in bytes, notices, sends and receipts.
 pub mod Items
+pub mod Kept
 pub mod Messages
 pub mod Notices
 pub mod Receiving

@@ -7,16 +7,6 @@ use Rattle.words.specs.Words.{word}
 abbrev pub header_length : ℕ
 header_length = 24
 
--- Bytes are a message with these parts. The words of size and sequence number are ignored: a message's size is
--- the count of its bytes.
-pub record IsMessage (bytes : List ℕ) (bits remote local id : ℕ) (body : List ℕ) : Type 0 where
-  pub whole : header_length ≤ length bytes
-  pub bits_are : bits ≡ little_number 4 bytes
-  pub remote_is : remote ≡ little_number 4 (drop 8 bytes)
-  pub local_is : local ≡ little_number 4 (drop 12 bytes)
-  pub id_is : id ≡ little_number 4 (drop 20 bytes)
-  pub body_is : body ≡ drop header_length bytes
-
 -- the words of a header, whose bytes begin the message
 abbrev pub bits_of : List ℕ → ℕ
 bits_of bytes = little_number 4 bytes
@@ -45,6 +35,36 @@ is_complex bits = (bits / 2 ^ 31) % 2 == 1
 
 abbrev pub complex_bit : Bool → ℕ
 complex_bit complex = if complex then 2 ^ 31 else 0
+
+-- What a send reads of a message's bytes: how many they are, the header's bits by their meaning, the names of the
+-- destination and of the reply, the id, and the body. The words of size and sequence number are ignored, and so are the
+-- other bits.
+pub record Parts : Type 0 where
+  pub size : ℕ
+  pub remote_disposition : ℕ
+  pub local_disposition : ℕ
+  pub complex : Bool
+  pub remote : ℕ
+  pub local : ℕ
+  pub id : ℕ
+  pub body : List ℕ
+
+abbrev pub parts_of : List ℕ → Parts
+parts_of bytes = record {
+  size = length bytes;
+  remote_disposition = remote_disposition (bits_of bytes);
+  local_disposition = local_disposition (bits_of bytes);
+  complex = is_complex (bits_of bytes);
+  remote = remote_of bytes;
+  local = local_of bytes;
+  id = id_of bytes;
+  body = body_of bytes;
+}
+
+-- Bytes are a message with these parts.
+pub record IsMessage (bytes : List ℕ) (parts : Parts) : Type 0 where
+  pub whole : header_length ≤ length bytes
+  pub parts_are : parts ≡ parts_of bytes
 
 -- a message's bytes
 abbrev pub message_text : ℕ → ℕ → ℕ → ℕ → ℕ → List ℕ → List ℕ

@@ -17,7 +17,7 @@ use Rattle.ipc_model.specs.rights.CopyIn.{Taken, copy_in}
 use Rattle.ipc_model.specs.rights.Dispositions.{Disposition, MoveReceive, MoveSend, MoveSendOnce, CopySend, MakeSend, MakeSendOnce, disposition_of, received_kind}
 use Rattle.ipc_model.specs.effects.Effects.{Effect, release, releases_of, queued, Outcome}
 use Rattle.ipc_model.specs.messages.Items.{Item, items_of, items_text, as_stored, is_port_item, names_of_item}
-use Rattle.ipc_model.specs.messages.Messages.{bits_of, remote_of, local_of, id_of, body_of, remote_disposition, local_disposition, is_complex, header_length}
+use Rattle.ipc_model.specs.messages.Messages.{Parts, parts_of, header_length}
 use Rattle.ipc_model.specs.state.Placed.{same_kind}
 use Rattle.ipc_model.specs.state.State.{State, is_null_or_dead}
 use Rattle.ipc_model.specs.calls.Tests.{Tests, and_then, or_refused, unless_failing}
@@ -115,8 +115,8 @@ take_header state space remote destination local reply =
     Ok (record { kind = first.0.right.kind; port = first.1; reply = second.reply; state = second.state; notices = first.0.notices ++ second.notices })))
 
 -- the items of a body that is looked at: without MACH_MSGH_BITS_COMPLEX it isn't
-abbrev pub items_if_complex : ℕ → List ℕ → Result (List Item) KernReturn
-items_if_complex bits body = if is_complex bits then items_of body else Ok []
+abbrev pub items_if_complex : Bool → List ℕ → Result (List Item) KernReturn
+items_if_complex complex body = if complex then items_of body else Ok []
 
 -- how many ports items hold, NULL and DEAD among them
 abbrev pub ports_in : List Item → ℕ
@@ -142,15 +142,15 @@ pub record Ready : Type 0 where
   pub state : State
   pub notices : List Effect
 
-abbrev pub ready_message : List ℕ → List Item → TakenHeader → TakenRights → Ready
-ready_message bytes items header taken = record {
+abbrev pub ready_message : Parts → List Item → TakenHeader → TakenRights → Ready
+ready_message parts items header taken = record {
   message = record {
     destination = header.kind;
     reply = header.reply;
-    id = id_of bytes;
+    id = parts.id;
     complex = list_any is_port_item items;
     rights = taken.rights;
-    body = if is_complex (bits_of bytes) then items_text (map as_stored items) else body_of bytes;
+    body = if parts.complex then items_text (map as_stored items) else parts.body;
   };
   port = header.port;
   state = taken.state;
@@ -164,22 +164,26 @@ is_full state serial = elim (finmap.get state.ports serial) as (λ _. Bool) [ No
 abbrev pub tests_of_queue : Ready → Tests
 tests_of_queue ready = (is_full ready.state ready.port && not (same_kind ready.message.destination kind.SendOnce), SendTimedOut) ∷ []
 
-abbrev pub ready_of_items : State → ℕ → List ℕ → Disposition → Option Disposition → List Item → Result Ready KernReturn
-ready_of_items state space bytes destination reply items =
-    unless_failing ((nat_lt MAX_MESSAGE_PORTS (ports_in items), SendNoBuffer) ∷ (is_null_or_dead (remote_of bytes), SendInvalidDest) ∷ [])
-    (and_then (take_header state space (remote_of bytes) destination (local_of bytes) reply) (λ (header : TakenHeader).
+abbrev pub ready_of_items : State → ℕ → Parts → Disposition → Option Disposition → List Item → Result Ready KernReturn
+ready_of_items state space parts destination reply items =
+    unless_failing ((nat_lt MAX_MESSAGE_PORTS (ports_in items), SendNoBuffer) ∷ (is_null_or_dead parts.remote, SendInvalidDest) ∷ [])
+    (and_then (take_header state space parts.remote destination parts.local reply) (λ (header : TakenHeader).
     and_then (or_refused SendInvalidRight (take_items space items (record { rights = []; state = header.state; notices = [] }))) (λ (taken : TakenRights).
-    let ready : Ready = ready_message bytes items header taken in
+    let ready : Ready = ready_message parts items header taken in
     unless_failing (tests_of_queue ready) (Ok ready))))
 
--- What a task's bytes become, or the code of the first test that fails: of the size, the header, the items, the
--- destination and reply rights, the body's rights, and the queue.
+-- What a message becomes, or the code of the first test that fails: of the size, the header, the items, the destination
+-- and reply rights, the body's rights, and the queue.
+abbrev pub ready_by_parts : State → ℕ → Parts → Result Ready KernReturn
+ready_by_parts state space parts =
+    unless_failing (tests_of_size parts.size)
+    (and_then (or_refused SendInvalidHeader (header_disposition parts.remote_disposition)) (λ (destination : Disposition).
+    and_then (reply_disposition parts.local_disposition parts.local) (λ (reply : Option Disposition).
+    and_then (items_if_complex parts.complex parts.body) (λ (items : List Item). ready_of_items state space parts destination reply items))))
+
+-- the same of a task's bytes
 unfoldable pub ready_to_send : State → ℕ → List ℕ → Result Ready KernReturn
-ready_to_send state space bytes =
-    unless_failing (tests_of_size (length bytes))
-    (and_then (or_refused SendInvalidHeader (header_disposition (remote_disposition (bits_of bytes)))) (λ (destination : Disposition).
-    and_then (reply_disposition (local_disposition (bits_of bytes)) (local_of bytes)) (λ (reply : Option Disposition).
-    and_then (items_if_complex (bits_of bytes) (body_of bytes)) (λ (items : List Item). ready_of_items state space bytes destination reply items))))
+ready_to_send state space bytes = ready_by_parts state space (parts_of bytes)
 
 -- a receive right of the body would travel to its own queue
 abbrev pub goes_in_circle : State → ℕ → CarriedRight → Bool

@@ -1,5 +1,5 @@
 use Rattle.std.proofs.Common.{arith, ◌∙◌}
-use Rattle.calls.specs.Kept.{used_bits, kept_message}
+use Rattle.ipc_model.specs.messages.Kept.{used_bits, kept_message}
 use Rattle.calls.proofs.Masks.{kept_more, masked_all}
 use Rattle.calls.proofs.kept_message.keep_message.Goals as goal
 

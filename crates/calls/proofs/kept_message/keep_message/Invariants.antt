@@ -1,5 +1,5 @@
 use Rattle.std.proofs.Common.{◌≡◌, take}
-use Rattle.calls.specs.Kept.{masked, used_bits}
+use Rattle.ipc_model.specs.messages.Kept.{masked, used_bits}
 use Rattle.calls.proofs.kept_message.keep_message.Given as goal
 
 abbrev pub invariant-loop-i : goal.invariant-loop-i

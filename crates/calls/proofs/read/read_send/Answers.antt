@@ -3,7 +3,7 @@ use Rattle.ipc_model.specs.texts.Texts.{IsKeptMessage}
 use Rattle.words.specs.Words.{word}
 use Rattle.calls.proofs.Masks.{kept-same, kept-is_kept}
 use Rattle.calls.proofs.Messages.{bytes_behind, same_bytes, other_bytes}
-use Rattle.calls.specs.Kept.{kept_message}
+use Rattle.ipc_model.specs.messages.Kept.{kept_message}
 use Rattle.calls.proofs.read.read_send.Goals as goal
 
 pub returns-in_default-clause-only : goal.returns-in_default-clause-only
