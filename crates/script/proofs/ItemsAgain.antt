@@ -123,6 +123,15 @@ words_content w c = Some (w.0 % 0x100, c.0, c.1)
 abbrev words_behind : ℕ × List ℕ → Option (ℕ × List ℕ × List ℕ)
 words_behind w = cond (w.0 == descriptor (w.0 % 0x100) 32 (number_told w.0)) (split_front (4 * number_told w.0) w.1 >>? words_content w) None
 
+words_joined : (t w : ℕ) (ns body behind content rest : List ℕ) → t + 32 * 2 ^ 8 + length ns * 2 ^ 16 + 2 ^ 28 ≡ w → flat_map word ns ≡ content → rest ≡ content ++ behind → body ≡ word w ++ rest
+    → item_text (words_item t ns) ++ behind ≡ body
+words_joined t w ns body behind content rest told numbers split front =
+    append_assoc (word (t + 32 * 2 ^ 8 + length ns * 2 ^ 16 + 2 ^ 28)) (flat_map word ns) behind
+    ∙ ap (λ (n : ℕ). word n ++ (flat_map word ns ++ behind)) told
+    ∙ ap (λ (l : List ℕ). word w ++ (l ++ behind)) numbers
+    ∙ ap (λ (l : List ℕ). word w ++ l) (sym split)
+    ∙ sym front
+
 words_parts : (body : List ℕ) (found : ℕ × List ℕ × List ℕ) → AreBytes body → words_front body ≡ Some found → WordsFront body found
 unfolding words_front
 words_parts body found fits e =
@@ -137,11 +146,7 @@ words_parts body found fits e =
     let numbers : Numbers (number_told w.0) c.0 = numbers_back (number_told w.0) c.0 split.first split.count in
     let told : w.0 % 0x100 + 32 * 2 ^ 8 + length (numbers_in c.0) * 2 ^ 16 + 2 ^ 28 ≡ w.0 = omega (arith, same, numbers.count) in
     subst (WordsFront body) (some_same (w.0 % 0x100, c.0, c.1) found second.2) (record {
-      is = append_assoc (word (w.0 % 0x100 + 32 * 2 ^ 8 + length (numbers_in c.0) * 2 ^ 16 + 2 ^ 28)) (flat_map word (numbers_in c.0)) c.1
-          ∙ ap (λ (n : ℕ). word n ++ (flat_map word (numbers_in c.0) ++ c.1)) told
-          ∙ ap (λ (l : List ℕ). word w.0 ++ (l ++ c.1)) numbers.is
-          ∙ ap (λ (l : List ℕ). word w.0 ++ l) (sym split.is)
-          ∙ sym front.is;
+      is = words_joined (w.0 % 0x100) w.0 (numbers_in c.0) body c.1 c.0 w.1 told numbers.is split.is front.is;
       small = omega arith;
       few = omega (arith, numbers.count);
       fit = numbers.fit;
@@ -163,6 +168,18 @@ tail_behind n b = split_front (length (zeros n)) b.1 >>? zeros_behind n b.0
 abbrev bytes_behind_word : ℕ × List ℕ → Option (List ℕ × List ℕ)
 bytes_behind_word w = cond (w.0 == descriptor 9 8 (number_told w.0)) (split_front (number_told w.0) w.1 >>? tail_behind (number_told w.0)) None
 
+bytes_joined : (w n : ℕ) (bytes body behind zero_bytes tail rest : List ℕ) → 9 + 8 * 2 ^ 8 + length bytes * 2 ^ 16 + 2 ^ 28 ≡ w → length bytes ≡ n → zero_bytes ≡ zeros n
+    → tail ≡ zero_bytes ++ behind → rest ≡ bytes ++ tail → body ≡ word w ++ rest → item_text (bytes_item bytes) ++ behind ≡ body
+bytes_joined w n bytes body behind zero_bytes tail rest told count same after split front =
+    append_assoc (word (9 + 8 * 2 ^ 8 + length bytes * 2 ^ 16 + 2 ^ 28)) (bytes ++ zeros (length bytes)) behind
+    ∙ ap (λ (k : ℕ). word k ++ ((bytes ++ zeros (length bytes)) ++ behind)) told
+    ∙ ap (λ (l : List ℕ). word w ++ l) (append_assoc bytes (zeros (length bytes)) behind)
+    ∙ ap (λ (k : ℕ). word w ++ (bytes ++ (zeros k ++ behind))) count
+    ∙ ap (λ (l : List ℕ). word w ++ (bytes ++ (l ++ behind))) (sym same)
+    ∙ ap (λ (l : List ℕ). word w ++ (bytes ++ l)) (sym after)
+    ∙ ap (λ (l : List ℕ). word w ++ l) (sym split)
+    ∙ sym front
+
 bytes_parts : (body : List ℕ) (found : List ℕ × List ℕ) → AreBytes body → bytes_front body ≡ Some found → BytesFront body found
 unfolding bytes_front
 bytes_parts body found fits e =
@@ -181,15 +198,8 @@ bytes_parts body found fits e =
     let last = if_some (bytes_eq z.0 (zeros n)) (Some (b.0, z.1)) found third.2 in
     let zero_bytes : z.0 ≡ zeros n = (bytes_eq-Decides z.0 (zeros n)).0 last.0 in
     let told : 9 + 8 * 2 ^ 8 + length b.0 * 2 ^ 16 + 2 ^ 28 ≡ w.0 = omega (arith, same, split.count) in
-    subst (BytesFront body) (some_same (b.0, z.1) found last.1) (record {
-      is = append_assoc (word (9 + 8 * 2 ^ 8 + length b.0 * 2 ^ 16 + 2 ^ 28)) (b.0 ++ zeros (length b.0)) z.1
-          ∙ ap (λ (k : ℕ). word k ++ ((b.0 ++ zeros (length b.0)) ++ z.1)) told
-          ∙ ap (λ (l : List ℕ). word w.0 ++ l) (append_assoc b.0 (zeros (length b.0)) z.1)
-          ∙ ap (λ (k : ℕ). word w.0 ++ (b.0 ++ (zeros k ++ z.1))) split.count
-          ∙ ap (λ (l : List ℕ). word w.0 ++ (b.0 ++ (l ++ z.1))) (sym zero_bytes)
-          ∙ ap (λ (l : List ℕ). word w.0 ++ (b.0 ++ l)) (sym tail.is)
-          ∙ ap (λ (l : List ℕ). word w.0 ++ l) (sym split.is)
-          ∙ sym front.is;
+    subst (BytesFront body) {x = (b.0, z.1)} (some_same (b.0, z.1) found last.1) (record {
+      is = bytes_joined w.0 n b.0 body z.1 z.0 b.1 w.1 told split.count zero_bytes tail.is split.is front.is;
       few = omega (arith, split.count);
       bytes = split.first;
       behind = tail.behind;

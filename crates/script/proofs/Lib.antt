@@ -1,4 +1,5 @@
 pub mod CallsAgain
+pub mod Examples
 pub mod ItemLoops
 pub mod ItemsAgain
 pub mod LinesAgain

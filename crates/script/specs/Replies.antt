@@ -195,7 +195,7 @@ results_at n words =
     else if n == 20 then space_created_at words
     else stop expected.End words
 
--- a call of this number has results
+-- a call of this number has results that have to be told
 abbrev pub has_results : ℕ → Bool
 has_results n = n == 1 || n == 2 || n == 5 || n == 8 || n == 13 || n == 14 || n == 16 || n == 18 || n == 20
 
@@ -207,11 +207,11 @@ unfoldable pub refusal_at : ℕ → List (List ℕ) → Reading Reply
 refusal_at n [] = stop expected.Code []
 refusal_at n (word ∷ words) = wanted expected.Code (word ∷ words) (find (λ code. bytes_eq (code_word code) word) all_codes) >>= λ code. if n == 19 then message_reply_at code words else last (reply.Refused n code, words)
 
--- what a call of this number answered
+-- what a call of this number answered: `=` stands behind none that has no results
 unfoldable pub reply_at : ℕ → List (List ℕ) → Reading Reply
 reply_at n [] = silence n []
 reply_at n (word ∷ words) =
-    if bytes_eq word (codes "=") then results_at n words
+    if bytes_eq word (codes "=") then (if has_results n || n == 19 then results_at n words else stop expected.End (word ∷ words))
     else if bytes_eq word (codes "!") then refusal_at n words
     else stop expected.Results (word ∷ words)
 

@@ -1,7 +1,7 @@
-ghost use Rattle.std.specs.Prelude.{◌≡◌, ◌++◌, [], ◌∷◌, OnOk, codes};
+ghost use Rattle.std.specs.Prelude.{◌≡◌, ◌++◌, [], ◌∷◌, ◌||◌, ◌==◌, OnOk, codes};
 ghost use Rattle.std.specs.Option.{option_map};
 ghost use Rattle.script.specs.Reading.{Gives, last};
-ghost use Rattle.script.specs.Replies.{yes_or_no, kind_word, place_words, queue_words, answers_words, status_words, names_words, members_words, outcome_words, message_reply_words, reply_words, result_words, yes_or_no_at, answer_at, kind_at, counts_at, status_at, named_at, member_at, names_at, members_at, received_at, message_reply_at, extracted_at, space_created_at, last_value, last_status_at, results_at, silence, refusal_at, reply_at};
+ghost use Rattle.script.specs.Replies.{yes_or_no, kind_word, place_words, queue_words, answers_words, status_words, names_words, members_words, outcome_words, message_reply_words, reply_words, result_words, yes_or_no_at, answer_at, kind_at, counts_at, status_at, named_at, member_at, names_at, members_at, received_at, message_reply_at, extracted_at, space_created_at, last_value, last_status_at, results_at, has_results, silence, refusal_at, reply_at};
 ghost use Rattle.script.specs.Spaced.{words_of, spaced};
 
 use crate::bytes::push_bytes;
@@ -450,6 +450,13 @@ fn read_results(alloc: Global, number: u32, text: &[u8]) -> Result<Reply, Fault>
     }
 }
 
+/// Whether a call of this number has results, or may have some.
+fn may_tell(number: u32) -> bool
+    ensures { result ≡ (has_results number || number == 19) }
+{
+    matches!(number, 1 | 2 | 5 | 8 | 13 | 14 | 16 | 18 | 20 | MACH_MSG)
+}
+
 #[tactic(auto, unfolding(crate::specs::Replies::silence))]
 /// What the call of a number answered that isn't told.
 fn read_silence(alloc: Global, number: u32, text: &[u8]) -> Result<Reply, Fault>
@@ -488,6 +495,9 @@ pub(crate) fn read_reply(alloc: Global, number: u32, text: &[u8]) -> Result<Repl
         return read_silence(alloc, number, text);
     };
     if word == b"=".as_slice() {
+        if !may_tell(number) {
+            return Err(Fault::expected(Expected::End, text));
+        }
         return read_results(alloc, number, rest);
     }
     if word == b"!".as_slice() {
