@@ -1,8 +1,8 @@
 -- Bodies item by item.
-use Rattle.std.proofs.Common.{◌≡◌, ℕ, zero, suc, ◌+◌, ◌-◌, ◌<◌, ◌^◌, List, [], ◌∷◌, ◌++◌, length, refl, sym, ap, ◌∙◌, arith, Option, Some, None, Ok, Err, append_assoc}
-use Rattle.std.specs.Prelude.{codes, map, flat_map, OnOk, Result, ⊤}
+use Rattle.std.proofs.Common.{◌≡◌, ℕ, zero, suc, ◌-◌, ◌<◌, ◌^◌, List, [], ◌∷◌, ◌++◌, length, refl, sym, ap, ◌∙◌, arith, Option, Some, None, Ok, Err, append_assoc}
+use Rattle.std.specs.Prelude.{codes, map, OnOk, Result, ⊤}
 use Rattle.std.proofs.lemmas.List.{append-nil}
-use Rattle.words.specs.WordLaws.{little_number-word, length-word}
+use Rattle.words.specs.WordLaws.{little_number-word}
 use Rattle.words.specs.Words.{word}
 use Rattle.script.specs.declared.fault.Fault.{Fault}
 use Rattle.script.specs.declared.fault.Fault.TheVariants as fault

@@ -1,5 +1,5 @@
 -- Bodies are read as they are printed.
-use Rattle.std.proofs.Common.{◌≡◌, ℕ, zero, suc, ◌+◌, ◌*◌, ◌%◌, ◌/◌, ◌^◌, ◌<◌, ◌≤◌, Bool, true, false, ◌==◌, List, [], ◌∷◌, ◌++◌, length, drop, take, length-drop, cond, refl, sym, ap, subst, ◌∙◌, arith, Option, Some, None, Ok, append_assoc}
+use Rattle.std.proofs.Common.{◌≡◌, ℕ, zero, suc, ◌+◌, ◌*◌, ◌%◌, ◌^◌, ◌<◌, ◌≤◌, Bool, true, false, ◌==◌, List, [], ◌∷◌, ◌++◌, length, drop, take, cond, refl, sym, ap, subst, ◌∙◌, arith, Option, Some, None, Ok, append_assoc}
 use Rattle.std.specs.Prelude.{nat_lt, codes, map, flat_map}
 use Rattle.std.specs.Str.{bytes_eq}
 use Rattle.std.proofs.lemmas.Bool.{eqb-true}
@@ -15,9 +15,9 @@ use Rattle.script.specs.declared.fault.Expected.TheVariants as expected
 use Rattle.script.specs.declared.kind.Kind.{Kind}
 use Rattle.script.specs.declared.kind.Kind.TheVariants as kind
 use Rattle.script.specs.Bytes.{bytes_word, bytes_at, optional_bytes, optional_bytes_at}
-use Rattle.script.specs.Items.{words_item, zeros, bytes_item, element_kind, words_item_words, bytes_item_words, ◌>>?◌, word_front, split_front, descriptor, number_told, numbers_in, words_front, bytes_front, item_front, body_within, body_words, numbers_at, words_item_at, bytes_item_at, item_at, behind_bytes, parts_at, body_at}
+use Rattle.script.specs.Items.{words_item, zeros, bytes_item, element_kind, words_item_words, bytes_item_words, ◌>>?◌, word_front, split_front, descriptor, number_told, numbers_in, words_front, bytes_front, item_front, body_within, body_words, numbers_at, words_item_at, bytes_item_at, item_at, parts_at, body_at}
 use Rattle.script.specs.Kinds.{value_word, read_word}
-use Rattle.script.specs.Reading.{Reading, ◌>>=◌, stop, label_at, bounded_at}
+use Rattle.script.specs.Reading.{label_at, bounded_at}
 use Rattle.script.proofs.ReadingAgain.{bounded_again, label_again, other_label, past_bytes, bytes_at_again, optional_bytes_again, numbers_end, NoLabel}
 use Rattle.script.proofs.ValuesAgain.{word_again, in_decimal}
 

@@ -1,5 +1,5 @@
 -- Messages are read as they are printed.
-use Rattle.std.proofs.Common.{◌≡◌, ℕ, ◌+◌, ◌*◌, ◌%◌, ◌/◌, ◌^◌, ◌<◌, ◌≤◌, Bool, true, false, ◌&&◌, ◌==◌, List, [], ◌∷◌, ◌++◌, zero, suc, length, drop, take, length-drop, cond, refl, sym, ap, ◌∙◌, arith, Option, Some, None, Ok, append_assoc}
+use Rattle.std.proofs.Common.{◌≡◌, ℕ, ◌+◌, ◌*◌, ◌%◌, ◌/◌, ◌^◌, ◌<◌, ◌≤◌, Bool, true, false, ◌&&◌, ◌==◌, List, [], ◌∷◌, ◌++◌, length, drop, take, length-drop, cond, refl, sym, ap, ◌∙◌, arith, Some, None, Ok, append_assoc}
 use Rattle.std.specs.Prelude.{nat_le, nat_lt, codes}
 use Rattle.std.specs.Str.{bytes_eq}
 use Rattle.std.proofs.lemmas.Bool.{eqb-true, and_parts}
@@ -11,7 +11,6 @@ use Rattle.byteorder.specs.Numbers.{little_from-lt}
 use Rattle.words.specs.WordLaws.{word-little_number}
 use Rattle.words.specs.Words.{AreBytes}
 use Rattle.words.specs.Words.{word}
-use Rattle.script.specs.declared.kind.Kind.{Kind}
 use Rattle.script.specs.declared.kind.Kind.TheVariants as kind
 use Rattle.script.specs.declared.kind.Kind.TheVariants.{Hexadecimal, Decimal, Disposition}
 use Rattle.script.specs.declared.message.Header.{Header}
@@ -23,7 +22,7 @@ use Rattle.script.specs.declared.fault.Expected.TheVariants as expected
 use Rattle.script.specs.Reading.{Reading, ◌>>=◌, value_at, bounded_at, label_at, labelled_at, optional_at, flag_at}
 use Rattle.script.proofs.ItemsAgain.{bytes_behind, past_body, body_again}
 use Rattle.script.proofs.ReadingAgain.{bounded_again}
-use Rattle.script.proofs.ReadingAgain.{number_again, value_again, label_again, other_label, labelled_again, optional_again, flag_again, past_optional, past_bytes, IsNumber, bytes_at_again, optional_bytes_again, NoLabel}
+use Rattle.script.proofs.ReadingAgain.{value_again, label_again, other_label, labelled_again, optional_again, flag_again, past_optional, bytes_at_again, NoLabel}
 use Rattle.script.proofs.ValuesAgain.{word_again}
 
 pub further_again : (n : ℕ) (ws : List (List ℕ)) → n < 0x8000 → label_at (codes "bits") ws ≡ None

@@ -1,4 +1,5 @@
-ghost use Rattle.std.specs.Prelude.{◌≡◌, ◌≤◌, ◌<◌, ◌++◌, [], ◌∷◌, length, drop, OnOk, IfOk, codes};
+ghost use Rattle.std.specs.Prelude.{◌≡◌, ◌+◌, ◌≤◌, ◌<◌, ◌++◌, [], ◌∷◌, length, drop, OnOk, IfOk, codes};
+ghost use Rattle.byteorder.specs.Endian.{little_number};
 ghost use Rattle.script.specs.Bytes.{bytes_word};
 ghost use Rattle.script.specs.Items.{body_words};
 ghost use Rattle.script.specs.Kinds.{value_word};
@@ -41,18 +42,26 @@ pub(crate) struct Rights {
     pub(crate) local: u32,
 }
 
+/// The word behind so many bytes.
+fn word_at(message: &[u8], front: usize) -> u32
+    requires { front + 4 ≤ length message.now }
+    ensures { result ≡ little_number 4 (drop front message.now) }
+{
+    LittleEndian::read_u32(&message[front..])
+}
+
 /// The header that a message begins with.
 fn header_of(message: &[u8]) -> Header
     requires { 24 ≤ length message.now }
     ensures { result ≡ header_of message.now }
 {
     Header {
-        bits: LittleEndian::read_u32(message),
-        size: LittleEndian::read_u32(&message[4..]),
-        remote: LittleEndian::read_u32(&message[8..]),
-        local: LittleEndian::read_u32(&message[12..]),
-        seqno: LittleEndian::read_u32(&message[16..]),
-        id: LittleEndian::read_u32(&message[20..]),
+        bits: word_at(message, 0),
+        size: word_at(message, 4),
+        remote: word_at(message, 8),
+        local: word_at(message, 12),
+        seqno: word_at(message, 16),
+        id: word_at(message, 20),
     }
 }
 

@@ -1,4 +1,4 @@
-use Rattle.std.proofs.Common.{arith, length, length-drop, ap}
+use Rattle.std.proofs.Common.{arith}
 use Rattle.std.proofs.lemmas.List.Sums.{prefix_len-le-length}
 use Rattle.script.specs.Spaced.{is_space, is_word_byte}
 use Rattle.script.proofs.spaced.word_end.Goals as goal
