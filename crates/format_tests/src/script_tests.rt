@@ -152,7 +152,8 @@ fn items_of_a_body(rt: HostRuntime) -> Result<(), Fail> {
         },
         reply: Reply::without_message(rt.alloc(), KernReturn::Success, 0, 0),
     };
-    let line = b"send make_send 0x100 id 7 complex item make_send 0x101 0x102 item bytes 443322 item words 10 data ff";
+    let line =
+        b"send make_send 0x100 id 7 complex item make_send 0x101 0x102 item bytes 443322 item words 10 data ff";
     assert_eq!(rt; printed_and_read(&rt, &send, line)?, [true, true]);
     Ok(())
 }
@@ -162,7 +163,10 @@ fn what_is_no_line(rt: HostRuntime) -> Result<(), Fail> {
     let fault = read_line(rt.alloc(), b"allocate  nine # no right");
     let end = read_request_line(rt.alloc(), b"names =");
     let unreadable = |column, expected| LineFault::Unreadable { column, expected };
-    let items = read_request_line(rt.alloc(), b"send make_send 0x100 id 7 item words 1 make_send");
+    let items = read_request_line(
+        rt.alloc(),
+        b"send make_send 0x100 id 7 item words 1 make_send",
+    );
     let message = read_request_line(rt.alloc(), b"send message");
     let seen = [
         matches!(items, Err(f) if f == unreadable(39, Expected::End)),
