@@ -31,6 +31,8 @@ pub mod ReadyKeep
 pub mod ReceiptLaws
 pub mod ReceiveKeep
 pub mod ReceiveLaws
+pub mod RecordedMessages
+pub mod RecordedReceipts
 pub mod RecoveryLaws
 pub mod ReferencesKeep
 pub mod RenameKeep

@@ -152,7 +152,7 @@ not_false : (b : Bool) → not b ≡ false → b ≡ true
 not_false true e = refl
 not_false false e = absurd (cc e)
 
-size_fits : (bytes : List ℕ) → first_failing (sending.tests_of_size (length bytes)) ≡ None → SizeFits bytes
+pub size_fits : (bytes : List ℕ) → first_failing (sending.tests_of_size (length bytes)) ≡ None → SizeFits bytes
 size_fits bytes passes =
     let last : Tests = (nat_lt MAX_MESSAGE_SIZE (length bytes), SendNoBuffer) ∷ [] in
     let first = first_passes (nat_lt (length bytes) header_length || not (length bytes % 4 == 0), SendMsgTooSmall) last passes in

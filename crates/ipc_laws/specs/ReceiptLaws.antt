@@ -74,7 +74,7 @@ no_names : (names : List ℕ) → length names ≡ 0 → names ≡ []
 no_names [] e = refl
 no_names (name ∷ names) e = absurd (omega arith)
 
-port_count : List Item → ℕ
+unfoldable pub port_count : List Item → ℕ
 port_count [] = 0
 port_count (item ∷ items) = elim (is_port_item item) as (λ _. ℕ) [ true ↦ item.number | false ↦ 0 ] + port_count items
 
@@ -85,7 +85,7 @@ length-words (name ∷ names) = omega (arith, length-words names, length-append 
 words-take-drop : (n : ℕ) (names : List ℕ) → flat_map word names ≡ flat_map word (take n names) ++ flat_map word (drop n names)
 words-take-drop n names = ap (flat_map word) (sym (take-append-drop n names)) ∙ flat_map-append word (take n names) (drop n names)
 
-length-words-take : (n : ℕ) (names : List ℕ) → n ≤ length names → length (flat_map word (take n names)) ≡ 4 * n
+pub length-words-take : (n : ℕ) (names : List ℕ) → n ≤ length names → length (flat_map word (take n names)) ≡ 4 * n
 length-words-take n names fits = length-words (take n names) ∙ ap (λ k. 4 * k) (length-take-le n names fits)
 
 -- Items with names filled in tell the names.
@@ -114,7 +114,7 @@ names_told (item ∷ items) one other many as_many e =
     ] many as_many e
 
 -- the rights of a body are as many as its ports
-length-kinds : (items : List Item) → length (flat_map kinds_of_item items) ≡ port_count items
+pub length-kinds : (items : List Item) → length (flat_map kinds_of_item items) ≡ port_count items
 unfolding port_count
 length-kinds [] = refl
 length-kinds (item ∷ items) =

@@ -84,7 +84,7 @@ consumed_quiet kind.Send serial = record { waits = (tt, tt); receives = λ (q : 
 consumed_quiet kind.SendOnce serial = record { waits = tt; receives = λ (q : ℕ). refl }
 
 -- the message was lawful
-oldest_lawful : (port : PortState) (message : Message) (later : List Message) → LawfulPort port → port.messages ≡ message ∷ later → LawfulMessage message
+pub oldest_lawful : (port : PortState) (message : Message) (later : List Message) → LawfulPort port → port.messages ≡ message ∷ later → LawfulMessage message
 oldest_lawful port message later lawful is =
     let all : All LawfulMessage (message ∷ later) = subst (λ (l : List Message). All LawfulMessage l) is lawful.messages in
     all 0 message (omega arith)

@@ -11,6 +11,8 @@ ghost use Rattle.ipc_laws.specs.OpeningLaws.{OpeningIsLawful};
 ghost use Rattle.ipc_laws.specs.OtherSpaces.{OthersFade, SpacesAreMade};
 ghost use Rattle.ipc_laws.specs.OwnedPlaces.{NewRecordsAreOwned};
 ghost use Rattle.ipc_laws.specs.PortChanges.{PortMovesLawfully};
+ghost use Rattle.ipc_laws.specs.RecordedMessages.{RecordedSendsAreDone};
+ghost use Rattle.ipc_laws.specs.RecordedReceipts.{RecordedReceiptsAreDone};
 ghost use Rattle.ipc_laws.specs.RecoveryLaws.{RecoversLawful, RecoversOnce, RecoversVersionOne, SpellsOnce};
 ghost use Rattle.ipc_laws.specs.Spelling.{LawfulIsSpellable};
 ghost use Rattle.ipc_laws.specs.Settling.{AlwaysSettles, EffectsLower};
@@ -106,6 +108,18 @@ pub fn one_run()
 /// A message and what a record keeps of it, with 0 in place of what a send ignores, are sent alike.
 pub fn messages_are_sent_as_kept()
     ensures { MessagesAreSentAsKept }
+{}
+
+/// A send that has a record was done: its message has 24 to 8,192 bytes, and nothing comes back. No refusal of a send
+/// is a success.
+pub fn recorded_sends_are_done()
+    ensures { RecordedSendsAreDone }
+{}
+
+/// A receipt that has a record, from a lawful state, brings a message as long as its size says, or destroyed one that was
+/// too large and brings nothing.
+pub fn recorded_receipts_are_done()
+    ensures { RecordedReceiptsAreDone }
 {}
 
 /// A record has one text: what begins with the texts of two records begins with one record, of one number.
