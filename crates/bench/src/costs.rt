@@ -1,6 +1,7 @@
-//! What each kind of call costs as what stands beside it grows: ports, names of the same space, and spaces.
+//! What each kind of call costs as what stands beside it grows: ports, names of the same space, spaces and messages.
 
 use crate::{Fault, per_call};
+use codes::Right;
 use ipc_model::Call;
 use kernel::Kernel;
 use script::read_request_line;
@@ -18,7 +19,7 @@ const BEFORE: [&str; 4] = [
     "space_create 0x100 make_send",
 ];
 
-/// The space that takes the other ports, and the one that then comes and goes.
+/// The space that takes the other ports, and where no space stands beside the one that then comes and goes.
 const OTHER_SPACE: u32 = 2;
 
 const NEXT_SPACE: u32 = 3;
@@ -72,24 +73,51 @@ const PAIRS: [(&str, u32, &str, bool); 14] = [
     ("names", HERE, "names", true),
 ];
 
-/// What stands beside: live ports in another space, and dead names in the space of the calls.
+/// What stands beside: live ports in another space, dead names in the space of the calls, spaces with a send right to
+/// its port, and notices queued at another port.
 #[derive(Clone, Copy)]
 struct Beside {
     ports: u32,
     names: u32,
+    spaces: u32,
+    notices: u32,
 }
 
-const ALONE: Beside = Beside { ports: 0, names: 0 };
+const ALONE: Beside = Beside {
+    ports: 0,
+    names: 0,
+    spaces: 0,
+    notices: 0,
+};
 
 const PORTS: Beside = Beside {
     ports: 4_000,
-    names: 0,
+    ..ALONE
 };
 
 const NAMES: Beside = Beside {
-    ports: 0,
     names: 4_000,
+    ..ALONE
 };
+
+const SPACES: Beside = Beside {
+    spaces: 250,
+    ..ALONE
+};
+
+const NOTICES: Beside = Beside {
+    notices: 4_000,
+    ..ALONE
+};
+
+/// What stands before notices are queued: the port that they go to, and the dead name that they tell of.
+const BEFORE_NOTICES: [&str; 2] = [
+    "allocate_name receive 0x400",
+    "allocate_name dead_name 0x401",
+];
+
+/// A notice is due at once where the name is dead already.
+const NOTICE: &str = "request_notification 0x401 dead_name 1 0x400 make_send_once";
 
 /// The first of the names beside, so that the least unused name is 0x101 all the same.
 const FIRST_OTHER_NAME: u32 = 0x1000;
@@ -148,12 +176,28 @@ fn kernel_beside(alloc: Global, beside: Beside) -> Result<Kernel, Fault> {
         "allocate receive",
         beside.ports,
     )?;
+    make_line(
+        alloc,
+        &mut kernel,
+        HERE,
+        "space_create 0x100 make_send",
+        beside.spaces,
+    )?;
+    if beside.notices > 0 {
+        for line in BEFORE_NOTICES {
+            make_line(alloc, &mut kernel, HERE, line, 1)?;
+        }
+    }
+    make_line(alloc, &mut kernel, HERE, NOTICE, beside.notices)?;
     for number in 0..beside.names {
         let name = number.saturating_add(FIRST_OTHER_NAME);
         make(
             &mut kernel,
             HERE,
-            &Call::AllocateName { right: 4, name },
+            &Call::AllocateName {
+                right: Right::DeadName.number(),
+                name,
+            },
             true,
         )?;
     }
@@ -170,24 +214,31 @@ fn cost(
     let first = call_of(rt.alloc(), pair.0)?;
     let second = call_of(rt.alloc(), pair.2)?;
     let mut kernel = kernel_beside(rt.alloc(), beside)?;
+    let next_space = beside.spaces.saturating_add(NEXT_SPACE);
+    let second_space = if pair.1 == HERE { HERE } else { next_space };
     let start = Instant::now(rt)?;
     for _ in 0..rounds {
         make(&mut kernel, HERE, &first, pair.3)?;
-        make(&mut kernel, pair.1, &second, pair.3)?;
+        make(&mut kernel, second_space, &second, pair.3)?;
     }
     Ok(per_call(rounds.saturating_mul(2), start.elapsed(rt)?))
 }
 
-/// Prints what a call of each pair costs beside little, and as ports and names grow.
+/// Prints what a call of each pair costs beside little, and as what stands beside grows.
 pub(crate) fn print_costs(rt: &HostRuntime) -> Result<(), Fault> {
     let _ = println!(rt;
-        "nanoseconds a call: alone, beside 4,000 ports, beside 4,000 names of its space"
+        "nanoseconds a call: alone, beside 4,000 ports, 4,000 names of its space, 250 spaces, 4,000 notices"
     );
     for pair in PAIRS {
         let alone = cost(rt, ALONE, MANY_ROUNDS, pair)?;
         let ports = cost(rt, PORTS, FEW_ROUNDS, pair)?;
         let names = cost(rt, NAMES, FEW_ROUNDS, pair)?;
-        let _ = println!(rt; "{} / {}: {alone}, {ports}, {names}", pair.0, pair.2);
+        let spaces = cost(rt, SPACES, FEW_ROUNDS, pair)?;
+        let notices = cost(rt, NOTICES, FEW_ROUNDS, pair)?;
+        let _ = println!(rt;
+            "{} / {}: {alone}, {ports}, {names}, {spaces}, {notices}",
+            pair.0, pair.2
+        );
     }
     Ok(())
 }

@@ -1,7 +1,8 @@
--- Items that are read from a body fit their descriptors, keep its length as they are stored, and are read back.
+-- Items that are read from a body tile it: they fit their descriptors, and their texts joined are the body. They are read
+-- back from these.
 use Rattle.std.specs.Prelude.{◌≡◌, ℕ, zero, suc, ◌+◌, ◌*◌, ◌/◌, ◌%◌, ◌^◌, ◌<◌, ◌≤◌, Bool, true, false, ◌==◌, ◌&&◌, ◌||◌, not, nat_lt, List, [], ◌∷◌, ◌++◌, length, take, drop, None, Some, Result, Ok, Err, if◌then◌else◌, refl}
-use Rattle.std.proofs.Common.{sym, ◌∙◌, ap, subst, arith, append_assoc, length-append, length-take, length-drop, take_at, drop_at}
-use Rattle.std.proofs.lemmas.Bool.{ltb-false, ltb-true as ltb-is, eqb-true, eq-eqb}
+use Rattle.std.proofs.Common.{sym, ◌∙◌, ap, subst, arith, append_assoc, length-append, length-take, length-drop, take_at, drop_at, take-add, drop-drop, take-append-drop}
+use Rattle.std.proofs.lemmas.Bool.{ltb-false, ltb-true as ltb-is, eqb-true, eqb-false, eq-eqb}
 use Rattle.byteorder.specs.Endian.{little_number, little_bytes}
 use Rattle.byteorder.specs.Numbers.{little_from-lt, little_number-reads_back}
 use Rattle.codes.specs.declared.kern_return.KernReturn.{KernReturn}
@@ -9,7 +10,7 @@ use Rattle.codes.specs.declared.kern_return.KernReturn.TheVariants.{SendMsgTooSm
 use Rattle.ipc_laws.specs.CallsKeep.{first_passes}
 use Rattle.ipc_model.specs.messages.Items.{Item, items_of, items_within, item_of, item_text, items_text, after_item, is_long_form, is_inline, has_other_bit, type_name_in, bits_in, number_in, descriptor_length, descriptor_text, data_length, padded, is_port_type, is_port_item}
 use Rattle.ipc_model.specs.calls.Tests.{Tests, first_failing, and_then, unless_failing}
-use Rattle.words.specs.WordLaws.{little_number-word, length-word}
+use Rattle.words.specs.WordLaws.{little_number-word, length-word, word-little_number}
 use Rattle.words.specs.Words.{AreBytes, word}
 
 -- bytes of a front and of a back
@@ -230,60 +231,131 @@ number_fits : (bytes : List ℕ) (b : Bool) → AreBytes bytes → number_in byt
 number_fits bytes false fits = omega arith
 number_fits bytes true fits = little_from-lt 0 4 (drop 8 bytes) (back_bytes 8 bytes fits)
 
-either_false : (a b : Bool) → (a || b) ≡ false → b ≡ false
+either_false : (a b : Bool) → (a || b) ≡ false → (a ≡ false) × (b ≡ false)
 either_false true b e = absurd (cc e)
-either_false false b e = e
+either_false false b e = (refl, e)
 
 bits_of_port : (port is : Bool) → (port && not is) ≡ false → port ≡ true → is ≡ true
 bits_of_port true true e p = refl
 bits_of_port true false e p = absurd (cc e)
 bits_of_port false is e p = absurd (cc p)
 
--- the five tests, one by one
-record Passed (bytes : List ℕ) (long : Bool) : Type 0 where
+not_false : (b : Bool) → not b ≡ false → b ≡ true
+not_false true e = refl
+not_false false e = absurd (cc e)
+
+-- the five tests, one by one, of a descriptor whose word and form are known
+record Passed (w : ℕ) (bytes : List ℕ) (long : Bool) : Type 0 where
+  whole : 4 ≤ length bytes
+  is_inline : is_inline w ≡ true
+  deallocate : ((w / 2 ^ 30) % 2 == 1) ≡ false
+  unused : ((w / 2 ^ 31) % 2 == 1) ≡ false
+  plain : long ≡ true → (w % 2 ^ 28 == 0) ≡ true
   ports : is_port_type (type_name_in bytes long) ≡ true → bits_in bytes long ≡ 32
   enough : descriptor_length long + data_length bytes long ≤ length bytes
 
-passed : (w : ℕ) (long : Bool) (bytes : List ℕ) → first_failing (tests_with w long bytes) ≡ None → Passed bytes long
+passed : (w : ℕ) (long : Bool) (bytes : List ℕ) → first_failing (tests_with w long bytes) ≡ None → Passed w bytes long
 passed w long bytes passes =
     let last : Tests = (nat_lt (length bytes) (descriptor_length long + data_length bytes long), SendMsgTooSmall) ∷ [] in
-    let fourth : Bool = has_other_bit w || (long && not (w % 2 ^ 28 == 0)) || (is_port_type (type_name_in bytes long) && not (bits_in bytes long == 32)) in
-    let one = first_passes (nat_lt (length bytes) 4, SendMsgTooSmall) ((long && nat_lt (length bytes) 12, SendMsgTooSmall) ∷ (not (is_inline w), SendInvalidMemory) ∷ (fourth, SendInvalidType) ∷ last) passes in
-    let two = first_passes (long && nat_lt (length bytes) 12, SendMsgTooSmall) ((not (is_inline w), SendInvalidMemory) ∷ (fourth, SendInvalidType) ∷ last) one.1 in
-    let three = first_passes (not (is_inline w), SendInvalidMemory) ((fourth, SendInvalidType) ∷ last) two.1 in
-    let four = first_passes (fourth, SendInvalidType) last three.1 in
+    let filled : Bool = long && not (w % 2 ^ 28 == 0) in
+    let odd : Bool = is_port_type (type_name_in bytes long) && not (bits_in bytes long == 32) in
+    let one = first_passes (nat_lt (length bytes) 4, SendMsgTooSmall) ((long && nat_lt (length bytes) 12, SendMsgTooSmall) ∷ (not (is_inline w), SendInvalidMemory) ∷ (has_other_bit w || filled || odd, SendInvalidType) ∷ last) passes in
+    let two = first_passes (long && nat_lt (length bytes) 12, SendMsgTooSmall) ((not (is_inline w), SendInvalidMemory) ∷ (has_other_bit w || filled || odd, SendInvalidType) ∷ last) one.1 in
+    let three = first_passes (not (is_inline w), SendInvalidMemory) ((has_other_bit w || filled || odd, SendInvalidType) ∷ last) two.1 in
+    let four = first_passes (has_other_bit w || filled || odd, SendInvalidType) last three.1 in
     let five = first_passes (nat_lt (length bytes) (descriptor_length long + data_length bytes long), SendMsgTooSmall) [] four.1 in
+    let type_tests = either_false (has_other_bit w || filled) odd four.0 in
+    let word_tests = either_false (has_other_bit w) filled type_tests.0 in
+    let bits = either_false ((w / 2 ^ 30) % 2 == 1) ((w / 2 ^ 31) % 2 == 1) word_tests.0 in
     record {
-      ports = λ (is : _). eqb-true (bits_in bytes long) 32 (bits_of_port (is_port_type (type_name_in bytes long)) (bits_in bytes long == 32)
-          (either_false (has_other_bit w || (long && not (w % 2 ^ 28 == 0))) (is_port_type (type_name_in bytes long) && not (bits_in bytes long == 32)) four.0) is);
+      whole = ltb-false (length bytes) 4 one.0;
+      is_inline = not_false (is_inline w) three.0;
+      deallocate = bits.0;
+      unused = bits.1;
+      plain = λ (is : _). bits_of_port long (w % 2 ^ 28 == 0) word_tests.1 is;
+      ports = λ (is : _). eqb-true (bits_in bytes long) 32 (bits_of_port (is_port_type (type_name_in bytes long)) (bits_in bytes long == 32) type_tests.1 is);
       enough = ltb-false (length bytes) (descriptor_length long + data_length bytes long) five.0;
     }
 
-read_long : (bytes : List ℕ) (long : Bool) → Passed bytes long → length (item_of bytes long).content ≡ data_length bytes long
-read_long bytes long tests =
+-- A descriptor that passes its tests is that of the item.
+
+half_back : (bytes : List ℕ) → AreBytes bytes → 2 ≤ length bytes → little_bytes 2 (little_number 2 bytes) ≡ take 2 bytes
+half_back [] fits long = absurd (omega arith)
+half_back (a ∷ []) fits long = absurd (omega arith)
+half_back (a ∷ b ∷ rest) fits long =
+    let n : ℕ = little_number 2 (a ∷ b ∷ rest) in
+    let low : n % 256 ≡ a = omega (arith, fits 0, fits 1) in
+    let high : (n / 256) % 256 ≡ b = omega (arith, fits 0, fits 1) in
+    λ i. low i ∷ high i ∷ []
+
+fields_of : (w : ℕ) → w < 2 ^ 32 → (w / 2 ^ 28) % 2 ≡ 1 → ((w / 2 ^ 29) % 2 ≡ 1 → ⊥) → ((w / 2 ^ 30) % 2 ≡ 1 → ⊥) → ((w / 2 ^ 31) % 2 ≡ 1 → ⊥)
+    → w % 2 ^ 8 + ((w / 2 ^ 8) % 2 ^ 8) * 2 ^ 8 + ((w / 2 ^ 16) % 2 ^ 12) * 2 ^ 16 + 2 ^ 28 ≡ w
+fields_of w small in_line short kept used = omega (arith, small, in_line, short, kept, used)
+
+long_word_is : (w : ℕ) → w < 2 ^ 32 → (w / 2 ^ 28) % 2 ≡ 1 → (w / 2 ^ 29) % 2 ≡ 1 → ((w / 2 ^ 30) % 2 ≡ 1 → ⊥) → ((w / 2 ^ 31) % 2 ≡ 1 → ⊥) → w % 2 ^ 28 ≡ 0 → 2 ^ 28 + 2 ^ 29 ≡ w
+long_word_is w small in_line long kept used plain = omega (arith, small, in_line, long, kept, used, plain)
+
+descriptor_back : (bytes : List ℕ) (long : Bool) → AreBytes bytes → is_long_form (little_number 4 bytes) ≡ long → Passed (little_number 4 bytes) bytes long
+    → descriptor_text (item_of bytes long) long ≡ take (descriptor_length long) bytes
+descriptor_back bytes false fits form tests =
+    let w : ℕ = little_number 4 bytes in
+    ap word (fields_of w (little_from-lt 0 4 bytes fits) (eqb-true ((w / 2 ^ 28) % 2) 1 tests.is_inline) (eqb-false ((w / 2 ^ 29) % 2) 1 form) (eqb-false ((w / 2 ^ 30) % 2) 1 tests.deallocate) (eqb-false ((w / 2 ^ 31) % 2) 1 tests.unused))
+    ∙ word-little_number bytes fits tests.whole
+descriptor_back bytes true fits form tests =
+    let w : ℕ = little_number 4 bytes in
+    let word_is : 2 ^ 28 + 2 ^ 29 ≡ w =
+    long_word_is w (little_from-lt 0 4 bytes fits) (eqb-true ((w / 2 ^ 28) % 2) 1 tests.is_inline) (eqb-true ((w / 2 ^ 29) % 2) 1 form) (eqb-false ((w / 2 ^ 30) % 2) 1 tests.deallocate) (eqb-false ((w / 2 ^ 31) % 2) 1 tests.unused)
+        (eqb-true (w % 2 ^ 28) 0 (tests.plain refl)) in
+    let first : word (2 ^ 28 + 2 ^ 29) ≡ take 4 bytes = ap word word_is ∙ word-little_number bytes fits tests.whole in
+    let name : little_bytes 2 (type_name_in bytes true) ≡ take 2 (drop 4 bytes) = half_back (drop 4 bytes) (back_bytes 4 bytes fits) (omega (arith, tests.enough, length-drop 4 bytes)) in
+    let bits : little_bytes 2 (bits_in bytes true) ≡ take 2 (drop 6 bytes) = half_back (drop 6 bytes) (back_bytes 6 bytes fits) (omega (arith, tests.enough, length-drop 6 bytes)) in
+    let number : word (number_in bytes true) ≡ take 4 (drop 8 bytes) = word-little_number (drop 8 bytes) (back_bytes 8 bytes fits) (omega (arith, tests.enough, length-drop 8 bytes)) in
+    let last : take 6 (drop 6 bytes) ≡ take 2 (drop 6 bytes) ++ take 4 (drop 8 bytes) = take-add 2 4 (drop 6 bytes) ∙ ap (λ (l : List ℕ). take 2 (drop 6 bytes) ++ take 4 l) (drop-drop 2 6 bytes) in
+    let middle : take 8 (drop 4 bytes) ≡ take 2 (drop 4 bytes) ++ take 6 (drop 6 bytes) = take-add 2 6 (drop 4 bytes) ∙ ap (λ (l : List ℕ). take 2 (drop 4 bytes) ++ take 6 l) (drop-drop 2 4 bytes) in
+    (λ i. first i ++ (name i ++ (bits i ++ number i)))
+    ∙ ap (λ (l : List ℕ). take 4 bytes ++ (take 2 (drop 4 bytes) ++ l)) (sym last) ∙ ap (λ (l : List ℕ). take 4 bytes ++ l) (sym middle) ∙ sym (take-add 4 8 bytes)
+
+-- what is read of bytes and what follows it are these
+item_and_rest : (bytes : List ℕ) (long : Bool) → AreBytes bytes → is_long_form (little_number 4 bytes) ≡ long → Passed (little_number 4 bytes) bytes long
+    → item_text (item_of bytes long) ++ after_item bytes long ≡ bytes
+item_and_rest bytes long fits form tests =
+    let d : ℕ = descriptor_length long in
+    let n : ℕ = data_length bytes long in
+    append_assoc (descriptor_text (item_of bytes long) long) (take n (drop d bytes)) (drop (d + n) bytes)
+    ∙ ap (λ (l : List ℕ). l ++ (take n (drop d bytes) ++ drop (d + n) bytes)) (descriptor_back bytes long fits form tests)
+    ∙ ap (λ (l : List ℕ). take d bytes ++ (take n (drop d bytes) ++ l)) (sym (drop-drop n d bytes))
+    ∙ ap (λ (l : List ℕ). take d bytes ++ l) (take-append-drop n (drop d bytes)) ∙ take-append-drop d bytes
+
+read_long : (w : ℕ) (bytes : List ℕ) (long : Bool) → Passed w bytes long → length (item_of bytes long).content ≡ data_length bytes long
+read_long w bytes long tests =
     length-take (data_length bytes long) (drop (descriptor_length long) bytes) ∙ omega (arith, length-drop (descriptor_length long) bytes, tests.enough)
 
-read_fits : (bytes : List ℕ) (long : Bool) → AreBytes bytes → Passed bytes long → ItemFits (item_of bytes long)
-read_fits bytes long fits tests = record {
+read_fits : (w : ℕ) (bytes : List ℕ) (long : Bool) → AreBytes bytes → Passed w bytes long → ItemFits (item_of bytes long)
+read_fits w bytes long fits tests = record {
   type_name = name_fits bytes long fits;
   bits = bits_fit bytes long fits;
   number = number_fits bytes long fits;
   ports = tests.ports;
-  long = read_long bytes long tests;
+  long = read_long w bytes long tests;
   bytes = front_bytes (data_length bytes long) (drop (descriptor_length long) bytes) (back_bytes (descriptor_length long) bytes fits);
 }
 
--- items that are read fit, and are as long as the body
+-- items that are read fit, and tile the body
 pub record ItemsRead (body : List ℕ) (items : List Item) : Type 0 where
   pub fit : AllFit items
+  pub tile : items_text items ≡ body
   pub long : length (items_text items) ≡ length body
 
-one_more_read : (bytes : List ℕ) (long : Bool) (items : List Item) → AreBytes bytes → Passed bytes long → ItemsRead (after_item bytes long) items → ItemsRead bytes (item_of bytes long ∷ items)
-one_more_read bytes long items fits tests rest = record {
-  fit = (read_fits bytes long fits tests, rest.fit);
-  long = length-append (item_text (item_of bytes long)) (items_text items)
-      ∙ omega (arith, item_length (item_of bytes long), read_long bytes long tests, rest.long, length-drop (descriptor_length long + data_length bytes long) bytes, tests.enough);
-}
+one_more_read : (bytes : List ℕ) (items : List Item) → AreBytes bytes → Passed (little_number 4 bytes) bytes (is_long_form (little_number 4 bytes)) → ItemsRead (after_item bytes (is_long_form (little_number 4 bytes))) items
+    → ItemsRead bytes (item_of bytes (is_long_form (little_number 4 bytes)) ∷ items)
+one_more_read bytes items fits tests rest =
+    let long : Bool = is_long_form (little_number 4 bytes) in
+    let tile : item_text (item_of bytes long) ++ items_text items ≡ bytes = ap (λ (l : List ℕ). item_text (item_of bytes long) ++ l) rest.tile ∙ item_and_rest bytes long fits refl tests in
+    record {
+      fit = (read_fits (little_number 4 bytes) bytes long fits tests, rest.fit);
+      tile = tile;
+      long = ap length tile;
+    }
 
 ok_of : {X Y : Type 0} (r : Result X KernReturn) (next : X → Result Y KernReturn) (y : Y) → and_then r next ≡ Ok y → (x : X) × (r ≡ Ok x) × (next x ≡ Ok y)
 ok_of (Ok x) next y is = (x, refl, is)
@@ -298,20 +370,27 @@ unfolding items_in
 same_items one other e = ap items_in e
 
 within_read : (n : ℕ) (bytes : List ℕ) (items : List Item) → length bytes ≤ n → AreBytes bytes → items_within n bytes ≡ Ok items → ItemsRead bytes items
-within_read zero [] items few fits is = subst (ItemsRead []) (same_items [] items is) (record { fit = tt; long = refl })
+within_read zero [] items few fits is = subst (ItemsRead []) (same_items [] items is) (record { fit = tt; tile = refl; long = refl })
 within_read zero (b ∷ bytes) items few fits is = absurd (omega (arith, few))
-within_read (suc n) [] items few fits is = subst (ItemsRead []) (same_items [] items is) (record { fit = tt; long = refl })
+within_read (suc n) [] items few fits is = subst (ItemsRead []) (same_items [] items is) (record { fit = tt; tile = refl; long = refl })
 within_read (suc n) (b ∷ bytes) items few fits is =
     let text : List ℕ = b ∷ bytes in
     let w : ℕ = little_number 4 text in
     let long : Bool = is_long_form w in
     let tests = passed_tests (tests_with w long text) (and_then (items_within n (after_item text long)) (λ items. Ok (item_of text long ∷ items))) items is in
     let rest = ok_of (items_within n (after_item text long)) (λ items. Ok (item_of text long ∷ items)) items tests.1 in
-    let pass : Passed text long = passed w long text tests.0 in
+    let pass : Passed w text long = passed w long text tests.0 in
     let shorter : length (after_item text long) ≤ n = omega (arith, few, length-drop (descriptor_length long + data_length text long) text, at_least_four long) in
     subst (ItemsRead text) (same_items (item_of text long ∷ rest.0) items rest.2)
-    (one_more_read text long rest.0 fits pass (within_read n (after_item text long) rest.0 shorter (back_bytes (descriptor_length long + data_length text long) text fits) rest.1))
+    (one_more_read text rest.0 fits pass (within_read n (after_item text long) rest.0 shorter (back_bytes (descriptor_length long + data_length text long) text fits) rest.1))
 
 pub items_read : (body : List ℕ) (items : List Item) → AreBytes body → items_of body ≡ Ok items → ItemsRead body items
 unfolding items_of
 items_read body items fits is = within_read (length body) body items (omega arith) fits is
+
+-- The items that are found in a body of bytes are all of it, in order: their texts joined are the body.
+abbrev pub ItemsTileBodies : Type 0
+ItemsTileBodies = (body : List ℕ) (items : List Item) → AreBytes body → items_of body ≡ Ok items → items_text items ≡ body
+
+pub items_tile_bodies : ItemsTileBodies
+items_tile_bodies body items fits is = (items_read body items fits is).tile

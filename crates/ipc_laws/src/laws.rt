@@ -4,6 +4,7 @@ ghost use Rattle.ipc_laws.specs.EffectRanks.{EffectsKeepGrounded, SettledIsLawfu
 ghost use Rattle.ipc_laws.specs.EffectsKeep.{EffectsKeepLawful};
 ghost use Rattle.ipc_laws.specs.HistoryLaws.{LegalIsInOrder, LegalStaysLegal, MeetingIsLegal, PlacesHoldCalls, ReadsOwnWrites};
 ghost use Rattle.ipc_laws.specs.ImageLaws.{ImagesHaveOneText};
+ghost use Rattle.ipc_laws.specs.ItemLaws.{ItemsTileBodies};
 ghost use Rattle.ipc_laws.specs.KeptLaws.{MessagesAreSentAsKept};
 ghost use Rattle.ipc_laws.specs.NameChanges.{NamesMoveLawfully};
 ghost use Rattle.ipc_laws.specs.LawfulLaws.{LawfulIsAtRest};
@@ -103,6 +104,11 @@ pub fn runs_keep_lawful()
 /// And it ends in one state: records determine the state that they lead to.
 pub fn one_run()
     ensures { OneRun }
+{}
+
+/// The items that are found in a body of bytes tile it: their texts joined are the body.
+pub fn items_tile_bodies()
+    ensures { ItemsTileBodies }
 {}
 
 /// A message and what a record keeps of it, with 0 in place of what a send ignores, are sent alike.

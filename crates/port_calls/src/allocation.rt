@@ -10,6 +10,7 @@ ghost use Rattle.ipc_model.specs.calls.Tests.{first_failing};
 
 use crate::entry::{allocated_entry, is_allocatable};
 use crate::name_lookup::is_null_or_dead;
+use crate::reply::refused;
 use codes::{KernReturn, MACH_PORT_ALLOCATE, MACH_PORT_ALLOCATE_NAME, MAX_NAMES, Right};
 use ipc_model::Reply;
 use ipc_state::IpcState;
@@ -32,10 +33,7 @@ pub fn allocate(
     ensures err { OnErr result (state.new ≡ state.old) }
 {
     if let Some(code) = refusal_of_allocate(state, space, right) {
-        return Ok(Reply::Refused {
-            number: MACH_PORT_ALLOCATE,
-            code,
-        });
+        return Ok(refused(MACH_PORT_ALLOCATE, code));
     }
     let name = chosen_name(state, space, wanted);
     add_right(state, space, right, name)?;
@@ -97,7 +95,7 @@ pub fn allocate_name(
 {
     let number = MACH_PORT_ALLOCATE_NAME;
     if let Some(code) = refusal_of_name(state, space, right, name) {
-        return Ok(Reply::Refused { number, code });
+        return Ok(refused(number, code));
     }
     add_right(state, space, right, name)?;
     Ok(Reply::Done { number })

@@ -11,6 +11,7 @@ mod reads;
 mod references;
 mod removal;
 mod renaming;
+mod reply;
 mod requests;
 mod right_transfer;
 mod spaces;

@@ -6,12 +6,14 @@ ghost use Rattle.ipc_model.specs.effects.Effects.{release};
 ghost use Rattle.ipc_model.specs.calls.PortCalls.{names_in, is_no_name, sum_is_negative, sum_of, falls_by};
 ghost use Rattle.ipc_model.specs.state.State.{entry_at};
 ghost use Rattle.ipc_model.specs.calls.Step.{ActsIn};
+ghost use Rattle.codes.specs.Right.{number_of};
 ghost use Rattle.port_space.specs.References.{AreFewReferences};
 
 use crate::name_lookup::named;
 use crate::references::{release, send_left, send_once_gone};
 use crate::removal::move_members;
-use codes::{KernReturn, MACH_PORT_MOD_REFS, MAX_DEAD_REFERENCES, MAX_SEND_REFERENCES};
+use crate::reply::refused;
+use codes::{KernReturn, MACH_PORT_MOD_REFS, MAX_DEAD_REFERENCES, MAX_SEND_REFERENCES, Right};
 use effects::Effects;
 use ipc_model::{Entry, PortRights, Reply, RightKind};
 use ipc_state::IpcState;
@@ -20,15 +22,6 @@ use std::alloc::{AllocError, Global};
 
 /// Minus one, as a delta in two's complement.
 const MINUS_ONE: u32 = u32::MAX;
-
-fn refused(code: KernReturn) -> Reply
-    ensures { result ≡ Reply.Refused MACH_PORT_MOD_REFS code }
-{
-    Reply::Refused {
-        number: MACH_PORT_MOD_REFS,
-        code,
-    }
-}
 
 /// `mach_port_mod_refs`: so many references of a right more or less, in two's complement. Where memory is wanted
 /// the state has to be given up.
@@ -45,25 +38,29 @@ pub fn mod_refs(
     requires none { effects.old ≡ [] }
     ensures { IfOk result (λ reply. ActsIn state.old space (names_in state.old space) (call.ModRefs name right delta) reply state.new effects.new) }
 {
-    if right > 4 {
-        return Ok(refused(KernReturn::InvalidValue));
-    }
-    let Some(entry) = named(state, space, name) else {
-        return Ok(refused(KernReturn::InvalidName));
+    let Some(wanted) = Right::from_number(right) else {
+        return Ok(refused(MACH_PORT_MOD_REFS, KernReturn::InvalidValue));
     };
-    match (right, entry) {
-        (0, Entry::Port(rights)) => mod_send(state, space, name, rights, delta, effects),
-        (1, Entry::Port(rights)) => mod_receive(state, space, name, rights, delta, effects),
+    let Some(entry) = named(state, space, name) else {
+        return Ok(refused(MACH_PORT_MOD_REFS, KernReturn::InvalidName));
+    };
+    match (wanted, entry) {
+        (Right::Send, Entry::Port(rights)) => mod_send(state, space, name, rights, delta, effects),
+        (Right::Receive, Entry::Port(rights)) => {
+            mod_receive(state, space, name, rights, delta, effects)
+        }
         (
-            2,
+            Right::SendOnce,
             Entry::SendOnce {
                 port,
                 dead_name_target,
             },
         ) => mod_send_once(state, space, name, port, dead_name_target, delta, effects),
-        (3, Entry::Set) => mod_set(alloc, state, space, name, delta, effects),
-        (4, Entry::Dead { references }) => mod_dead(state, space, name, references, delta, effects),
-        _ => Ok(refused(KernReturn::InvalidRight)),
+        (Right::PortSet, Entry::Set) => mod_set(alloc, state, space, name, delta, effects),
+        (Right::DeadName, Entry::Dead { references }) => {
+            mod_dead(state, space, name, references, delta, effects)
+        }
+        _ => Ok(refused(MACH_PORT_MOD_REFS, KernReturn::InvalidRight)),
     }
 }
 
@@ -80,17 +77,17 @@ fn mod_send(
     requires a_name { is_no_name (names_in state.old space) name ≡ false }
     requires found { map.get (names_in state.old space) name ≡ Some (Entry.Port rights) }
     requires at { entry_at state.old space name ≡ Some (Entry.Port rights) }
-    ensures { IfOk result (λ reply. ActsIn state.old space (names_in state.old space) (call.ModRefs name 0 delta) reply state.new effects.new) }
+    ensures { IfOk result (λ reply. ActsIn state.old space (names_in state.old space) (call.ModRefs name (number_of Right.Send) delta) reply state.new effects.new) }
 {
     if rights.send == 0 {
-        return Ok(refused(KernReturn::InvalidRight));
+        return Ok(refused(MACH_PORT_MOD_REFS, KernReturn::InvalidRight));
     }
     if sum_is_negative(rights.send, delta) {
-        return Ok(refused(KernReturn::InvalidValue));
+        return Ok(refused(MACH_PORT_MOD_REFS, KernReturn::InvalidValue));
     }
     let left = sum_of(rights.send, delta);
     if left > u64::from(MAX_SEND_REFERENCES) {
-        return Ok(refused(KernReturn::UrefsOverflow));
+        return Ok(refused(MACH_PORT_MOD_REFS, KernReturn::UrefsOverflow));
     }
     send_left(state, space, name, rights, left as u32, effects)?;
     Ok(Reply::Done {
@@ -112,15 +109,15 @@ fn mod_receive(
     requires found { map.get (names_in state.old space) name ≡ Some (Entry.Port rights) }
     requires at { entry_at state.old space name ≡ Some (Entry.Port rights) }
     requires few { AreFewReferences (Entry.Port rights) }
-    ensures { IfOk result (λ reply. ActsIn state.old space (names_in state.old space) (call.ModRefs name 1 delta) reply state.new effects.new) }
+    ensures { IfOk result (λ reply. ActsIn state.old space (names_in state.old space) (call.ModRefs name (number_of Right.Receive) delta) reply state.new effects.new) }
 {
     if !rights.receive {
-        return Ok(refused(KernReturn::InvalidRight));
+        return Ok(refused(MACH_PORT_MOD_REFS, KernReturn::InvalidRight));
     }
     if delta == MINUS_ONE {
         receive_gone(state, space, name, rights, effects)?;
     } else if delta != 0 {
-        return Ok(refused(KernReturn::InvalidValue));
+        return Ok(refused(MACH_PORT_MOD_REFS, KernReturn::InvalidValue));
     }
     Ok(Reply::Done {
         number: MACH_PORT_MOD_REFS,
@@ -163,12 +160,12 @@ fn mod_send_once(
     requires none { effects.old ≡ [] }
     requires a_name { is_no_name (names_in state.old space) name ≡ false }
     requires found { map.get (names_in state.old space) name ≡ Some (Entry.SendOnce port request) }
-    ensures { IfOk result (λ reply. ActsIn state.old space (names_in state.old space) (call.ModRefs name 2 delta) reply state.new effects.new) }
+    ensures { IfOk result (λ reply. ActsIn state.old space (names_in state.old space) (call.ModRefs name (number_of Right.SendOnce) delta) reply state.new effects.new) }
 {
     if delta == MINUS_ONE {
         send_once_gone(state, space, name, port, request, effects)?;
     } else if delta != 0 {
-        return Ok(refused(KernReturn::InvalidValue));
+        return Ok(refused(MACH_PORT_MOD_REFS, KernReturn::InvalidValue));
     }
     Ok(Reply::Done {
         number: MACH_PORT_MOD_REFS,
@@ -188,17 +185,17 @@ fn mod_dead(
     requires a_name { is_no_name (names_in state.old space) name ≡ false }
     requires found { map.get (names_in state.old space) name ≡ Some (Entry.Dead references) }
     requires at { entry_at state.old space name ≡ Some (Entry.Dead references) }
-    ensures { IfOk result (λ reply. ActsIn state.old space (names_in state.old space) (call.ModRefs name 4 delta) reply state.new effects.new) }
+    ensures { IfOk result (λ reply. ActsIn state.old space (names_in state.old space) (call.ModRefs name (number_of Right.DeadName) delta) reply state.new effects.new) }
 {
     if references == 0 {
-        return Ok(refused(KernReturn::InvalidRight));
+        return Ok(refused(MACH_PORT_MOD_REFS, KernReturn::InvalidRight));
     }
     if sum_is_negative(references, delta) {
-        return Ok(refused(KernReturn::InvalidValue));
+        return Ok(refused(MACH_PORT_MOD_REFS, KernReturn::InvalidValue));
     }
     let left = sum_of(references, delta);
     if left > u64::from(MAX_DEAD_REFERENCES) {
-        return Ok(refused(KernReturn::UrefsOverflow));
+        return Ok(refused(MACH_PORT_MOD_REFS, KernReturn::UrefsOverflow));
     }
     let _none = &effects;
     set_left(
@@ -227,7 +224,7 @@ fn mod_set(
     requires a_name { is_no_name (names_in state.old space) name ≡ false }
     requires found { map.get (names_in state.old space) name ≡ Some Entry.Set }
     requires at { entry_at state.old space name ≡ Some Entry.Set }
-    ensures { IfOk result (λ reply. ActsIn state.old space (names_in state.old space) (call.ModRefs name 3 delta) reply state.new effects.new) }
+    ensures { IfOk result (λ reply. ActsIn state.old space (names_in state.old space) (call.ModRefs name (number_of Right.PortSet) delta) reply state.new effects.new) }
 {
     let _none = &effects;
     if delta == 0 {
@@ -236,7 +233,7 @@ fn mod_set(
         });
     }
     if delta != MINUS_ONE {
-        return Ok(refused(KernReturn::InvalidValue));
+        return Ok(refused(MACH_PORT_MOD_REFS, KernReturn::InvalidValue));
     }
     move_members(alloc, state, space, name, None, Entry::Set)?;
     state.remove_name(space, name);

@@ -4,6 +4,7 @@ ghost use Rattle.ipc_model.specs.calls.PortCalls.{names_in, is_in_some_set};
 ghost use Rattle.ipc_model.specs.calls.Step.{ActsIn};
 
 use crate::name_lookup::named;
+use crate::reply::refused;
 use codes::{KernReturn, MACH_PORT_MOVE_MEMBER, MACH_PORT_NULL};
 use ipc_model::{Entry, Reply};
 use ipc_state::IpcState;
@@ -17,35 +18,20 @@ pub fn move_member(state: &mut IpcState, space: u32, member: u32, after: u32) ->
 {
     let number = MACH_PORT_MOVE_MEMBER;
     let Some(entry) = named(state, space, member) else {
-        return Reply::Refused {
-            number,
-            code: KernReturn::InvalidName,
-        };
+        return refused(number, KernReturn::InvalidName);
     };
     if received_port(entry).is_none() {
-        return Reply::Refused {
-            number,
-            code: KernReturn::InvalidRight,
-        };
+        return refused(number, KernReturn::InvalidRight);
     }
     if after == MACH_PORT_NULL {
         if !is_in_some_set(state, entry) {
-            return Reply::Refused {
-                number,
-                code: KernReturn::NotInSet,
-            };
+            return refused(number, KernReturn::NotInSet);
         }
     } else {
         match named(state, space, after) {
-            None => return Reply::Refused {
-                number,
-                code: KernReturn::InvalidName,
-            },
+            None => return refused(number, KernReturn::InvalidName),
             Some(Entry::Set) => {}
-            Some(_) => return Reply::Refused {
-                number,
-                code: KernReturn::InvalidRight,
-            },
+            Some(_) => return refused(number, KernReturn::InvalidRight),
         }
     }
     port_set::move_member(state, entry, after);

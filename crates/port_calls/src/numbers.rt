@@ -4,6 +4,7 @@ ghost use Rattle.ipc_model.specs.calls.PortCalls.{names_in};
 ghost use Rattle.ipc_model.specs.calls.Step.{ActsIn};
 
 use crate::name_lookup::named;
+use crate::reply::refused;
 use codes::{
     KernReturn, MACH_PORT_SET_MSCOUNT, MACH_PORT_SET_QLIMIT, MACH_PORT_SET_SEQNO, MAX_QUEUE_LIMIT,
 };
@@ -19,22 +20,13 @@ pub fn set_qlimit(state: &mut IpcState, space: u32, name: u32, limit: u32) -> Re
 {
     let number = MACH_PORT_SET_QLIMIT;
     if limit > MAX_QUEUE_LIMIT {
-        return Reply::Refused {
-            number,
-            code: KernReturn::InvalidValue,
-        };
+        return refused(number, KernReturn::InvalidValue);
     }
     let Some(entry) = named(state, space, name) else {
-        return Reply::Refused {
-            number,
-            code: KernReturn::InvalidName,
-        };
+        return refused(number, KernReturn::InvalidName);
     };
     let Some(port) = received_port(entry) else {
-        return Reply::Refused {
-            number,
-            code: KernReturn::InvalidRight,
-        };
+        return refused(number, KernReturn::InvalidRight);
     };
     if let Some(numbers) = state.numbers(port) {
         state.set_numbers(port, PortNumbers { limit, ..numbers });
@@ -49,16 +41,10 @@ pub fn set_mscount(state: &mut IpcState, space: u32, name: u32, count: u32) -> R
 {
     let number = MACH_PORT_SET_MSCOUNT;
     let Some(entry) = named(state, space, name) else {
-        return Reply::Refused {
-            number,
-            code: KernReturn::InvalidName,
-        };
+        return refused(number, KernReturn::InvalidName);
     };
     let Some(port) = received_port(entry) else {
-        return Reply::Refused {
-            number,
-            code: KernReturn::InvalidRight,
-        };
+        return refused(number, KernReturn::InvalidRight);
     };
     if let Some(numbers) = state.numbers(port) {
         let make_send_count = count;
@@ -80,16 +66,10 @@ pub fn set_seqno(state: &mut IpcState, space: u32, name: u32, seqno: u32) -> Rep
 {
     let number = MACH_PORT_SET_SEQNO;
     let Some(entry) = named(state, space, name) else {
-        return Reply::Refused {
-            number,
-            code: KernReturn::InvalidName,
-        };
+        return refused(number, KernReturn::InvalidName);
     };
     let Some(port) = received_port(entry) else {
-        return Reply::Refused {
-            number,
-            code: KernReturn::InvalidRight,
-        };
+        return refused(number, KernReturn::InvalidRight);
     };
     if let Some(numbers) = state.numbers(port) {
         let sequence_number = seqno;

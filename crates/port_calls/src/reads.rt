@@ -5,12 +5,14 @@ ghost use Rattle.ipc_model.specs.state.State.{type_of};
 ghost use Rattle.ipc_model.specs.declared.call.Call.TheVariants as call;
 ghost use Rattle.ipc_model.specs.calls.PortCalls.{names_in, references_of};
 ghost use Rattle.ipc_model.specs.calls.Step.{ActsIn};
+ghost use Rattle.codes.specs.Right.{number_of};
 
 use crate::entry::type_of;
 use crate::name_lookup::named;
+use crate::reply::refused;
 use codes::{
     KernReturn, MACH_PORT_GET_RECEIVE_STATUS, MACH_PORT_GET_REFS, MACH_PORT_GET_SET_STATUS,
-    MACH_PORT_NULL, MACH_PORT_TYPE,
+    MACH_PORT_NULL, MACH_PORT_TYPE, Right,
 };
 use ipc_model::{Entry, NamedType, ReceiveStatus, Reply, RightKind, Sequence};
 use ipc_state::IpcState;
@@ -26,10 +28,7 @@ pub fn port_type(state: &IpcState, space: u32, name: u32) -> Reply
         Some(entry) => Reply::Type {
             bits: type_of(&entry),
         },
-        None => Reply::Refused {
-            number: MACH_PORT_TYPE,
-            code: KernReturn::InvalidName,
-        },
+        None => refused(MACH_PORT_TYPE, KernReturn::InvalidName),
     }
 }
 
@@ -39,20 +38,14 @@ pub fn get_refs(state: &IpcState, space: u32, name: u32, right: u32) -> Reply
     ensures { ActsIn state.now space (names_in state.now space) (call.GetRefs name right) result state.now [] }
 {
     let number = MACH_PORT_GET_REFS;
-    if right > 4 {
-        return Reply::Refused {
-            number,
-            code: KernReturn::InvalidValue,
-        };
-    }
+    let Some(wanted) = Right::from_number(right) else {
+        return refused(number, KernReturn::InvalidValue);
+    };
     match named(state, space, name) {
         Some(entry) => Reply::References {
-            count: references_of(right, entry),
+            count: references_of(wanted, entry),
         },
-        None => Reply::Refused {
-            number,
-            code: KernReturn::InvalidName,
-        },
+        None => refused(number, KernReturn::InvalidName),
     }
 }
 
@@ -90,16 +83,10 @@ pub fn receive_status(state: &IpcState, space: u32, name: u32) -> Reply
 {
     let number = MACH_PORT_GET_RECEIVE_STATUS;
     let Some(entry) = named(state, space, name) else {
-        return Reply::Refused {
-            number,
-            code: KernReturn::InvalidName,
-        };
+        return refused(number, KernReturn::InvalidName);
     };
     let Some(port) = received_port(entry) else {
-        return Reply::Refused {
-            number,
-            code: KernReturn::InvalidRight,
-        };
+        return refused(number, KernReturn::InvalidRight);
     };
     match status_of(state, port) {
         Some(status) => Reply::ReceiveStatus { status },
@@ -138,33 +125,26 @@ pub fn get_set_status(
 {
     let number = MACH_PORT_GET_SET_STATUS;
     match named(state, space, name) {
-        None => Ok(Reply::Refused {
-            number,
-            code: KernReturn::InvalidName,
-        }),
+        None => Ok(refused(number, KernReturn::InvalidName)),
         Some(Entry::Set) => {
             let members = port_set::members(alloc, state, space, name)?;
             Ok(Reply::SetStatus {
                 members: Sequence::new(members),
             })
         }
-        Some(_) => Ok(Reply::Refused {
-            number,
-            code: KernReturn::InvalidRight,
-        }),
+        Some(_) => Ok(refused(number, KernReturn::InvalidRight)),
     }
 }
 
-/// User references of the right of a number under a name.
-pub fn references_of(right: u32, entry: Entry) -> u32
-    ensures { result ≡ references_of right entry }
+/// User references of a right under a name.
+pub fn references_of(right: Right, entry: Entry) -> u32
+    ensures { result ≡ references_of (number_of right) entry }
 {
     match (right, entry) {
-        (0, Entry::Port(rights)) => rights.send,
-        (1, Entry::Port(rights)) => u32::from(rights.receive),
-        (2, Entry::SendOnce { .. }) | (3, Entry::Set) => 1,
-        (0..=3, _) => 0,
-        (_, Entry::Dead { references }) => references,
+        (Right::Send, Entry::Port(rights)) => rights.send,
+        (Right::Receive, Entry::Port(rights)) => u32::from(rights.receive),
+        (Right::SendOnce, Entry::SendOnce { .. }) | (Right::PortSet, Entry::Set) => 1,
+        (Right::DeadName, Entry::Dead { references }) => references,
         _ => 0,
     }
 }

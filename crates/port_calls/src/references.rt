@@ -12,6 +12,7 @@ ghost use Rattle.port_index.specs.Indexed.{MentionsNoOther};
 ghost use Rattle.port_space.specs.Mentions.{entry_mentions};
 
 use crate::name_lookup::named;
+use crate::reply::refused;
 use codes::{KernReturn, MACH_PORT_DEALLOCATE};
 use effects::{Effect, Effects};
 use ipc_model::{Entry, PortRights, Reply, RightKind};
@@ -32,16 +33,10 @@ pub fn deallocate(
 {
     let number = MACH_PORT_DEALLOCATE;
     let Some(entry) = named(state, space, name) else {
-        return Ok(Reply::Refused {
-            number,
-            code: KernReturn::InvalidName,
-        });
+        return Ok(refused(number, KernReturn::InvalidName));
     };
     if has_no_references(entry) {
-        return Ok(Reply::Refused {
-            number,
-            code: KernReturn::InvalidRight,
-        });
+        return Ok(refused(number, KernReturn::InvalidRight));
     }
     match entry {
         Entry::Port(rights) => send_left(

@@ -6,6 +6,7 @@ ghost use Rattle.ipc_model.specs.calls.Step.{ActsIn};
 
 use crate::name_lookup::named;
 use crate::references::release_name;
+use crate::reply::refused;
 use codes::{KernReturn, MACH_PORT_DESTROY};
 use effects::Effects;
 use ipc_model::{Entry, Reply};
@@ -27,10 +28,7 @@ pub fn destroy(
 {
     let number = MACH_PORT_DESTROY;
     let Some(entry) = named(state, space, name) else {
-        return Ok(Reply::Refused {
-            number,
-            code: KernReturn::InvalidName,
-        });
+        return Ok(refused(number, KernReturn::InvalidName));
     };
     release_name(effects, name, entry)?;
     move_members(alloc, state, space, name, None, entry)?;

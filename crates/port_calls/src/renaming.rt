@@ -7,6 +7,7 @@ ghost use Rattle.ipc_model.specs.state.State.{entry_at};
 ghost use Rattle.ipc_model.specs.calls.Step.{ActsIn};
 
 use crate::name_lookup::{is_null_or_dead, named};
+use crate::reply::refused;
 use codes::{KernReturn, MACH_PORT_RENAME};
 use ipc_model::{Entry, Reply};
 use ipc_state::IpcState;
@@ -29,22 +30,13 @@ pub fn rename(
 {
     let number = MACH_PORT_RENAME;
     let Some(entry) = named(state, space, from) else {
-        return Ok(Reply::Refused {
-            number,
-            code: KernReturn::InvalidName,
-        });
+        return Ok(refused(number, KernReturn::InvalidName));
     };
     if is_null_or_dead(to) {
-        return Ok(Reply::Refused {
-            number,
-            code: KernReturn::InvalidValue,
-        });
+        return Ok(refused(number, KernReturn::InvalidValue));
     }
     if state.entry(space, to).is_some() {
-        return Ok(Reply::Refused {
-            number,
-            code: KernReturn::NameExists,
-        });
+        return Ok(refused(number, KernReturn::NameExists));
     }
     move_entry(alloc, state, space, from, to, entry)?;
     Ok(Reply::Done { number })

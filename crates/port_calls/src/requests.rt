@@ -12,6 +12,7 @@ ghost use Rattle.port_space.specs.References.{AreFewReferences};
 
 use crate::allocation::chosen_name;
 use crate::name_lookup::named;
+use crate::reply::refused;
 use codes::{
     Disposition, KernReturn, MACH_NOTIFY_DEAD_NAME, MACH_NOTIFY_NO_SENDERS,
     MACH_NOTIFY_PORT_DESTROYED, MACH_PORT_NULL, MACH_PORT_REQUEST_NOTIFICATION,
@@ -59,10 +60,7 @@ pub fn request_notification(
         → ActsIn state.old space (names_in state.old space) (call.RequestNotification asked.name asked.variant asked.sync asked.notify asked.disposition) (Reply.PreviousTarget shown) new effects → reply ≡ Reply.PreviousTarget shown) }
 {
     match take_target(state, space, asked, effects)? {
-        Err(code) => Ok(Reply::Refused {
-            number: MACH_PORT_REQUEST_NOTIFICATION,
-            code,
-        }),
+        Err(code) => Ok(refused(MACH_PORT_REQUEST_NOTIFICATION, code)),
         Ok(target) => {
             let name = replace_target(state, space, asked, target, wanted, effects)?;
             Ok(Reply::PreviousTarget { name })

@@ -12,6 +12,7 @@ ghost use Rattle.ipc_model.specs.calls.Tests.{first_failing};
 ghost use Rattle.port_calls.specs.Trying.{Tries};
 
 use crate::name_lookup::{is_null_or_dead, named};
+use crate::reply::refused;
 use codes::{
     Disposition, KernReturn, MACH_PORT_EXTRACT_RIGHT, MACH_PORT_INSERT_RIGHT, MAX_NAMES,
     MAX_SEND_REFERENCES,
@@ -39,31 +40,19 @@ pub fn insert_right(
 {
     let number = MACH_PORT_INSERT_RIGHT;
     if is_null_or_dead(name) {
-        return Ok(Reply::Refused {
-            number,
-            code: KernReturn::InvalidValue,
-        });
+        return Ok(refused(number, KernReturn::InvalidValue));
     }
     let Some(disposition) = Disposition::from_number(disposition) else {
-        return Ok(Reply::Refused {
-            number,
-            code: KernReturn::InvalidValue,
-        });
+        return Ok(refused(number, KernReturn::InvalidValue));
     };
     let Some(right) = take_given(state, space, right_name, disposition, effects)? else {
-        return Ok(Reply::Refused {
-            number,
-            code: KernReturn::InvalidCapability,
-        });
+        return Ok(refused(number, KernReturn::InvalidCapability));
     };
     let PortInMessage::Live(port) = right.port else {
-        return Ok(Reply::Refused {
-            number,
-            code: KernReturn::InvalidCapability,
-        });
+        return Ok(refused(number, KernReturn::InvalidCapability));
     };
     if let Some(code) = refusal_of_insert(state, space, name, right.kind, port) {
-        return Ok(Reply::Refused { number, code });
+        return Ok(refused(number, code));
     }
     put_given(state, space, right, name)?;
     Ok(Reply::Done { number })
@@ -178,10 +167,7 @@ pub fn extract_right(
 {
     let right = match take_extracted(state, space, name, disposition, effects)? {
         Ok(right) => right,
-        Err(code) => return Ok(Reply::Refused {
-            number: MACH_PORT_EXTRACT_RIGHT,
-            code,
-        }),
+        Err(code) => return Ok(refused(MACH_PORT_EXTRACT_RIGHT, code)),
     };
     let shown = arrival_wanted(state, space, right, wanted);
     put_given(state, space, right, shown)?;

@@ -13,6 +13,7 @@ ghost use Rattle.rights.specs.Taking.{Takes};
 
 use crate::name_lookup::named;
 use crate::references::release_name;
+use crate::reply::refused;
 use crate::right_transfer::arrival_wanted;
 use codes::{
     ATTACH, Disposition, FIRST_SPACE, KernReturn, MAX_SPACES, SPACE_CREATE, SPACE_DESTROY,
@@ -32,10 +33,7 @@ pub fn attach(state: &IpcState, space: u32, other: u32) -> Reply
 {
     let number = ATTACH;
     if !state.has_space(other) {
-        return Reply::Refused {
-            number,
-            code: KernReturn::InvalidTask,
-        };
+        return refused(number, KernReturn::InvalidTask);
     }
     Reply::Done { number }
 }
@@ -59,10 +57,7 @@ pub fn space_create(
         → ActsIn state.old space (names_in state.old space) (call.SpaceCreate name disposition) (Reply.SpaceCreated number child) new effects → reply ≡ Reply.SpaceCreated number child) }
 {
     match take_for_space(state, space, name, disposition, effects)? {
-        Err(code) => Ok(Reply::Refused {
-            number: SPACE_CREATE,
-            code,
-        }),
+        Err(code) => Ok(refused(SPACE_CREATE, code)),
         Ok(right) => {
             let (space, name) = add_child(alloc, state, right, wanted)?;
             Ok(Reply::SpaceCreated { space, name })
@@ -85,10 +80,7 @@ pub fn space_destroy(
 {
     let number = SPACE_DESTROY;
     if space == FIRST_SPACE {
-        return Ok(Reply::Refused {
-            number,
-            code: KernReturn::Failure,
-        });
+        return Ok(refused(number, KernReturn::Failure));
     }
     release_names(state, space, effects)?;
     leave_sets(alloc, state, space)?;
