@@ -305,7 +305,7 @@ descriptor_back bytes true fits form tests =
     let w : ℕ = little_number 4 bytes in
     let word_is : 2 ^ 28 + 2 ^ 29 ≡ w =
     long_word_is w (little_from-lt 0 4 bytes fits) (eqb-true ((w / 2 ^ 28) % 2) 1 tests.is_inline) (eqb-true ((w / 2 ^ 29) % 2) 1 form) (eqb-false ((w / 2 ^ 30) % 2) 1 tests.deallocate) (eqb-false ((w / 2 ^ 31) % 2) 1 tests.unused)
-        (eqb-true (w % 2 ^ 28) 0 (tests.plain refl)) in
+    (eqb-true (w % 2 ^ 28) 0 (tests.plain refl)) in
     let first : word (2 ^ 28 + 2 ^ 29) ≡ take 4 bytes = ap word word_is ∙ word-little_number bytes fits tests.whole in
     let name : little_bytes 2 (type_name_in bytes true) ≡ take 2 (drop 4 bytes) = half_back (drop 4 bytes) (back_bytes 4 bytes fits) (omega (arith, tests.enough, length-drop 4 bytes)) in
     let bits : little_bytes 2 (bits_in bytes true) ≡ take 2 (drop 6 bytes) = half_back (drop 6 bytes) (back_bytes 6 bytes fits) (omega (arith, tests.enough, length-drop 6 bytes)) in
