@@ -1,5 +1,5 @@
 use codes::KernReturn;
-use ipc_model::{Call, NamedType, ReceiveStatus, Reply, RightKind, Sequence};
+use ipc_model::{Call, ReceiveStatus, Reply, Sequence};
 use script::{
     Exchange, Expected, LineFault, push_call, push_exchange, push_reply, read_line,
     read_request_line, read_script,
@@ -16,78 +16,6 @@ fn printed_and_read(rt: &HostRuntime, exchange: &Exchange, line: &[u8]) -> Resul
     let mut again = Vec::new(rt.alloc());
     push_exchange(&mut again, &read)?;
     Ok([printed.as_slice() == line, again.as_slice() == line])
-}
-
-#[test]
-fn calls_without_a_message(rt: HostRuntime) -> Result<(), Fail> {
-    let names = vec![in rt.alloc();
-        NamedType {
-            name: 0x100,
-            bits: 0x2_0000
-        },
-        NamedType {
-            name: 0x101,
-            bits: 0x8_0000
-        },
-    ]?;
-    let rows: [(Exchange, &[u8]); 5] = [
-        (
-            Exchange {
-                call: Call::Allocate { right: 1 },
-                reply: Reply::Allocate { name: 0x100 },
-            },
-            b"allocate receive = 0x100",
-        ),
-        (
-            Exchange {
-                call: Call::Deallocate { name: 0x1ff },
-                reply: Reply::Refused {
-                    number: 7,
-                    code: KernReturn::InvalidName,
-                },
-            },
-            b"deallocate 0x1ff ! KERN_INVALID_NAME",
-        ),
-        (
-            Exchange {
-                call: Call::ModRefs {
-                    name: 0x300,
-                    right: 1,
-                    delta: 0xffff_ffff,
-                },
-                reply: Reply::Done { number: 9 },
-            },
-            b"mod_refs 0x300 receive -1",
-        ),
-        (
-            Exchange {
-                call: Call::Names,
-                reply: Reply::Names {
-                    names: Sequence::new(names),
-                },
-            },
-            b"names = 0x100 0x20000 0x101 0x80000",
-        ),
-        (
-            Exchange {
-                call: Call::ExtractRight {
-                    name: 0x100,
-                    disposition: 21,
-                },
-                reply: Reply::Extracted {
-                    name: 0x101,
-                    kind: RightKind::SendOnce,
-                },
-            },
-            b"extract_right 0x100 make_send_once = 0x101 send_once",
-        ),
-    ];
-    let mut alike = true;
-    for (exchange, line) in &rows {
-        alike = alike && printed_and_read(&rt, exchange, line)? == [true, true];
-    }
-    assert!(rt; alike);
-    Ok(())
 }
 
 #[test]

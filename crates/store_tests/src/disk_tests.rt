@@ -51,22 +51,6 @@ fn memory_is_read_as_it_was_written(rt: HostRuntime) -> Result<(), Fail> {
     Ok(())
 }
 
-#[test]
-fn memory_holds_what_it_was_made_with(rt: HostRuntime) -> Result<(), Fail> {
-    let disk = MemDisk::with_slots(
-        rt.alloc(),
-        b"a".as_slice(),
-        b"bc".as_slice(),
-        b"".as_slice(),
-        b"def".as_slice(),
-    )?;
-    assert_eq!(rt; disk.content(Slot::Image0), b"a".as_slice());
-    assert_eq!(rt; disk.content(Slot::Image1), b"bc".as_slice());
-    assert_eq!(rt; disk.content(Slot::Segment0), b"".as_slice());
-    assert_eq!(rt; disk.content(Slot::Segment1), b"def".as_slice());
-    Ok(())
-}
-
 // A disk with a write of 4 bytes over 2 of 3, a cut and a new write, a synced write, and a write that failed.
 fn begun(alloc: Global, torn: Torn) -> Result<MemDisk, Fail> {
     let mut disk = MemDisk::with_slots(
