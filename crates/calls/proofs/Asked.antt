@@ -13,9 +13,7 @@ use Rattle.calls.specs.declared.request.CallFault.{CallFault}
 use Rattle.calls.specs.declared.request.CallFault.TheVariants.{NoMemory}
 use Rattle.calls.specs.declared.request.Request.{Request}
 use Rattle.calls.specs.declared.request.Request.TheVariants as request
-use Rattle.ipc_model.specs.messages.Kept.{kept_message}
-use Rattle.calls.specs.Requests.{MachMsg, FitsMachMsg, AsksMachMsg, Asks, FitsRequest, asked, asked_send, asked_receive, message_request, has_option, known_options, send_msg, rcv_msg, rcv_large}
-use Rattle.calls.proofs.Masks.{kept-is_kept}
+use Rattle.calls.specs.Requests.{MachMsg, FitsMachMsg, AsksMachMsg, Asks, asked, asked_send, asked_receive, message_request, has_option, known_options, send_msg, rcv_msg, rcv_large}
 
 -- what holds of both holds of the one that is chosen
 chosen : {X : Type 0} (P : X → Type 0) (b : Bool) (x y : X) → P x → P y → P (if b then x else y)
@@ -31,23 +29,6 @@ of_asked P m message nothing unknown =
 
 never_one : (c : Call) (m : MachMsg) → request.One c ≡ asked m → ⊥
 never_one c m = of_asked (λ r. request.One c ≡ r → ⊥) m (λ e. cc) (λ e. cc) (λ e. cc)
-
-fits_asked : (m : MachMsg) → FitsMachMsg m → FitsRequest (asked m)
-fits_asked m fits =
-    let send : IfSome (asked_send m.option m.message) FitsCall = chosen (λ (o : Option Call). IfSome o FitsCall) (has_option m.option send_msg) (Some (call.Send (kept_message m.message))) None (kept-is_kept m.message fits.message) tt in
-    let receive : IfSome (asked_receive m.option m.limit m.name) FitsCall =
-    chosen (λ (o : Option Call). IfSome o FitsCall) (has_option m.option rcv_msg) (Some (call.Receive m.limit (has_option m.option rcv_large) m.name false)) None (fits.limit, fits.name) tt in
-    of_asked FitsRequest m (send, receive) tt tt
-
-fits_one : (content : List ℕ) (r : Request) → Asks content r → FitsRequest r
-fits_one content (request.One c) asks = asks.1
-fits_one content (request.Message m) asks = let (arguments, text, (msg, fits, spelled, is)) = asks in subst FitsRequest (sym is) (fits_asked msg fits)
-fits_one content (request.Answered code) asks = tt
-
--- the calls of what a frame asks for are fit to be recorded
-pub asks_fits : (content : List ℕ) (r : Result Request CallFault) → IfOk r (λ q. Asks content q) → IfOk r (λ q. FitsRequest q)
-asks_fits content (Ok q) asks = fits_one content q asks
-asks_fits content (Err e) asks = tt
 
 front_of : (content arguments : List ℕ) (q : Request) → content ≡ word MACH_MSG ++ arguments → AsksMachMsg arguments q → Asks content q
 front_of content arguments (request.One c) is (m, fits, spelled, e) = absurd (never_one c m e)

@@ -1,5 +1,5 @@
 -- Sends and receipts as a record has them.
-use Rattle.std.proofs.Common.{◌≡◌, ℕ, ◌+◌, ◌<◌, ◌^◌, Bool, true, false, not, eqb, List, ◌++◌, drop, Option, Some, slice_index, refl, sym, ap, subst, ◌∙◌, arith}
+use Rattle.std.proofs.Common.{◌≡◌, ℕ, ◌+◌, ◌<◌, ◌^◌, Bool, true, false, not, eqb, List, [], ◌++◌, drop, Option, Some, slice_index, refl, sym, ap, subst, ◌∙◌, arith}
 use Rattle.std.proofs.lemmas.Bool.Decides.{Decides-eqb}
 use Rattle.std.proofs.lemmas.Slice.Eq.{slice_eq-Decides}
 use Rattle.std.specs.Cmp.Lexicographic.{pointwise}
@@ -7,7 +7,8 @@ use Rattle.codes.specs.declared.call_number.TheConstants.{MACH_MSG}
 use Rattle.ipc_model.specs.declared.call.Call.{Call}
 use Rattle.ipc_model.specs.declared.call.Call.TheVariants as call
 use Rattle.ipc_model.specs.calls.Step.{number_of_call}
-use Rattle.ipc_model.specs.texts.Texts.{arguments_text, receive_option, number_of_bool, FitsCall}
+use Rattle.ipc_model.specs.texts.Texts.{arguments_text, receive_option, number_of_bool, kept_call, IsKeptCall}
+use Rattle.ipc_model.specs.messages.Kept.{kept_message}
 use Rattle.words.specs.Words.{AreBytes, word}
 use Rattle.calls.proofs.Masks.{at_drop}
 
@@ -34,11 +35,20 @@ bytes_behind bytes behind n are is i =
 -- behind the option of a receipt stands a receipt
 pub only_receipt : (large : Bool) (words : List ℕ) (r : Option Call)
     → ((limit name : ℕ) (waited : Bool) → limit < 2 ^ 32 → name < 2 ^ 32 → words ≡ word limit ++ (word name ++ word (number_of_bool waited)) → r ≡ Some (call.Receive limit large name waited))
-    → (c : Call) → FitsCall c → number_of_call c ≡ MACH_MSG → word (receive_option large) ++ words ≡ arguments_text c → r ≡ Some c
+    → (c : Call) → IsKeptCall c → number_of_call c ≡ MACH_MSG → word (receive_option large) ++ words ≡ arguments_text c → r ≡ Some c
 only_receipt true words r only (call.Send message) fits number is = absurd cc
 only_receipt false words r only (call.Send message) fits number is = absurd cc
-only_receipt true words r only (call.Receive limit true name waited) fits number is = only limit name waited fits.0 fits.1 (ap (λ (l : List ℕ). drop 4 l) is)
+only_receipt true words r only (call.Receive limit true name waited) fits number is = only limit name waited fits.fits.0 fits.fits.1 (ap (λ (l : List ℕ). drop 4 l) is)
 only_receipt true words r only (call.Receive limit false name waited) fits number is = absurd cc
 only_receipt false words r only (call.Receive limit true name waited) fits number is = absurd cc
-only_receipt false words r only (call.Receive limit false name waited) fits number is = only limit name waited fits.0 fits.1 (ap (λ (l : List ℕ). drop 4 l) is)
+only_receipt false words r only (call.Receive limit false name waited) fits number is = only limit name waited fits.fits.0 fits.fits.1 (ap (λ (l : List ℕ). drop 4 l) is)
 only_receipt large words r only c fits number is = absurd (omega (arith, number))
+
+-- a message that is kept is as it is kept
+message_of : Call → List ℕ
+message_of (call.Send message) = message
+message_of c = []
+
+pub kept_same : (message : List ℕ) → IsKeptCall (call.Send message) → kept_message message ≡ message
+unfolding message_of
+kept_same message is = ap message_of is.kept

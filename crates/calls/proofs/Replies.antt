@@ -3,13 +3,12 @@ use Rattle.std.proofs.Common.{◌≡◌, ℕ, ◌<◌, ◌≤◌, ◌^◌, Bool,
 use Rattle.ipc_model.specs.declared.call.Call.{Call}
 use Rattle.ipc_model.specs.declared.call.Reply.{Reply}
 use Rattle.ipc_model.specs.declared.call.Reply.TheVariants as reply
-use Rattle.ipc_model.specs.calls.Step.{number_of_call, is_recorded, succeeded, destroyed_message}
+use Rattle.ipc_model.specs.calls.Step.{number_of_call, has_record, is_recorded, succeeded, destroyed_message}
 use Rattle.ipc_laws.specs.TextLaws.{reply_text_once}
 use Rattle.ipc_laws.specs.TextReading.{number-fits}
-use Rattle.ipc_model.specs.texts.Texts.{reply_text, number_of_reply, FitsReply}
+use Rattle.ipc_model.specs.texts.Texts.{reply_text, number_of_reply, FitsReply, IsRecordedReply}
 use Rattle.words.specs.WordLaws.{same_word}
 use Rattle.words.specs.Words.{word}
-use Rattle.calls.specs.Recorded.{IsRecordedReply}
 
 pub and_true : (a b : Bool) → a ≡ true → b ≡ true → (a && b) ≡ true
 and_true true b first second = second
@@ -21,14 +20,17 @@ recorded_too true x false y both succeeds = absurd cc
 recorded_too false x s y both succeeds = absurd cc
 
 -- one reply that stands in a record has this text
+pub same_reply : (c : Call) (mine answer : Reply) (text : List ℕ) → FitsReply mine → has_record c mine ≡ true → text ≡ reply_text mine → IsRecordedReply c answer → text ≡ reply_text answer → mine ≡ answer
+same_reply c mine answer text fits recorded e is_too e_too = reply_text_once c c mine answer fits is_too.fits recorded is_too.recorded (sym e ∙ e_too)
+
 pub one_reply : (c : Call) (mine answer : Reply) (text : List ℕ) → IsRecordedReply c mine → text ≡ reply_text mine → IsRecordedReply c answer → text ≡ reply_text answer → Some mine ≡ Some answer
-one_reply c mine answer text is e is_too e_too = ap (λ (r : Reply). Some r) (reply_text_once c c mine answer is.fits is_too.fits is.recorded is_too.recorded (sym e ∙ e_too))
+one_reply c mine answer text is e is_too e_too = ap (λ (r : Reply). Some r) (same_reply c mine answer text is.fits is.recorded e is_too e_too)
 
 -- the same, where the call is one that another reply with a record is to
-pub one_done : (c : Call) (mine answer : Reply) (text : List ℕ) → FitsReply mine → number_of_reply mine ≡ number_of_call c → succeeded c mine ≡ true → text ≡ reply_text mine → IsRecordedReply c answer → text ≡ reply_text answer → Some mine ≡ Some answer
-one_done c mine answer text fits number succeeds e is_too e_too =
+pub one_done : (c : Call) (mine answer : Reply) (text : List ℕ) → FitsReply mine → succeeded c mine ≡ true → text ≡ reply_text mine → IsRecordedReply c answer → text ≡ reply_text answer → Some mine ≡ Some answer
+one_done c mine answer text fits succeeds e is_too e_too =
     let recorded = recorded_too (is_recorded c) (succeeded c answer || destroyed_message c answer) (succeeded c mine) (destroyed_message c mine) is_too.recorded succeeds in
-    one_reply c mine answer text (record { fits = fits; of_one_call = number; recorded = recorded }) e is_too e_too
+    ap (λ (r : Reply). Some r) (same_reply c mine answer text fits recorded e is_too e_too)
 
 pub long_reply : (r : Reply) → 8 ≤ length (reply_text r)
 unfolding reply_text

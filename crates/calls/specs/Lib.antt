@@ -1,4 +1,3 @@
-pub mod Recorded
 pub mod Requests
 pub mod Rows
 pub mod Shapes

@@ -10,7 +10,6 @@ use Rattle.words.specs.Words.{AreBytes, word}
 use Rattle.calls.specs.declared.request.MessageRequest.{MessageRequest}
 use Rattle.calls.specs.declared.request.Request.{Request}
 use Rattle.calls.specs.declared.request.Request.TheVariants as request
-use Rattle.ipc_model.specs.messages.Kept.{kept_message}
 
 -- The options of mach_msg that are known: MACH_SEND_MSG, MACH_RCV_MSG, MACH_SEND_TIMEOUT, MACH_RCV_TIMEOUT and
 -- MACH_RCV_LARGE, each a bit. (Kernel Interfaces, mach_msg.)
@@ -53,10 +52,9 @@ pub record FitsMachMsg (m : MachMsg) : Type 0 where
 abbrev pub mach_msg_arguments : MachMsg → List ℕ
 mach_msg_arguments m = word m.option ++ (word m.limit ++ (word m.name ++ (word m.timeout ++ m.message)))
 
--- The send and the receipt that it asks for, in this order, and how long each may wait. The message is what a record
--- keeps of it.
+-- The send and the receipt that it asks for, in this order, and how long each may wait.
 abbrev pub asked_send : ℕ → List ℕ → Option Call
-asked_send option message = if has_option option send_msg then Some (call.Send (kept_message message)) else None
+asked_send option message = if has_option option send_msg then Some (call.Send message) else None
 
 abbrev pub asked_receive : ℕ → ℕ → ℕ → Option Call
 asked_receive option limit name = if has_option option rcv_msg then Some (call.Receive limit (has_option option rcv_large) name false) else None
@@ -86,12 +84,6 @@ AsksMachMsg arguments asks = (m : MachMsg) × FitsMachMsg m × (arguments ≡ ma
 abbrev pub Asks : List ℕ → Request → Type 0
 Asks content (request.One c) = (number_of_call c ≢ MACH_MSG) × FitsCall c × (content ≡ call_text c)
 Asks content asks = (arguments : List ℕ) × (content ≡ word MACH_MSG ++ arguments) × AsksMachMsg arguments asks
-
--- its calls are fit to be recorded
-abbrev pub FitsRequest : Request → Type 0
-FitsRequest (request.One c) = FitsCall c
-FitsRequest (request.Message m) = IfSome m.send FitsCall × IfSome m.receive FitsCall
-FitsRequest (request.Answered code) = Unit {0}
 
 -- the arguments of a mach_msg that sends
 abbrev pub IsSend : List ℕ → Type 0

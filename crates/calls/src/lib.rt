@@ -15,4 +15,4 @@ pub use frame::reply_frame;
 pub use read::read_call;
 pub use request::{CallFault, MessageRequest, Request, read_request};
 pub use results::read_recorded_reply;
-pub use spell::{push_call, push_reply};
+pub use spell::{push_call, push_kept_call, push_reply};

@@ -2,7 +2,7 @@ ghost use Rattle.std.specs.Prelude.{◌≡◌, ◌≢◌, ◌<◌, ◌^◌, ◌+
 ghost use Rattle.ipc_model.specs.declared.call.Call.{Call};
 ghost use Rattle.ipc_model.specs.declared.call.Call.TheVariants as call_variants;
 ghost use Rattle.ipc_model.specs.calls.Step.{number_of_call};
-ghost use Rattle.ipc_model.specs.texts.Texts.{arguments_text, call_text, receive_option, number_of_bool, FitsCall, IsKeptMessage};
+ghost use Rattle.ipc_model.specs.texts.Texts.{arguments_text, call_text, receive_option, number_of_bool, IsKeptCall};
 ghost use Rattle.words.specs.Words.{word};
 
 use crate::arguments::read_arguments;
@@ -13,6 +13,9 @@ use codes::MACH_MSG;
 use ipc_model::{Call, Sequence};
 use std::alloc::{AllocError, Global};
 use words::take_word;
+
+/// The bytes of a message's header (`mach_msg_header_t`).
+const HEADER_LENGTH: usize = 24;
 
 /// The option of a receipt whose message stays queued where it is too large.
 const RCV_MSG_LARGE: u32 = RCV_MSG | RCV_LARGE;
@@ -32,7 +35,7 @@ fn flag_of(number: u32) -> Option<bool>
 /// A receipt as a record has it, behind its option.
 fn read_receive(large: bool, words: &[u8]) -> Option<Call>
     ensures found { IfSome result (λ call. (word (receive_option large) ++ words.now ≡ arguments_text call)
-        × (number_of_call call ≡ MACH_MSG) × FitsCall call) }
+        × (number_of_call call ≡ MACH_MSG) × IsKeptCall call) }
     ensures only { (limit name : ℕ) (waited : Bool) → limit < 2 ^ 32 → name < 2 ^ 32
         → words.now ≡ word limit ++ (word name ++ word (number_of_bool waited))
         → result ≡ Some (call_variants.Receive limit large name waited) }
@@ -61,13 +64,16 @@ fn behind_zeros(bytes: &[u8]) -> Option<&[u8]>
 /// A send as a record has it, behind its option.
 fn read_send(alloc: Global, words: &[u8]) -> Result<Option<Call>, AllocError>
     ensures found { IfOk result (λ found. IfSome found (λ call. (word 1 ++ words.now ≡ arguments_text call)
-        × (number_of_call call ≡ MACH_MSG) × FitsCall call)) }
-    ensures only { (message : List ℕ) → IsKeptMessage message → words.now ≡ word 0 ++ (word 0 ++ (word 0 ++ message))
+        × (number_of_call call ≡ MACH_MSG) × IsKeptCall call)) }
+    ensures only { (message : List ℕ) → IsKeptCall (call_variants.Send message) → words.now ≡ word 0 ++ (word 0 ++ (word 0 ++ message))
         → IfOk result (λ found. found ≡ Some (call_variants.Send message)) }
 {
     let Some(message) = behind_zeros(words) else {
         return Ok(None);
     };
+    if message.len() < HEADER_LENGTH {
+        return Ok(None);
+    }
     let kept = keep_message(alloc, message)?;
     if kept.as_slice() != message {
         return Ok(None);
@@ -79,8 +85,8 @@ fn read_send(alloc: Global, words: &[u8]) -> Result<Option<Call>, AllocError>
 /// The send or the receipt whose arguments in a record these are.
 fn read_message_call(alloc: Global, arguments: &[u8]) -> Result<Option<Call>, AllocError>
     ensures found { IfOk result (λ found. IfSome found (λ call. (arguments.now ≡ arguments_text call)
-        × (number_of_call call ≡ MACH_MSG) × FitsCall call)) }
-    ensures only { (call : Call) → FitsCall call → number_of_call call ≡ MACH_MSG → arguments.now ≡ arguments_text call
+        × (number_of_call call ≡ MACH_MSG) × IsKeptCall call)) }
+    ensures only { (call : Call) → IsKeptCall call → number_of_call call ≡ MACH_MSG → arguments.now ≡ arguments_text call
         → IfOk result (λ found. found ≡ Some call) }
 {
     let Some((option, words)) = take_word(arguments) else {
@@ -98,8 +104,8 @@ fn read_message_call(alloc: Global, arguments: &[u8]) -> Result<Option<Call>, Al
 /// The call whose text these bytes are, if they are that of a call as a record has it. Memory is wanted for the
 /// message of a send alone.
 pub fn read_call(alloc: Global, content: &[u8]) -> Result<Option<Call>, AllocError>
-    ensures found { IfOk result (λ found. IfSome found (λ call. (content.now ≡ call_text call) × FitsCall call)) }
-    ensures only { (call : Call) → FitsCall call → content.now ≡ call_text call
+    ensures found { IfOk result (λ found. IfSome found (λ call. (content.now ≡ call_text call) × IsKeptCall call)) }
+    ensures only { (call : Call) → IsKeptCall call → content.now ≡ call_text call
         → IfOk result (λ found. found ≡ Some call) }
 {
     let Some((number, arguments)) = take_word(content) else {

@@ -4,7 +4,6 @@ ghost use Rattle.calls.specs.declared.request.Request.{Request};
 ghost use Rattle.calls.specs.Requests as requests;
 
 use crate::arguments::read_arguments;
-use crate::kept_message::keep_message;
 use crate::options::{KNOWN_OPTIONS, RCV_LARGE, RCV_MSG, RCV_TIMEOUT, SEND_MSG, SEND_TIMEOUT};
 use codes::{KernReturn, MACH_MSG};
 use ipc_model::{Call, Sequence};
@@ -69,7 +68,7 @@ fn asked_send(alloc: Global, option: u32, message: &[u8]) -> Result<Option<Call>
     if !has_option(option, SEND_MSG) {
         return Ok(None);
     }
-    let message = Sequence::new(keep_message(alloc, message)?);
+    let message = Sequence::new(Vec::from_slice(alloc, message)?);
     Ok(Some(Call::Send { message }))
 }
 
@@ -169,8 +168,6 @@ pub fn read_request(alloc: Global, frame: &Frame) -> Result<Request, CallFault>
     ensures found { IfOk result (λ request. requests.Asks frame.now.content request) }
     ensures only { (asks : Request) → requests.Asks frame.now.content asks
         → (result ≡ Ok asks) ⊎ (result ≡ Err CallFault.NoMemory) }
-    // The calls are as a record has them: a send's message is what is kept of it.
-    ensures fits { IfOk result (λ request. requests.FitsRequest request) }
     ensures memory { IsErrOf result CallFault.NoMemory
         → (arguments : List ℕ) × (frame.now.content ≡ word MACH_MSG ++ arguments) × requests.IsSend arguments }
 {

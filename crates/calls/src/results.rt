@@ -1,4 +1,4 @@
-ghost use Rattle.std.specs.Prelude.{true, ◌≡◌, ◌≢◌, ◌<◌, ◌^◌, ◌++◌, ◌||◌, ℕ, List, None, Some, IsTrue, IfOk, IfSome, IfNone, length};
+ghost use Rattle.std.specs.Prelude.{true, false, ◌≡◌, ◌≢◌, ◌<◌, ◌^◌, ◌++◌, ◌||◌, ℕ, List, None, Some, IsTrue, IfOk, IfSome, IfNone, length};
 ghost use Rattle.codes.specs.KernReturn.{number_of};
 ghost use Rattle.codes.specs.declared.kern_return.KernReturn.{KernReturn};
 ghost use Rattle.ipc_model.specs.declared.call.Call.{Call};
@@ -6,18 +6,20 @@ ghost use Rattle.ipc_model.specs.declared.call.Reply.{Reply};
 ghost use Rattle.ipc_model.specs.declared.message.RightKind.{RightKind};
 ghost use Rattle.ipc_model.specs.rights.Dispositions.{number_of_kind};
 ghost use Rattle.ipc_model.specs.calls.Step.{number_of_call, has_record, has_destroyed, is_recorded, is_success, succeeded};
-ghost use Rattle.ipc_model.specs.texts.Texts.{reply_text, done_text, number_of_reply, FitsReply};
+ghost use Rattle.ipc_model.specs.texts.Texts.{reply_text, done_text, has_no_results, number_of_reply, Brings, FitsReply, HasItsResults, IsRecordedReply};
 ghost use Rattle.words.specs.Words.{word};
-ghost use Rattle.calls.specs.Recorded.{IsRecordedReply};
 
 use crate::word_rows::{one_word, two_words};
 use codes::{
-    KernReturn, MACH_MSG, MACH_PORT_ALLOCATE, MACH_PORT_EXTRACT_RIGHT,
+    KernReturn, MACH_MSG, MACH_PORT_ALLOCATE, MACH_PORT_EXTRACT_RIGHT, MACH_PORT_NULL,
     MACH_PORT_REQUEST_NOTIFICATION, SPACE_CREATE,
 };
 use ipc_model::{Call, Reply, RightKind, Sequence};
 use std::alloc::{AllocError, Global};
 use words::take_word;
+
+/// The bytes of a message's header (`mach_msg_header_t`).
+const HEADER_LENGTH: u32 = 24;
 
 /// Whether the call is a receipt that destroys a message that is too large.
 fn destroys(call: &Call) -> bool
@@ -39,6 +41,36 @@ fn recorded_code(call: &Call, number: u32) -> Option<KernReturn>
         0 => Some(KernReturn::Success),
         0x1000_4004 if destroys(call) => Some(KernReturn::RcvTooLarge),
         _ => None,
+    }
+}
+
+/// Whether the call, where it is done, has no results.
+fn has_no_results(call: &Call) -> bool
+    ensures { result ≡ has_no_results call.now }
+{
+    !matches!(
+        call,
+        Call::Allocate { .. }
+            | Call::RequestNotification { .. }
+            | Call::ExtractRight { .. }
+            | Call::Send { .. }
+            | Call::Receive { .. }
+            | Call::SpaceCreate { .. }
+    )
+}
+
+/// Whether a `mach_msg` brings these results: a send brings none, and a receipt a message of this size, or where it
+/// destroyed one no message.
+fn brings(call: &Call, code: KernReturn, size: u32, member: u32, message: &[u8]) -> bool
+    ensures yes { result ≡ true → Brings call.now code size member message.now }
+    ensures no { result ≡ false → Brings call.now code size member message.now → ⊥ }
+{
+    match call {
+        Call::Send { .. } => size == 0 && member == MACH_PORT_NULL && message.is_empty(),
+        Call::Receive { .. } if code == KernReturn::Success => size >= HEADER_LENGTH
+            && message.len() == size as usize,
+        Call::Receive { .. } => message.is_empty(),
+        _ => false,
     }
 }
 
@@ -87,6 +119,9 @@ fn read_message_reply(
     let Some((size, member, message)) = take_message(results) else {
         return Ok(None);
     };
+    if !brings(call, code, size, member, message) {
+        return Ok(None);
+    }
     let message = Sequence::new(Vec::from_slice(alloc, message)?);
     Ok(Some(Reply::Message {
         code,
@@ -100,7 +135,8 @@ fn read_message_reply(
 /// The reply to a call of this number, of any but `mach_msg`, that was done and has these results.
 fn read_plain_reply(number: u32, results: &[u8]) -> Option<Reply>
     ensures found { IfSome result (λ answer. (done_text number results.now ≡ reply_text answer) × FitsReply answer
-        × (number_of_reply answer ≡ number) × ((c : Call) → succeeded c answer ≡ true)) }
+        × (number_of_reply answer ≡ number)
+        × ((c : Call) → (succeeded c answer ≡ true) × HasItsResults c answer)) }
     ensures only { (c : Call) (answer : Reply) → IsRecordedReply c answer → number_of_call c ≡ number → number ≢ MACH_MSG
         → 0 < length results.now → done_text number results.now ≡ reply_text answer → result ≡ Some answer }
 {
@@ -144,7 +180,7 @@ fn read_results(
     let number = call.number();
     if code == 0 {
         if results.is_empty() {
-            return Ok(Some(Reply::Done { number }));
+            return Ok(has_no_results(call).then_some(Reply::Done { number }));
         }
         if number != MACH_MSG {
             return Ok(read_plain_reply(number, results));

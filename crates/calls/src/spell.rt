@@ -1,9 +1,10 @@
 ghost use Rattle.std.specs.Prelude.{◌≡◌, ◌++◌, ◌<◌, ◌^◌, OnOk, flat_map, length};
 ghost use Rattle.ipc_model.specs.rights.Dispositions.{number_of_kind};
-ghost use Rattle.ipc_model.specs.texts.Texts.{call_text, reply_text, done_text, status_text, receive_option, number_of_bool};
+ghost use Rattle.ipc_model.specs.texts.Texts.{call_text, kept_call, reply_text, done_text, status_text, receive_option, number_of_bool};
 ghost use Rattle.words.specs.Words.{word};
 ghost use Rattle.calls.specs.Rows.{names_text};
 
+use crate::kept_message::keep_message;
 use crate::options::{RCV_LARGE, RCV_MSG, SEND_MSG};
 use crate::word_rows::push_words;
 use codes::{
@@ -14,7 +15,7 @@ use codes::{
     MACH_PORT_SET_QLIMIT, MACH_PORT_SET_SEQNO, MACH_PORT_TYPE, SPACE_CREATE, SPACE_DESTROY,
 };
 use ipc_model::{Call, NamedType, ReceiveStatus, Reply, RightKind};
-use std::alloc::AllocError;
+use std::alloc::{AllocError, Global};
 
 #[tactic(auto, unfolding(ipc_model::specs::texts::Texts::call_text))]
 /// Adds the number and the arguments of a call. Where memory is wanted some of them may have been added.
@@ -110,6 +111,20 @@ pub fn push_call(out: &mut Vec<u8>, call: &Call) -> Result<(), AllocError>
         ),
         Call::SpaceDestroy => push_words(out, &[SPACE_DESTROY]),
     }
+}
+
+#[tactic(auto, unfolding(ipc_model::specs::texts::Texts::call_text))]
+/// Adds the number and the arguments of a call as a record keeps it: of a send the message with 0 in place of what a
+/// send ignores. Where memory is wanted some of them may have been added.
+pub fn push_kept_call(alloc: Global, out: &mut Vec<u8>, call: &Call) -> Result<(), AllocError>
+    ensures ok { OnOk result (out.new.items ≡ out.old.items ++ call_text (kept_call call.now)) }
+{
+    let Call::Send { message } = call else {
+        return push_call(out, call);
+    };
+    let kept = keep_message(alloc, message.as_slice())?;
+    push_words(out, &[MACH_MSG, SEND_MSG, 0, 0, 0])?;
+    out.extend_from_slice(&kept)
 }
 
 /// `MACH_RCV_MSG`, with `MACH_RCV_LARGE` where a message that is too large stays queued.

@@ -1,5 +1,5 @@
 -- A disk over time: what a read gives now, and what a stop at each moment so far may leave.
-use Rattle.std.specs.Prelude.{◌≡◌, ◌↔◌, ℕ, ◌<◌, ◌≤◌, ◌^◌, ◌-◌, List, Result, OnErr, OnOk}
+use Rattle.std.specs.Prelude.{◌≡◌, ◌↔◌, ℕ, ◌+◌, ◌<◌, ◌≤◌, ◌^◌, ◌-◌, min, List, Result, OnErr, OnOk}
 use Rattle.disk.specs.declared.slot.Slot.{Slot}
 use Rattle.disk.specs.Slots.{Slots, slot_of, with_slot}
 
@@ -32,12 +32,11 @@ Follows old slot step c = (d : Slots) × MayLeave old d × step (slot_of d slot)
 abbrev pub IsSynced : View → Slot → Type 0
 IsSynced disk slot = (c : Slots) → MayLeave disk c → slot_of c slot ≡ slot_of disk.seen slot
 
--- The count of failures grew. It stands still at the end of its range alone.
-abbrev pub Grew : ℕ → ℕ → Type 0
-Grew before now = now < 2 ^ 64 - 1 → before < now
+-- A count of failures after one more. It stands still at the end of its range alone.
+abbrev pub one_more : ℕ → ℕ
+one_more failures = min (failures + 1) (2 ^ 64 - 1)
 
 -- a failed call adds one to the count, and no other does
 pub record CountsFailure {T E : Type 0} (before now : ℕ) (result : Result T E) : Type 0 where
-  pub later : before ≤ now
   pub ok : OnOk result (now ≡ before)
-  pub err : OnErr result (Grew before now)
+  pub err : OnErr result (now ≡ one_more before)

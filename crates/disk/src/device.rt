@@ -1,7 +1,7 @@
 // A disk as the layers above see it: what a read gives, and what a stop may leave.
 ghost use Rattle.std.specs.Prelude.{◌≡◌, ℕ, ◌+◌, ◌-◌, ◌≤◌, ◌++◌, length, take, drop, min, IfOk, OnOk};
 ghost use Rattle.disk.specs.Slots.{slot_of, with_slot, written_at, TornWrite, TornCut};
-ghost use Rattle.disk.specs.Moments.{View, MayLeave, Passes, Follows, IsSynced, Grew, CountsFailure};
+ghost use Rattle.disk.specs.Moments.{View, MayLeave, Passes, Follows, IsSynced, CountsFailure, one_more};
 
 use crate::Slot;
 
@@ -11,8 +11,7 @@ pub struct DiskFault;
 
 // Makes the answer of a call that failed.
 pub(crate) fn count_failure(failures: &mut u64) -> DiskFault
-    ensures later { failures.old ≤ failures.new }
-    ensures counted { Grew failures.old failures.new }
+    ensures { failures.new ≡ one_more failures.old }
 {
     *failures = failures.saturating_add(1);
     DiskFault

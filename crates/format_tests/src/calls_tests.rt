@@ -2,8 +2,8 @@ ghost use Rattle.std.specs.Prelude.{◌≤◌, length};
 ghost use Rattle.ipc_model.specs.texts.Texts.{reply_text};
 
 use calls::{
-    CallFault, MessageRequest, Request, push_call, push_reply, read_call, read_recorded_reply,
-    read_request, reply_frame,
+    CallFault, MessageRequest, Request, push_call, push_kept_call, push_reply, read_call,
+    read_recorded_reply, read_request, reply_frame,
 };
 use codes::{KernReturn, MAX_FRAME_CONTENT};
 use ipc_model::{Call, NamedType, ReceiveStatus, Reply, RightKind, Sequence};
@@ -202,7 +202,8 @@ fn a_send_is_kept_without_what_it_ignores(rt: HostRuntime) -> Result<(), Fail> {
     for (sent, kept) in [(&message[..], &kept[..]), (&message[..6], &kept[..6])] {
         let request = asked_message(&rt, &[0x11, 5, 6, 7], sent)?;
         let send = request.send.ok_or("it sends")?;
-        let text = call_bytes(&rt, &send)?;
+        let mut text = Vec::new(rt.alloc());
+        push_kept_call(rt.alloc(), &mut text, &send)?;
         assert_eq!(rt; text.as_slice().strip_prefix(&SEND[..20]), Some(kept));
         assert!(rt; request.receive.is_none());
         assert_eq!(rt; request.send_timeout, Some(7));
@@ -364,7 +365,7 @@ fn replies_of_records(rt: HostRuntime) -> Result<(), Fail> {
         disposition: 19,
     };
     let rows: [(Call, &[u32], bool); 9] = [
-        (allocate(), &[5, 0], true),
+        (allocate(), &[5, 0], false),
         (allocate(), &[5, 3], false),
         (allocate(), &[5, 0, 1, 2], false),
         (allocate(), &[7, 0], false),
@@ -382,13 +383,16 @@ fn replies_of_records(rt: HostRuntime) -> Result<(), Fail> {
 
 #[test]
 fn messages_of_records(rt: HostRuntime) -> Result<(), Fail> {
-    for (large, code, recorded) in [
-        (false, 0, true),
-        (true, 0, true),
+    let received = [19, 0, 28, 0x100, 0, 0, 0, 0, 0, 0, 7];
+    let destroyed = [19, 0x1000_4004, 28, 0x100];
+    for (large, numbers, recorded) in [
+        (false, &received[..], true),
+        (true, &received[..], true),
+        (false, &received[..10], false),
         // A receipt that destroys a message that is too large changes the state.
-        (false, 0x1000_4004, true),
-        (true, 0x1000_4004, false),
-        (false, 0x1000_4003, false),
+        (false, &destroyed[..], true),
+        (true, &destroyed[..], false),
+        (false, &[19, 0x1000_4003, 28, 0x100][..], false),
     ] {
         let call = Call::Receive {
             limit: 28,
@@ -396,11 +400,7 @@ fn messages_of_records(rt: HostRuntime) -> Result<(), Fail> {
             name: 0x100,
             waited: false,
         };
-        assert_eq!(rt;
-            is_recorded(&rt, &call, &[19, code, 28, 0x100, 7])?,
-            recorded,
-            "{code}"
-        );
+        assert_eq!(rt; is_recorded(&rt, &call, numbers)?, recorded, "{numbers:?}");
     }
     Ok(())
 }

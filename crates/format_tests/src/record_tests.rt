@@ -70,11 +70,23 @@ fn a_receipt_as_bytes(rt: HostRuntime) -> Result<(), Fail> {
     Ok(())
 }
 
+// The reply is one to another call; the message isn't as it is kept; a send brings something; a receipt has another
+// size.
 #[test]
-fn a_reply_to_another_call_is_no_record(rt: HostRuntime) -> Result<(), Fail> {
-    let mut text = ALLOCATION;
-    text[28] = 4;
-    assert!(rt; take_record(rt.alloc(), &text)?.is_none());
+fn bent_texts_are_no_records(rt: HostRuntime) -> Result<(), Fail> {
+    for (text, at, byte) in [
+        (&ALLOCATION[..], 28, 4),
+        (&SEND[..], 38, 1),
+        (&SEND[..], 40, 28),
+        (&SEND[..], 76, 28),
+        (&RECEIPT[..], 48, 29),
+    ] {
+        let mut bent = Vec::from_slice(rt.alloc(), text)?;
+        if let Some(place) = bent.get_mut(at) {
+            *place = byte;
+        }
+        assert!(rt; take_record(rt.alloc(), &bent)?.is_none(), "{byte} at {at}");
+    }
     Ok(())
 }
 

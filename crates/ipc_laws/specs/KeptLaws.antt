@@ -1,4 +1,4 @@
--- A message and its kept form are sent alike.
+-- A message and its kept form are sent alike, and so are a call and what is kept of it made.
 use Rattle.std.specs.Prelude.{◌≡◌, ◌↔◌, ℕ, zero, suc, ◌+◌, ◌*◌, ◌/◌, ◌%◌, ◌^◌, ◌<◌, ◌≤◌, Bool, ◌==◌, List, [], ◌∷◌, length, drop, slice_index, bit_and, Option, None, Some, MatchResult, refl}
 use Rattle.std.specs.Int.Bits.{and_self}
 use Rattle.std.specs.FinMap as finmap
@@ -7,16 +7,21 @@ use Rattle.std.proofs.lemmas.Nat.{and_assoc, and_le_l, and_le_r, and_mask}
 use Rattle.std.proofs.lemmas.Nat.Bits.{and_pow}
 use Rattle.byteorder.specs.Endian.{little_number}
 use Rattle.codes.specs.declared.kern_return.KernReturn.TheVariants.{Success}
+use Rattle.codes.specs.declared.limits.TheConstants.{MAX_FRAME_CONTENT}
 use Rattle.codes.specs.declared.name.TheConstants.{MACH_PORT_NULL}
 use Rattle.ipc_model.specs.calls.Step.{Step, ActsFrom, IsRefusedWith}
+use Rattle.ipc_model.specs.declared.call.Call.{Call}
 use Rattle.ipc_model.specs.declared.call.Call.TheVariants as call
 use Rattle.ipc_model.specs.declared.call.Reply.{Reply}
+use Rattle.ipc_model.specs.declared.call.Reply.TheVariants as reply
+use Rattle.ipc_model.specs.declared.record.Record.{Record}
 use Rattle.ipc_model.specs.effects.Effects.{Effect}
 use Rattle.ipc_model.specs.messages.Kept.{kept_message, masked, used_bits}
 use Rattle.ipc_model.specs.messages.Messages.{Parts, parts_of, bits_of, is_complex, remote_disposition, local_disposition, remote_of, local_of, id_of, body_of}
 use Rattle.ipc_model.specs.messages.Receiving.{without_message}
 use Rattle.ipc_model.specs.messages.Sending.{Ready, ready_by_parts, ready_to_send, sent}
 use Rattle.ipc_model.specs.state.State.{State, Names}
+use Rattle.ipc_model.specs.texts.Texts.{call_text, reply_text, kept_call, kept_record, FitsCall, IsWholeCall, IsKeptCall, IsRecord, IsRecordedReply}
 use Rattle.words.specs.Words.{AreBytes}
 
 pub length-masked : (masks bytes : List ℕ) → length (masked masks bytes) ≡ length bytes
@@ -149,3 +154,51 @@ MessagesAreSentAsKept = (old : State) (space : ℕ) (message : List ℕ) (answer
 pub sent_as_kept : MessagesAreSentAsKept
 sent_as_kept old space message answer new are =
     (sent_alike (kept_message message) message old space answer new (kept_parts message are), sent_alike message (kept_message message) old space answer new (sym (kept_parts message are)))
+
+-- What is kept of a call: the call itself, save of a send.
+
+pub kept_call_again : (c : Call) → kept_call (kept_call c) ≡ kept_call c
+kept_call_again (call.Send message) = ap (λ (m : List ℕ). call.Send m) (kept_again message)
+kept_call_again c = refl
+
+pub kept_fits : (c : Call) → FitsCall c → FitsCall (kept_call c)
+kept_fits (call.Send message) fits = kept_bytes message fits
+kept_fits c fits = fits
+
+-- its text is as long
+pub kept_call_long : (c : Call) → length (call_text (kept_call c)) ≡ length (call_text c)
+unfolding call_text
+kept_call_long (call.Send message) = let same = kept_long message in omega (arith, same)
+kept_call_long c = refl
+
+-- so what is kept of a call is one that stands in a record
+pub kept_is_kept : (c : Call) → FitsCall c → IsWholeCall c → IsKeptCall (kept_call c)
+kept_is_kept c fits whole = record { fits = kept_fits c fits; whole = whole_kept c whole; kept = kept_call_again c }
+  where
+    whole_kept : (d : Call) → IsWholeCall d → IsWholeCall (kept_call d)
+    whole_kept (call.Send message) whole = let same = kept_long message in omega (arith, whole, same)
+    whole_kept d whole = whole
+
+-- a reply is one to what is kept of its call
+kept_replied : (c : Call) (r : Reply) → IsRecordedReply c r → IsRecordedReply (kept_call c) r
+kept_replied (call.Send message) (reply.Done number) is = record { fits = is.fits; of_one_call = is.of_one_call; results = is.results; recorded = is.recorded }
+kept_replied (call.Send message) r is = record { fits = is.fits; of_one_call = is.of_one_call; results = is.results; recorded = is.recorded }
+kept_replied c r is = is
+
+-- What is kept of a record is one that a segment may hold, where its call is whole and its frames aren't too long.
+pub kept_is_record : (entry : Record) → entry.space < 2 ^ 32 → FitsCall entry.call → IsWholeCall entry.call → IsRecordedReply entry.call entry.reply
+    → length (call_text entry.call) ≤ MAX_FRAME_CONTENT → length (reply_text entry.reply) ≤ MAX_FRAME_CONTENT → IsRecord (kept_record entry)
+kept_is_record entry space fits whole answered calls replies = record {
+  space = space;
+  call = kept_is_kept entry.call fits whole;
+  reply = kept_replied entry.call entry.reply answered;
+  frames = (omega (arith, calls, kept_call_long entry.call), replies);
+}
+
+-- A call and what is kept of it are made alike.
+abbrev pub CallsAreMadeAsKept : Type 0
+CallsAreMadeAsKept = (old : State) (space : ℕ) (c : Call) (answer : Reply) (new : State) → FitsCall c → Step old space (kept_call c) answer new ↔ Step old space c answer new
+
+pub made_as_kept : CallsAreMadeAsKept
+made_as_kept old space (call.Send message) answer new fits = sent_as_kept old space message answer new fits
+made_as_kept old space c answer new fits = ((λ step. step), (λ step. step))

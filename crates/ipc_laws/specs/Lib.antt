@@ -9,6 +9,7 @@ pub mod EffectRanks
 pub mod EffectWeights
 pub mod EffectsKeep
 pub mod EntryChanges
+pub mod FrameLengths
 pub mod Hands
 pub mod HistoryLaws
 pub mod ImageLaws
@@ -24,6 +25,7 @@ pub mod OpeningLaws
 pub mod OtherSpaces
 pub mod Others
 pub mod OwnedPlaces
+pub mod PortCallLaws
 pub mod PortChanges
 pub mod PortItems
 pub mod Ranks
@@ -33,6 +35,7 @@ pub mod ReceiveKeep
 pub mod ReceiveLaws
 pub mod RecordedMessages
 pub mod RecordedReceipts
+pub mod RecordedSteps
 pub mod RecoveryLaws
 pub mod ReferencesKeep
 pub mod RenameKeep

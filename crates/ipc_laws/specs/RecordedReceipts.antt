@@ -22,6 +22,7 @@ use Rattle.ipc_model.specs.messages.Messages.{header_length, message_text}
 use Rattle.ipc_model.specs.messages.Receiving.{Receipt, Receives, TooLarge, Received, arriving, reply_right, reply_name, body_names, received_bits, received_body, received_text, receive_refusal, refusal_of_sources, sources, is_in_set, all_empty, message_size, without_message}
 use Rattle.ipc_model.specs.state.Lawful.{LawfulMessage, HoldsPorts}
 use Rattle.ipc_model.specs.state.State.{State, Names}
+use Rattle.ipc_model.specs.texts.Texts.{IsOfReceipt}
 use Rattle.ipc_laws.specs.ItemLaws.{AllFit, item_length, items_read}
 use Rattle.ipc_laws.specs.LawfulLaws.{LawfulAtRest}
 use Rattle.ipc_laws.specs.ReceiptLaws.{as_many_names, length-kinds, length-words-take, port_count}
@@ -102,10 +103,6 @@ received_long : (message : Message) (member seqno : ℕ) (given : List ℕ) → 
 received_long message member seqno given lawful many =
     text_long (received_bits message) (reply_name message.reply given) member seqno message.id (received_body message (body_names message.reply given))
     ∙ ap (λ (n : ℕ). header_length + n) (body_long message (body_names message.reply given) lawful (names_left message.reply message.rights given many))
-
--- What a receipt brings: a message of this size, or where it destroyed one nothing.
-abbrev pub IsOfReceipt : KernReturn → ℕ → List ℕ → Type 0
-IsOfReceipt code size message = MatchBool (is_success code) ((header_length ≤ size) × (length message ≡ size)) (message ≡ [])
 
 -- A receipt that has a record brings a message of its size, or destroyed one and brings none.
 pub record ReceiptDone (answer : Reply) : Type 0 where

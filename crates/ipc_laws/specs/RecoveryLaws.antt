@@ -117,7 +117,7 @@ spells_once slots base other records more one two = elim one.reading as (λ _. (
 
 records_fit : (records : List Record) → AreRecords records → FitCalls records
 records_fit [] are = tt
-records_fit (first ∷ records) are = (are.0.call, records_fit records are.1)
+records_fit (first ∷ records) are = (are.0.call.fits, records_fit records are.1)
 
 fit_both : (xs ys : List Record) → FitCalls xs → FitCalls ys → FitCalls (xs ++ ys)
 fit_both [] ys first second = second

@@ -1,9 +1,12 @@
--- Runs of the machine that follow one another.
-use Rattle.std.specs.Prelude.{List, [], ◌∷◌, ◌++◌}
+-- Runs of the machine that follow one another, and those of what is kept.
+use Rattle.std.specs.Prelude.{◌↔◌, List, [], ◌∷◌, ◌++◌, map}
 use Rattle.std.proofs.Common.{refl, subst}
 use Rattle.ipc_model.specs.declared.record.Record.{Record}
 use Rattle.ipc_model.specs.state.State.{State}
 use Rattle.ipc_model.specs.calls.Step.{Step, Run}
+use Rattle.ipc_model.specs.texts.Texts.{kept_record}
+use Rattle.ipc_laws.specs.KeptLaws.{made_as_kept}
+use Rattle.ipc_laws.specs.StepsKeep.{FitCalls}
 
 -- one step more
 pub run-push : (old mid new : State) (records : List Record) (next : Record) → Run old records mid → Step mid next.space next.call next.reply new → Run old (records ++ next ∷ []) new
@@ -15,3 +18,14 @@ pub run_split : (old new : State) (records more : List Record) → Run old (reco
 run_split old new [] more run = (old, refl, run)
 run_split old new (first ∷ records) more run =
     let later = run_split run.0 new records more run.2 in (later.0, (run.0, run.1, later.1), later.2)
+
+-- Records and what is kept of them run alike.
+abbrev pub RecordsRunAsKept : Type 0
+RecordsRunAsKept = (old : State) (records : List Record) (new : State) → FitCalls records → Run old (map kept_record records) new ↔ Run old records new
+
+pub run_as_kept : RecordsRunAsKept
+run_as_kept old [] new fits = ((λ run. run), (λ run. run))
+run_as_kept old (first ∷ records) new fits =
+    let here = λ (mid : State). made_as_kept old first.space first.call first.reply mid fits.0 in
+    let there = λ (mid : State). run_as_kept mid records new fits.1 in
+    ((λ run. (run.0, (here run.0).0 run.1, (there run.0).0 run.2)), (λ run. (run.0, (here run.0).1 run.1, (there run.0).1 run.2)))

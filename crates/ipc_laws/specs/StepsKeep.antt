@@ -174,7 +174,7 @@ called_kept (Some code) old space names c answer new effects is fits lawful grou
 
 acts_kept : (old : State) (space : ℕ) (names : Names) (c : Call) (answer : Reply) (new : State) (effects : List Effect) → FitsCall c → LawfulAtRest old → Grounded old → finmap.get old.spaces space ≡ Some names
     → ActsIn old space names c answer new effects → Kept new effects
-acts_kept old space names (call.Send message) answer new effects fits lawful grounded there acts = send_kept old space names message answer new effects fits.bytes lawful grounded there acts
+acts_kept old space names (call.Send message) answer new effects fits lawful grounded there acts = send_kept old space names message answer new effects fits lawful grounded there acts
 acts_kept old space names (call.Receive limit large name waited) answer new effects fits lawful grounded there acts =
     receive_kept old space names (record { limit = limit; large = large; name = name; waited = waited }) answer new effects lawful grounded there acts
 acts_kept old space names c answer new effects fits lawful grounded there acts =

@@ -7,7 +7,7 @@ use Rattle.ipc_model.specs.declared.record.Record.{Record}
 use Rattle.ipc_laws.specs.ListLaws.{same_front, same_back}
 use Rattle.ipc_model.specs.calls.Step.{number_of_call, has_record}
 use Rattle.ipc_laws.specs.TextReading.{read_call, call_back, number-fits, read_reply, reply_back, all_head, all_tail}
-use Rattle.ipc_model.specs.texts.Texts.{arguments_text, call_text, reply_text, record_text, records_text, FitsCall, FitsReply, IsRecord}
+use Rattle.ipc_model.specs.texts.Texts.{arguments_text, call_text, reply_text, kept_call, record_text, records_text, FitsCall, FitsReply, IsRecord}
 use Rattle.words.specs.WordLaws.{same_word, same_long_word, length-word, length-long_word}
 use Rattle.words.specs.Words.{word, long_word, frame_text}
 
@@ -52,9 +52,15 @@ reply_once c d a b x y fits fits_too recorded recorded_too long long_too e =
 
 -- a record's text in its parts, and what stands behind it
 pub record_apart : (n : ℕ) (entry : Record) (rest : List ℕ)
-    → record_text n entry ++ rest ≡ long_word n ++ (word entry.space ++ (frame_text (call_text entry.call) ++ (frame_text (reply_text entry.reply) ++ rest)))
+    → record_text n entry ++ rest ≡ long_word n ++ (word entry.space ++ (frame_text (call_text (kept_call entry.call)) ++ (frame_text (reply_text entry.reply) ++ rest)))
 unfolding record_text
 record_apart n entry rest = simp append_assoc
+
+-- of a call that is kept
+pub kept_apart : (n : ℕ) (entry : Record) (rest : List ℕ) → kept_call entry.call ≡ entry.call
+    → record_text n entry ++ rest ≡ long_word n ++ (word entry.space ++ (frame_text (call_text entry.call) ++ (frame_text (reply_text entry.reply) ++ rest)))
+kept_apart n entry rest kept =
+    record_apart n entry rest ∙ ap (λ (c : Call). long_word n ++ (word entry.space ++ (frame_text (call_text c) ++ (frame_text (reply_text entry.reply) ++ rest)))) kept
 
 -- equal texts that begin with a record
 abbrev pub RecordsHaveOneText : Type 0
@@ -63,15 +69,15 @@ RecordsHaveOneText = (m n : ℕ) (a b : Record) (x y : List ℕ) → IsRecord a 
 
 pub record_once : RecordsHaveOneText
 record_once m n a b x y is is_too fits fits_too e =
-    let whole = sym (record_apart m a x) ∙ e ∙ record_apart n b y in
+    let whole = sym (kept_apart m a x is.call.kept) ∙ e ∙ kept_apart n b y is_too.call.kept in
     let replies_a = frame_text (reply_text a.reply) ++ x in
     let replies_b = frame_text (reply_text b.reply) ++ y in
     let calls_a = frame_text (call_text a.call) ++ replies_a in
     let calls_b = frame_text (call_text b.call) ++ replies_b in
     let number = long_word_once m n (word a.space ++ calls_a) (word b.space ++ calls_b) fits fits_too whole in
     let space = word_once a.space b.space calls_a calls_b is.space is_too.space number.1 in
-    let calls = call_once a.call b.call replies_a replies_b is.call is_too.call is.frames.0 is_too.frames.0 space.1 in
-    let replies = reply_once a.call b.call a.reply b.reply x y is.reply is_too.reply is.recorded is_too.recorded is.frames.1 is_too.frames.1 calls.1 in
+    let calls = call_once a.call b.call replies_a replies_b is.call.fits is_too.call.fits (omega (arith, is.frames.0)) (omega (arith, is_too.frames.0)) space.1 in
+    let replies = reply_once a.call b.call a.reply b.reply x y is.reply.fits is_too.reply.fits is.reply.recorded is_too.reply.recorded (omega (arith, is.frames.1)) (omega (arith, is_too.frames.1)) calls.1 in
     (number.0, λ i. record { space = space.0 i; call = calls.0 i; reply = replies.0 i }, replies.1)
 
 -- equal texts that begin with as many records, numbered from one number

@@ -16,7 +16,7 @@ use Rattle.ipc_model.specs.declared.port.PortState.{PortState}
 use Rattle.ipc_model.specs.effects.Effects.{Effect, release, notify}
 use Rattle.ipc_model.specs.state.Lawful.{right_of_effect, placed_with, count_with, rights_count}
 use Rattle.ipc_laws.specs.MapSums.{weigh, total, weigh-append, weigh-flat_map, weigh-map, weigh-same}
-use Rattle.ipc_model.specs.state.Placed.{Right, Place, placed, same_kind, right_to, right_of_carried, right_of_reply, right_of_target, rights_of_message, rights_of_port, rights_of_entry, rights_of_space, held, reply, body}
+use Rattle.ipc_model.specs.state.Placed.{Right, Place, placed, same_kind, right_to, right_of_carried, right_of_reply, right_of_target, rights_of_message, rights_of_port, rights_of_entry, rights_of_space, held, reply, body, dead_name_request, no_senders_request, port_destroyed_request}
 use Rattle.ipc_model.specs.state.State.{State, Names}
 
 -- what a right of a kind to a port weighs, wherever it stands
@@ -71,9 +71,9 @@ weigh-to w place kind in_message.Null = refl
 weigh-to w place kind in_message.Dead = refl
 weigh-to w place kind (in_message.Live serial) = omega arith
 
-weigh-target : (w : Weight) (target : Option ℕ) → weigh (right_weigh w) (right_of_target target) ≡ target_weigh w target
-weigh-target w None = refl
-weigh-target w (Some serial) = omega arith
+weigh-target : (w : Weight) (request : Place) (target : Option ℕ) → weigh (right_weigh w) (right_of_target request target) ≡ target_weigh w target
+weigh-target w request None = refl
+weigh-target w request (Some serial) = omega arith
 
 weigh-reply : (w : Weight) (queue : ℕ) (carried : Option CarriedRight) → weigh (right_weigh w) (right_of_reply queue carried) ≡ reply_weigh w carried
 weigh-reply w queue None = refl
@@ -92,10 +92,10 @@ weigh-port : (w : Weight) (serial : ℕ) (port : PortState) → weigh (right_wei
 weigh-port w serial port =
     omega (
       arith,
-      weigh-append (right_weigh w) (flat_map (rights_of_message serial) port.messages) (right_of_target port.no_senders_target ++ right_of_target port.port_destroyed_target),
-      weigh-append (right_weigh w) (right_of_target port.no_senders_target) (right_of_target port.port_destroyed_target),
-      weigh-target w port.no_senders_target,
-      weigh-target w port.port_destroyed_target,
+      weigh-append (right_weigh w) (flat_map (rights_of_message serial) port.messages) (right_of_target (no_senders_request serial) port.no_senders_target ++ right_of_target (port_destroyed_request serial) port.port_destroyed_target),
+      weigh-append (right_weigh w) (right_of_target (no_senders_request serial) port.no_senders_target) (right_of_target (port_destroyed_request serial) port.port_destroyed_target),
+      weigh-target w (no_senders_request serial) port.no_senders_target,
+      weigh-target w (port_destroyed_request serial) port.port_destroyed_target,
       weigh-flat_map (right_weigh w) (rights_of_message serial) port.messages,
       weigh-same (λ (m : Message). weigh (right_weigh w) (rights_of_message serial m)) (message_weigh w serial) (weigh-message w serial) port.messages,
     )
@@ -114,13 +114,13 @@ weigh-entry w space name (Port rights) =
     let send : Right = record { kind = kind.Send; port = rights.port; place = held space name } in
     omega (
       arith,
-      weigh-append (right_weigh w) (if rights.receive then receive ∷ [] else []) ((if rights.send == 0 then [] else send ∷ []) ++ right_of_target rights.dead_name_target),
-      weigh-append (right_weigh w) (if rights.send == 0 then [] else send ∷ []) (right_of_target rights.dead_name_target),
+      weigh-append (right_weigh w) (if rights.receive then receive ∷ [] else []) ((if rights.send == 0 then [] else send ∷ []) ++ right_of_target (dead_name_request space name) rights.dead_name_target),
+      weigh-append (right_weigh w) (if rights.send == 0 then [] else send ∷ []) (right_of_target (dead_name_request space name) rights.dead_name_target),
       weigh-if w rights.receive receive,
       weigh-unless w (rights.send == 0) send,
-      weigh-target w rights.dead_name_target,
+      weigh-target w (dead_name_request space name) rights.dead_name_target,
     )
-weigh-entry w space name (SendOnce port target) = omega (arith, weigh-target w target)
+weigh-entry w space name (SendOnce port target) = omega (arith, weigh-target w (dead_name_request space name) target)
 weigh-entry w space name Set = refl
 weigh-entry w space name (Dead references) = refl
 

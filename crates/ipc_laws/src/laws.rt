@@ -5,7 +5,7 @@ ghost use Rattle.ipc_laws.specs.EffectsKeep.{EffectsKeepLawful};
 ghost use Rattle.ipc_laws.specs.HistoryLaws.{LegalIsInOrder, LegalStaysLegal, MeetingIsLegal, PlacesHoldCalls, ReadsOwnWrites};
 ghost use Rattle.ipc_laws.specs.ImageLaws.{ImagesHaveOneText};
 ghost use Rattle.ipc_laws.specs.ItemLaws.{ItemsTileBodies};
-ghost use Rattle.ipc_laws.specs.KeptLaws.{MessagesAreSentAsKept};
+ghost use Rattle.ipc_laws.specs.KeptLaws.{CallsAreMadeAsKept, MessagesAreSentAsKept};
 ghost use Rattle.ipc_laws.specs.NameChanges.{NamesMoveLawfully};
 ghost use Rattle.ipc_laws.specs.LawfulLaws.{LawfulIsAtRest};
 ghost use Rattle.ipc_laws.specs.OpeningLaws.{OpeningIsLawful};
@@ -14,7 +14,9 @@ ghost use Rattle.ipc_laws.specs.OwnedPlaces.{NewRecordsAreOwned};
 ghost use Rattle.ipc_laws.specs.PortChanges.{PortMovesLawfully};
 ghost use Rattle.ipc_laws.specs.RecordedMessages.{RecordedSendsAreDone};
 ghost use Rattle.ipc_laws.specs.RecordedReceipts.{RecordedReceiptsAreDone};
+ghost use Rattle.ipc_laws.specs.RecordedSteps.{RecordedStepsAreRecords};
 ghost use Rattle.ipc_laws.specs.RecoveryLaws.{RecoversLawful, RecoversOnce, RecoversVersionOne, SpellsOnce};
+ghost use Rattle.ipc_laws.specs.RunLaws.{RecordsRunAsKept};
 ghost use Rattle.ipc_laws.specs.Spelling.{LawfulIsSpellable};
 ghost use Rattle.ipc_laws.specs.Settling.{AlwaysSettles, EffectsLower};
 ghost use Rattle.ipc_laws.specs.TextLaws.{RecordsHaveOneText};
@@ -116,6 +118,16 @@ pub fn messages_are_sent_as_kept()
     ensures { MessagesAreSentAsKept }
 {}
 
+/// So each call is made as a record keeps it,
+pub fn calls_are_made_as_kept()
+    ensures { CallsAreMadeAsKept }
+{}
+
+/// and records run as they are kept.
+pub fn records_run_as_kept()
+    ensures { RecordsRunAsKept }
+{}
+
 /// A send that has a record was done: its message has 24 to 8,192 bytes, and nothing comes back. No refusal of a send
 /// is a success.
 pub fn recorded_sends_are_done()
@@ -126,6 +138,12 @@ pub fn recorded_sends_are_done()
 /// too large and brings nothing.
 pub fn recorded_receipts_are_done()
     ensures { RecordedReceiptsAreDone }
+{}
+
+/// What is kept of a step that has a record, from a lawful state, is a record that a segment may hold: no other text is
+/// that of a step.
+pub fn recorded_steps_are_records()
+    ensures { RecordedStepsAreRecords }
 {}
 
 /// A record has one text: what begins with the texts of two records begins with one record, of one number.

@@ -5,6 +5,7 @@ mod call;
 mod entry;
 mod message;
 mod port;
+mod ranges;
 mod record;
 mod sequence;
 
@@ -12,5 +13,6 @@ pub use call::{Call, NamedType, ReceiveStatus, Reply};
 pub use entry::{Entry, PortRights};
 pub use message::{CarriedRight, Message, PortInMessage, RightKind};
 pub use port::PortState;
+pub use ranges::{call_in_range, record_in_range};
 pub use record::Record;
 pub use sequence::Sequence;

@@ -66,10 +66,8 @@ pub first_allocation-is : IsRecord first_allocation
 unfolding call_text reply_text
 first_allocation-is = record {
   space = omega arith;
-  call = omega arith;
-  reply = omega arith;
-  of_one_call = refl;
-  recorded = refl;
+  call = record { fits = omega arith; whole = tt; kept = refl };
+  reply = record { fits = omega arith; of_one_call = refl; results = tt; recorded = refl };
   frames = (omega arith, omega arith);
 }
 

@@ -1,15 +1,20 @@
 -- Worked examples of bytes: a state as an image has it, and a record.
-use Rattle.std.specs.Prelude.{◌≡◌, true, false, [], ◌∷◌, refl}
+use Rattle.std.specs.Prelude.{◌≡◌, ℕ, zero, suc, ◌<◌, true, false, List, [], ◌∷◌, length, slice_index, refl}
+use Rattle.std.proofs.Common.{ap, arith}
 use Rattle.std.specs.FinMap as finmap
-use Rattle.codes.specs.declared.kern_return.KernReturn.TheVariants.{Success, InvalidValue}
+use Rattle.codes.specs.declared.kern_return.KernReturn.TheVariants.{Success, InvalidValue, RcvTooLarge}
+use Rattle.ipc_model.specs.declared.call.Call.{Call}
 use Rattle.ipc_model.specs.declared.call.Call.TheVariants as call
+use Rattle.ipc_model.specs.declared.call.Reply.{Reply}
 use Rattle.ipc_model.specs.declared.call.Reply.TheVariants as reply
+use Rattle.ipc_model.specs.declared.record.Record.{Record}
+use Rattle.ipc_model.specs.messages.Kept.{kept_message}
 use Rattle.ipc_model.specs.texts.Images.{image_text}
 use Rattle.ipc_rows.specs.RowRules.{rows}
 use Rattle.ipc_rows.specs.RowStates.{rights_to}
 use Rattle.ipc_model.specs.state.State.{State, opening_state, new_port}
-use Rattle.ipc_model.specs.texts.Texts.{call_text, reply_text, record_text}
-use Rattle.words.specs.Words.{frame_text}
+use Rattle.ipc_model.specs.texts.Texts.{arguments_text, call_text, reply_text, record_text, IsRecord}
+use Rattle.words.specs.Words.{AreBytes, frame_text}
 
 -- after the first receive right was allocated
 abbrev pub with_one_port : State
@@ -72,3 +77,62 @@ refused-frame = refl
 pub names-frame : frame_text (reply_text (reply.Names [])) ≡ 12 ∷ 0 ∷ 0 ∷ 0 ∷ 1 ∷ 0 ∷ 0 ∷ 0 ∷ 0 ∷ 0 ∷ 0 ∷ 0 ∷ 0 ∷ 0 ∷ 0 ∷ 0 ∷ []
 unfolding reply_text
 names-frame = refl
+
+-- A send of 28 bytes with bits, a size and a sequence number that a send ignores: its record has 0 in place of them.
+
+abbrev raw_send : List ℕ
+raw_send = 19 ∷ 0 ∷ 255 ∷ 127 ∷ 9 ∷ 9 ∷ 9 ∷ 9 ∷ 0 ∷ 1 ∷ 0 ∷ 0 ∷ 0 ∷ 0 ∷ 0 ∷ 0 ∷ 9 ∷ 9 ∷ 9 ∷ 9 ∷ 7 ∷ 0 ∷ 0 ∷ 0 ∷ 68 ∷ 51 ∷ 34 ∷ 17 ∷ []
+
+abbrev kept_send : List ℕ
+kept_send = 19 ∷ 0 ∷ 0 ∷ 0 ∷ 0 ∷ 0 ∷ 0 ∷ 0 ∷ 0 ∷ 1 ∷ 0 ∷ 0 ∷ 0 ∷ 0 ∷ 0 ∷ 0 ∷ 0 ∷ 0 ∷ 0 ∷ 0 ∷ 7 ∷ 0 ∷ 0 ∷ 0 ∷ 68 ∷ 51 ∷ 34 ∷ 17 ∷ []
+
+abbrev of_send : List ℕ → Reply → Record
+of_send message answer = record { space = 1; call = call.Send message; reply = answer }
+
+-- bytes, one by one
+abbrev Few : List ℕ → Type 0
+Few [] = Unit {0}
+Few (b ∷ bytes) = (b < 256) × Few bytes
+
+few_bytes : (bytes : List ℕ) → Few bytes → AreBytes bytes
+few_bytes [] few i = omega arith
+few_bytes (b ∷ bytes) few zero = few.0
+few_bytes (b ∷ bytes) few (suc i) = few_bytes bytes few.1 i
+
+pub raw_send-kept : kept_message raw_send ≡ kept_send
+unfolding kept_message
+raw_send-kept = refl
+
+pub raw_send-record : record_text 0 (of_send raw_send (reply.Message Success 0 0 [])) ≡ record_text 0 (of_send kept_send (reply.Message Success 0 0 []))
+unfolding record_text kept_message
+raw_send-record = refl
+
+pub kept_send-is_record : IsRecord (of_send kept_send (reply.Message Success 0 0 []))
+unfolding kept_message call_text reply_text
+kept_send-is_record = record {
+  space = omega arith;
+  call = record { fits = λ i. few_bytes kept_send (omega arith, (omega arith, (omega arith, (omega arith, (omega arith, (omega arith, (omega arith, (omega arith, (omega arith, (omega arith, (omega arith, (omega arith, (omega arith, (omega arith, (omega arith, (omega arith, (omega arith, (omega arith, (omega arith, (omega arith, (omega arith, (omega arith, (omega arith, (omega arith, (omega arith, (omega arith, (omega arith, (omega arith, tt)))))))))))))))))))))))))))) i; whole = omega arith; kept = refl };
+  reply = record { fits = (omega arith, omega arith, λ i. omega arith); of_one_call = refl; results = (refl, refl, refl); recorded = refl };
+  frames = (omega arith, omega arith);
+}
+
+-- What is no record: a send that isn't kept, one without its header, results that a call of its number hasn't, and a receipt of another size.
+
+pub raw_send-no_record : (answer : Reply) → IsRecord (of_send raw_send answer) → ⊥
+unfolding kept_message
+raw_send-no_record answer is = absurd (omega (arith, ap (λ (c : Call). slice_index (arguments_text c) 18) is.call.kept))
+
+pub short_send-no_record : (answer : Reply) → IsRecord (of_send (19 ∷ 0 ∷ 0 ∷ 0 ∷ []) answer) → ⊥
+short_send-no_record answer is = absurd (omega (arith, is.call.whole))
+
+pub answered_send-no_record : IsRecord (of_send kept_send (reply.Message Success 28 0 [])) → ⊥
+answered_send-no_record is = absurd (omega (arith, is.reply.results.0))
+
+pub done_allocation-no_record : IsRecord (record { space = 1; call = call.Allocate 1; reply = reply.Done 5 }) → ⊥
+done_allocation-no_record is = cc is.reply.results
+
+pub shorter_receipt-no_record : IsRecord (record { space = 1; call = call.Receive 28 false 0x100 false; reply = reply.Message Success 29 0x100 kept_send }) → ⊥
+shorter_receipt-no_record is = absurd (omega (arith, is.reply.results.1))
+
+pub destroyed_with_bytes-no_record : IsRecord (record { space = 1; call = call.Receive 24 false 0x100 false; reply = reply.Message RcvTooLarge 28 0x100 kept_send }) → ⊥
+destroyed_with_bytes-no_record is = absurd (omega (arith, ap length is.reply.results))

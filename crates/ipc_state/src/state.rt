@@ -1,6 +1,7 @@
 ghost use Rattle.std.specs.Prelude.{◌≡◌, ◌++◌, ◌==◌, not, nat_le, IfOk, OnOk, OnErr, is_some};
 ghost use Rattle.std.specs.FinMap as map;
 ghost use Rattle.ipc_model.specs.effects.Effects.{map_values, entry_after_death, port_after_death, dead_name_notices};
+ghost use Rattle.ipc_model.specs.state.Lawful.{ShortQueues};
 ghost use Rattle.ipc_model.specs.state.Placed.{placed, send_count};
 ghost use Rattle.ipc_model.specs.state.State.{opening_state};
 ghost use Rattle.queue.specs.Counts.{capped_count};
@@ -62,6 +63,13 @@ impl IpcState {
             ports: self.ports.copy()?,
             next: self.next,
         })
+    }
+
+    /// No queue holds more messages than a word counts. It does nothing but show it.
+    pub fn queues_are_short(&self)
+        ensures { ShortQueues self.now }
+    {
+        self.ports.are_short();
     }
 
     /// How many rights of a kind a port has, wherever they stand; at most `u32::MAX`.

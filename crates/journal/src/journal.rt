@@ -1,9 +1,9 @@
 ghost use Rattle.std.specs.Prelude.{◌≡◌, ◌≢◌, ◌↔◌, ◌⊎◌, ◌+◌, ◌-◌, ◌<◌, ◌≤◌, ◌^◌, ◌++◌, ◌∷◌, [], length, take, true, false, IsTrue, OnOk, OnErr, IfOk, IsErrOf};
 ghost use Rattle.disk.specs.Slots.{slot_of, with_slot};
-ghost use Rattle.disk.specs.Moments.{IsSynced, Passes, Follows, Grew, CountsFailure};
+ghost use Rattle.disk.specs.Moments.{IsSynced, Passes, Follows, one_more, CountsFailure};
 ghost use Rattle.ipc_model.specs.calls.Step.{number_of_call, has_record};
-ghost use Rattle.ipc_model.specs.texts.Texts.{call_text, reply_text, number_of_reply, IsRecord};
-ghost use Rattle.record.specs.Ranges.{IsKeptCall};
+ghost use Rattle.ipc_model.specs.texts.Texts.{call_text, reply_text, kept_record, number_of_reply, HasItsResults, IsRecord, IsWholeCall};
+ghost use Rattle.codes.specs.declared.limits.TheConstants.{MAX_FRAME_CONTENT};
 ghost use Rattle.ipc_model.specs.store.Store.{with_batch, batch_text, open_gate, closed_gate, IsMidAppend};
 ghost use Rattle.journal.specs.Storing.{IsMidStore};
 
@@ -131,15 +131,18 @@ impl<D: Disk> Journal<D> {
         ensures any_moment { D.honest → IsSynced (D.view self.old.disk) Slot.Segment0
             → Passes (D.view self.old.disk) (D.view self.new.disk) (Follows (D.view self.old.disk) Slot.Segment0
             (λ before after. IsMidAppend before (batch_text self.old.records (entry.now ∷ [])) after)) }
-        // The numbers of a record are in the ranges of their types: one of a call that has a record is fit to be kept.
-        ensures fits { IsKeptCall entry.now.call → number_of_reply entry.now.reply ≡ number_of_call entry.now.call
-            → IsTrue (has_record entry.now.call entry.now.reply) → IsRecord entry.now }
+        // The numbers of a record are in the ranges of their types: what is kept of one of a call that has a record, whole
+        // and with its results, is one that a segment may hold.
+        ensures fits { IsWholeCall entry.now.call → number_of_reply entry.now.reply ≡ number_of_call entry.now.call
+            → HasItsResults entry.now.call entry.now.reply → IsTrue (has_record entry.now.call entry.now.reply)
+            → length (call_text entry.now.call) ≤ MAX_FRAME_CONTENT → length (reply_text entry.now.reply) ≤ MAX_FRAME_CONTENT
+            → IsRecord (kept_record entry.now) }
         ensures counted { OnOk result ((self.new.records ≡ self.old.records + 1) × (self.new.failed ≡ false)) }
 
         ensures failed { IsErrOf result StoreFault.Failed ↔ (self.old.failed ≡ true) }
         ensures full { IsErrOf result StoreFault.Full ↔ ((self.old.failed ≡ false) × (MAX_RECORDS ≤ self.old.records)) }
         ensures device { IsErrOf result StoreFault.Device
-            → (self.new.failed ≡ true) × Grew (D.failed_calls self.old.disk) (D.failed_calls self.new.disk) }
+            → (self.new.failed ≡ true) × (D.failed_calls self.new.disk ≡ one_more (D.failed_calls self.old.disk)) }
         ensures no_other { (result ≢ Err StoreFault.Damaged) × (result ≢ Err StoreFault.Version) }
         ensures unchanged { OnErr result ((result ≡ Err StoreFault.Device) ⊎ (self.new ≡ self.old)) }
     {

@@ -18,7 +18,7 @@ use Rattle.ipc_model.specs.calls.Step.{ActsIn}
 use Rattle.ipc_laws.specs.StepLaws.{Called}
 use Rattle.ipc_model.specs.calls.Tests.{first_failing}
 use Rattle.kernel.specs.declared.choices.Shown.{Shown}
-use Rattle.kernel.specs.PortCallLaws.{as_called}
+use Rattle.ipc_laws.specs.PortCallLaws.{as_called}
 use Rattle.kernel.specs.Served.{is_served}
 
 -- what a reply shows

@@ -1,170 +1,15 @@
--- What a served step answers fits in a frame, where the state is lawful.
-use Rattle.std.specs.Prelude.{◌≡◌, ◌≢◌, ℕ, ◌+◌, ◌*◌, ◌≤◌, suc, Bool, true, false, List, [], ◌∷◌, ◌++◌, length, map, filter, flat_map, Option, None, Some, MatchBool}
-use Rattle.std.proofs.Common.{refl, sym, ap, subst, ◌∙◌, arith, length-append}
-use Rattle.std.proofs.lemmas.List.Sums.{length-filter, count_by-le-length}
+-- What a served step answers fits in a frame, where the state is lawful, and has the number of its call.
+use Rattle.std.specs.Prelude.{◌≡◌, ℕ, Bool, true, false, MatchBool}
+use Rattle.std.proofs.Common.{refl, ap, ◌∙◌}
 use Rattle.std.specs.FinMap as finmap
-use Rattle.std.specs.FinMap.{len-entries}
-use Rattle.codes.specs.KernReturn.{number_of}
-use Rattle.codes.specs.declared.kern_return.KernReturn.{KernReturn}
-use Rattle.codes.specs.declared.limits.TheConstants.{MAX_NAMES}
 use Rattle.ipc_model.specs.declared.call.Call.{Call}
-use Rattle.ipc_model.specs.declared.call.Call.TheVariants as call
-use Rattle.ipc_model.specs.declared.call.NamedType.{NamedType}
-use Rattle.ipc_model.specs.declared.call.ReceiveStatus.{ReceiveStatus}
 use Rattle.ipc_model.specs.declared.call.Reply.{Reply}
-use Rattle.ipc_model.specs.declared.call.Reply.TheVariants as reply
-use Rattle.ipc_model.specs.declared.entry.Entry.{Entry}
-use Rattle.ipc_model.specs.calls.Actions.{Done}
-use Rattle.ipc_model.specs.rights.Dispositions.{number_of_kind}
-use Rattle.ipc_model.specs.effects.Effects.{Effect}
 use Rattle.ipc_model.specs.state.Lawful.{Lawful}
-use Rattle.ipc_model.specs.calls.PortCalls.{tests_of}
-use Rattle.ipc_model.specs.messages.Receiving.{without_message}
-use Rattle.ipc_model.specs.state.State.{State, Names, is_member, members_of, type_of}
-use Rattle.ipc_model.specs.calls.Step.{Step, ActsFrom, refused, number_of_call}
-use Rattle.ipc_laws.specs.StepLaws.{Called}
-use Rattle.ipc_model.specs.calls.Tests.{first_failing}
-use Rattle.ipc_model.specs.texts.Texts.{reply_text, done_text, status_text, number_of_bool, number_of_reply}
-use Rattle.kernel.specs.PortCallLaws.{as_called, answers_done, is_short, answer_number}
+use Rattle.ipc_model.specs.state.State.{State}
+use Rattle.ipc_model.specs.calls.Step.{Step, refused, number_of_call}
+use Rattle.ipc_model.specs.texts.Texts.{number_of_reply}
+use Rattle.ipc_laws.specs.FrameLengths.{IsWithin, within, wide, refused_within, from_within, refused_number, from_number}
 use Rattle.kernel.specs.Served.{is_served, unserved_code, ServedStep}
-use Rattle.words.specs.WordLaws.{length-word}
-use Rattle.words.specs.Words.{word}
-
--- a reply of at most so many bytes
-pub record IsWithin (most : ℕ) (answer : Reply) : Type 0 where
-  pub bytes : length (reply_text answer) ≤ most
-
-within : (most : ℕ) (given answer : Reply) → answer ≡ given → IsWithin most given → IsWithin most answer
-within most given answer is holds = subst (IsWithin most) (sym is) holds
-
--- The length of a reply with so many bytes of results.
-done_length : (number : ℕ) (results : List ℕ) → length (done_text number results) ≡ 8 + length results
-done_length number results = omega (arith, length-append (word number) (word 0 ++ results), length-append (word 0) results, length-word number, length-word 0)
-
-two_words : (a b : ℕ) → length (word a ++ word b) ≡ 8
-two_words a b = omega (arith, length-append (word a) (word b), length-word a, length-word b)
-
-three_words : (a b c : ℕ) → length (word a ++ (word b ++ word c)) ≡ 12
-three_words a b c = omega (arith, length-append (word a) (word b ++ word c), two_words b c, length-word a)
-
-three_more : (a b c : ℕ) (rest : List ℕ) → length (word a ++ (word b ++ (word c ++ rest))) ≡ 12 + length rest
-three_more a b c rest = omega (arith, length-append (word a) (word b ++ (word c ++ rest)), length-append (word b) (word c ++ rest), length-append (word c) rest, length-word a, length-word b, length-word c)
-
-nine_words : (a b c d e f g h i : ℕ) → length (word a ++ (word b ++ (word c ++ (word d ++ (word e ++ (word f ++ (word g ++ (word h ++ word i)))))))) ≡ 36
-nine_words a b c d e f g h i =
-    omega (arith, three_more a b c (word d ++ (word e ++ (word f ++ (word g ++ (word h ++ word i))))), three_more d e f (word g ++ (word h ++ word i)), three_words g h i)
-
-status_length : (status : ReceiveStatus) → length (status_text status) ≡ 36
-status_length status =
-    nine_words status.set status.sequence_number status.make_send_count status.limit status.messages status.send_once_count
-    (number_of_bool status.has_senders) (number_of_bool status.has_port_destroyed_request) (number_of_bool status.has_no_senders_request)
-
-short_within : (answer : Reply) → is_short answer ≡ true → IsWithin 44 answer
-unfolding reply_text
-short_within (reply.Refused number code) short = record { bytes = omega (arith, two_words number (number_of code)) }
-short_within (reply.Done number) short = record { bytes = omega (arith, done_length number []) }
-short_within (reply.Names names) short = absurd (cc short)
-short_within (reply.Type bits) short = record { bytes = omega (arith, done_length 2 (word bits), length-word bits) }
-short_within (reply.Allocate name) short = record { bytes = omega (arith, done_length 5 (word name), length-word name) }
-short_within (reply.References count) short = record { bytes = omega (arith, done_length 8 (word count), length-word count) }
-short_within (reply.ReceiveStatus status) short = record { bytes = omega (arith, done_length 13 (status_text status), status_length status) }
-short_within (reply.SetStatus members) short = absurd (cc short)
-short_within (reply.PreviousTarget name) short = record { bytes = omega (arith, done_length 16 (word name), length-word name) }
-short_within (reply.Extracted name kind) short = record { bytes = omega (arith, done_length 18 (word name ++ word (number_of_kind kind)), two_words name (number_of_kind kind)) }
-short_within (reply.Message code size member message) short = absurd (cc short)
-short_within (reply.SpaceCreated space name) short = record { bytes = omega (arith, done_length 20 (word space ++ word name), two_words space name) }
-
-wider : (less most : ℕ) (answer : Reply) → less ≤ most → IsWithin less answer → IsWithin most answer
-wider less most answer le is = record { bytes = omega (arith, le, is.bytes) }
-
--- Lists of names and members.
-
-flat_length : {A : Type 0} (n : ℕ) (f : A → List ℕ) → ((x : A) → length (f x) ≡ n) → (xs : List A) → length (flat_map f xs) ≡ n * length xs
-flat_length n f each [] = omega arith
-flat_length n f each (x ∷ xs) = omega (arith, length-append (f x) (flat_map f xs), each x, flat_length n f each xs)
-
-map_length : {A B : Type 0} (f : A → B) (xs : List A) → length (map f xs) ≡ length xs
-map_length f [] = refl
-map_length f (x ∷ xs) = ap suc (map_length f xs)
-
-filter_length : {A : Type 0} (p : A → Bool) (xs : List A) → length (filter p xs) ≤ length xs
-filter_length p xs = omega (arith, length-filter p xs, count_by-le-length p xs)
-
-named_length : (n : NamedType) → length (word n.name ++ word n.bits) ≡ 8
-named_length n = two_words n.name n.bits
-
-listed_within : (names : List NamedType) → length names ≤ MAX_NAMES → IsWithin 32780 (reply.Names names)
-unfolding reply_text
-listed_within names few =
-    let pairs : List ℕ = flat_map (λ (n : NamedType). word n.name ++ word n.bits) names in
-    record { bytes = omega (arith, done_length 1 (word (length names) ++ pairs), length-append (word (length names)) pairs, length-word (length names), flat_length 8 (λ (n : NamedType). word n.name ++ word n.bits) named_length names, few) }
-
-members_within : (members : List ℕ) → length members ≤ MAX_NAMES → IsWithin 32780 (reply.SetStatus members)
-unfolding reply_text
-members_within members few =
-    record { bytes = omega (arith, done_length 14 (word (length members) ++ flat_map word members), length-append (word (length members)) (flat_map word members), length-word (length members), flat_length 4 word length-word members, few) }
-
-abbrev as_named : ℕ × Entry → NamedType
-as_named e = record { name = e.0; bits = type_of e.1 }
-
-few_named : (names : Names) → finmap.len names ≤ MAX_NAMES → length (map as_named (finmap.entries names)) ≤ MAX_NAMES
-few_named names few = omega (arith, map_length as_named (finmap.entries names), len-entries names, few)
-
-few_members : (state : State) (names : Names) (set : ℕ) → finmap.len names ≤ MAX_NAMES → length (members_of state names set) ≤ MAX_NAMES
-few_members state names set few =
-    omega (arith, map_length (λ (e : ℕ × Entry). e.0) (filter (λ e. is_member state set e.1) (finmap.entries names)), filter_length (λ (e : ℕ × Entry). is_member state set e.1) (finmap.entries names), len-entries names, few)
-
--- Replies.
-
--- the two calls whose replies are lists
-abbrev is_listing : Call → Bool
-is_listing call.Names = true
-is_listing (call.GetSetStatus name) = true
-is_listing c = false
-
-no_listing_1 : (c : Call) → is_listing c ≡ false → number_of_call c ≢ 1
-no_listing_1 call.Names is = absurd (cc is)
-no_listing_1 (call.GetSetStatus name) is = absurd (cc is)
-no_listing_1 c is = λ same. absurd (omega (arith, same))
-
-no_listing_14 : (c : Call) → is_listing c ≡ false → number_of_call c ≢ 14
-no_listing_14 call.Names is = absurd (cc is)
-no_listing_14 (call.GetSetStatus name) is = absurd (cc is)
-no_listing_14 c is = λ same. absurd (omega (arith, same))
-
-wide : (answer : Reply) → IsWithin 44 answer → IsWithin 32780 answer
-wide answer is = wider 44 32780 answer (omega arith) is
-
-short_done : (old : State) (space : ℕ) (names : Names) (c : Call) (answer : Reply) (new : State) (effects : List Effect) → is_listing c ≡ false → Done old space names c answer new effects → IsWithin 32780 answer
-short_done old space names c answer new effects is acts =
-    wide answer (short_within answer ((answers_done old space names c answer new effects acts).short (no_listing_1 c is) (no_listing_14 c is)))
-
-done_within : (old : State) (space : ℕ) (names : Names) (c : Call) (answer : Reply) (new : State) (effects : List Effect) → finmap.len names ≤ MAX_NAMES → Done old space names c answer new effects → IsWithin 32780 answer
-unfolding Done
-done_within old space names call.Names answer new effects few acts = within 32780 _ answer acts.0 (listed_within _ (few_named names few))
-done_within old space names (call.GetSetStatus name) answer new effects few acts = within 32780 _ answer acts.0 (members_within _ (few_members old names name few))
-done_within old space names c answer new effects few acts =
-    short_done old space names c answer new effects refl acts
-
-called_within : (refusal : Option KernReturn) (old : State) (space : ℕ) (names : Names) (c : Call) (answer : Reply) (new : State) (effects : List Effect) → finmap.len names ≤ MAX_NAMES → Called refusal old space names c answer new effects → IsWithin 32780 answer
-called_within None old space names c answer new effects few acts = done_within old space names c answer new effects few acts
-called_within (Some code) old space names c answer new effects few acts = within 32780 _ answer acts.0 (wide _ (short_within (reply.Refused (number_of_call c) code) refl))
-
-message_within : (code : KernReturn) → IsWithin 44 (without_message code 0 0)
-unfolding reply_text
-message_within code =
-    let results : List ℕ = word 0 ++ (word 0 ++ []) in
-    record { bytes = omega (arith, length-append (word 19) (word (number_of code) ++ results), length-append (word (number_of code)) results, length-append (word 0) (word 0 ++ []), length-append (word 0) [], length-word 19, length-word (number_of code), length-word 0) }
-
-pub refused_within : (c : Call) (code : KernReturn) → IsWithin 44 (refused c code)
-refused_within (call.Send message) code = message_within code
-refused_within (call.Receive limit large name waited) code = message_within code
-refused_within c code = short_within (refused c code) refl
-
-from_within : (o : Option Names) (old : State) (space : ℕ) (c : Call) (answer : Reply) (new : State) (effects : List Effect) → finmap.get old.spaces space ≡ o → is_served c ≡ true → Lawful old → ActsFrom old space o c answer new effects → IsWithin 32780 answer
-from_within None old space c answer new effects is served lawful acts = within 32780 _ answer acts.0 (wide _ (refused_within c _))
-from_within (Some names) old space c answer new effects is served lawful acts =
-    called_within (first_failing (tests_of old space names c)) old space names c answer new effects (lawful.spaces space names is).2.few (as_called c old space names answer new effects served acts)
 
 -- a served step by whether its call is served
 abbrev ServedAs : Bool → State → ℕ → Call → Reply → State → Type 0
@@ -178,17 +23,6 @@ step_within old space c answer new lawful step = by_case (is_served c) refl step
     by_case : (served : Bool) → is_served c ≡ served → ServedAs served old space c answer new → IsWithin 32780 answer
     by_case true is step = from_within (finmap.get old.spaces space) old space c answer step.0 step.1 refl is lawful step.2
     by_case false is step = within 32780 _ answer step.0 (wide _ (refused_within c _))
-
--- A reply has the number of its call.
-
-refused_number : (c : Call) (code : KernReturn) → number_of_reply (refused c code) ≡ number_of_call c
-refused_number (call.Send message) code = refl
-refused_number (call.Receive limit large name waited) code = refl
-refused_number c code = refl
-
-from_number : (o : Option Names) (old : State) (space : ℕ) (c : Call) (answer : Reply) (new : State) (effects : List Effect) → is_served c ≡ true → ActsFrom old space o c answer new effects → number_of_reply answer ≡ number_of_call c
-from_number None old space c answer new effects served acts = ap number_of_reply acts.0 ∙ refused_number c _
-from_number (Some names) old space c answer new effects served acts = answer_number old space names c answer new effects served acts
 
 pub step_number : (old : State) (space : ℕ) (c : Call) (answer : Reply) (new : State) → ServedStep old space c answer new → number_of_reply answer ≡ number_of_call c
 unfolding Step

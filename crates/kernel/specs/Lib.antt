@@ -1,5 +1,4 @@
 pub mod Choosing
-pub mod PortCallLaws
 pub mod Served
 pub mod ServedLaws
 pub mod Trials

@@ -1,20 +1,18 @@
 -- The steps that are served today. A call that isn't served yet is refused, and changes nothing.
-use Rattle.std.specs.Prelude.{◌≡◌, ℕ, Bool, true, false, List, [], ◌∷◌, is_some, MatchBool, if◌then◌else◌}
+use Rattle.std.specs.Prelude.{◌≡◌, ℕ, Bool, List, [], ◌∷◌, is_some, MatchBool, if◌then◌else◌}
 use Rattle.std.specs.FinMap as finmap
 use Rattle.codes.specs.declared.kern_return.KernReturn.{KernReturn}
 use Rattle.codes.specs.declared.kern_return.KernReturn.TheVariants.{InvalidArgument, InvalidTask}
 use Rattle.ipc_model.specs.declared.call.Call.{Call}
-use Rattle.ipc_model.specs.declared.call.Call.TheVariants as call
 use Rattle.ipc_model.specs.declared.call.Reply.{Reply}
 use Rattle.ipc_model.specs.declared.record.Record.{Record}
 use Rattle.ipc_model.specs.state.State.{State}
 use Rattle.ipc_model.specs.calls.Step.{Step, refused}
+use Rattle.ipc_laws.specs.PortCallLaws.{is_port_call}
 
 -- every call is served but sends and receipts
 abbrev pub is_served : Call → Bool
-is_served (call.Send message) = false
-is_served (call.Receive limit large name waited) = false
-is_served c = true
+is_served c = is_port_call c
 
 -- The code of a call that isn't served. A caller whose space is gone is refused before all else.
 abbrev pub unserved_code : State → ℕ → KernReturn

@@ -14,7 +14,7 @@ use Rattle.ipc_model.specs.state.State.{State, Names}
 use Rattle.ipc_model.specs.calls.Step.{Step, ActsFrom, refused, has_record}
 use Rattle.ipc_laws.specs.StepLaws.{Called, SameOutcome, one_end, same_done}
 use Rattle.ipc_model.specs.calls.Tests.{first_failing}
-use Rattle.kernel.specs.PortCallLaws.{as_called, unrecorded_act}
+use Rattle.ipc_laws.specs.PortCallLaws.{as_called, unrecorded_act}
 use Rattle.kernel.specs.Served.{is_served, unserved_code, ServedStep, ServedRun}
 
 -- One new state.

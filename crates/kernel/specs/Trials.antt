@@ -12,7 +12,7 @@ use Rattle.ipc_model.specs.state.State.{State}
 use Rattle.ipc_model.specs.calls.Step.{ActsIn, succeeded}
 use Rattle.ipc_laws.specs.StepLaws.{Called}
 use Rattle.ipc_model.specs.calls.Tests.{first_failing}
-use Rattle.kernel.specs.PortCallLaws.{as_called, answers_done}
+use Rattle.ipc_laws.specs.PortCallLaws.{as_called, answers_done}
 use Rattle.kernel.specs.Served.{is_served}
 use Rattle.port_calls.specs.Trying.{Tries, is_refusal}
 

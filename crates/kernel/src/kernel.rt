@@ -3,14 +3,15 @@ ghost use Rattle.codes.specs.declared.limits.TheConstants.{MAX_FRAME_CONTENT};
 ghost use Rattle.ipc_model.specs.state.State.{State, opening_state};
 ghost use Rattle.ipc_model.specs.calls.Step.{Step, has_record, number_of_call};
 ghost use Rattle.ipc_model.specs.texts.Texts.{number_of_reply, reply_text};
+ghost use Rattle.ipc_laws.specs.ImageLaws.{Spellable};
+ghost use Rattle.ipc_laws.specs.RecordedSteps.{IsAnsweredWhole};
 ghost use Rattle.kernel.specs.Served.{ServedStep};
 
 use crate::choices::Shown;
-use crate::ranges::arguments_in_range;
 use crate::reply::is_same_reply;
 use crate::stepping::step;
 use codes::{KernReturn, MACH_PORT_GET_RECEIVE_STATUS, MACH_PORT_GET_REFS, MACH_PORT_TYPE};
-use ipc_model::{Call, Record, Reply};
+use ipc_model::{Call, Record, Reply, call_in_range};
 use ipc_state::IpcState;
 use std::alloc::{AllocError, Global};
 use std::marker::Model;
@@ -44,7 +45,7 @@ pub struct Kernel {
 
 impl Model for Kernel {
     ghost use Rattle.ipc_model.specs.state.Circular.{Grounded};
-    ghost use Rattle.ipc_model.specs.state.Lawful.{Lawful};
+    ghost use Rattle.ipc_model.specs.state.Lawful.{Lawful, ShortQueues};
     ghost use Rattle.ipc_model.specs.state.State.{State};
     ghost use Rattle.ipc_model.specs.state.StateCode.{state_code};
 
@@ -54,8 +55,9 @@ impl Model for Kernel {
 
     ghost view = { λ k. k.state };
 
-    // Each live port has one receive right, each right names a live port, and no ports carry one another in a circle.
-    ghost invariant = { λ k. Lawful k.state × Grounded k.state };
+    // Each live port has one receive right, each right names a live port, no ports carry one another in a circle, and no
+    // queue is too long for an image.
+    ghost invariant = { λ k. Lawful k.state × Grounded k.state × ShortQueues k.state };
 }
 
 impl Kernel {
@@ -64,20 +66,31 @@ impl Kernel {
         ensures { IfOk result (λ kernel. kernel ≡ opening_state) }
     {
         let state = IpcState::opening(alloc)?;
+        state.queues_are_short();
         Ok(Kernel { alloc, state })
+    }
+
+    /// An image can spell the state. It does nothing but show it.
+    pub fn has_image(&self)
+        ensures { Spellable self.now }
+    {
+        let _ = &self.state;
     }
 
     /// Makes one step of the machine: the call of a task of this space. A call that isn't served yet is refused
     /// with `InvalidArgument`. Where memory is wanted nothing changed.
     pub fn apply(&mut self, space: u32, call: &Call) -> Result<Reply, AllocError>
         ensures step { IfOk result (λ reply. ServedStep self.old space call.now reply self.new) }
-        // The reply has the call's number, and fits in a frame.
+        // The reply has the call's number, and fits in a frame; where the call has a record, this can be one.
         ensures number { IfOk result (λ reply. number_of_reply reply ≡ number_of_call call.now) }
+        ensures recorded { IfOk result (λ reply. has_record call.now reply ≡ true → IsAnsweredWhole call.now reply) }
         ensures fits { IfOk result (λ reply. length (reply_text reply) ≤ MAX_FRAME_CONTENT) }
         ensures err { OnErr result (self.new ≡ self.old) }
     {
-        arguments_in_range(call);
-        step(self.alloc, &mut self.state, space, call, Shown::nothing())
+        call_in_range(call);
+        let answered = step(self.alloc, &mut self.state, space, call, Shown::nothing());
+        self.state.queues_are_short();
+        answered
     }
 
     /// What `apply` answers to a call that has no record, or `None` where a step of the call has one. It changes
@@ -136,12 +149,13 @@ impl Kernel {
             → ServedStep self record.now.space record.now.call record.now.reply new → ⊥ }
     {
         let Kernel { alloc, mut state } = self;
-        arguments_in_range(&record.call);
+        call_in_range(&record.call);
         let shown = Shown::of(&record.reply);
         let reply = step(alloc, &mut state, record.space, &record.call, shown)?;
         if !is_same_reply(&reply, &record.reply) {
             return Err(ReplayFault::Mismatch);
         }
+        state.queues_are_short();
         Ok(Kernel { alloc, state })
     }
 }

@@ -5,7 +5,6 @@ mod choices;
 mod dispatch;
 mod kernel;
 mod laws;
-mod ranges;
 mod reply;
 mod stepping;
 

@@ -6,8 +6,7 @@ use Rattle.ipc_model.specs.declared.entry.Entry.{Entry}
 use Rattle.ipc_model.specs.declared.entry.Entry.TheVariants.{Port, SendOnce, Set, Dead}
 use Rattle.ipc_model.specs.declared.message.RightKind.{RightKind}
 use Rattle.ipc_model.specs.declared.message.RightKind.TheVariants as kinds
-use Rattle.ipc_model.specs.state.Placed as place
-use Rattle.ipc_model.specs.state.Placed.{Right, held, rights_of_entry, right_of_target, same_kind}
+use Rattle.ipc_model.specs.state.Placed.{Place, Right, held, dead_name_request, rights_of_entry, right_of_target, same_kind}
 use Rattle.ipc_model.specs.state.State.{is_number}
 use Rattle.port_space.specs.Mentions.{entry_mentions}
 
@@ -34,9 +33,9 @@ module _ (serial : ℕ) (kind : RightKind) where
   one_right : (r : Right) → (r.port == serial) ≡ false → count_by test (r ∷ []) ≡ 0
   one_right r e = ap (λ b. 0 + cond {A = ℕ} b 1 0) (both_off (same_kind r.kind kind) (r.port == serial) e)
 
-  no_target : (target : Option ℕ) → is_number target serial ≡ false → count_by test (right_of_target target) ≡ 0
-  no_target None e = refl
-  no_target (Some port) e = one_right (record { kind = kinds.SendOnce; port = port; place = place.target }) e
+  no_target : (request : Place) (target : Option ℕ) → is_number target serial ≡ false → count_by test (right_of_target request target) ≡ 0
+  no_target request None e = refl
+  no_target request (Some port) e = one_right (record { kind = kinds.SendOnce; port = port; place = request }) e
 
   if_any : (b : Bool) (r : Right) → (r.port == serial) ≡ false → count_by test (cond b (r ∷ []) []) ≡ 0
   if_any true r e = one_right r e
@@ -54,19 +53,19 @@ module _ (serial : ℕ) (kind : RightKind) where
       let sends : List Right = cond (rights.send == 0) [] (send ∷ []) in
       omega (
         arith,
-        count-append test (cond rights.receive (receive ∷ []) []) (sends ++ right_of_target rights.dead_name_target),
-        count-append test sends (right_of_target rights.dead_name_target),
+        count-append test (cond rights.receive (receive ∷ []) []) (sends ++ right_of_target (dead_name_request space name) rights.dead_name_target),
+        count-append test sends (right_of_target (dead_name_request space name) rights.dead_name_target),
         if_any rights.receive receive other,
         unless_any (rights.send == 0) send other,
-        no_target rights.dead_name_target (right_off (rights.port == serial) (is_number rights.dead_name_target serial) e),
+        no_target (dead_name_request space name) rights.dead_name_target (right_off (rights.port == serial) (is_number rights.dead_name_target serial) e),
       )
   no_rights space name (SendOnce port aim) e =
       let only : Right = record { kind = kinds.SendOnce; port = port; place = held space name } in
       omega (
         arith,
-        count-append test (only ∷ []) (right_of_target aim),
+        count-append test (only ∷ []) (right_of_target (dead_name_request space name) aim),
         one_right only (left_off (port == serial) (is_number aim serial) e),
-        no_target aim (right_off (port == serial) (is_number aim serial) e),
+        no_target (dead_name_request space name) aim (right_off (port == serial) (is_number aim serial) e),
       )
   no_rights space name Set e = refl
   no_rights space name (Dead references) e = refl

@@ -1,5 +1,5 @@
-ghost use Rattle.std.specs.Prelude.{◌≡◌, ◌&&◌, ◌==◌, ℕ, count_by, if◌then◌else◌};
-ghost use Rattle.ipc_model.specs.state.Placed.{same_kind, rights_of_entry, right_of_target};
+ghost use Rattle.std.specs.Prelude.{◌≡◌, ◌≤◌, ◌&&◌, ◌==◌, ℕ, count_by, if◌then◌else◌};
+ghost use Rattle.ipc_model.specs.state.Placed.{Place, same_kind, rights_of_entry, right_of_target};
 
 use ipc_model::{Entry, PortRights, RightKind};
 
@@ -32,7 +32,8 @@ fn rights_of_port(rights: &PortRights, kind: RightKind, serial: u64) -> u32
 }
 
 fn count_target(target: Option<u64>, kind: RightKind, serial: u64) -> u32
-    ensures count { result ≡ count_by (λ r. same_kind r.kind kind && r.port == serial) (right_of_target target) }
+    ensures count { (request : Place) → result ≡ count_by (λ r. same_kind r.kind kind && r.port == serial) (right_of_target request target) }
+    ensures most { result ≤ 1 }
 {
     match target {
         Some(port) => count_if(is_same_kind(RightKind::SendOnce, kind) && port == serial),

@@ -7,3 +7,4 @@ mod Forgotten
 mod Kept
 mod Steps
 mod Totals
+mod Short

@@ -50,9 +50,9 @@ module _ (kind : RightKind) (s : ℕ) where
   none_replied queue None off = refl
   none_replied queue (Some right) off = none_carried (place.reply queue) right off
 
-  none_targeted : (target : Option ℕ) → is_number target s ≡ false → many (right_of_target target) ≡ 0
-  none_targeted None off = refl
-  none_targeted (Some r) off = not_to (same_kind kinds.SendOnce kind) (r == s) off
+  none_targeted : (request : Place) (target : Option ℕ) → is_number target s ≡ false → many (right_of_target request target) ≡ 0
+  none_targeted request None off = refl
+  none_targeted request (Some r) off = not_to (same_kind kinds.SendOnce kind) (r == s) off
 
   many_joined : (xs ys : List Right) → many xs ≡ 0 → many ys ≡ 0 → many (xs ++ ys) ≡ 0
   many_joined xs ys no_first no_second = omega (arith, count-append kind s xs ys)
@@ -77,11 +77,11 @@ module _ (kind : RightKind) (s : ℕ) where
       let messages = list_any (message_mentions s) port.messages in
       let targets = is_number port.no_senders_target s || is_number port.port_destroyed_target s in
       let of_targets = off_right messages targets off in
-      many_joined (flat_map (rights_of_message owner) port.messages) (right_of_target port.no_senders_target ++ right_of_target port.port_destroyed_target)
+      many_joined (flat_map (rights_of_message owner) port.messages) (right_of_target (place.no_senders_request owner) port.no_senders_target ++ right_of_target (place.port_destroyed_request owner) port.port_destroyed_target)
       (none_gathered (rights_of_message owner) (message_mentions s) (none_sent owner other) port.messages (off_left messages targets off))
-      (many_joined (right_of_target port.no_senders_target) (right_of_target port.port_destroyed_target)
-      (none_targeted port.no_senders_target (off_left (is_number port.no_senders_target s) (is_number port.port_destroyed_target s) of_targets))
-      (none_targeted port.port_destroyed_target (off_right (is_number port.no_senders_target s) (is_number port.port_destroyed_target s) of_targets)))
+      (many_joined (right_of_target (place.no_senders_request owner) port.no_senders_target) (right_of_target (place.port_destroyed_request owner) port.port_destroyed_target)
+      (none_targeted (place.no_senders_request owner) port.no_senders_target (off_left (is_number port.no_senders_target s) (is_number port.port_destroyed_target s) of_targets))
+      (none_targeted (place.port_destroyed_request owner) port.port_destroyed_target (off_right (is_number port.no_senders_target s) (is_number port.port_destroyed_target s) of_targets)))
 
   -- a port that doesn't mention it has no right to it elsewhere
   none_elsewhere : (owner : ℕ) (port : PortState) → port_mentions s port ≡ false → many (rights_elsewhere s owner port) ≡ 0

@@ -1,7 +1,7 @@
-ghost use Rattle.std.specs.Prelude.{◌≡◌, ◌≤◌, ◌↔◌, ◌∷◌, ◌++◌, [], length, drop, IfOk, OnOk, OnErr, IsTrue, MatchOption};
+ghost use Rattle.std.specs.Prelude.{◌≡◌, ◌<◌, ◌≤◌, ◌-◌, ◌^◌, ◌↔◌, ◌∷◌, ◌++◌, [], length, drop, IfOk, OnOk, OnErr, IsTrue, MatchOption};
 ghost use Rattle.ipc_model.specs.state.Circular.{carries};
 ghost use Rattle.ipc_model.specs.effects.Effects.{port_after_death, without_target};
-ghost use Rattle.ipc_model.specs.state.Placed.{rights_of_port, right_of_target};
+ghost use Rattle.ipc_model.specs.state.Placed.{Place, rights_of_port, right_of_target};
 ghost use Rattle.ipc_model.specs.state.State.{is_number, new_port};
 ghost use Rattle.queue.specs.Counts.{capped_count};
 ghost use Rattle.ports.specs.Changed.{numbers_mention, numbers_of, with_numbers};
@@ -113,6 +113,7 @@ impl Port {
     /// Puts a message at the queue's end, whatever the limit. Without memory nothing changed.
     pub(crate) fn push_forced(&mut self, message: Message) -> Result<(), AllocError>
         ensures ok { OnOk result (self.new ≡ record self.old { messages = self.old.messages ++ message ∷ [] }) }
+        ensures room { OnOk result (length self.old.messages < 2 ^ 32 - 1) }
         ensures err { OnErr result (self.new ≡ self.old) }
     {
         self.queue.push_forced(message)
@@ -212,7 +213,7 @@ fn without_target(serial: u64, target: Option<u64>) -> Option<u64>
 
 /// How many rights of a kind to the port `serial` a request's target is: a send-once right.
 fn count_of_target(target: Option<u64>, kind: RightKind, serial: u64) -> u32
-    ensures { result ≡ capped_count kind serial (right_of_target target) }
+    ensures { (request : Place) → result ≡ capped_count kind serial (right_of_target request target) }
 {
     match target {
         Some(port) if port == serial && kind == RightKind::SendOnce => 1,

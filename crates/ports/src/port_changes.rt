@@ -1,5 +1,5 @@
 // What is done to a port, or asked of it, where it lives, or to the ports at some places.
-ghost use Rattle.std.specs.Prelude.{◌≡◌, ◌∷◌, ◌++◌, [], drop, find, flat_map, OnOk, OnErr, MatchOption, option_map};
+ghost use Rattle.std.specs.Prelude.{◌≡◌, ◌<◌, ◌-◌, ◌^◌, ◌∷◌, ◌++◌, [], drop, find, flat_map, length, IfSome, OnOk, OnErr, MatchOption, option_map};
 ghost use Rattle.std.specs.FinMap as map;
 ghost use Rattle.ipc_model.specs.state.Circular.{carries};
 ghost use Rattle.ipc_model.specs.effects.Effects.{port_after_death};
@@ -25,6 +25,7 @@ pub(crate) fn push_message(
 ) -> Result<(), AllocError>
     ensures ok { OnOk result (ports.new ≡ changed ports.old serial
         (λ port. record port { messages = port.messages ++ message ∷ [] })) }
+    ensures room { OnOk result (IfSome (map.get ports.old serial) (λ port. length port.messages < 2 ^ 32 - 1)) }
     ensures err { OnErr result (ports.new ≡ ports.old) }
 {
     let Some(port) = ports.get_mut(serial) else {

@@ -1,6 +1,7 @@
 ghost use Rattle.std.specs.Prelude.{◌≡◌, ◌<◌, ◌≤◌, ◌↔◌, ◌∷◌, ◌++◌, ◌==◌, [], length, drop, IsSomeAnd, nat_le, flat_map, find, None, IfOk, OnOk, OnErr, IsErrOf, MatchOption, is_some, option_map, option_copied, IsTrue, Some};
 ghost use Rattle.std.specs.FinMap as map;
 ghost use Rattle.ipc_model.specs.state.Circular.{carries};
+ghost use Rattle.ipc_model.specs.state.Lawful.{AreShort};
 ghost use Rattle.ipc_model.specs.effects.Effects.{map_values, port_after_death};
 ghost use Rattle.ipc_model.specs.state.Placed.{rights_of_port};
 ghost use Rattle.ipc_model.specs.state.State.{new_port};
@@ -41,6 +42,7 @@ impl Model for Ports {
     ghost use Rattle.codes.specs.declared.limits.TheConstants.{MAX_PORTS};
     ghost use Rattle.ipc_model.specs.declared.port.PortState.{PortState};
     ghost use Rattle.ipc_model.specs.contracts.port.PortState as state;
+    ghost use Rattle.ipc_model.specs.state.Lawful.{AreShort};
     ghost use Rattle.port_index.specs.Indexed.{IsIndexed};
     ghost use Rattle.ports.specs.Mentions.{port_mentions};
 
@@ -50,7 +52,8 @@ impl Model for Ports {
 
     ghost view = { λ p. p.ports };
 
-    ghost invariant = { λ p. (map.len p.ports ≤ MAX_PORTS) × IsIndexed port_mentions p.ports p.index };
+    // There are no more ports than may be, the index knows who mentions whom, and no queue is too long for an image.
+    ghost invariant = { λ p. (map.len p.ports ≤ MAX_PORTS) × IsIndexed port_mentions p.ports p.index × AreShort p.ports };
 }
 
 /// Copies ports one by one.
@@ -94,6 +97,13 @@ impl Ports {
         ensures { result ≡ nat_le MAX_PORTS (map.len self.now) }
     {
         MAX_PORTS <= self.ports.len()
+    }
+
+    /// No queue holds more messages than a word counts. It does nothing but show it.
+    pub fn are_short(&self)
+        ensures { AreShort self.now }
+    {
+        let _ = &self.ports;
     }
 
     /// Whether a port lives.

@@ -1,4 +1,4 @@
-ghost use Rattle.std.specs.Prelude.{◌≡◌, ◌<◌, ◌≤◌, ◌↔◌, ◌==◌, ◌∷◌, ◌++◌, [], length, drop, map, flat_map, option_copied, IfOk, OnOk, OnErr, IsErrOf, MatchOption, slice_index_or};
+ghost use Rattle.std.specs.Prelude.{◌≡◌, ◌<◌, ◌≤◌, ◌-◌, ◌^◌, ◌↔◌, ◌==◌, ◌∷◌, ◌++◌, [], length, drop, map, flat_map, option_copied, IfOk, OnOk, OnErr, IsErrOf, MatchOption, slice_index_or};
 ghost use Rattle.std.specs.List.{list_any};
 ghost use Rattle.ipc_model.specs.state.Circular.{is_receive_right};
 ghost use Rattle.ipc_model.specs.effects.Effects.{message_after_death};
@@ -98,6 +98,7 @@ impl Queue {
     /// messages has none.
     pub fn push_forced(&mut self, message: Message) -> Result<(), AllocError>
         ensures ok { OnOk result (self.new ≡ self.old ++ message ∷ []) }
+        ensures room { OnOk result (length self.old < 2 ^ 32 - 1) }
         ensures err { OnErr result (self.new ≡ self.old) }
     {
         if MAX_MESSAGES <= self.messages.len() {

@@ -1,106 +1,18 @@
-ghost use Rattle.std.specs.Prelude.{◌≡◌, ◌<◌, ◌^◌, All, IsTrue, length};
+ghost use Rattle.std.specs.Prelude.{◌≡◌, ◌≤◌, IsTrue, length};
+ghost use Rattle.codes.specs.declared.limits.TheConstants.{MAX_FRAME_CONTENT};
 ghost use Rattle.ipc_model.specs.calls.Step.{number_of_call, has_record};
-ghost use Rattle.ipc_model.specs.texts.Texts.{call_text, reply_text, number_of_reply, FitsCall, FitsReply, IsRecord};
-ghost use Rattle.words.specs.Words.{AreBytes};
-ghost use Rattle.record.specs.Ranges.{IsKeptCall};
+ghost use Rattle.ipc_model.specs.texts.Texts.{call_text, reply_text, kept_record, number_of_reply, HasItsResults, IsRecord, IsWholeCall};
 
-use ipc_model::{Call, Record, Reply};
+use ipc_model::{Record, record_in_range};
 
-// A clause doesn't see that the numbers behind a reference are in the ranges of their types. These functions do
-// nothing but show it.
-
-fn numbers(row: &[u32])
-    ensures { All (λ number. number < 2 ^ 32) row.now }
-{
-    let _ = row;
-}
-
-fn bytes(row: &[u8])
-    ensures { AreBytes row.now }
-{
-    let _ = row;
-}
-
-/// The arguments of a call are in range.
-fn call_in_range(call: &Call)
-    ensures { IsKeptCall call.now → FitsCall call.now }
-{
-    match call {
-        Call::Attach { space } => numbers(&[*space]),
-        Call::Names | Call::Send { .. } | Call::SpaceDestroy => {}
-        Call::Type { name }
-        | Call::Destroy { name }
-        | Call::Deallocate { name }
-        | Call::GetReceiveStatus { name }
-        | Call::GetSetStatus { name } => numbers(&[*name]),
-        Call::Rename { from, to } => numbers(&[*from, *to]),
-        Call::AllocateName { right, name } | Call::GetRefs { name, right } => {
-            numbers(&[*name, *right]);
-        }
-        Call::Allocate { right } => numbers(&[*right]),
-        Call::ModRefs { name, right, delta } => numbers(&[*name, *right, *delta]),
-        Call::SetQlimit { name, limit } | Call::Receive { limit, name, .. } => {
-            numbers(&[*name, *limit]);
-        }
-        Call::SetMscount { name, count } => numbers(&[*name, *count]),
-        Call::SetSeqno { name, seqno } => numbers(&[*name, *seqno]),
-        Call::MoveMember { member, after } => numbers(&[*member, *after]),
-        Call::RequestNotification {
-            name,
-            variant,
-            sync,
-            notify,
-            disposition,
-        } => numbers(&[*name, *variant, *sync, *notify, *disposition]),
-        Call::InsertRight {
-            name,
-            right_name,
-            disposition,
-        } => numbers(&[*name, *right_name, *disposition]),
-        Call::ExtractRight { name, disposition } | Call::SpaceCreate { name, disposition } => {
-            numbers(&[*name, *disposition]);
-        }
-    }
-}
-
-/// The results of a call that has a record are in range.
-fn reply_in_range(call: &Call, reply: &Reply)
-    ensures { number_of_reply reply.now ≡ number_of_call call.now → IsTrue (has_record call.now reply.now)
-        → FitsReply reply.now }
-{
-    let _ = call;
-    match reply {
-        // Calls that answer so have no records.
-        Reply::Refused { .. }
-        | Reply::Names { .. }
-        | Reply::Type { .. }
-        | Reply::References { .. }
-        | Reply::ReceiveStatus { .. }
-        | Reply::SetStatus { .. } => {}
-        Reply::Done { number } => numbers(&[*number]),
-        Reply::Allocate { name } | Reply::PreviousTarget { name } | Reply::Extracted { name, .. } =>
-            numbers(&[*name]),
-        Reply::Message {
-            size,
-            member,
-            message,
-            ..
-        } => {
-            numbers(&[*size, *member]);
-            bytes(message.as_slice());
-        }
-        Reply::SpaceCreated { space, name } => numbers(&[*space, *name]),
-    }
-}
-
-/// The numbers of a record are in the ranges of their types: one of a call that has a record is fit to be kept.
+/// The numbers of a record are in the ranges of their types, which a clause doesn't see behind a reference: what is
+/// kept of one of a call that has a record, whole and with its results, may stand in a segment. It does nothing but
+/// show it.
 pub fn in_range(entry: &Record)
-    ensures { IsKeptCall entry.now.call → number_of_reply entry.now.reply ≡ number_of_call entry.now.call
-        → IsTrue (has_record entry.now.call entry.now.reply)
-        → length (call_text entry.now.call) < 2 ^ 32 → length (reply_text entry.now.reply) < 2 ^ 32
-        → IsRecord entry.now }
+    ensures { IsWholeCall entry.now.call → number_of_reply entry.now.reply ≡ number_of_call entry.now.call
+        → HasItsResults entry.now.call entry.now.reply → IsTrue (has_record entry.now.call entry.now.reply)
+        → length (call_text entry.now.call) ≤ MAX_FRAME_CONTENT → length (reply_text entry.now.reply) ≤ MAX_FRAME_CONTENT
+        → IsRecord (kept_record entry.now) }
 {
-    numbers(&[entry.space]);
-    call_in_range(&entry.call);
-    reply_in_range(&entry.call, &entry.reply);
+    record_in_range(entry);
 }

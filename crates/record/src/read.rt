@@ -5,6 +5,7 @@ ghost use Rattle.words.specs.Words.{word, long_word, frame_text};
 
 use crate::frame::take_frame;
 use calls::{read_call, read_recorded_reply};
+use codes::MAX_FRAME_CONTENT;
 use ipc_model::Record;
 use std::alloc::{AllocError, Global};
 use words::{take_long_word, take_word};
@@ -34,13 +35,15 @@ fn read_record(
     call: &[u8],
     reply: &[u8],
 ) -> Result<Option<Record>, AllocError>
-    requires call { length call.now < 2 ^ 32 }
-    requires reply { length reply.now < 2 ^ 32 }
     ensures found { IfOk result (λ found. IfSome found (λ entry. (entry.space ≡ space)
         × (call.now ≡ call_text entry.call) × (reply.now ≡ reply_text entry.reply) × IsRecord entry)) }
     ensures only { (entry : Record) → IsRecord entry → entry.space ≡ space → call.now ≡ call_text entry.call
         → reply.now ≡ reply_text entry.reply → IfOk result (λ found. found ≡ Some entry) }
 {
+    let most = MAX_FRAME_CONTENT as usize;
+    if most < call.len() || most < reply.len() {
+        return Ok(None);
+    }
     let Some(call) = read_call(alloc, call)? else {
         return Ok(None);
     };

@@ -27,7 +27,7 @@ slots_of slots = record {
 run_written : (old new : State) (records : List Record) → AreRecords records → ServedRun old records new → Run old records new
 run_written old new [] are run = run
 run_written old new (first ∷ records) are run =
-    (run.0, (recorded_step old first.space first.call first.reply run.0 run.1 are.0.recorded).1, run_written run.0 new records are.1 run.2)
+    (run.0, (recorded_step old first.space first.call first.reply run.0 run.1 are.0.reply.recorded).1, run_written run.0 new records are.1 run.2)
 
 each_number : (P : ℕ → Type 0) → P 0 → P 1 → (number : ℕ) → number < 2 → P number
 each_number P first second zero small = first

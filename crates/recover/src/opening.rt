@@ -1,6 +1,6 @@
 ghost use Rattle.std.specs.Prelude.{◌≡◌, ◌≢◌, ◌<◌, ◌≤◌, ◌++◌, ℕ, List, false, length, take, IfOk, IfErr, OnOk, OnErr, IsErrOf, ◌⊎◌, Err};
 ghost use Rattle.disk.specs.Slots.{Slots, slot_of, with_slot};
-ghost use Rattle.disk.specs.Moments.{Grew, MayLeave};
+ghost use Rattle.disk.specs.Moments.{one_more, MayLeave};
 ghost use Rattle.ipc_model.specs.declared.record.Record.{Record};
 ghost use Rattle.ipc_model.specs.state.State.{State, opening_state};
 ghost use Rattle.kernel.specs.Served.{ServedRun};
@@ -59,8 +59,8 @@ fn front_of<D: Disk>(
     ensures bytes { D.honest → IfOk result (λ bytes. bytes.items ≡ take most (slot_of (D.view disk.old).seen slot)) }
     ensures seen { D.honest → (D.view disk.new).seen ≡ (D.view disk.old).seen }
     ensures rest { D.honest → IsAtRest (D.view disk.old) → OnOk result (IsAtRest (D.view disk.new)) }
-    ensures later { D.failed_calls disk.old ≤ D.failed_calls disk.new }
-    ensures device { IsErrOf result StoreFault.Device → Grew (D.failed_calls disk.old) (D.failed_calls disk.new) }
+    ensures quiet { OnOk result (D.failed_calls disk.new ≡ D.failed_calls disk.old) }
+    ensures device { IsErrOf result StoreFault.Device → D.failed_calls disk.new ≡ one_more (D.failed_calls disk.old) }
     ensures faults { OnErr result ((result ≡ Err StoreFault.Device) ⊎ (result ≡ Err StoreFault.NoMemory)) }
 {
     let mut bytes = vec![in alloc; 0; most]?;
@@ -74,8 +74,8 @@ fn whole_segment<D: Disk>(alloc: Global, disk: &mut D) -> Result<Vec<u8>, StoreF
     ensures bytes { D.honest → IfOk result (λ bytes. bytes.items ≡ (D.view disk.old).seen.segment0) }
     ensures seen { D.honest → (D.view disk.new).seen ≡ (D.view disk.old).seen }
     ensures rest { D.honest → IsAtRest (D.view disk.old) → OnOk result (IsAtRest (D.view disk.new)) }
-    ensures later { D.failed_calls disk.old ≤ D.failed_calls disk.new }
-    ensures device { IsErrOf result StoreFault.Device → Grew (D.failed_calls disk.old) (D.failed_calls disk.new) }
+    ensures quiet { OnOk result (D.failed_calls disk.new ≡ D.failed_calls disk.old) }
+    ensures device { IsErrOf result StoreFault.Device → D.failed_calls disk.new ≡ one_more (D.failed_calls disk.old) }
     ensures faults { OnErr result ((result ≡ Err StoreFault.Device) ⊎ (result ≡ Err StoreFault.NoMemory)) }
 {
     let length = disk.length(Slot::Segment0) as usize;
@@ -88,8 +88,8 @@ fn read_fronts<D: Disk>(alloc: Global, disk: &mut D) -> Result<Fronts, StoreFaul
         ≡ fronts_of (D.view disk.old).seen) }
     ensures seen { D.honest → (D.view disk.new).seen ≡ (D.view disk.old).seen }
     ensures rest { D.honest → OnOk result (IsAtRest (D.view disk.new)) }
-    ensures later { D.failed_calls disk.old ≤ D.failed_calls disk.new }
-    ensures device { IsErrOf result StoreFault.Device → Grew (D.failed_calls disk.old) (D.failed_calls disk.new) }
+    ensures quiet { OnOk result (D.failed_calls disk.new ≡ D.failed_calls disk.old) }
+    ensures device { IsErrOf result StoreFault.Device → D.failed_calls disk.new ≡ one_more (D.failed_calls disk.old) }
     ensures faults { OnErr result ((result ≡ Err StoreFault.Device) ⊎ (result ≡ Err StoreFault.NoMemory)) }
 {
     sync_all(disk)?;
@@ -135,8 +135,8 @@ fn load_stored<D: Disk>(
     ensures damaged { D.honest → IsErrOf result StoreFault.Damaged
         → (state : State) → (count : ℕ) → Follows (D.view disk.old).seen.segment0 state count → ⊥ }
     ensures faults { OnErr result ((result ≡ Err StoreFault.Device) ⊎ ((result ≡ Err StoreFault.Damaged) ⊎ (result ≡ Err StoreFault.NoMemory))) }
-    ensures later { D.failed_calls disk.old ≤ D.failed_calls disk.new }
-    ensures device { IsErrOf result StoreFault.Device → Grew (D.failed_calls disk.old) (D.failed_calls disk.new) }
+    ensures quiet { OnOk result (D.failed_calls disk.new ≡ D.failed_calls disk.old) }
+    ensures device { IsErrOf result StoreFault.Device → D.failed_calls disk.new ≡ one_more (D.failed_calls disk.old) }
 {
     let (kernel, count, size) = replay_batches(alloc, batches)?;
     let end = SEGMENT_HEADER as u64 + size as u64;
@@ -155,8 +155,8 @@ fn load<D: Disk>(alloc: Global, disk: &mut D) -> Result<(Kernel, u64), StoreFaul
     ensures damaged { D.honest → IsErrOf result StoreFault.Damaged → IsDamaged (D.view disk.old).seen }
     ensures faults { OnErr result ((result ≡ Err StoreFault.Device) ⊎ ((result ≡ Err StoreFault.Damaged)
         ⊎ ((result ≡ Err StoreFault.NoMemory) ⊎ (result ≡ Err StoreFault.Version)))) }
-    ensures later { D.failed_calls disk.old ≤ D.failed_calls disk.new }
-    ensures device { IsErrOf result StoreFault.Device → Grew (D.failed_calls disk.old) (D.failed_calls disk.new) }
+    ensures quiet { OnOk result (D.failed_calls disk.new ≡ D.failed_calls disk.old) }
+    ensures device { IsErrOf result StoreFault.Device → D.failed_calls disk.new ≡ one_more (D.failed_calls disk.old) }
 {
     let fronts = read_fronts(alloc, disk)?;
     match survey(
@@ -185,7 +185,7 @@ pub fn open<D: Disk>(alloc: Global, disk: D) -> Result<Opened<D>, (StoreFault, D
     ensures damaged { D.honest → IfErr result (λ fault. fault.0 ≡ StoreFault.Damaged → IsDamaged (D.view disk).seen) }
     ensures faults { IfErr result (λ fault. (fault.0 ≡ StoreFault.Device) ⊎ ((fault.0 ≡ StoreFault.Damaged)
         ⊎ ((fault.0 ≡ StoreFault.NoMemory) ⊎ (fault.0 ≡ StoreFault.Version)))) }
-    ensures device { IfErr result (λ fault. fault.0 ≡ StoreFault.Device → Grew (D.failed_calls disk) (D.failed_calls fault.1)) }
+    ensures device { IfErr result (λ fault. fault.0 ≡ StoreFault.Device → D.failed_calls fault.1 ≡ one_more (D.failed_calls disk)) }
     ensures in_use { D.honest → IfOk result (λ opened. IsReady (D.view opened.journal.disk).seen opened.kernel opened.journal.records) }
     ensures synced { D.honest → IfOk result (λ opened. IsAtRest (D.view opened.journal.disk)) }
     ensures stands { D.honest → IfOk result (λ opened. (c : Slots) → MayLeave (D.view opened.journal.disk) c

@@ -6,6 +6,7 @@ use Rattle.disk.specs.Moments.{View, LeftSince, MayLeave, Passes, Follows, IsSyn
 use Rattle.disk.specs.Slots.{Slots, with_slot}
 use Rattle.disk.specs.declared.slot.Slot.TheVariants.{Segment0}
 use Rattle.ipc_model.specs.declared.call.Call.{Call}
+use Rattle.ipc_model.specs.declared.call.Call.TheVariants as call
 use Rattle.ipc_model.specs.declared.call.Reply.{Reply}
 use Rattle.ipc_model.specs.declared.record.Record.{Record}
 use Rattle.kernel.specs.ServedLaws.{run-push}
@@ -14,7 +15,8 @@ use Rattle.ipc_model.specs.calls.Step.{has_record}
 use Rattle.kernel.specs.Served.{ServedStep, ServedRun}
 use Rattle.ipc_model.specs.store.Store.{IsInUse, IsMidAppend, SpellsSegment, batch_text, with_batch}
 use Rattle.ipc_laws.specs.StoreLaws.{appended_in_use, in_use_spells, mid_append_spells}
-use Rattle.ipc_model.specs.texts.Texts.{IsRecord}
+use Rattle.ipc_laws.specs.BatchLaws.{kept_batch}
+use Rattle.ipc_model.specs.texts.Texts.{kept_call, kept_record, IsRecord}
 use Rattle.recover.specs.Kept.{IsKept}
 use Rattle.recover.specs.Recovered.{IsOpen, HoldsOpeningImage, Recovers}
 use Rattle.server.specs.Keeping.{IsBeforeOrAfter}
@@ -39,22 +41,28 @@ kept_recovers disk state count kept c left =
     let ready = kept.ready in
     recovers_from disk state state count count kept c disk.seen.segment0 (kept.at_rest c left) ready.0 (in_use_spells 0 disk.seen.segment0 ready.0 ready.1) ready.2 ready.3
 
+-- what is kept of a served call is served alike
+kept_served : (old : State) (space : ℕ) (c : Call) (answer : Reply) (new : State) → ServedStep old space c answer new → ServedStep old space (kept_call c) answer new
+kept_served old space (call.Send message) answer new step = step
+kept_served old space c answer new step = step
+
 -- the records of a kept store, and one more
 counted_more : (records : List Record) (next : Record) (count : ℕ) → count ≡ length records → count + 1 ≡ length (records ++ next ∷ [])
 counted_more records next count is = omega (arith, is, length-append records (next ∷ []))
 
 -- A stop at a moment of an append.
-pub mid_append_stands : (old : View) (before after : State) (count space : ℕ) (c : Call) (answer : Reply) → IsKept old before count → ServedStep before space c answer after → IsRecord (entry_of space c answer) → has_record c answer ≡ true → count < MAX_RECORDS → (left : Slots)
+pub mid_append_stands : (old : View) (before after : State) (count space : ℕ) (c : Call) (answer : Reply) → IsKept old before count → ServedStep before space c answer after → IsRecord (kept_record (entry_of space c answer)) → has_record c answer ≡ true → count < MAX_RECORDS → (left : Slots)
     → Follows old Segment0 (λ was is. IsMidAppend was (batch_text count (entry_of space c answer ∷ [])) is) left → IsBeforeOrAfter before count space c after left
 mid_append_stands old before after count space c answer kept step fits recorded room left mid =
     let ready = kept.ready in
     let records = ready.0 in
-    let next = entry_of space c answer in
+    let entry = entry_of space c answer in
+    let next = kept_record entry in
     let first : mid.0 ≡ old.seen = kept.at_rest mid.0 mid.1 in
     let is : left ≡ with_slot old.seen Segment0 left.segment0 = mid.3 ∙ ap (λ (s : Slots). with_slot s Segment0 left.segment0) first in
     let appended : IsMidAppend old.seen.segment0 (batch_text (length records) (next ∷ [])) left.segment0 =
-    subst (λ (n : ℕ). IsMidAppend old.seen.segment0 (batch_text n (next ∷ [])) left.segment0) ready.3
-    (subst (λ (s : Slots). IsMidAppend s.segment0 (batch_text count (next ∷ [])) left.segment0) first mid.2) in
+    subst (λ (text : List ℕ). IsMidAppend old.seen.segment0 text left.segment0) (ap (λ (n : ℕ). batch_text n (entry ∷ [])) ready.3 ∙ sym (kept_batch (length records) entry))
+    (subst (λ (s : Slots). IsMidAppend s.segment0 (batch_text count (entry ∷ [])) left.segment0) first mid.2) in
     elim (mid_append_spells 0 old.seen.segment0 left.segment0 records next ready.1 fits (omega (arith, ready.3)) appended) [
       | inl spelled ↦ inl (recovers_from old before before count count kept left left.segment0 is records spelled ready.2 ready.3)
       | inr spelled ↦ inr (
@@ -62,7 +70,7 @@ mid_append_stands old before after count space c answer kept step fits recorded 
         step,
         recorded,
         recovers_from old before after count (count + 1) kept left left.segment0 is (records ++ next ∷ []) spelled
-            (run-push opening_state before after records next ready.2 step) (counted_more records next count ready.3),
+            (run-push opening_state before after records next ready.2 (kept_served before space c answer after step)) (counted_more records next count ready.3),
       )
     ]
 
@@ -84,20 +92,21 @@ others_rest old new before count step kept time c left = elim (left_now old new 
 ]
 
 -- After an append the store is kept, with one record more.
-pub appended_kept : (old new : View) (before after : State) (count space : ℕ) (c : Call) (answer : Reply) → IsKept old before count → ServedStep before space c answer after → IsRecord (entry_of space c answer) → count < MAX_RECORDS
+pub appended_kept : (old new : View) (before after : State) (count space : ℕ) (c : Call) (answer : Reply) → IsKept old before count → ServedStep before space c answer after → IsRecord (kept_record (entry_of space c answer)) → count < MAX_RECORDS
     → new.seen ≡ with_slot old.seen Segment0 (with_batch old.seen.segment0 (batch_text count (entry_of space c answer ∷ []))) → IsSynced new Segment0
     → Passes old new (Follows old Segment0 (λ was is. IsMidAppend was (batch_text count (entry_of space c answer ∷ [])) is)) → IsKept new after (count + 1)
 appended_kept old new before after count space c answer kept made fits room stored synced time =
     let ready = kept.ready in
     let records = ready.0 in
-    let next = entry_of space c answer in
-    let segment = with_batch old.seen.segment0 (batch_text count (next ∷ [])) in
+    let entry = entry_of space c answer in
+    let next = kept_record entry in
+    let segment = with_batch old.seen.segment0 (batch_text count (entry ∷ [])) in
     let in_use : IsInUse 0 segment (records ++ next ∷ []) =
-    subst (λ (n : ℕ). IsInUse 0 (with_batch old.seen.segment0 (batch_text n (next ∷ []))) (records ++ next ∷ [])) (sym ready.3)
+    subst (λ (text : List ℕ). IsInUse 0 (with_batch old.seen.segment0 text) (records ++ next ∷ [])) (kept_batch (length records) entry ∙ ap (λ (n : ℕ). batch_text n (entry ∷ [])) (sym ready.3))
     (appended_in_use 0 old.seen.segment0 records next ready.1 fits (omega (arith, ready.3))) in
     record {
       at_rest = λ left may.
-          others_rest old new before count (λ was is. IsMidAppend was (batch_text count (next ∷ [])) is) kept time left may
+          others_rest old new before count (λ was is. IsMidAppend was (batch_text count (entry ∷ [])) is) kept time left may
           ∙ ap (λ (bytes : List ℕ). with_slot old.seen Segment0 bytes) (synced left may ∙ ap (λ (s : Slots). s.segment0) stored) ∙ sym stored;
       image = subst HoldsOpeningImage (sym (ap (λ (s : Slots). s.image0) stored)) kept.image;
       second_image = λ is_open. kept.second_image (subst (IsOpen 24) (ap (λ (s : Slots). s.image1) stored) is_open);
@@ -105,7 +114,7 @@ appended_kept old new before after count space c answer kept made fits room stor
       ready = (
         records ++ next ∷ [],
         subst (λ (bytes : List ℕ). IsInUse 0 bytes (records ++ next ∷ [])) (sym (ap (λ (s : Slots). s.segment0) stored)) in_use,
-        run-push opening_state before after records next ready.2 made,
+        run-push opening_state before after records next ready.2 (kept_served before space c answer after made),
         counted_more records next count ready.3,
       );
     }

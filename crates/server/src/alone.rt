@@ -6,7 +6,7 @@ ghost use Rattle.recover.specs.Recovered.{Recovers};
 ghost use Rattle.server.specs.Keeping.{AnswersStored, IsBeforeOrAfter, IsMoved, attached_by, records_of};
 ghost use Rattle.server.specs.Serving.{StepOrShortage, shortage_of};
 ghost use Rattle.ipc_model.specs.calls.Step.{has_record, succeeded};
-ghost use Rattle.ipc_model.specs.texts.Texts.{reply_text, FitsCall};
+ghost use Rattle.ipc_model.specs.texts.Texts.{reply_text};
 ghost use Rattle.ipc_model.specs.declared.call.Call.{Call};
 ghost use Rattle.ipc_model.specs.declared.call.Reply.{Reply};
 
@@ -24,10 +24,9 @@ pub trait Caller {
     /// What it may answer to a call, and what it is afterwards.
     ghost answers: { Self → Call → Reply → Self → Type 0 };
 
-    /// Makes a call, which is as a record has it. A reply is given only when all that it tells of is stored, and it
+    /// Makes a call. A reply is given only when all that it tells of is stored, and it
     /// fits in a frame.
     fn call(&mut self, call: Call) -> Result<Reply, StoreFault>
-        requires { FitsCall call }
         ensures answers { IfOk result (λ reply. answers self.old call reply self.new) }
         ensures fits { IfOk result (λ reply. length (reply_text reply) ≤ MAX_FRAME_CONTENT) };
 }
@@ -102,7 +101,6 @@ impl<D: Disk> Caller for Alone<D> {
     /// Where the slots stand for a state (`Recovers`), `recover::open` gives that state, and doesn't find them
     /// damaged or of another version.
     fn call(&mut self, call: Call) -> Result<Reply, StoreFault>
-        requires { FitsCall call }
         ensures answers { IfOk result (λ reply. AnswersStored self.old call reply self.new) }
         ensures fits { IfOk result (λ reply. length (reply_text reply) ≤ MAX_FRAME_CONTENT) }
         // A stop at any moment from the beginning of the call to its end leaves the state before it or the state after
@@ -167,7 +165,6 @@ fn make_call<D: Disk>(
     space: u32,
     call: Call,
 ) -> Result<Reply, StoreFault>
-    requires fits { FitsCall call }
     ensures answers { IfOk result (λ reply. StepOrShortage kernel.old space call reply kernel.new) }
     ensures frame { IfOk result (λ reply. length (reply_text reply) ≤ MAX_FRAME_CONTENT) }
     ensures passes { D.honest → IsKept (D.view journal.old.disk) kernel.old journal.old.records
@@ -193,7 +190,6 @@ fn call_with_room<D: Disk>(
     call: Call,
 ) -> Result<Reply, StoreFault>
     requires room { journal.old.records < MAX_RECORDS }
-    requires fits { FitsCall call }
     ensures answers { IfOk result (λ reply. StepOrShortage kernel.old space call reply kernel.new) }
     ensures frame { IfOk result (λ reply. length (reply_text reply) ≤ MAX_FRAME_CONTENT) }
     ensures passes { D.honest → IsKept (D.view journal.old.disk) kernel.old journal.old.records

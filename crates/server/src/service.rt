@@ -1,8 +1,7 @@
 ghost use Rattle.std.specs.Prelude.{◌≡◌, ◌≤◌, ◌<◌, length, IfOk, IfSome, OnOk};
-ghost use Rattle.calls.specs.Requests.{FitsRequest};
 ghost use Rattle.ipc_model.specs.messages.Receiving as receiving;
 ghost use Rattle.ipc_model.specs.calls.Refusals.{refused_of};
-ghost use Rattle.ipc_model.specs.texts.Texts.{reply_text, FitsCall};
+ghost use Rattle.ipc_model.specs.texts.Texts.{reply_text};
 ghost use Rattle.server.specs.Serving.{AnswersBoth, AnswersMessage, AnswersRequest, IsAnswered, ServesAll};
 
 use crate::Caller;
@@ -108,7 +107,6 @@ fn answer_request<C: Caller>(
     caller: &mut C,
     asked: Request,
 ) -> Result<Reply, StoreFault>
-    requires { FitsRequest asked }
     ensures answered { IfOk result (λ reply. AnswersRequest C.answers caller.old asked reply caller.new) }
     ensures fits { IfOk result (λ reply. length (reply_text reply) ≤ MAX_FRAME_CONTENT) }
 {
@@ -126,8 +124,6 @@ fn answer_message<C: Caller>(
     send: Option<Call>,
     receive: Option<Call>,
 ) -> Result<Reply, StoreFault>
-    requires send { IfSome send FitsCall }
-    requires receive { IfSome receive FitsCall }
     ensures answered { IfOk result (λ reply. AnswersMessage C.answers caller.old send receive reply caller.new) }
     ensures fits { IfOk result (λ reply. length (reply_text reply) ≤ MAX_FRAME_CONTENT) }
 {
@@ -144,8 +140,6 @@ fn send_and_receive<C: Caller>(
     send: Call,
     receive: Call,
 ) -> Result<Reply, StoreFault>
-    requires send { FitsCall send }
-    requires receive { FitsCall receive }
     ensures answered { IfOk result (λ reply. AnswersBoth C.answers caller.old send receive reply caller.new) }
     ensures fits { IfOk result (λ reply. length (reply_text reply) ≤ MAX_FRAME_CONTENT) }
 {

@@ -1,6 +1,7 @@
 -- The lawful states: each live port has one receive right, each right names a live port, and numbers keep their bounds.
 -- (Kernel Interfaces, "Ports and Messages" and "Port Manipulation"; the bounds are this server's.)
 use Rattle.std.specs.Prelude.{false, ◌∷◌, ◌≡◌, ◌≢◌, ◌⊎◌, ℕ, ◌%◌, ◌^◌, ◌<◌, ◌≤◌, true, ◌==◌, ◌&&◌, List, [], ◌++◌, length, map, flat_map, replicate, All, Contains, count_by, Option, None, Some, Ok, if◌then◌else◌, MatchBool}
+use Rattle.std.specs.Ordering.{nat_cmp}
 use Rattle.std.specs.FinMap as finmap
 use Rattle.codes.specs.declared.limits.TheConstants.{MAX_NAMES, MAX_PORTS, MAX_SPACES, MAX_MESSAGE_SIZE, MAX_MESSAGE_PORTS, MAX_SEND_REFERENCES, MAX_DEAD_REFERENCES}
 use Rattle.codes.specs.declared.name.TheConstants.{MACH_PORT_DEAD, MAX_QUEUE_LIMIT, FIRST_SPACE}
@@ -98,10 +99,14 @@ pub record Lawful (state : State) : Type 0 where
   -- a port is in a set of the space that holds its receive right
   pub sets : (serial set : ℕ) (port : PortState) → finmap.get state.ports serial ≡ Some port → port.set ≡ Some set → IsHeldBesideSet state serial set
 
--- No queue holds more messages than a word counts. It is no part of a lawful state, since no call is refused for it:
--- a program that would come to it is short of memory first.
+-- No queue holds more messages than a word counts. It is no part of a lawful state, since no call of the machine is refused
+-- for it: notices and messages by send-once rights are queued whatever the limit. A program keeps it by answering that memory
+-- is wanted where a queue would grow past it, and an image can spell no other state.
+abbrev pub AreShort : finmap.FinMap nat_cmp PortState → Type 0
+AreShort ports = (serial : ℕ) (port : PortState) → finmap.get ports serial ≡ Some port → length port.messages < 2 ^ 32
+
 abbrev pub ShortQueues : State → Type 0
-ShortQueues state = (serial : ℕ) (port : PortState) → finmap.get state.ports serial ≡ Some port → length port.messages < 2 ^ 32
+ShortQueues state = AreShort state.ports
 
 -- While the effects of a call are worked off, rights wait among them, and a port whose receive right waits is in its set still.
 

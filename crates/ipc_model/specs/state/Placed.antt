@@ -13,15 +13,17 @@ use Rattle.ipc_model.specs.declared.message.RightKind.TheVariants as kind
 use Rattle.ipc_model.specs.declared.port.PortState.{PortState}
 use Rattle.ipc_model.specs.state.State.{State, Names}
 
--- Where a right stands: held under a name of a space, carried by a message in a port's queue (as its
--- destination, its reply right or a right of its body), or kept as the target of a request. While the effects of
--- a call are worked off, a right may also wait among them.
+-- Where a right stands: held under a name of a space, carried by a message in a port's queue (as its destination, its
+-- reply right or a right of its body), or kept as the target of a request: the dead-name request of a name, or one of
+-- a port's two. While the effects of a call are worked off, a right may also wait among them.
 pub data Place : Type 0 where
   held : (space name : ℕ) → Place
   destination : (queue : ℕ) → Place
   reply : (queue : ℕ) → Place
   body : (queue : ℕ) → Place
-  target : Place
+  dead_name_request : (space name : ℕ) → Place
+  no_senders_request : (port : ℕ) → Place
+  port_destroyed_request : (port : ℕ) → Place
   waiting : Place
 
 -- a right of a port, with its place
@@ -45,9 +47,9 @@ right_of_reply queue None = []
 right_of_reply queue (Some carried) = right_of_carried (reply queue) carried
 
 -- the target of a request is a send-once right
-abbrev pub right_of_target : Option ℕ → List Right
-right_of_target None = []
-right_of_target (Some serial) = record { kind = kind.SendOnce; port = serial; place = target } ∷ []
+abbrev pub right_of_target : Place → Option ℕ → List Right
+right_of_target request None = []
+right_of_target request (Some serial) = record { kind = kind.SendOnce; port = serial; place = request } ∷ []
 
 -- The rights of a message in a port's queue: its destination, its reply right, and those of its body.
 abbrev pub rights_of_message : ℕ → Message → List Right
@@ -57,14 +59,14 @@ rights_of_message queue message =
 -- The rights that a port keeps: those of its messages, and the targets of its requests.
 abbrev pub rights_of_port : ℕ → PortState → List Right
 rights_of_port serial port =
-    flat_map (rights_of_message serial) port.messages ++ (right_of_target port.no_senders_target ++ right_of_target port.port_destroyed_target)
+    flat_map (rights_of_message serial) port.messages ++ (right_of_target (no_senders_request serial) port.no_senders_target ++ right_of_target (port_destroyed_request serial) port.port_destroyed_target)
 
 -- The rights that stand under a name, and the target of its request. References of a send right are one right.
 abbrev pub rights_of_entry : ℕ → ℕ → Entry → List Right
 rights_of_entry space name (Port rights) =
     (if rights.receive then record { kind = kind.Receive; port = rights.port; place = held space name } ∷ [] else [])
-    ++ ((if rights.send == 0 then [] else record { kind = kind.Send; port = rights.port; place = held space name } ∷ []) ++ right_of_target rights.dead_name_target)
-rights_of_entry space name (SendOnce port target_) = (record { kind = kind.SendOnce; port = port; place = held space name }) ∷ right_of_target target_
+    ++ ((if rights.send == 0 then [] else record { kind = kind.Send; port = rights.port; place = held space name } ∷ []) ++ right_of_target (dead_name_request space name) rights.dead_name_target)
+rights_of_entry space name (SendOnce port target) = (record { kind = kind.SendOnce; port = port; place = held space name }) ∷ right_of_target (dead_name_request space name) target
 rights_of_entry space name Set = []
 rights_of_entry space name (Dead references) = []
 

@@ -1,8 +1,10 @@
 -- Calls, replies and records in bytes, one spelling each.
-use Rattle.std.specs.Prelude.{◌≡◌, ℕ, ◌+◌, ◌%◌, ◌^◌, ◌<◌, Bool, IsTrue, List, [], ◌∷◌, ◌++◌, length, drop, All, flat_map, if◌then◌else◌}
+use Rattle.std.specs.Prelude.{◌≡◌, ℕ, ◌+◌, ◌^◌, ◌<◌, ◌≤◌, Bool, true, false, IsTrue, List, [], ◌∷◌, ◌++◌, length, All, flat_map, MatchBool, if◌then◌else◌}
 use Rattle.codes.specs.declared.call_number.TheConstants.{MACH_PORT_NAMES, MACH_PORT_TYPE, MACH_PORT_ALLOCATE, MACH_PORT_GET_REFS, MACH_PORT_GET_RECEIVE_STATUS, MACH_PORT_GET_SET_STATUS, MACH_PORT_REQUEST_NOTIFICATION, MACH_PORT_EXTRACT_RIGHT, MACH_MSG, SPACE_CREATE}
-use Rattle.byteorder.specs.Endian.{little_number}
 use Rattle.codes.specs.KernReturn.{number_of}
+use Rattle.codes.specs.declared.kern_return.KernReturn.{KernReturn}
+use Rattle.codes.specs.declared.limits.TheConstants.{MAX_FRAME_CONTENT}
+use Rattle.codes.specs.declared.name.TheConstants.{MACH_PORT_NULL}
 use Rattle.ipc_model.specs.declared.call.Call.{Call}
 use Rattle.ipc_model.specs.declared.call.Call.TheVariants as call
 use Rattle.ipc_model.specs.declared.call.NamedType.{NamedType}
@@ -11,8 +13,9 @@ use Rattle.ipc_model.specs.declared.call.Reply.{Reply}
 use Rattle.ipc_model.specs.declared.call.Reply.TheVariants as reply
 use Rattle.ipc_model.specs.declared.record.Record.{Record}
 use Rattle.ipc_model.specs.rights.Dispositions.{number_of_kind}
-use Rattle.ipc_model.specs.messages.Messages.{bits_of, is_complex, complex_bit}
-use Rattle.ipc_model.specs.calls.Step.{number_of_call, has_record}
+use Rattle.ipc_model.specs.messages.Kept.{kept_message}
+use Rattle.ipc_model.specs.messages.Messages.{header_length}
+use Rattle.ipc_model.specs.calls.Step.{number_of_call, has_record, is_success}
 use Rattle.words.specs.Words.{AreBytes, word, long_word, frame_text}
 
 -- the options of mach_msg: MACH_SEND_MSG, MACH_RCV_MSG, and MACH_RCV_LARGE beside the latter
@@ -95,23 +98,24 @@ number_of_reply (reply.Extracted name kind) = MACH_PORT_EXTRACT_RIGHT
 number_of_reply (reply.Message code size member message) = MACH_MSG
 number_of_reply (reply.SpaceCreated space name) = SPACE_CREATE
 
--- a record with its number in its epoch: who called, the call's frame and the reply's
+-- a call as a record keeps it: of a send the message that is kept
+abbrev pub kept_call : Call → Call
+kept_call (call.Send message) = call.Send (kept_message message)
+kept_call c = c
+
+abbrev pub kept_record : Record → Record
+kept_record entry = record entry { call = kept_call entry.call }
+
+-- a record with its number in its epoch: who called, the frame of the call that is kept, and the reply's
 unfoldable pub record_text : ℕ → Record → List ℕ
-record_text number entry = long_word number ++ (word entry.space ++ (frame_text (call_text entry.call) ++ frame_text (reply_text entry.reply)))
+record_text number entry = long_word number ++ (word entry.space ++ (frame_text (call_text (kept_call entry.call)) ++ frame_text (reply_text entry.reply)))
 
 -- records that follow one another, numbered from n
 abbrev pub records_text : ℕ → List Record → List ℕ
 records_text n [] = []
 records_text n (first ∷ records) = record_text n first ++ records_text (n + 1) records
 
--- A message as it is kept in a record: the words that a send ignores are 0, and so are the unused bits.
-pub record IsKeptMessage (message : List ℕ) : Type 0 where
-  pub bytes : AreBytes message
-  pub size : little_number 4 (drop 4 message) ≡ 0
-  pub sequence_number : little_number 4 (drop 16 message) ≡ 0
-  pub bits : bits_of message ≡ bits_of message % 2 ^ 16 + complex_bit (is_complex (bits_of message))
-
--- the arguments are numbers of four bytes
+-- the arguments are numbers of four bytes, and what is sent is bytes
 abbrev pub FitsCall : Call → Type 0
 FitsCall (call.Attach space) = space < 2 ^ 32
 FitsCall call.Names = Unit {0}
@@ -133,7 +137,7 @@ FitsCall (call.RequestNotification name variant sync notify_name disposition) =
     (name < 2 ^ 32) × (variant < 2 ^ 32) × (sync < 2 ^ 32) × (notify_name < 2 ^ 32) × (disposition < 2 ^ 32)
 FitsCall (call.InsertRight name right_name disposition) = (name < 2 ^ 32) × (right_name < 2 ^ 32) × (disposition < 2 ^ 32)
 FitsCall (call.ExtractRight name disposition) = (name < 2 ^ 32) × (disposition < 2 ^ 32)
-FitsCall (call.Send message) = IsKeptMessage message
+FitsCall (call.Send message) = AreBytes message
 FitsCall (call.Receive limit large name waited) = (limit < 2 ^ 32) × (name < 2 ^ 32)
 FitsCall (call.SpaceCreate name disposition) = (name < 2 ^ 32) × (disposition < 2 ^ 32)
 FitsCall call.SpaceDestroy = Unit {0}
@@ -154,11 +158,53 @@ FitsReply (reply.Extracted name kind) = name < 2 ^ 32
 FitsReply (reply.Message code size member message) = (size < 2 ^ 32) × (member < 2 ^ 32) × AreBytes message
 FitsReply (reply.SpaceCreated space name) = (space < 2 ^ 32) × (name < 2 ^ 32)
 
--- A record that a segment may hold: numbers in range, a reply of the call's number, and a call that has a record where it is answered so.
+-- a send's message has its header
+abbrev pub IsWholeCall : Call → Type 0
+IsWholeCall (call.Send message) = header_length ≤ length message
+IsWholeCall c = Unit {0}
+
+-- A call that stands in a record is in range, whole, and as a record keeps it.
+pub record IsKeptCall (c : Call) : Type 0 where
+  pub fits : FitsCall c
+  pub whole : IsWholeCall c
+  pub kept : kept_call c ≡ c
+
+-- of the calls that have records, those that have no results
+abbrev pub has_no_results : Call → Bool
+has_no_results (call.Allocate kind) = false
+has_no_results (call.RequestNotification name variant sync notify_name disposition) = false
+has_no_results (call.ExtractRight name disposition) = false
+has_no_results (call.Send message) = false
+has_no_results (call.Receive limit large name waited) = false
+has_no_results (call.SpaceCreate name disposition) = false
+has_no_results c = true
+
+-- What a receipt brings: a message of this size, or where it destroyed one nothing.
+abbrev pub IsOfReceipt : KernReturn → ℕ → List ℕ → Type 0
+IsOfReceipt code size message = MatchBool (is_success code) ((header_length ≤ size) × (length message ≡ size)) (message ≡ [])
+
+-- mach_msg brings these results: a send none.
+abbrev pub Brings : Call → KernReturn → ℕ → ℕ → List ℕ → Type 0
+Brings (call.Send sent) code size member message = (size ≡ 0) × (member ≡ MACH_PORT_NULL) × (message ≡ [])
+Brings (call.Receive limit large name waited) code size member message = IsOfReceipt code size message
+Brings c code size member message = ⊥
+
+-- the results that the reply to such a call has
+abbrev pub HasItsResults : Call → Reply → Type 0
+HasItsResults c (reply.Done number) = has_no_results c ≡ true
+HasItsResults c (reply.Message code size member message) = Brings c code size member message
+HasItsResults c answer = Unit {0}
+
+-- A reply that stands in a record of this call is in range, of the call's number and with its results, and such that the call has a record.
+pub record IsRecordedReply (c : Call) (answer : Reply) : Type 0 where
+  pub fits : FitsReply answer
+  pub of_one_call : number_of_reply answer ≡ number_of_call c
+  pub results : HasItsResults c answer
+  pub recorded : IsTrue (has_record c answer)
+
+-- A record that a segment may hold: none of its two frames is too long.
 pub record IsRecord (entry : Record) : Type 0 where
   pub space : entry.space < 2 ^ 32
-  pub call : FitsCall entry.call
-  pub reply : FitsReply entry.reply
-  pub of_one_call : number_of_reply entry.reply ≡ number_of_call entry.call
-  pub recorded : IsTrue (has_record entry.call entry.reply)
-  pub frames : (length (call_text entry.call) < 2 ^ 32) × (length (reply_text entry.reply) < 2 ^ 32)
+  pub call : IsKeptCall entry.call
+  pub reply : IsRecordedReply entry.call entry.reply
+  pub frames : (length (call_text entry.call) ≤ MAX_FRAME_CONTENT) × (length (reply_text entry.reply) ≤ MAX_FRAME_CONTENT)

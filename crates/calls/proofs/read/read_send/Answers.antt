@@ -1,8 +1,9 @@
-use Rattle.std.proofs.Common.{◌≡◌, ℕ, List, ◌++◌, drop, sym, ap, subst, ◌∙◌, refl, arith}
-use Rattle.ipc_model.specs.texts.Texts.{IsKeptMessage}
+use Rattle.std.proofs.Common.{◌≡◌, ◌≤◌, ℕ, List, ◌++◌, drop, length, sym, ap, subst, ◌∙◌, refl, arith}
+use Rattle.ipc_laws.specs.KeptLaws.{kept_again, kept_bytes, kept_long}
+use Rattle.ipc_model.specs.declared.call.Call.TheVariants as call
+use Rattle.ipc_model.specs.texts.Texts.{IsKeptCall}
 use Rattle.words.specs.Words.{word}
-use Rattle.calls.proofs.Masks.{kept-same, kept-is_kept}
-use Rattle.calls.proofs.Messages.{bytes_behind, same_bytes, other_bytes}
+use Rattle.calls.proofs.Messages.{bytes_behind, kept_same, same_bytes, other_bytes}
 use Rattle.ipc_model.specs.messages.Kept.{kept_message}
 use Rattle.calls.proofs.read.read_send.Goals as goal
 
@@ -14,14 +15,20 @@ returns-then-ne-clause-only c = λ message kept is.
     let same : message ≡ c.in-Some.message.now = ap (λ (l : List ℕ). drop 12 l) (sym is ∙ c.in-Some.ensures.found) in
     let kept_is : c.as_slice.result.now ≡ kept_message c.in-Some.message.now = c.as_slice.ensures.value ∙ c.in_ok-kept.ensures in
     absurd (other_bytes c.as_slice.result.now c.in-Some.message.now c.ne.result c.ne.ensures c.if-ne.true
-    (kept_is ∙ ap kept_message (sym same) ∙ kept-same message kept ∙ same))
+    (kept_is ∙ ap kept_message (sym same) ∙ kept_same message kept ∙ same))
 
 pub returns-clause-found : goal.returns-clause-found
 returns-clause-found c =
-    let same = same_bytes c.as_slice.result.now c.in-Some.message.now c.ne.result c.ne.ensures c.if-ne.false in
-    let whole : c.in-Some.message.now ≡ c.new-message.result = sym same ∙ c.as_slice.ensures.value ∙ sym c.new-message.ensures in
-    let bytes = bytes_behind c.args.words.now c.in-Some.message.now 12 (λ i. omega (arith, c.type_inv.words i)) (ap (λ (l : List ℕ). drop 12 l) c.in-Some.ensures.found) in (
+    let message = c.in-Some.message.now in
+    let same = same_bytes c.as_slice.result.now message c.ne.result c.ne.ensures c.if-ne.false in
+    let whole : message ≡ c.new-message.result = sym same ∙ c.as_slice.ensures.value ∙ sym c.new-message.ensures in
+    let bytes = bytes_behind c.args.words.now message 12 (λ i. omega (arith, c.type_inv.words i)) (ap (λ (l : List ℕ). drop 12 l) c.in-Some.ensures.found) in
+    let kept : c.new-message.result ≡ kept_message message = c.new-message.ensures ∙ c.in_ok-kept.ensures in (
       ap (λ (l : List ℕ). word 1 ++ l) c.in-Some.ensures.found ∙ ap (λ (l : List ℕ). word 1 ++ (word 0 ++ (word 0 ++ (word 0 ++ l)))) whole,
       refl,
-      subst IsKeptMessage (sym (c.new-message.ensures ∙ c.in_ok-kept.ensures)) (kept-is_kept c.in-Some.message.now bytes),
+      subst (λ (l : List ℕ). IsKeptCall (call.Send l)) (sym kept) (record {
+        fits = kept_bytes message bytes;
+        whole = omega (arith, kept_long message, c.if-message-lt-HEADER_LENGTH.false);
+        kept = ap (λ (l : List ℕ). call.Send l) (kept_again message);
+      }),
     )

@@ -1,7 +1,7 @@
 use Rattle.std.proofs.Common.{ℕ, ◌++◌, sym, ap, ◌∙◌}
 use Rattle.codes.specs.declared.call_number.TheConstants.{MACH_MSG}
 use Rattle.words.specs.Words.{word}
-use Rattle.calls.proofs.Asked.{asks_in_front, asks_behind, asks_fits}
+use Rattle.calls.proofs.Asked.{asks_in_front, asks_behind}
 use Rattle.calls.proofs.request.read_request.Goals as goal
 
 pub returns-then-number-eq-MACH_MSG-clause-found :
@@ -14,7 +14,3 @@ pub returns-then-number-eq-MACH_MSG-clause-only : goal.returns-then-number-eq-MA
 returns-then-number-eq-MACH_MSG-clause-only c =
     asks_behind c.args.frame.now.content c.in-Some.arguments.now c.read_mach_msg.result
     (sym c.content.ensures.value ∙ c.in-Some.ensures.found ∙ ap (λ (n : ℕ). word n ++ c.in-Some.arguments.now) c.if-number-eq-MACH_MSG.true) c.read_mach_msg.ensures.only
-
-pub returns-then-number-eq-MACH_MSG-clause-fits : goal.returns-then-number-eq-MACH_MSG-clause-fits
-returns-then-number-eq-MACH_MSG-clause-fits c =
-    asks_fits c.args.frame.now.content c.read_mach_msg.result (returns-then-number-eq-MACH_MSG-clause-found c)

@@ -1,20 +1,20 @@
-use Rattle.std.proofs.Common.{◌≡◌, true, ℕ, refl, sym, ap, subst, ◌∙◌}
+use Rattle.std.proofs.Common.{◌≡◌, true, ℕ, refl, sym, ap, subst, ◌∙◌, arith}
 use Rattle.disk.specs.Slots.{Slots}
 use Rattle.ipc_model.specs.state.State.{State}
 use Rattle.ipc_model.specs.calls.Step.{has_record}
 use Rattle.recover.specs.Kept.{IsKept}
 use Rattle.kernel.specs.ServedLaws.{unrecorded_step}
-use Rattle.server.proofs.Answered.{frames_fit, kept_call, shortage_fits}
+use Rattle.server.proofs.Answered.{shortage_fits}
 use Rattle.server.proofs.Keeping.{mid_append_stands, appended_kept, passes_so}
 use Rattle.server.proofs.alone.call_with_room.Goals as goal
 
 pub append-requires-clause-call : goal.append-requires-clause-call
 append-requires-clause-call g c =
-    (frames_fit c.args.kernel.now c.args.space c.args.call c.in-Ok.reply c.apply.new.self (sym c.has_record.ensures ∙ c.if-not-has_record.false) c.in-Ok.ensures.step c.in-Ok.ensures.fits).0
+    omega (arith, (c.in-Ok.ensures.recorded (sym c.has_record.ensures ∙ c.if-not-has_record.false)).call_frame)
 
 pub append-requires-clause-reply : goal.append-requires-clause-reply
 append-requires-clause-reply g c =
-    (frames_fit c.args.kernel.now c.args.space c.args.call c.in-Ok.reply c.apply.new.self (sym c.has_record.ensures ∙ c.if-not-has_record.false) c.in-Ok.ensures.step c.in-Ok.ensures.fits).1
+    omega (arith, (c.in-Ok.ensures.recorded (sym c.has_record.ensures ∙ c.if-not-has_record.false)).reply_frame)
 
 pub returns-then-not-has_record-clause-kept : goal.returns-then-not-has_record-clause-kept
 returns-then-not-has_record-clause-kept g c = λ honest kept.
@@ -31,7 +31,8 @@ pub returns-in_err-append-clause-passes : goal.returns-in_err-append-clause-pass
 returns-in_err-append-clause-passes g c = λ honest kept.
     let old = g.D.Disk.view c.args.journal.now.disk in
     let recorded : has_record c.args.call c.in-Ok.reply ≡ true = sym c.has_record.ensures ∙ c.if-not-has_record.false in
-    let fits = c.append.ensures.fits (kept_call c.args.call c.requires.fits) c.in-Ok.ensures.number recorded in
+    let whole = c.in-Ok.ensures.recorded recorded in
+    let fits = c.append.ensures.fits whole.whole whole.number_is whole.results recorded whole.call_frame whole.reply_frame in
     passes_so old (g.D.Disk.view c.append.new.self.disk) _ _ (c.append.ensures.any_moment honest (λ left may. ap (λ (s : Slots). s.segment0) (kept.at_rest left may)))
     (mid_append_stands old c.args.kernel.now c.apply.new.self c.args.journal.now.records c.args.space c.args.call c.in-Ok.reply kept c.in-Ok.ensures.step fits recorded c.requires.room)
 
@@ -39,7 +40,8 @@ pub returns-clause-passes : goal.returns-clause-passes
 returns-clause-passes g c = λ honest kept.
     let old = g.D.Disk.view c.args.journal.now.disk in
     let recorded : has_record c.args.call c.in-Ok.reply ≡ true = sym c.has_record.ensures ∙ c.if-not-has_record.false in
-    let fits = c.append.ensures.fits (kept_call c.args.call c.requires.fits) c.in-Ok.ensures.number recorded in
+    let whole = c.in-Ok.ensures.recorded recorded in
+    let fits = c.append.ensures.fits whole.whole whole.number_is whole.results recorded whole.call_frame whole.reply_frame in
     passes_so old (g.D.Disk.view c.append.new.self.disk) _ _ (c.append.ensures.any_moment honest (λ left may. ap (λ (s : Slots). s.segment0) (kept.at_rest left may)))
     (mid_append_stands old c.args.kernel.now c.apply.new.self c.args.journal.now.records c.args.space c.args.call c.in-Ok.reply kept c.in-Ok.ensures.step fits recorded c.requires.room)
 
@@ -48,7 +50,8 @@ returns-clause-kept g c = λ honest kept.
     let old = g.D.Disk.view c.args.journal.now.disk in
     let new = g.D.Disk.view c.append.new.self.disk in
     let recorded : has_record c.args.call c.in-Ok.reply ≡ true = sym c.has_record.ensures ∙ c.if-not-has_record.false in
-    let fits = c.append.ensures.fits (kept_call c.args.call c.requires.fits) c.in-Ok.ensures.number recorded in
+    let whole = c.in-Ok.ensures.recorded recorded in
+    let fits = c.append.ensures.fits whole.whole whole.number_is whole.results recorded whole.call_frame whole.reply_frame in
     subst (λ (n : ℕ). IsKept new c.apply.new.self n) (sym c.in_ok-append.ensures.counted.0)
     (appended_kept old new c.args.kernel.now c.apply.new.self c.args.journal.now.records c.args.space c.args.call c.in-Ok.reply kept c.in-Ok.ensures.step fits c.requires.room
     (c.in_ok-append.ensures.stored honest) (c.in_ok-append.ensures.synced honest) (c.append.ensures.any_moment honest (λ left may. ap (λ (s : Slots). s.segment0) (kept.at_rest left may))))

@@ -1,6 +1,7 @@
 use Rattle.ports.specs.Changed.{with_numbers}
 use Rattle.ipc_model.specs.state.State.{is_number}
 use Rattle.ports.proofs.Kept.{indexed_changed, len_changed, more_kept, none_gone, numbers_covered}
+use Rattle.ports.proofs.Short.{changed_short}
 use Rattle.ports.proofs.ports.Ports.replace_numbers.Goals as goal
 
 pub invariant_of-self-2 : goal.invariant_of-self-2
@@ -17,4 +18,5 @@ invariant_of-self-2 c =
       len_changed ports c.put_numbers.new.ports c.args.serial change c.put_numbers.ensures.ports c.self.invariant.0,
       c.put_numbers.ensures.indexed (indexed_changed ports c.put_numbers.new.ports new c.args.serial change c.put_numbers.ensures.ports more
           (numbers_covered ports old between new c.args.serial c.args.numbers first second c.self.invariant.1)),
+      changed_short ports c.put_numbers.new.ports c.args.serial change c.put_numbers.ensures.ports (c.self.invariant.2 c.args.serial) c.self.invariant.2,
     )

@@ -1,6 +1,6 @@
--- What holds of every call on names, ports and spaces: one that is done answers no refusal, and a call without a record changes nothing.
-use Rattle.std.specs.Prelude.{◌≡◌, ◌≢◌, ℕ, Bool, true, false, ◌==◌, List, [], Option, None, Some, if◌then◌else◌}
-use Rattle.std.proofs.Common.{refl, sym, ap, subst}
+-- What holds of every call on names, ports and spaces: one that is done answers no refusal but its results, and a call without a record changes nothing.
+use Rattle.std.specs.Prelude.{◌≡◌, ◌≢◌, ℕ, Bool, true, false, not, ◌||◌, ◌==◌, List, [], Option, None, Some, if◌then◌else◌}
+use Rattle.std.proofs.Common.{refl, sym, ap, subst, ◌∙◌}
 use Rattle.std.specs.FinMap as finmap
 use Rattle.codes.specs.declared.kern_return.KernReturn.{KernReturn}
 use Rattle.codes.specs.declared.right.Right.TheVariants as right
@@ -20,15 +20,20 @@ use Rattle.ipc_model.specs.state.State.{State, Names, received_port}
 use Rattle.ipc_model.specs.calls.Step.{ActsIn, is_recorded, succeeded, has_record, number_of_call}
 use Rattle.ipc_laws.specs.StepLaws.{Called}
 use Rattle.ipc_model.specs.calls.Tests.{first_failing}
-use Rattle.ipc_model.specs.texts.Texts.{number_of_reply}
-use Rattle.kernel.specs.Served.{is_served}
+use Rattle.ipc_model.specs.texts.Texts.{has_no_results, number_of_reply, HasItsResults}
 
--- a call that is no send and no receipt is refused by its first failing test, or done
-pub as_called : (c : Call) (old : State) (space : ℕ) (names : Names) (answer : Reply) (new : State) (effects : List Effect) → is_served c ≡ true → ActsIn old space names c answer new effects
+-- every call but sends and receipts
+abbrev pub is_port_call : Call → Bool
+is_port_call (call.Send message) = false
+is_port_call (call.Receive limit large name waited) = false
+is_port_call c = true
+
+-- such a call is refused by its first failing test, or done
+pub as_called : (c : Call) (old : State) (space : ℕ) (names : Names) (answer : Reply) (new : State) (effects : List Effect) → is_port_call c ≡ true → ActsIn old space names c answer new effects
     → Called (first_failing (tests_of old space names c)) old space names c answer new effects
-as_called (call.Send message) old space names answer new effects served acts = absurd (cc served)
-as_called (call.Receive limit large name waited) old space names answer new effects served acts = absurd (cc served)
-as_called c old space names answer new effects served acts = acts
+as_called (call.Send message) old space names answer new effects port acts = absurd (cc port)
+as_called (call.Receive limit large name waited) old space names answer new effects port acts = absurd (cc port)
+as_called c old space names answer new effects port acts = acts
 
 -- a reply of a few words
 abbrev pub is_short : Reply → Bool
@@ -37,14 +42,23 @@ is_short (reply.SetStatus members) = false
 is_short (reply.Message code size member message) = false
 is_short answer = true
 
--- What is done answers a reply of the call's number, and no refusal. Only lists of names and members, calls 1 and 14, are long.
+-- by the numbers of calls
+abbrev number_has_none : ℕ → Bool
+number_has_none n = not (n == 5 || n == 16 || n == 18 || n == 19 || n == 20)
+
+none_by_number : (c : Call) → has_no_results c ≡ number_has_none (number_of_call c)
+none_by_number (call.Allocate kind) = refl
+none_by_number c = refl
+
+-- What is done answers a reply of the call's number and with its results, and no refusal. Only lists of names and members, calls 1 and 14, are long.
 pub record Answered (number : ℕ) (answer : Reply) : Type 0 where
   pub success : (c : Call) → succeeded c answer ≡ true
   pub number_is : number_of_reply answer ≡ number
+  pub results : (c : Call) → number_of_call c ≡ number → HasItsResults c answer
   pub short : (number ≢ 1) → (number ≢ 14) → is_short answer ≡ true
 
-done_answers : (number : ℕ) → Answered number (reply.Done number)
-done_answers number = record { success = λ c. refl; number_is = refl; short = λ _ _. refl }
+done_answers : (number : ℕ) → number_has_none number ≡ true → Answered number (reply.Done number)
+done_answers number none = record { success = λ c. refl; number_is = refl; results = λ c same. none_by_number c ∙ ap number_has_none same ∙ none; short = λ _ _. refl }
 
 -- an action whose answer is so
 by_answer : (number : ℕ) (action answer : Reply) → answer ≡ action → Answered number action → Answered number answer
@@ -59,68 +73,76 @@ by_choice number true one other a b = a
 by_choice number false one other a b = b
 
 deallocated_answers : (state : State) (space : ℕ) (names : Names) (name : ℕ) (entry : Entry) → Answered 7 (actions.deallocated state space names name entry).answer
-deallocated_answers state space names name (Port rights) = done_answers 7
-deallocated_answers state space names name (SendOnce port target) = done_answers 7
-deallocated_answers state space names name Set = done_answers 7
-deallocated_answers state space names name (Dead references) = done_answers 7
+deallocated_answers state space names name (Port rights) = done_answers 7 refl
+deallocated_answers state space names name (SendOnce port target) = done_answers 7 refl
+deallocated_answers state space names name Set = done_answers 7 refl
+deallocated_answers state space names name (Dead references) = done_answers 7 refl
 
 modified_answers : (state : State) (space : ℕ) (names : Names) (name : ℕ) (entry : Entry) (kind delta : ℕ) → Answered 9 (actions.modified state space names name entry kind delta).answer
 modified_answers state space names name (Port rights) kind delta =
-    by_choice 9 (is_right kind right.Send) _ _ (done_answers 9) (by_choice 9 (delta == minus_one) _ _ (done_answers 9) (done_answers 9))
-modified_answers state space names name (SendOnce port target) kind delta = by_choice 9 (delta == minus_one) _ _ (done_answers 9) (done_answers 9)
-modified_answers state space names name Set kind delta = by_choice 9 (delta == minus_one) _ _ (done_answers 9) (done_answers 9)
-modified_answers state space names name (Dead references) kind delta = done_answers 9
+    by_choice 9 (is_right kind right.Send) _ _ (done_answers 9 refl) (by_choice 9 (delta == minus_one) _ _ (done_answers 9 refl) (done_answers 9 refl))
+modified_answers state space names name (SendOnce port target) kind delta = by_choice 9 (delta == minus_one) _ _ (done_answers 9 refl) (done_answers 9 refl)
+modified_answers state space names name Set kind delta = by_choice 9 (delta == minus_one) _ _ (done_answers 9 refl) (done_answers 9 refl)
+modified_answers state space names name (Dead references) kind delta = done_answers 9 refl
 
 status_answers : (state : State) (port : Option PortState) (serial : ℕ) → Answered 13 (actions.status_action state port serial).answer
-status_answers state None serial = done_answers 13
-status_answers state (Some port) serial = record { success = λ c. refl; number_is = refl; short = λ _ _. refl }
+status_answers state None serial = done_answers 13 refl
+status_answers state (Some port) serial = record { success = λ c. refl; number_is = refl; results = λ _ _. tt; short = λ _ _. refl }
 
 status_of_answers : (state : State) (serial : Option ℕ) → Answered 13 (actions.status_action_of state serial).answer
-status_of_answers state None = done_answers 13
+status_of_answers state None = done_answers 13 refl
 status_of_answers state (Some serial) = status_answers state (finmap.get state.ports serial) serial
 
 extracted_answers : (taken : Option Taken) (space : ℕ) (answer : Reply) (new : State) (effects : List Effect) → actions.Extracted taken space answer new effects → Answered 18 answer
 extracted_answers None space answer new effects acts = absurd acts
-extracted_answers (Some taken) space answer new effects acts = by_answer 18 (reply.Extracted acts.0 taken.right.kind) answer acts.1 (record { success = λ c. refl; number_is = refl; short = λ _ _. refl })
+extracted_answers (Some taken) space answer new effects acts = by_answer 18 (reply.Extracted acts.0 taken.right.kind) answer acts.1 (record { success = λ c. refl; number_is = refl; results = λ _ _. tt; short = λ _ _. refl })
 
 created_answers : (taken : Option Taken) (answer : Reply) (new : State) (effects : List Effect) → actions.Created taken answer new effects → Answered 20 answer
 created_answers None answer new effects acts = absurd acts
-created_answers (Some taken) answer new effects acts = by_answer 20 (reply.SpaceCreated acts.0 acts.1) answer acts.3 (record { success = λ c. refl; number_is = refl; short = λ _ _. refl })
+created_answers (Some taken) answer new effects acts = by_answer 20 (reply.SpaceCreated acts.0 acts.1) answer acts.3 (record { success = λ c. refl; number_is = refl; results = λ _ _. tt; short = λ _ _. refl })
 
 pub answers_done : (old : State) (space : ℕ) (names : Names) (c : Call) (answer : Reply) (new : State) (effects : List Effect) → Done old space names c answer new effects → Answered (number_of_call c) answer
 unfolding Done
-answers_done old space names (call.Attach other) answer new effects acts = by_answer 0 _ answer acts.0 (done_answers 0)
-answers_done old space names call.Names answer new effects acts = by_answer 1 _ answer acts.0 (record { success = λ c. refl; number_is = refl; short = λ other _. absurd (other refl) })
-answers_done old space names (call.Type name) answer new effects acts = by_action 2 _ _ answer new effects (λ e. record { success = λ c. refl; number_is = refl; short = λ _ _. refl }) acts
-answers_done old space names (call.Rename from to) answer new effects acts = by_action 3 _ _ answer new effects (λ e. done_answers 3) acts
-answers_done old space names (call.AllocateName kind name) answer new effects acts = by_answer 4 _ answer acts.0 (done_answers 4)
-answers_done old space names (call.Allocate kind) answer new effects acts = by_answer 5 (reply.Allocate acts.0) answer acts.2 (record { success = λ c. refl; number_is = refl; short = λ _ _. refl })
-answers_done old space names (call.Destroy name) answer new effects acts = by_action 6 _ _ answer new effects (λ e. done_answers 6) acts
+answers_done old space names (call.Attach other) answer new effects acts = by_answer 0 _ answer acts.0 (done_answers 0 refl)
+answers_done old space names call.Names answer new effects acts = by_answer 1 _ answer acts.0 (record { success = λ c. refl; number_is = refl; results = λ _ _. tt; short = λ other _. absurd (other refl) })
+answers_done old space names (call.Type name) answer new effects acts = by_action 2 _ _ answer new effects (λ e. record { success = λ c. refl; number_is = refl; results = λ _ _. tt; short = λ _ _. refl }) acts
+answers_done old space names (call.Rename from to) answer new effects acts = by_action 3 _ _ answer new effects (λ e. done_answers 3 refl) acts
+answers_done old space names (call.AllocateName kind name) answer new effects acts = by_answer 4 _ answer acts.0 (done_answers 4 refl)
+answers_done old space names (call.Allocate kind) answer new effects acts = by_answer 5 (reply.Allocate acts.0) answer acts.2 (record { success = λ c. refl; number_is = refl; results = λ _ _. tt; short = λ _ _. refl })
+answers_done old space names (call.Destroy name) answer new effects acts = by_action 6 _ _ answer new effects (λ e. done_answers 6 refl) acts
 answers_done old space names (call.Deallocate name) answer new effects acts = by_action 7 _ _ answer new effects (deallocated_answers old space names name) acts
-answers_done old space names (call.GetRefs name kind) answer new effects acts = by_action 8 _ _ answer new effects (λ e. record { success = λ c. refl; number_is = refl; short = λ _ _. refl }) acts
+answers_done old space names (call.GetRefs name kind) answer new effects acts = by_action 8 _ _ answer new effects (λ e. record { success = λ c. refl; number_is = refl; results = λ _ _. tt; short = λ _ _. refl }) acts
 answers_done old space names (call.ModRefs name kind delta) answer new effects acts = by_action 9 _ _ answer new effects (λ e. modified_answers old space names name e kind delta) acts
-answers_done old space names (call.SetQlimit name limit) answer new effects acts = by_action 10 _ _ answer new effects (λ e. done_answers 10) acts
-answers_done old space names (call.SetMscount name count) answer new effects acts = by_action 11 _ _ answer new effects (λ e. done_answers 11) acts
-answers_done old space names (call.SetSeqno name seqno) answer new effects acts = by_action 12 _ _ answer new effects (λ e. done_answers 12) acts
+answers_done old space names (call.SetQlimit name limit) answer new effects acts = by_action 10 _ _ answer new effects (λ e. done_answers 10 refl) acts
+answers_done old space names (call.SetMscount name count) answer new effects acts = by_action 11 _ _ answer new effects (λ e. done_answers 11 refl) acts
+answers_done old space names (call.SetSeqno name seqno) answer new effects acts = by_action 12 _ _ answer new effects (λ e. done_answers 12 refl) acts
 answers_done old space names (call.GetReceiveStatus name) answer new effects acts = by_action 13 _ _ answer new effects (λ e. status_of_answers old (received_port e)) acts
-answers_done old space names (call.GetSetStatus name) answer new effects acts = by_answer 14 _ answer acts.0 (record { success = λ c. refl; number_is = refl; short = λ _ other. absurd (other refl) })
-answers_done old space names (call.MoveMember member after) answer new effects acts = by_action 15 _ _ answer new effects (λ e. done_answers 15) acts
+answers_done old space names (call.GetSetStatus name) answer new effects acts = by_answer 14 _ answer acts.0 (record { success = λ c. refl; number_is = refl; results = λ _ _. tt; short = λ _ other. absurd (other refl) })
+answers_done old space names (call.MoveMember member after) answer new effects acts = by_action 15 _ _ answer new effects (λ e. done_answers 15 refl) acts
 answers_done old space names (call.RequestNotification name variant sync notify_name disposition) answer new effects acts =
-    by_answer 16 (reply.PreviousTarget acts.0) answer acts.1 (record { success = λ c. refl; number_is = refl; short = λ _ _. refl })
-answers_done old space names (call.InsertRight name right_name disposition) answer new effects acts = by_answer 17 _ answer acts.0 (done_answers 17)
+    by_answer 16 (reply.PreviousTarget acts.0) answer acts.1 (record { success = λ c. refl; number_is = refl; results = λ _ _. tt; short = λ _ _. refl })
+answers_done old space names (call.InsertRight name right_name disposition) answer new effects acts = by_answer 17 _ answer acts.0 (done_answers 17 refl)
 answers_done old space names (call.ExtractRight name disposition) answer new effects acts = extracted_answers _ space answer new effects acts
 answers_done old space names (call.Send message) answer new effects acts = absurd acts
 answers_done old space names (call.Receive limit large name waited) answer new effects acts = absurd acts
 answers_done old space names (call.SpaceCreate name disposition) answer new effects acts = created_answers _ answer new effects acts
-answers_done old space names call.SpaceDestroy answer new effects acts = by_answer 21 _ answer acts.0 (done_answers 21)
+answers_done old space names call.SpaceDestroy answer new effects acts = by_answer 21 _ answer acts.0 (done_answers 21 refl)
 
 -- a reply to a call that is no send and no receipt has the call's number
 called_number : (refusal : Option KernReturn) (old : State) (space : ℕ) (names : Names) (c : Call) (answer : Reply) (new : State) (effects : List Effect) → Called refusal old space names c answer new effects → number_of_reply answer ≡ number_of_call c
 called_number None old space names c answer new effects acts = (answers_done old space names c answer new effects acts).number_is
 called_number (Some code) old space names c answer new effects acts = ap number_of_reply acts.0
 
-pub answer_number : (old : State) (space : ℕ) (names : Names) (c : Call) (answer : Reply) (new : State) (effects : List Effect) → is_served c ≡ true → ActsIn old space names c answer new effects → number_of_reply answer ≡ number_of_call c
-answer_number old space names c answer new effects served acts = called_number (first_failing (tests_of old space names c)) old space names c answer new effects (as_called c old space names answer new effects served acts)
+pub answer_number : (old : State) (space : ℕ) (names : Names) (c : Call) (answer : Reply) (new : State) (effects : List Effect) → is_port_call c ≡ true → ActsIn old space names c answer new effects → number_of_reply answer ≡ number_of_call c
+answer_number old space names c answer new effects port acts = called_number (first_failing (tests_of old space names c)) old space names c answer new effects (as_called c old space names answer new effects port acts)
+
+-- and one to a call with a record has its results
+called_results : (refusal : Option KernReturn) (old : State) (space : ℕ) (names : Names) (c : Call) (answer : Reply) (new : State) (effects : List Effect) → Called refusal old space names c answer new effects → HasItsResults c answer
+called_results None old space names c answer new effects acts = (answers_done old space names c answer new effects acts).results c refl
+called_results (Some code) old space names c answer new effects acts = subst (HasItsResults c) (sym acts.0) tt
+
+pub answer_results : (old : State) (space : ℕ) (names : Names) (c : Call) (answer : Reply) (new : State) (effects : List Effect) → is_port_call c ≡ true → ActsIn old space names c answer new effects → HasItsResults c answer
+answer_results old space names c answer new effects port acts = called_results (first_failing (tests_of old space names c)) old space names c answer new effects (as_called c old space names answer new effects port acts)
 
 -- Calls that only read.
 
@@ -162,6 +184,6 @@ called_unrecorded None old space names c answer new effects none acts =
     done_unrecorded old space names c answer new effects (by_record c answer (is_recorded c) true refl ((answers_done old space names c answer new effects acts).success c) none) acts
 
 -- A call without a record changes nothing by itself and sets nothing off.
-pub unrecorded_act : (old : State) (space : ℕ) (names : Names) (c : Call) (answer : Reply) (new : State) (effects : List Effect) → is_served c ≡ true → has_record c answer ≡ false → ActsIn old space names c answer new effects → (new ≡ old) × (effects ≡ [])
-unrecorded_act old space names c answer new effects served none acts =
-    called_unrecorded (first_failing (tests_of old space names c)) old space names c answer new effects none (as_called c old space names answer new effects served acts)
+pub unrecorded_act : (old : State) (space : ℕ) (names : Names) (c : Call) (answer : Reply) (new : State) (effects : List Effect) → is_port_call c ≡ true → has_record c answer ≡ false → ActsIn old space names c answer new effects → (new ≡ old) × (effects ≡ [])
+unrecorded_act old space names c answer new effects port none acts =
+    called_unrecorded (first_failing (tests_of old space names c)) old space names c answer new effects none (as_called c old space names answer new effects port acts)
