@@ -9,13 +9,10 @@ use crate::arguments::read_arguments;
 use crate::kept_message::keep_message;
 use crate::options::{RCV_LARGE, RCV_MSG, SEND_MSG};
 use crate::word_rows::three_words;
-use codes::MACH_MSG;
+use codes::{HEADER_LENGTH, MACH_MSG};
 use ipc_model::{Call, Sequence};
 use std::alloc::{AllocError, Global};
 use words::take_word;
-
-/// The bytes of a message's header (`mach_msg_header_t`).
-const HEADER_LENGTH: usize = 24;
 
 /// The option of a receipt whose message stays queued where it is too large.
 const RCV_MSG_LARGE: u32 = RCV_MSG | RCV_LARGE;

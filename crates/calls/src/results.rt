@@ -6,20 +6,18 @@ ghost use Rattle.ipc_model.specs.declared.call.Reply.{Reply};
 ghost use Rattle.ipc_model.specs.declared.message.RightKind.{RightKind};
 ghost use Rattle.ipc_model.specs.rights.Dispositions.{number_of_kind};
 ghost use Rattle.ipc_model.specs.calls.Step.{number_of_call, has_record, has_destroyed, is_recorded, is_success, succeeded};
-ghost use Rattle.ipc_model.specs.texts.Texts.{reply_text, done_text, has_no_results, number_of_reply, Brings, FitsReply, HasItsResults, IsRecordedReply};
+ghost use Rattle.ipc_model.specs.texts.Texts.{reply_text, done_text, has_no_results, number_of_reply, Brings, FitsReply, HasItsResults, IsMessageSize, IsOfReceipt, IsRecordedReply};
 ghost use Rattle.words.specs.Words.{word};
 
 use crate::word_rows::{one_word, two_words};
 use codes::{
-    KernReturn, MACH_MSG, MACH_PORT_ALLOCATE, MACH_PORT_EXTRACT_RIGHT, MACH_PORT_NULL,
-    MACH_PORT_REQUEST_NOTIFICATION, SPACE_CREATE,
+    HEADER_LENGTH, KernReturn, MACH_MSG, MACH_PORT_ALLOCATE, MACH_PORT_DEAD,
+    MACH_PORT_EXTRACT_RIGHT, MACH_PORT_NULL, MACH_PORT_REQUEST_NOTIFICATION, MAX_MESSAGE_SIZE,
+    SPACE_CREATE,
 };
 use ipc_model::{Call, Reply, RightKind, Sequence};
 use std::alloc::{AllocError, Global};
 use words::take_word;
-
-/// The bytes of a message's header (`mach_msg_header_t`).
-const HEADER_LENGTH: u32 = 24;
 
 /// Whether the call is a receipt that destroys a message that is too large.
 fn destroys(call: &Call) -> bool
@@ -59,17 +57,38 @@ fn has_no_results(call: &Call) -> bool
     )
 }
 
-/// Whether a `mach_msg` brings these results: a send brings none, and a receipt a message of this size, or where it
-/// destroyed one no message.
+/// Whether a message may have this size.
+fn is_message_size(size: u32) -> bool
+    ensures yes { result ≡ true → IsMessageSize size }
+    ensures no { result ≡ false → IsMessageSize size → ⊥ }
+{
+    size as usize >= HEADER_LENGTH && size <= MAX_MESSAGE_SIZE && size % 4 == 0
+}
+
+/// Whether a receipt with this limit tells this of the message that it took out: its size, the name of its port and,
+/// where it wasn't destroyed, its bytes.
+fn is_of_receipt(limit: u32, code: KernReturn, size: u32, member: u32, message: &[u8]) -> bool
+    ensures yes { result ≡ true → IsOfReceipt limit code size member message.now }
+    ensures no { result ≡ false → IsOfReceipt limit code size member message.now → ⊥ }
+{
+    if !is_message_size(size) || member == MACH_PORT_NULL || member == MACH_PORT_DEAD {
+        return false;
+    }
+    if code == KernReturn::Success {
+        size <= limit && message.len() == size as usize
+    } else {
+        limit < size && message.is_empty()
+    }
+}
+
+/// Whether a `mach_msg` brings these results: a send brings none.
 fn brings(call: &Call, code: KernReturn, size: u32, member: u32, message: &[u8]) -> bool
     ensures yes { result ≡ true → Brings call.now code size member message.now }
     ensures no { result ≡ false → Brings call.now code size member message.now → ⊥ }
 {
     match call {
         Call::Send { .. } => size == 0 && member == MACH_PORT_NULL && message.is_empty(),
-        Call::Receive { .. } if code == KernReturn::Success => size >= HEADER_LENGTH
-            && message.len() == size as usize,
-        Call::Receive { .. } => message.is_empty(),
+        Call::Receive { limit, .. } => is_of_receipt(*limit, code, size, member, message),
         _ => false,
     }
 }

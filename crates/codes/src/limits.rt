@@ -16,6 +16,9 @@ pub const MAX_SPACES: usize = 256;
 /// How many records an epoch's segment holds at most.
 pub const MAX_RECORDS: u64 = 65_536;
 
+/// How many bytes a message's header has (`mach_msg_header_t`).
+pub const HEADER_LENGTH: usize = 24;
+
 /// How many bytes a message has at most, header and body.
 pub const MAX_MESSAGE_SIZE: u32 = 8_192;
 

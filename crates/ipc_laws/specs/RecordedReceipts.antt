@@ -1,13 +1,14 @@
 -- What receipts that have records answer.
-use Rattle.std.specs.Prelude.{◌≡◌, ℕ, ◌+◌, ◌*◌, ◌≤◌, ◌<◌, ◌^◌, Bool, true, false, ◌||◌, List, [], ◌∷◌, ◌++◌, length, take, drop, flat_map, Option, None, Some, IfSome, Result, Ok, MatchOption, MatchBool, if◌then◌else◌, refl}
+use Rattle.std.specs.Prelude.{◌≡◌, ℕ, ◌+◌, ◌*◌, ◌≤◌, ◌<◌, ◌^◌, Bool, true, false, nat_lt, ◌||◌, List, [], ◌∷◌, ◌++◌, length, take, drop, flat_map, Option, None, Some, IfSome, Result, Ok, MatchOption, MatchBool, if◌then◌else◌, refl}
 use Rattle.std.proofs.Common.{◌∙◌, ap, sym, subst, arith, length-append}
+use Rattle.std.proofs.lemmas.Bool.{ltb-false, ltb-true}
 use Rattle.std.proofs.lemmas.List.{length-drop, length-map}
 use Rattle.std.specs.FinMap as finmap
 use Rattle.codes.specs.KernReturn.{number_of}
 use Rattle.codes.specs.declared.kern_return.KernReturn.{KernReturn}
 use Rattle.codes.specs.declared.kern_return.KernReturn.TheVariants.{Success, RcvTooLarge, RcvHeaderErrorSpace, RcvPortDied, RcvInvalidName, RcvPortChanged, RcvInSet, RcvTimedOut}
 use Rattle.codes.specs.declared.limits.TheConstants.{MAX_MESSAGE_SIZE}
-use Rattle.codes.specs.declared.name.TheConstants.{MACH_PORT_NULL}
+use Rattle.codes.specs.declared.name.TheConstants.{MACH_PORT_DEAD, MACH_PORT_NULL}
 use Rattle.ipc_model.specs.calls.Step.{has_record, has_destroyed, is_success}
 use Rattle.ipc_model.specs.declared.call.Call.{Call}
 use Rattle.ipc_model.specs.declared.call.Call.TheVariants as call
@@ -19,7 +20,7 @@ use Rattle.ipc_model.specs.declared.port.PortState.{PortState}
 use Rattle.ipc_model.specs.effects.Effects.{Effect}
 use Rattle.ipc_model.specs.messages.Items.{Item, item_text, items_text, items_of, filled, body_filled, is_port_item, padded}
 use Rattle.ipc_model.specs.messages.Messages.{header_length, message_text}
-use Rattle.ipc_model.specs.messages.Receiving.{Receipt, Receives, TooLarge, Received, arriving, reply_right, reply_name, body_names, received_bits, received_body, received_text, receive_refusal, refusal_of_sources, sources, is_in_set, all_empty, message_size, without_message}
+use Rattle.ipc_model.specs.messages.Receiving.{Receipt, Receives, TakesOut, TooLarge, Received, lacks_names, arriving, reply_right, reply_name, body_names, received_bits, received_body, received_text, receive_refusal, refusal_of_sources, sources, is_in_set, all_empty, message_size, without_message}
 use Rattle.ipc_model.specs.state.Lawful.{LawfulMessage, HoldsPorts}
 use Rattle.ipc_model.specs.state.State.{State, Names}
 use Rattle.ipc_model.specs.texts.Texts.{IsOfReceipt}
@@ -27,7 +28,7 @@ use Rattle.ipc_laws.specs.ItemLaws.{AllFit, item_length, items_read}
 use Rattle.ipc_laws.specs.LawfulLaws.{LawfulAtRest}
 use Rattle.ipc_laws.specs.ReceiptLaws.{as_many_names, length-kinds, length-words-take, port_count}
 use Rattle.ipc_laws.specs.ReceiveKeep.{oldest_lawful}
-use Rattle.ipc_laws.specs.ReceiveLaws.{Outcomes, was_large, was_lacking, was_received, Takes, outcome_of}
+use Rattle.ipc_laws.specs.ReceiveLaws.{Takes}
 use Rattle.words.specs.WordLaws.{length-word}
 use Rattle.words.specs.Words.{word}
 
@@ -105,13 +106,13 @@ received_long message member seqno given lawful many =
     ∙ ap (λ (n : ℕ). header_length + n) (body_long message (body_names message.reply given) lawful (names_left message.reply message.rights given many))
 
 -- A receipt that has a record brings a message of its size, or destroyed one and brings none.
-pub record ReceiptDone (answer : Reply) : Type 0 where
+pub record ReceiptDone (receipt : Receipt) (answer : Reply) : Type 0 where
   pub code : KernReturn
   pub size : ℕ
   pub member : ℕ
   pub message : List ℕ
   pub answer_is : answer ≡ reply.Message code size member message
-  pub brings : IsOfReceipt code size message
+  pub brings : IsOfReceipt receipt.limit code size member message
   pub small : length message ≤ MAX_MESSAGE_SIZE
 
 abbrev pub call_of : Receipt → Call
@@ -158,40 +159,71 @@ refusals_none old names receipt = elim (sources old names receipt.name (finmap.g
   ]
 ]
 
-taken_done : (old : State) (space member serial : ℕ) (names : Names) (receipt : Receipt) (port : PortState) (message : Message) (answer : Reply) (new : State) (effects : List Effect) → LawfulMessage message
-    → Outcomes old space names receipt member serial port message answer new effects → has_record (call_of receipt) answer ≡ true → ReceiptDone answer
-taken_done old space member serial names receipt port message answer new effects lawful (was_large large) recorded =
-    record { code = RcvTooLarge; size = message_size message; member = member; message = []; answer_is = large.0; brings = refl; small = omega arith }
-taken_done old space member serial names receipt port message answer new effects lawful (was_lacking lacks same none) recorded =
-    absurd (lacking_none receipt.limit receipt.name receipt.large receipt.waited (subst (λ (a : Reply). has_record (call_of receipt) a ≡ true) lacks recorded))
-taken_done old space member serial names receipt port message answer new effects lawful (was_received (given, after, arrives, shown, same, are)) recorded =
-    let long = received_long message member port.sequence_number given lawful (as_many_names names (arriving message) given after arrives) in
+-- the message of a receipt, and the name of its port, may be told
+record Told (message : Message) (member : ℕ) : Type 0 where
+  lawful : LawfulMessage message
+  named : (MACH_PORT_NULL < member) × (member < MACH_PORT_DEAD)
+
+destroyed_done : (old : State) (member serial : ℕ) (receipt : Receipt) (message : Message) (answer : Reply) (new : State) (effects : List Effect) → Told message member
+    → nat_lt receipt.limit (message_size message) ≡ true → TooLarge old member serial message receipt.large answer new effects → ReceiptDone receipt answer
+destroyed_done old member serial receipt message answer new effects told larger large =
+    record {
+      code = RcvTooLarge;
+      size = message_size message;
+      member = member;
+      message = [];
+      answer_is = large.0;
+      brings = ((omega arith, told.lawful.small, told.lawful.whole_words), told.named.0, told.named.1, (ltb-true receipt.limit (message_size message) larger, refl));
+      small = omega arith;
+    }
+
+brought_done : (old : State) (space member serial : ℕ) (names : Names) (receipt : Receipt) (port : PortState) (message : Message) (answer : Reply) (new : State) (effects : List Effect) → Told message member
+    → nat_lt receipt.limit (message_size message) ≡ false → Received old space names member serial port message answer new effects → ReceiptDone receipt answer
+brought_done old space member serial names receipt port message answer new effects told within (given, after, arrives, shown, same, are) =
+    let long = received_long message member port.sequence_number given told.lawful (as_many_names names (arriving message) given after arrives) in
     record {
       code = Success;
       size = message_size message;
       member = member;
       message = received_text message member port.sequence_number given;
       answer_is = shown;
-      brings = (omega arith, long);
-      small = omega (arith, long, lawful.small);
+      brings = ((omega arith, told.lawful.small, told.lawful.whole_words), told.named.0, told.named.1, (ltb-false receipt.limit (message_size message) within, long));
+      small = omega (arith, long, told.lawful.small);
     }
 
-receipt_taken : (old : State) (space : ℕ) (names : Names) (receipt : Receipt) (answer : Reply) (new : State) (effects : List Effect) → LawfulAtRest old → Takes old space names receipt answer new effects → has_record (call_of receipt) answer ≡ true → ReceiptDone answer
-receipt_taken old space names receipt answer new effects lawful (member, serial, port, message, later, among, holds, live, first, takes) recorded =
-    taken_done old space member serial names receipt port message answer new effects (oldest_lawful port message later (lawful.ports serial port live).2 first)
-    (outcome_of old space names receipt member serial port message answer new effects takes) recorded
+taken_done : (old : State) (space member serial : ℕ) (names : Names) (receipt : Receipt) (port : PortState) (message : Message) (answer : Reply) (new : State) (effects : List Effect) → Told message member
+    → TakesOut old space names receipt member serial port message answer new effects → has_record (call_of receipt) answer ≡ true → ReceiptDone receipt answer
+taken_done old space member serial names receipt port message answer new effects told takes recorded =
+    elim (nat_lt receipt.limit (message_size message)) as (λ (b : Bool). nat_lt receipt.limit (message_size message) ≡ b → MatchBool b (TooLarge old member serial message receipt.large answer new effects)
+    (MatchBool (lacks_names names message) ((answer ≡ without_message RcvHeaderErrorSpace 0 MACH_PORT_NULL) × (new ≡ old) × (effects ≡ [])) (Received old space names member serial port message answer new effects))
+    → ReceiptDone receipt answer) [
+      | true ↦ λ (larger : _) (large : _). destroyed_done old member serial receipt message answer new effects told larger large
+      | false ↦ λ (within : _) (here : _). elim (lacks_names names message) as (λ (b : Bool).
+          MatchBool b ((answer ≡ without_message RcvHeaderErrorSpace 0 MACH_PORT_NULL) × (new ≡ old) × (effects ≡ [])) (Received old space names member serial port message answer new effects) → ReceiptDone receipt answer) [
+            | true ↦ λ (lacks : _). absurd (lacking_none receipt.limit receipt.name receipt.large receipt.waited (subst (λ (a : Reply). has_record (call_of receipt) a ≡ true) lacks.0 recorded))
+            | false ↦ λ (whole : _). brought_done old space member serial names receipt port message answer new effects told within whole
+          ] here
+    ] refl takes
 
-pub receipt_done : (old : State) (space : ℕ) (names : Names) (receipt : Receipt) (answer : Reply) (new : State) (effects : List Effect) → LawfulAtRest old → Receives old space names receipt answer new effects → has_record (call_of receipt) answer ≡ true → ReceiptDone answer
-receipt_done old space names receipt answer new effects lawful receives recorded =
-    elim (receive_refusal old names receipt) as (λ (o : Option KernReturn). IfSome o HasNone → MatchOption o (Takes old space names receipt answer new effects) (λ code. (answer ≡ without_message code 0 MACH_PORT_NULL) × (new ≡ old) × (effects ≡ [])) → ReceiptDone answer) [
-      | None ↦ λ (_ : _) (takes : _). receipt_taken old space names receipt answer new effects lawful takes recorded
+receipt_taken : (old : State) (space : ℕ) (names : Names) (receipt : Receipt) (answer : Reply) (new : State) (effects : List Effect) → LawfulAtRest old → finmap.get old.spaces space ≡ Some names
+    → Takes old space names receipt answer new effects → has_record (call_of receipt) answer ≡ true → ReceiptDone receipt answer
+receipt_taken old space names receipt answer new effects lawful there (member, serial, port, message, later, among, holds, live, first, takes) recorded =
+    let named = (lawful.spaces space names there).2.named member holds.0 holds.1 in
+    taken_done old space member serial names receipt port message answer new effects
+    (record { lawful = oldest_lawful port message later (lawful.ports serial port live).2 first; named = (named.0, named.1) }) takes recorded
+
+pub receipt_done : (old : State) (space : ℕ) (names : Names) (receipt : Receipt) (answer : Reply) (new : State) (effects : List Effect) → LawfulAtRest old → finmap.get old.spaces space ≡ Some names
+    → Receives old space names receipt answer new effects → has_record (call_of receipt) answer ≡ true → ReceiptDone receipt answer
+receipt_done old space names receipt answer new effects lawful there receives recorded =
+    elim (receive_refusal old names receipt) as (λ (o : Option KernReturn). IfSome o HasNone → MatchOption o (Takes old space names receipt answer new effects) (λ code. (answer ≡ without_message code 0 MACH_PORT_NULL) × (new ≡ old) × (effects ≡ [])) → ReceiptDone receipt answer) [
+      | None ↦ λ (_ : _) (takes : _). receipt_taken old space names receipt answer new effects lawful there takes recorded
       | Some code ↦ λ (none : _) (refused : _). absurd (none receipt.limit receipt.name receipt.large receipt.waited (subst (λ (a : Reply). has_record (call_of receipt) a ≡ true) refused.0 recorded))
     ] (refusals_none old names receipt) receives
 
 -- Receipts that have records, from lawful states.
 abbrev pub RecordedReceiptsAreDone : Type 0
 RecordedReceiptsAreDone = (old : State) (space : ℕ) (names : Names) (receipt : Receipt) (answer : Reply) (new : State) (effects : List Effect)
-    → LawfulAtRest old → Receives old space names receipt answer new effects → has_record (call_of receipt) answer ≡ true → ReceiptDone answer
+    → LawfulAtRest old → finmap.get old.spaces space ≡ Some names → Receives old space names receipt answer new effects → has_record (call_of receipt) answer ≡ true → ReceiptDone receipt answer
 
 pub recorded_receipts : RecordedReceiptsAreDone
-recorded_receipts old space names receipt answer new effects lawful receives recorded = receipt_done old space names receipt answer new effects lawful receives recorded
+recorded_receipts old space names receipt answer new effects lawful there receives recorded = receipt_done old space names receipt answer new effects lawful there receives recorded

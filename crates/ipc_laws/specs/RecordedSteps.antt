@@ -40,11 +40,11 @@ sent_whole old space names message answer new effects acts recorded =
       reply_frame = omega (arith, message_length Success 0 0 []);
     })
 
-received_whole : (old : State) (space : ℕ) (names : Names) (limit name : ℕ) (large waited : Bool) (answer : Reply) (new : State) (effects : List Effect) → LawfulAtRest old
+received_whole : (old : State) (space : ℕ) (names : Names) (limit name : ℕ) (large waited : Bool) (answer : Reply) (new : State) (effects : List Effect) → LawfulAtRest old → finmap.get old.spaces space ≡ Some names
     → Receives old space names (record { limit = limit; large = large; name = name; waited = waited }) answer new effects → has_record (call.Receive limit large name waited) answer ≡ true
     → IsAnsweredWhole (call.Receive limit large name waited) answer
-received_whole old space names limit name large waited answer new effects lawful receives recorded =
-    let done = receipt_done old space names (record { limit = limit; large = large; name = name; waited = waited }) answer new effects lawful receives recorded in
+received_whole old space names limit name large waited answer new effects lawful there receives recorded =
+    let done = receipt_done old space names (record { limit = limit; large = large; name = name; waited = waited }) answer new effects lawful there receives recorded in
     subst (IsAnsweredWhole (call.Receive limit large name waited)) (sym done.answer_is) (record {
       whole = tt;
       number_is = refl;
@@ -65,7 +65,7 @@ from_whole : (o : Option Names) (old : State) (space : ℕ) (c : Call) (answer :
 from_whole None old space c answer new effects there lawful acts recorded = absurd (cc (recorded, ap (has_record c) acts.0 ∙ refused_none c))
 from_whole (Some names) old space (call.Send message) answer new effects there lawful acts recorded = sent_whole old space names message answer new effects acts recorded
 from_whole (Some names) old space (call.Receive limit large name waited) answer new effects there lawful acts recorded =
-    received_whole old space names limit name large waited answer new effects (at_rest old lawful) acts recorded
+    received_whole old space names limit name large waited answer new effects (at_rest old lawful) there acts recorded
 from_whole (Some names) old space c answer new effects there lawful acts recorded = record {
   whole = tt;
   number_is = answer_number old space names c answer new effects refl acts;

@@ -134,8 +134,8 @@ pub fn recorded_sends_are_done()
     ensures { RecordedSendsAreDone }
 {}
 
-/// A receipt that has a record, from a lawful state, brings a message as long as its size says, or destroyed one that was
-/// too large and brings nothing.
+/// A receipt that has a record, from a lawful state, tells a name of its space and a size that messages have: it brings a
+/// message of this size within its limit, or destroyed one above it and brings nothing.
 pub fn recorded_receipts_are_done()
     ensures { RecordedReceiptsAreDone }
 {}

@@ -16,11 +16,9 @@ use crate::values::{
     behind_label, push_two, read_bounded, read_flag, read_labelled, read_optional, read_value,
 };
 use byteorder::{ByteOrder, LittleEndian};
+use codes::HEADER_LENGTH;
 use std::alloc::{AllocError, Global};
 use words::push_word;
-
-/// How many bytes a header has.
-const HEADER_LENGTH: usize = 24;
 
 /// The words of a message's header.
 #[derive(Clone, Copy)]

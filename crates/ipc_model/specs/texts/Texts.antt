@@ -1,10 +1,10 @@
 -- Calls, replies and records in bytes, one spelling each.
-use Rattle.std.specs.Prelude.{◌≡◌, ℕ, ◌+◌, ◌^◌, ◌<◌, ◌≤◌, Bool, true, false, IsTrue, List, [], ◌∷◌, ◌++◌, length, All, flat_map, MatchBool, if◌then◌else◌}
+use Rattle.std.specs.Prelude.{◌≡◌, ℕ, ◌+◌, ◌^◌, ◌%◌, ◌<◌, ◌≤◌, Bool, true, false, IsTrue, List, [], ◌∷◌, ◌++◌, length, All, flat_map, MatchBool, if◌then◌else◌}
 use Rattle.codes.specs.declared.call_number.TheConstants.{MACH_PORT_NAMES, MACH_PORT_TYPE, MACH_PORT_ALLOCATE, MACH_PORT_GET_REFS, MACH_PORT_GET_RECEIVE_STATUS, MACH_PORT_GET_SET_STATUS, MACH_PORT_REQUEST_NOTIFICATION, MACH_PORT_EXTRACT_RIGHT, MACH_MSG, SPACE_CREATE}
 use Rattle.codes.specs.KernReturn.{number_of}
 use Rattle.codes.specs.declared.kern_return.KernReturn.{KernReturn}
-use Rattle.codes.specs.declared.limits.TheConstants.{MAX_FRAME_CONTENT}
-use Rattle.codes.specs.declared.name.TheConstants.{MACH_PORT_NULL}
+use Rattle.codes.specs.declared.limits.TheConstants.{MAX_FRAME_CONTENT, MAX_MESSAGE_SIZE}
+use Rattle.codes.specs.declared.name.TheConstants.{MACH_PORT_DEAD, MACH_PORT_NULL}
 use Rattle.ipc_model.specs.declared.call.Call.{Call}
 use Rattle.ipc_model.specs.declared.call.Call.TheVariants as call
 use Rattle.ipc_model.specs.declared.call.NamedType.{NamedType}
@@ -179,14 +179,21 @@ has_no_results (call.Receive limit large name waited) = false
 has_no_results (call.SpaceCreate name disposition) = false
 has_no_results c = true
 
--- What a receipt brings: a message of this size, or where it destroyed one nothing.
-abbrev pub IsOfReceipt : KernReturn → ℕ → List ℕ → Type 0
-IsOfReceipt code size message = MatchBool (is_success code) ((header_length ≤ size) × (length message ≡ size)) (message ≡ [])
+-- the sizes that a message may have
+abbrev pub IsMessageSize : ℕ → Type 0
+IsMessageSize size = (header_length ≤ size) × (size ≤ MAX_MESSAGE_SIZE) × (size % 4 ≡ 0)
+
+-- What a receipt with this limit tells: the size of the message that it took out and the name of the port. It brings the
+-- message, or nothing where the message was larger than the limit and was destroyed.
+abbrev pub IsOfReceipt : ℕ → KernReturn → ℕ → ℕ → List ℕ → Type 0
+IsOfReceipt limit code size member message =
+    IsMessageSize size × (MACH_PORT_NULL < member) × (member < MACH_PORT_DEAD)
+    × MatchBool (is_success code) ((size ≤ limit) × (length message ≡ size)) ((limit < size) × (message ≡ []))
 
 -- mach_msg brings these results: a send none.
 abbrev pub Brings : Call → KernReturn → ℕ → ℕ → List ℕ → Type 0
 Brings (call.Send sent) code size member message = (size ≡ 0) × (member ≡ MACH_PORT_NULL) × (message ≡ [])
-Brings (call.Receive limit large name waited) code size member message = IsOfReceipt code size message
+Brings (call.Receive limit large name waited) code size member message = IsOfReceipt limit code size member message
 Brings c code size member message = ⊥
 
 -- the results that the reply to such a call has
