@@ -1,3 +1,4 @@
+use crate::expect::{same, same_in_row};
 use codes::{KernReturn, Right};
 
 // Numbers that are on the wire, against the definitions that the clauses cite.
@@ -12,7 +13,7 @@ fn numbers_on_the_wire(rt: HostRuntime) {
         (KernReturn::InvalidValue, 18),
     ];
     for (code, number) in codes {
-        assert_eq!(rt; code.number(), number, "{code:?}");
+        same_in_row(&rt, code, code.number(), number);
     }
     let rights = [
         (Right::Send, 0x1_0000),
@@ -22,7 +23,7 @@ fn numbers_on_the_wire(rt: HostRuntime) {
         (Right::DeadName, 0x10_0000),
     ];
     for (right, bit) in rights {
-        assert_eq!(rt; right.type_bit(), bit, "{right:?}");
-        assert_eq!(rt; Right::from_number(right.number()), Some(right));
+        same_in_row(&rt, right, right.type_bit(), bit);
+        same(&rt, Right::from_number(right.number()), Some(right));
     }
 }

@@ -6,6 +6,8 @@ mod calls_tests;
 #[cfg(test)]
 mod codes_tests;
 #[cfg(test)]
+mod expect;
+#[cfg(test)]
 mod ipc_model_tests;
 #[cfg(test)]
 mod record_tests;

@@ -1,3 +1,4 @@
+use crate::expect::{same, same_bytes, same_in_row};
 use std::alloc::Global;
 use std::io;
 use std::io::{Read, Write};
@@ -58,28 +59,37 @@ fn fault_of(alloc: Global, bytes: &[u8]) -> Option<WireFault> {
 
 #[test]
 fn faults_by_the_bytes(rt: HostRuntime) {
-    let alloc = rt.alloc();
-    let short = Some(WireFault::Short);
-    assert_eq!(rt; fault_of(alloc, &[3, 0, 0, 0, 5, 0, 0, 0]), short);
-    assert_eq!(rt; fault_of(alloc, &FRAME[..3]), short);
-    assert_eq!(rt; fault_of(alloc, &FRAME[..11]), short);
-    let too_long = Some(WireFault::TooLong);
-    assert_eq!(rt; fault_of(alloc, &[0xfd, 0xff, 0, 0, 5, 0, 0, 0]), too_long);
-    assert_eq!(rt; fault_of(alloc, &[]), None);
+    let rows: [(&[u8], Option<WireFault>); 5] = [
+        (&[3, 0, 0, 0, 5, 0, 0, 0], Some(WireFault::Short)),
+        (&FRAME[..3], Some(WireFault::Short)),
+        (&FRAME[..11], Some(WireFault::Short)),
+        (&[0xfd, 0xff, 0, 0, 5, 0, 0, 0], Some(WireFault::TooLong)),
+        (&[], None),
+    ];
+    for (bytes, fault) in rows {
+        same_in_row(&rt, bytes, fault_of(rt.alloc(), bytes), fault);
+    }
+}
+
+fn frame_from(alloc: Global, input: &mut impl Read) -> Result<Frame, Fail> {
+    Ok(read_frame(alloc, input)?.ok_or("a frame stands there")?)
 }
 
 #[test]
 fn reads_and_writes(rt: HostRuntime) -> Result<(), Fail> {
     let alloc = rt.alloc();
     let mut input: &[u8] = b"\x08\0\0\0\x05\0\0\0\x01\0\0\0\x04";
-    let frame = read_frame(alloc, &mut input)?.ok_or("a frame stands there")?;
-    assert_eq!(rt; frame.number(), 5);
-    assert_eq!(rt; frame.arguments(), &[1, 0, 0, 0][..]);
-    assert_eq!(rt; input, &[4][..]);
+    let frame = frame_from(alloc, &mut input)?;
+    let arguments: &[u8] = &[1, 0, 0, 0];
+    same(
+        &rt,
+        (frame.number(), frame.arguments(), input),
+        (5, arguments, &[4][..]),
+    );
     let mut output = Vec::new(alloc);
     write_frame(&mut output, &frame)?;
-    assert_eq!(rt; output.as_slice(), &FRAME[..]);
-    assert!(rt; read_frame(alloc, &mut &[][..])?.is_none());
+    same_bytes(&rt, &output, &FRAME);
+    same(&rt, read_frame(alloc, &mut &[][..])?.is_none(), true);
     Ok(())
 }
 
@@ -87,17 +97,17 @@ fn reads_and_writes(rt: HostRuntime) -> Result<(), Fail> {
 fn makes_frames(rt: HostRuntime) -> Result<(), Fail> {
     let alloc = rt.alloc();
     let mut frame = Frame::with_room(alloc, 100)?;
-    assert_eq!(rt; frame.content(), &[0, 0, 0, 0][..]);
-    assert!(rt; frame.room() >= 100);
+    same(&rt, frame.content(), &[0, 0, 0, 0][..]);
+    same(&rt, frame.room() >= 100, true);
     frame.start(5);
     frame.put_word(1);
-    assert_eq!(rt; frame.content(), &FRAME[4..]);
+    same(&rt, frame.content(), &FRAME[4..]);
     frame.put_bytes(b"ab");
-    assert_eq!(rt; frame.arguments(), b"\x01\0\0\0ab".as_slice());
+    same(&rt, frame.arguments(), b"\x01\0\0\0ab".as_slice());
     frame.start(0x0102_0304);
-    assert_eq!(rt; frame.number(), 0x0102_0304);
+    same(&rt, frame.number(), 0x0102_0304);
     let copy = Frame::from_content(alloc, frame.content())?;
-    assert_eq!(rt; copy.content(), &[4, 3, 2, 1][..]);
+    same(&rt, copy.content(), &[4, 3, 2, 1][..]);
     Ok(())
 }
 
@@ -105,12 +115,12 @@ fn makes_frames(rt: HostRuntime) -> Result<(), Fail> {
 fn readers_that_give_little(rt: HostRuntime) -> Result<(), Fail> {
     let bytes: &'static [u8] = b"\x08\0\0\0\x05\0\0\0\x01\0\0\0";
     let mut reader = OneByte { bytes, before: 12 };
-    let frame = read_frame(rt.alloc(), &mut reader)?.ok_or("a frame stands there")?;
-    assert_eq!(rt; frame.content(), &FRAME[4..]);
+    let frame = frame_from(rt.alloc(), &mut reader)?;
+    same(&rt, frame.content(), &FRAME[4..]);
     for before in [0, 3, 4, 11] {
         let mut reader = OneByte { bytes, before };
         let fault = read_frame(rt.alloc(), &mut reader).err();
-        assert_eq!(rt; fault, Some(WireFault::Device), "after {before} bytes");
+        same_in_row(&rt, before, fault, Some(WireFault::Device));
     }
     Ok(())
 }
@@ -120,14 +130,14 @@ fn writers_that_take_little(rt: HostRuntime) -> Result<(), Fail> {
     let frame = Frame::from_content(rt.alloc(), &FRAME[4..])?;
     for (room, stuck) in [(0, false), (3, false), (4, false), (11, false), (11, true)] {
         let fault = write_frame(&mut Small { room, stuck }, &frame).err();
-        assert_eq!(rt; fault, Some(WireFault::Device), "room for {room}");
+        same_in_row(&rt, room, fault, Some(WireFault::Device));
     }
     let mut enough = Small {
         room: 12,
         stuck: false,
     };
     write_frame(&mut enough, &frame)?;
-    assert_eq!(rt; enough.room, 0);
+    same(&rt, enough.room, 0);
     Ok(())
 }
 
@@ -140,8 +150,8 @@ fn names_of_faults(rt: HostRuntime) -> Result<(), Fail> {
         (WireFault::NoMemory, 4, "no memory"),
     ];
     for (fault, number, text) in faults {
-        assert_eq!(rt; fault.number(), number);
-        assert_eq!(rt; format!(in rt.alloc(); "{fault}")?.as_str(), text);
+        same(&rt, fault.number(), number);
+        same(&rt, format!(in rt.alloc(); "{fault}")?.as_str(), text);
     }
     Ok(())
 }

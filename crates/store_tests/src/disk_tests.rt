@@ -1,5 +1,7 @@
+use crate::expect::{same, same_bytes, same_in_row};
+use crate::making::slot;
 use disk::{Disk, DiskFault, FileDisk, MemDisk, Slot, Torn};
-use std::alloc::Global;
+use std::alloc::{AllocError, Global};
 use std::io::{self, ErrorKind};
 use std::test::Fail;
 use std::{env, fs};
@@ -18,6 +20,8 @@ fn fresh_folder(rt: &HostRuntime) -> io::Result<String> {
     Err(ErrorKind::AlreadyExists.into())
 }
 
+// The functions that make one call of a disk have no clause, so that a test's proof carries nothing of it.
+
 fn content<D: Disk>(rt: &HostRuntime, disk: &mut D, slot: Slot) -> Result<Vec<u8>, Fail> {
     let mut buffer = [0; 64];
     let count = disk.read(slot, 0, &mut buffer)?;
@@ -28,187 +32,312 @@ fn content<D: Disk>(rt: &HostRuntime, disk: &mut D, slot: Slot) -> Result<Vec<u8
     Ok(bytes)
 }
 
+fn read(disk: &mut MemDisk, at: u64, buffer: &mut [u8]) -> Result<usize, DiskFault> {
+    disk.read(Slot::Image1, at, buffer)
+}
+
+fn write<D: Disk>(
+    disk: &mut D,
+    slot: Slot,
+    at: u64,
+    bytes: &[u8],
+) -> Result<Result<(), DiskFault>, Fail> {
+    if at > disk.length(slot) {
+        return Err(Fail::from("a write begins within the slot"));
+    }
+    Ok(disk.write_at(slot, at, bytes))
+}
+
+fn cut<D: Disk>(disk: &mut D, slot: Slot, length: u64) -> Result<Result<(), DiskFault>, Fail> {
+    if length > disk.length(slot) {
+        return Err(Fail::from("a slot is cut to less"));
+    }
+    Ok(disk.cut(slot, length))
+}
+
+fn sync<D: Disk>(disk: &mut D, slot: Slot) -> Result<(), DiskFault> {
+    disk.sync(slot)
+}
+
+fn failures(disk: &MemDisk) -> u64 {
+    disk.failures()
+}
+
+// The length of a slot, and how many calls have failed.
+fn counts<D: Disk>(disk: &D, slot: Slot) -> (u64, u64) {
+    (disk.length(slot), disk.failures())
+}
+
+fn after_stop(disk: MemDisk) -> Result<MemDisk, AllocError> {
+    disk.after_stop()
+}
+
+// Whether the slots hold these bytes, each.
+fn slots_are(disk: &MemDisk, wanted: [&[u8]; 4]) -> [bool; 4] {
+    let [image0, image1, segment0, segment1] = wanted;
+    [
+        slot(disk, Slot::Image0) == image0,
+        slot(disk, Slot::Image1) == image1,
+        slot(disk, Slot::Segment0) == segment0,
+        slot(disk, Slot::Segment1) == segment1,
+    ]
+}
+
+// One call that changes a disk.
+#[derive(Clone, Copy)]
+enum Step {
+    Write(Slot, u64, &'static [u8]),
+    Cut(Slot, u64),
+    Sync(Slot),
+}
+
+// Takes steps that all succeed.
+fn take<D: Disk>(disk: &mut D, steps: &[Step]) -> Result<(), Fail> {
+    for step in steps {
+        match *step {
+            Step::Write(slot, at, bytes) => write(disk, slot, at, bytes)??,
+            Step::Cut(slot, length) => cut(disk, slot, length)??,
+            Step::Sync(slot) => sync(disk, slot)?,
+        }
+    }
+    Ok(())
+}
+
+// A disk in memory with the bytes "aBc" in the image 1, in several steps.
+fn written_in_memory(rt: &HostRuntime) -> Result<MemDisk, Fail> {
+    let mut disk = MemDisk::new(rt.alloc());
+    take(
+        &mut disk,
+        &[
+            Step::Write(Slot::Image1, 0, b"abcdef"),
+            Step::Write(Slot::Image1, 4, b"EFG"),
+            Step::Write(Slot::Image1, 1, b"B"),
+        ],
+    )?;
+    Ok(disk)
+}
+
 #[test]
 fn memory_is_read_as_it_was_written(rt: HostRuntime) -> Result<(), Fail> {
-    let mut disk = MemDisk::new(rt.alloc());
-    disk.write_at(Slot::Image1, 0, b"abcdef".as_slice())?;
-    disk.write_at(Slot::Image1, 4, b"EFG".as_slice())?;
-    disk.write_at(Slot::Image1, 1, b"B".as_slice())?;
-    assert_eq!(rt; disk.content(Slot::Image1), b"aBcdEFG".as_slice());
-    assert_eq!(rt; disk.length(Slot::Image1), 7);
-    disk.cut(Slot::Image1, 3)?;
-    disk.sync(Slot::Image1)?;
-    assert_eq!(rt;
-        content(&rt, &mut disk, Slot::Image1)?.as_slice(),
-        b"aBc".as_slice()
+    let mut disk = written_in_memory(&rt)?;
+    same(
+        &rt,
+        slots_are(&disk, [b"", b"aBcdEFG", b"", b""]),
+        [true; 4],
     );
-    let mut buffer = *b"....";
-    assert_eq!(rt; disk.read(Slot::Image1, 2, &mut buffer)?, 1);
-    assert_eq!(rt; buffer.as_slice(), b"c...".as_slice());
-    assert_eq!(rt; disk.read(Slot::Image1, 9, &mut buffer)?, 0);
-    assert_eq!(rt; disk.content(Slot::Segment0), b"".as_slice());
-    assert_eq!(rt; disk.failures(), 0);
+    same(&rt, counts(&disk, Slot::Image1), (7, 0));
+    take(
+        &mut disk,
+        &[Step::Cut(Slot::Image1, 3), Step::Sync(Slot::Image1)],
+    )?;
+    same_bytes(&rt, &content(&rt, &mut disk, Slot::Image1)?, b"aBc");
+    same(&rt, counts(&disk, Slot::Image1), (3, 0));
     Ok(())
+}
+
+#[test]
+fn a_read_ends_at_the_end(rt: HostRuntime) -> Result<(), Fail> {
+    let mut disk = written_in_memory(&rt)?;
+    take(&mut disk, &[Step::Cut(Slot::Image1, 3)])?;
+    let mut buffer = *b"....";
+    let counts = [
+        read(&mut disk, 2, &mut buffer),
+        read(&mut disk, 9, &mut [0; 4]),
+    ];
+    same(&rt, (counts, buffer), ([Ok(1), Ok(0)], *b"c..."));
+    Ok(())
+}
+
+// A disk whose sixth call fails.
+fn planned(alloc: Global, torn: Torn) -> Result<MemDisk, AllocError> {
+    let mut disk = MemDisk::with_slots(alloc, b"abc", b"abcdef", b"", b"m")?;
+    disk.plan(None, Some(6), torn);
+    Ok(disk)
 }
 
 // A disk with a write of 4 bytes over 2 of 3, a cut and a new write, a synced write, and a write that failed.
 fn begun(alloc: Global, torn: Torn) -> Result<MemDisk, Fail> {
-    let mut disk = MemDisk::with_slots(
-        alloc,
-        b"abc".as_slice(),
-        b"abcdef".as_slice(),
-        b"".as_slice(),
-        b"m".as_slice(),
+    let mut disk = planned(alloc, torn)?;
+    take(
+        &mut disk,
+        &[
+            Step::Write(Slot::Image0, 1, b"WXYZ"),
+            Step::Cut(Slot::Image1, 2),
+            Step::Write(Slot::Image1, 2, b"W"),
+            Step::Write(Slot::Segment0, 0, b"pq"),
+            Step::Sync(Slot::Segment0),
+        ],
     )?;
-    disk.plan(None, Some(6), torn);
-    disk.write_at(Slot::Image0, 1, b"WXYZ".as_slice())?;
-    disk.cut(Slot::Image1, 2)?;
-    disk.write_at(Slot::Image1, 2, b"W".as_slice())?;
-    disk.write_at(Slot::Segment0, 0, b"pq".as_slice())?;
-    disk.sync(Slot::Segment0)?;
-    let _ = disk.write_at(Slot::Segment1, 1, b"nop".as_slice());
+    let _ = write(&mut disk, Slot::Segment1, 1, b"nop")?;
     Ok(disk)
 }
 
 #[test]
 fn a_stop_tears_what_was_not_synced(rt: HostRuntime) -> Result<(), Fail> {
-    for (torn, image0, image1, segment1) in [
-        (
-            Torn::Old,
-            b"abc".as_slice(),
-            b"ab".as_slice(),
-            b"m".as_slice(),
-        ),
-        (
-            Torn::New,
-            b"aWXYZ".as_slice(),
-            b"abWdef".as_slice(),
-            b"mnop".as_slice(),
-        ),
-        (
-            Torn::Half,
-            b"aWX\0\0".as_slice(),
-            b"abWdef".as_slice(),
-            b"mno\0".as_slice(),
-        ),
-        (
-            Torn::Fill(35),
-            b"a####".as_slice(),
-            b"ab#def".as_slice(),
-            b"m###".as_slice(),
-        ),
-    ] {
+    let seen: [&[u8]; 4] = [b"aWXYZ", b"abW", b"pq", b"m"];
+    let rows: [(Torn, [&[u8]; 4]); 4] = [
+        (Torn::Old, [b"abc", b"ab", b"pq", b"m"]),
+        (Torn::New, [b"aWXYZ", b"abWdef", b"pq", b"mnop"]),
+        (Torn::Half, [b"aWX\0\0", b"abWdef", b"pq", b"mno\0"]),
+        (Torn::Fill(35), [b"a####", b"ab#def", b"pq", b"m###"]),
+    ];
+    for (torn, left) in rows {
         let disk = begun(rt.alloc(), torn)?;
-        assert_eq!(rt; disk.content(Slot::Image0), b"aWXYZ".as_slice());
-        assert_eq!(rt; disk.content(Slot::Image1), b"abW".as_slice());
-        assert_eq!(rt; disk.content(Slot::Segment1), b"m".as_slice());
-        assert_eq!(rt; disk.failures(), 1);
-        let mut left = disk.after_stop()?;
-        assert_eq!(rt; left.content(Slot::Image0), image0, "{torn:?}");
-        assert_eq!(rt; left.content(Slot::Image1), image1, "{torn:?}");
-        assert_eq!(rt; left.content(Slot::Segment0), b"pq".as_slice(), "{torn:?}");
-        assert_eq!(rt; left.content(Slot::Segment1), segment1, "{torn:?}");
-        // It has no plan, and nothing that a second stop could tear.
-        left.sync(Slot::Image0)?;
-        assert_eq!(rt; left.failures(), 0);
-        assert_eq!(rt;
-            left.after_stop()?.content(Slot::Image0),
-            image0,
-            "{torn:?}"
+        same_in_row(
+            &rt,
+            torn,
+            (slots_are(&disk, seen), failures(&disk)),
+            ([true; 4], 1),
         );
+        let disk = after_stop(disk)?;
+        same_in_row(&rt, torn, slots_are(&disk, left), [true; 4]);
     }
     Ok(())
 }
 
+// What a stop leaves has no plan, and nothing that a second stop could tear.
+#[test]
+fn a_stop_leaves_a_disk_at_rest(rt: HostRuntime) -> Result<(), Fail> {
+    let rows: [(Torn, &[u8]); 4] = [
+        (Torn::Old, b"abc"),
+        (Torn::New, b"aWXYZ"),
+        (Torn::Half, b"aWX\0\0"),
+        (Torn::Fill(35), b"a####"),
+    ];
+    for (torn, image0) in rows {
+        let mut left = after_stop(begun(rt.alloc(), torn)?)?;
+        sync(&mut left, Slot::Image0)?;
+        same_in_row(&rt, torn, failures(&left), 0);
+        same_in_row(&rt, torn, slot(&after_stop(left)?, Slot::Image0), image0);
+    }
+    Ok(())
+}
+
+// A disk that is stopped since its second call.
+fn stopped(alloc: Global) -> Result<MemDisk, Fail> {
+    let mut disk = MemDisk::new(alloc);
+    take(&mut disk, &[Step::Write(Slot::Image0, 0, b"ab")])?;
+    disk.plan(Some(2), None, Torn::Old);
+    take(&mut disk, &[Step::Write(Slot::Image0, 0, b"A")])?;
+    Ok(disk)
+}
+
 #[test]
 fn a_plan_stops_all_later_calls(rt: HostRuntime) -> Result<(), Fail> {
-    let mut disk = MemDisk::new(rt.alloc());
-    disk.write_at(Slot::Image0, 0, b"ab".as_slice())?;
-    disk.plan(Some(2), None, Torn::Old);
-    disk.write_at(Slot::Image0, 0, b"A".as_slice())?;
-    assert_eq!(rt; disk.sync(Slot::Image0), Err(DiskFault));
-    assert_eq!(rt; disk.cut(Slot::Image0, 0), Err(DiskFault));
-    assert_eq!(rt;
-        disk.write_at(Slot::Image0, 0, b"xyz".as_slice()),
-        Err(DiskFault)
+    let mut disk = stopped(rt.alloc())?;
+    let seen = [
+        sync(&mut disk, Slot::Image0).err(),
+        cut(&mut disk, Slot::Image0, 0)?.err(),
+        write(&mut disk, Slot::Image0, 0, b"xyz")?.err(),
+        read(&mut disk, 0, &mut [0; 4]).err(),
+    ];
+    same(&rt, seen, [Some(DiskFault); 4]);
+    let image0: &[u8] = b"Ab";
+    same(
+        &rt,
+        (slot(&disk, Slot::Image0), counts(&disk, Slot::Image0)),
+        (image0, (2, 4)),
     );
-    assert_eq!(rt; disk.read(Slot::Image0, 0, &mut [0; 4]), Err(DiskFault));
-    assert_eq!(rt; disk.content(Slot::Image0), b"Ab".as_slice());
-    assert_eq!(rt; disk.length(Slot::Image0), 2);
-    assert_eq!(rt; disk.failures(), 4);
-    assert_eq!(rt; disk.after_stop()?.content(Slot::Image0), b"".as_slice());
+    same(&rt, slot(&after_stop(disk)?, Slot::Image0), b"".as_slice());
     Ok(())
+}
+
+fn files_at(rt: HostRuntime, folder: &str) -> Result<FileDisk<HostRuntime>, DiskFault> {
+    FileDisk::at(rt.alloc(), rt, folder)
+}
+
+fn remove(rt: &HostRuntime, folder: &str) -> io::Result<()> {
+    fs::remove_dir_all(rt, folder)
+}
+
+// What is done on files is written over any disk, so that a proof carries nothing of files.
+
+// Writes to a disk, and gives the counts of the segment 0.
+fn write_segment<D: Disk + Drop>(mut disk: D) -> Result<(u64, u64), Fail> {
+    take(
+        &mut disk,
+        &[
+            Step::Write(Slot::Segment0, 0, b"abcdef"),
+            Step::Write(Slot::Segment0, 2, b"CD"),
+            Step::Sync(Slot::Segment0),
+            Step::Cut(Slot::Segment0, 5),
+            Step::Sync(Slot::Segment0),
+        ],
+    )?;
+    Ok(counts(&disk, Slot::Segment0))
+}
+
+// The content of the segment 0, and then its counts and those of the image 0.
+fn read_segment<D: Disk + Drop>(
+    rt: &HostRuntime,
+    mut disk: D,
+) -> Result<(Vec<u8>, [(u64, u64); 2]), Fail> {
+    let bytes = content(rt, &mut disk, Slot::Segment0)?;
+    let seen = [counts(&disk, Slot::Segment0), counts(&disk, Slot::Image0)];
+    Ok((bytes, seen))
 }
 
 #[test]
 fn files_hold_what_was_written(rt: HostRuntime) -> Result<(), Fail> {
     let folder = fresh_folder(&rt)?;
-    let mut disk = FileDisk::at(rt.alloc(), rt, folder.as_str())?;
-    disk.write_at(Slot::Segment0, 0, b"abcdef".as_slice())?;
-    disk.write_at(Slot::Segment0, 2, b"CD".as_slice())?;
-    disk.sync(Slot::Segment0)?;
-    disk.cut(Slot::Segment0, 5)?;
-    disk.sync(Slot::Segment0)?;
-    assert_eq!(rt; disk.length(Slot::Segment0), 5);
-    let mut again = FileDisk::at(rt.alloc(), rt, folder.as_str())?;
-    assert_eq!(rt; again.length(Slot::Segment0), 5);
-    assert_eq!(rt; again.length(Slot::Image0), 0);
-    assert_eq!(rt;
-        content(&rt, &mut again, Slot::Segment0)?.as_slice(),
-        b"abCDe".as_slice()
-    );
-    assert_eq!(rt; again.failures(), 0);
-    fs::remove_dir_all(&rt, folder.as_str())?;
-    Ok(())
+    let written = write_segment(files_at(rt, folder.as_str())?)?;
+    let (bytes, read) = read_segment(&rt, files_at(rt, folder.as_str())?)?;
+    same(&rt, (written, read), ((5, 0), [(5, 0), (0, 0)]));
+    same_bytes(&rt, &bytes, b"abCDe");
+    Ok(remove(&rt, folder.as_str())?)
+}
+
+// Reads and syncs each slot, and gives how many bytes they hold together.
+fn read_and_sync<D: Disk + Drop>(rt: &HostRuntime, mut disk: D) -> Result<usize, Fail> {
+    let mut total = 0_usize;
+    for slot in [Slot::Image0, Slot::Image1, Slot::Segment0, Slot::Segment1] {
+        total = total.saturating_add(content(rt, &mut disk, slot)?.len());
+        sync(&mut disk, slot)?;
+    }
+    Ok(total)
 }
 
 #[test]
 fn reads_and_syncs_make_no_file(rt: HostRuntime) -> Result<(), Fail> {
     let folder = fresh_folder(&rt)?;
-    let mut disk = FileDisk::at(rt.alloc(), rt, folder.as_str())?;
-    for slot in [Slot::Image0, Slot::Image1, Slot::Segment0, Slot::Segment1] {
-        assert_eq!(rt; content(&rt, &mut disk, slot)?.len(), 0);
-        disk.sync(slot)?;
-    }
+    let length = read_and_sync(&rt, files_at(rt, folder.as_str())?)?;
+    same(&rt, length, 0);
     // It is empty, or else this fails.
-    fs::remove_dir(&rt, folder.as_str())?;
-    Ok(())
+    Ok(fs::remove_dir(&rt, folder.as_str())?)
 }
 
 #[test]
 fn what_is_no_folder_is_refused(rt: HostRuntime) -> Result<(), Fail> {
     let folder = fresh_folder(&rt)?;
     let inside = format!(in rt.alloc(); "{}/image0", folder.as_str())?;
-    assert_eq!(rt;
-        FileDisk::at(rt.alloc(), rt, inside.as_str()).err(),
-        Some(DiskFault)
-    );
+    let absent = files_at(rt, inside.as_str()).err();
     fs::write(&rt, inside.as_str(), b"a".as_slice())?;
-    assert_eq!(rt;
-        FileDisk::at(rt.alloc(), rt, inside.as_str()).err(),
-        Some(DiskFault)
-    );
-    // Nor is a folder in place of a file a slot.
-    fs::remove_file(&rt, inside.as_str())?;
+    let file = files_at(rt, inside.as_str()).err();
+    same(&rt, [absent, file], [Some(DiskFault); 2]);
+    Ok(remove(&rt, folder.as_str())?)
+}
+
+#[test]
+fn a_folder_in_place_of_a_slot_is_refused(rt: HostRuntime) -> Result<(), Fail> {
+    let folder = fresh_folder(&rt)?;
+    let inside = format!(in rt.alloc(); "{}/image0", folder.as_str())?;
     fs::create_dir(&rt, inside.as_str())?;
-    assert_eq!(rt;
-        FileDisk::at(rt.alloc(), rt, folder.as_str()).err(),
-        Some(DiskFault)
-    );
-    fs::remove_dir_all(&rt, folder.as_str())?;
-    Ok(())
+    same(&rt, files_at(rt, folder.as_str()).err(), Some(DiskFault));
+    Ok(remove(&rt, folder.as_str())?)
+}
+
+// What a write and a cut answer, and how many calls have failed then.
+fn write_and_cut<D: Disk + Drop>(mut disk: D) -> Result<([Result<(), DiskFault>; 2], u64), Fail> {
+    let written = write(&mut disk, Slot::Image0, 0, b"a")?;
+    let cut = cut(&mut disk, Slot::Image0, 0)?;
+    Ok(([written, cut], disk.failures()))
 }
 
 #[test]
 fn a_failed_call_is_counted(rt: HostRuntime) -> Result<(), Fail> {
     let folder = fresh_folder(&rt)?;
-    let mut disk = FileDisk::at(rt.alloc(), rt, folder.as_str())?;
+    let disk = files_at(rt, folder.as_str())?;
     fs::remove_dir(&rt, folder.as_str())?;
-    assert_eq!(rt;
-        disk.write_at(Slot::Image0, 0, b"a".as_slice()),
-        Err(DiskFault)
-    );
-    assert_eq!(rt; disk.cut(Slot::Image0, 0), Err(DiskFault));
-    assert_eq!(rt; disk.failures(), 2);
+    same(&rt, write_and_cut(disk)?, ([Err(DiskFault); 2], 2));
     Ok(())
 }

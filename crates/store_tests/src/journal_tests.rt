@@ -1,78 +1,73 @@
-ghost use Rattle.std.specs.Prelude.{◌<◌, ◌^◌, length};
-ghost use Rattle.ipc_model.specs.texts.Texts.{call_text, reply_text};
-
-use disk::{MemDisk, Slot, Torn};
+use crate::expect::{same, same_in_row};
+use crate::making::{
+    NEW_SEGMENT, SEGMENT, append_allocation, disk_with, journal_on, planned, slot,
+};
+use disk::{Slot, Torn};
 use ipc_model::{Call, Record, Reply};
-use journal::{Journal, StoreFault, read_batches};
+use journal::{StoreFault, read_batches};
+use std::alloc::Global;
 use std::test::Fail;
-
-// A segment of epoch 0 with one batch: that of the record 0, which is the allocation of the name 0x100.
-const SEGMENT: [u8; 70] = [
-    0x5a, 1, 0, 0, 0, 0, 0, 0, 0, 0, 0, 0, 0, 0, 0, 0, 0x5a, 1, 0, 0, 0, 40, 0, 0, 0, 0, 0, 0, 0,
-    0, 0, 0, 0, 0, 0, 0, 0, 1, 0, 0, 0, 8, 0, 0, 0, 5, 0, 0, 0, 1, 0, 0, 0, 12, 0, 0, 0, 5, 0, 0,
-    0, 0, 0, 0, 0, 0, 1, 0, 0, 0,
-];
-
-// A segment of epoch 0 with no batch.
-const NEW_SEGMENT: [u8; 17] = [0x5a, 1, 0, 0, 0, 0, 0, 0, 0, 0, 0, 0, 0, 0, 0, 0, 0];
-
-#[tactic(auto, unfolding(ipc_model::specs::texts::Texts::call_text, ipc_model::specs::texts::Texts::reply_text))]
-fn allocation() -> Record
-    ensures call { length (call_text result.call) < 2 ^ 32 }
-    ensures reply { length (reply_text result.reply) < 2 ^ 32 }
-{
-    Record {
-        space: 1,
-        call: Call::Allocate { right: 1 },
-        reply: Reply::Allocate { name: 0x100 },
-    }
-}
 
 #[test]
 fn a_batch_is_stored(rt: HostRuntime) -> Result<(), Fail> {
-    let disk = MemDisk::with_slots(rt.alloc(), &[], &[], &NEW_SEGMENT, &[])?;
-    let mut journal = Journal::new(rt.alloc(), disk, 0);
-    journal.append(&allocation())?;
-    assert_eq!(rt; journal.records(), 1);
-    assert_eq!(rt; journal.into_disk().content(Slot::Segment0), &SEGMENT[..]);
+    let disk = disk_with(rt.alloc(), &[], &NEW_SEGMENT)?;
+    let mut journal = journal_on(rt.alloc(), disk)?;
+    append_allocation(&mut journal)?;
+    same(&rt, journal.records(), 1);
+    same(
+        &rt,
+        slot(&journal.into_disk(), Slot::Segment0),
+        &SEGMENT[..],
+    );
     Ok(())
 }
 
 #[test]
 fn a_failure_is_remembered(rt: HostRuntime) -> Result<(), Fail> {
     for call in 1..5u64 {
-        let mut disk = MemDisk::with_slots(rt.alloc(), &[], &[], &NEW_SEGMENT, &[])?;
-        disk.plan(None, Some(call), Torn::Old);
-        let mut journal = Journal::new(rt.alloc(), disk, 0);
-        assert_eq!(rt;
-            journal.append(&allocation()),
-            Err(StoreFault::Device),
-            "at call {call}"
-        );
-        assert_eq!(rt;
-            journal.append(&allocation()),
-            Err(StoreFault::Failed),
-            "at call {call}"
+        let disk = disk_with(rt.alloc(), &[], &NEW_SEGMENT)?;
+        let disk = planned(disk, None, Some(call), Torn::Old);
+        let mut journal = journal_on(rt.alloc(), disk)?;
+        let seen = [
+            append_allocation(&mut journal),
+            append_allocation(&mut journal),
+        ];
+        same_in_row(
+            &rt,
+            call,
+            seen,
+            [Err(StoreFault::Device), Err(StoreFault::Failed)],
         );
     }
     Ok(())
 }
 
+fn batches(alloc: Global, bytes: &[u8]) -> Result<(Vec<Record>, usize), StoreFault> {
+    read_batches(alloc, bytes)
+}
+
 #[test]
 fn batches_are_read(rt: HostRuntime) -> Result<(), Fail> {
-    let (records, size) = read_batches(rt.alloc(), &SEGMENT[16..])?;
+    let (records, size) = batches(rt.alloc(), &SEGMENT[16..])?;
     let [record] = records.as_slice() else {
         return Err(Fail::from("one record is read"));
     };
-    assert_eq!(rt; record.space, 1);
-    assert!(rt; matches!(record.call, Call::Allocate { right: 1 }));
-    assert!(rt; matches!(record.reply, Reply::Allocate { name: 0x100 }));
-    assert_eq!(rt; size, 53);
-    // A second batch of the same number doesn't follow the first.
+    let is_call = matches!(record.call, Call::Allocate { right: 1 });
+    let is_reply = matches!(record.reply, Reply::Allocate { name: 0x100 });
+    same(
+        &rt,
+        (size, record.space, is_call, is_reply),
+        (53, 1, true, true),
+    );
+    Ok(())
+}
+
+#[test]
+fn a_second_batch_has_its_own_number(rt: HostRuntime) -> Result<(), Fail> {
     let mut twice = SEGMENT[16..69].to_vec(rt.alloc())?;
     twice.extend_from_slice(&SEGMENT[16..])?;
-    let fault = read_batches(rt.alloc(), &twice).err();
-    assert_eq!(rt; fault, Some(StoreFault::Damaged));
+    let fault = batches(rt.alloc(), &twice).err();
+    same(&rt, fault, Some(StoreFault::Damaged));
     Ok(())
 }
 
@@ -86,8 +81,8 @@ fn names_of_faults(rt: HostRuntime) -> Result<(), Fail> {
         (StoreFault::Failed, 5, "failed"),
         (StoreFault::Version, 6, "version"),
     ] {
-        assert_eq!(rt; fault.number(), number);
-        assert_eq!(rt; format!(in rt.alloc(); "{fault}")?.as_str(), text);
+        let seen = format!(in rt.alloc(); "{fault}")?;
+        same(&rt, (fault.number(), seen.as_str()), (number, text));
     }
     Ok(())
 }

@@ -4,6 +4,10 @@
 #[cfg(test)]
 mod disk_tests;
 #[cfg(test)]
+mod expect;
+#[cfg(test)]
 mod journal_tests;
+#[cfg(test)]
+mod making;
 #[cfg(test)]
 mod recover_tests;

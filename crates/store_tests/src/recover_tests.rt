@@ -1,9 +1,10 @@
-ghost use Rattle.std.specs.Prelude.{◌<◌, ◌^◌, length};
-ghost use Rattle.ipc_model.specs.texts.Texts.{call_text, reply_text};
-
+use crate::expect::{same, same_in_row};
+use crate::making::{
+    NEW_SEGMENT, SEGMENT, append_allocation, disk_with, journal_on, planned, slot,
+};
 use disk::{MemDisk, Slot, Torn};
-use ipc_model::{Call, Record, Reply};
-use journal::{Journal, StoreFault};
+use ipc_model::Reply;
+use journal::StoreFault;
 use recover::{Opened, open};
 use std::alloc::Global;
 use std::test::Fail;
@@ -14,28 +15,6 @@ const IMAGE: [u8; 48] = [
     0, 0, 1, 0, 0, 0, 1, 0, 0, 0, 0, 0, 0, 0, 0, 0, 0, 0,
 ];
 
-// A segment of epoch 0 with one batch: that of the record 0, which is the allocation of the name 0x100.
-const SEGMENT: [u8; 70] = [
-    0x5a, 1, 0, 0, 0, 0, 0, 0, 0, 0, 0, 0, 0, 0, 0, 0, 0x5a, 1, 0, 0, 0, 40, 0, 0, 0, 0, 0, 0, 0,
-    0, 0, 0, 0, 0, 0, 0, 0, 1, 0, 0, 0, 8, 0, 0, 0, 5, 0, 0, 0, 1, 0, 0, 0, 12, 0, 0, 0, 5, 0, 0,
-    0, 0, 0, 0, 0, 0, 1, 0, 0, 0,
-];
-
-// A segment of epoch 0 with no batch.
-const NEW_SEGMENT: [u8; 17] = [0x5a, 1, 0, 0, 0, 0, 0, 0, 0, 0, 0, 0, 0, 0, 0, 0, 0];
-
-#[tactic(auto, unfolding(ipc_model::specs::texts::Texts::call_text, ipc_model::specs::texts::Texts::reply_text))]
-fn allocation() -> Record
-    ensures call { length (call_text result.call) < 2 ^ 32 }
-    ensures reply { length (reply_text result.reply) < 2 ^ 32 }
-{
-    Record {
-        space: 1,
-        call: Call::Allocate { right: 1 },
-        reply: Reply::Allocate { name: 0x100 },
-    }
-}
-
 // What opening a store gave: how many records it holds, the type bits of the name 0x100, 0 where it isn't in use,
 // and how long segment 0 is now.
 type Found = Result<(u64, u32, usize), StoreFault>;
@@ -44,15 +23,37 @@ const EMPTY: Found = Ok((0, 0, 17));
 
 const STORED: Found = Ok((1, 0x20000, 70));
 
+// Opens a store. It has no clause, so that a test's proof carries nothing of it.
+fn opened(alloc: Global, disk: MemDisk) -> Result<Opened<MemDisk>, (StoreFault, MemDisk)> {
+    open(alloc, disk)
+}
+
+// Opens a store, and gives its disk, whether it was opened or not.
+fn disk_of_opened(alloc: Global, disk: MemDisk) -> MemDisk {
+    match opened(alloc, disk) {
+        Ok(opened) => opened.journal.into_disk(),
+        Err((_, disk)) => disk,
+    }
+}
+
+fn after_stop(disk: MemDisk) -> Result<MemDisk, Fail> {
+    Ok(disk.after_stop()?)
+}
+
+// The type bits of the name 0x100.
+fn type_bits(opened: &Opened<MemDisk>) -> u32 {
+    match opened.kernel.port_type(1, 0x100) {
+        Reply::Type { bits } => bits,
+        _ => 0,
+    }
+}
+
 fn reopened(alloc: Global, disk: MemDisk) -> Found {
-    match open(alloc, disk) {
-        Ok(Opened { kernel, journal }) => {
-            let records = journal.records();
-            let length = journal.into_disk().content(Slot::Segment0).len();
-            let bits = match kernel.port_type(1, 0x100) {
-                Reply::Type { bits } => bits,
-                _ => 0,
-            };
+    match opened(alloc, disk) {
+        Ok(opened) => {
+            let bits = type_bits(&opened);
+            let records = opened.journal.records();
+            let length = slot(&opened.journal.into_disk(), Slot::Segment0).len();
             Ok((records, bits, length))
         }
         Err((fault, _)) => Err(fault),
@@ -60,22 +61,29 @@ fn reopened(alloc: Global, disk: MemDisk) -> Found {
 }
 
 fn opened_with(alloc: Global, image0: &[u8], segment0: &[u8]) -> Result<Found, Fail> {
-    let disk = MemDisk::with_slots(alloc, image0, &[], segment0, &[])?;
-    Ok(reopened(alloc, disk))
+    Ok(reopened(alloc, disk_with(alloc, image0, segment0)?))
+}
+
+// A new store with the record of `SEGMENT`.
+fn stored(alloc: Global) -> Result<MemDisk, Fail> {
+    let Ok(opened) = opened(alloc, MemDisk::new(alloc)) else {
+        return Err("it is made".into());
+    };
+    let mut journal = opened.journal;
+    append_allocation(&mut journal)?;
+    Ok(journal.into_disk())
 }
 
 #[test]
 fn a_new_store_is_made(rt: HostRuntime) -> Result<(), Fail> {
-    let Ok(opened) = open(rt.alloc(), MemDisk::new(rt.alloc())) else {
-        return Err("it is made".into());
-    };
-    let mut journal = opened.journal;
-    journal.append(&allocation())?;
-    let disk = journal.into_disk();
-    assert_eq!(rt; disk.content(Slot::Image0), &IMAGE[..]);
-    assert_eq!(rt; disk.content(Slot::Segment0), &SEGMENT[..]);
-    assert_eq!(rt; reopened(rt.alloc(), disk), STORED);
-    assert_eq!(rt; reopened(rt.alloc(), MemDisk::new(rt.alloc())), EMPTY);
+    let disk = stored(rt.alloc())?;
+    same(&rt, slot(&disk, Slot::Image0), &IMAGE[..]);
+    same(&rt, slot(&disk, Slot::Segment0), &SEGMENT[..]);
+    let found = [
+        reopened(rt.alloc(), disk),
+        reopened(rt.alloc(), MemDisk::new(rt.alloc())),
+    ];
+    same(&rt, found, [STORED, EMPTY]);
     Ok(())
 }
 
@@ -99,10 +107,11 @@ fn bent_bytes(rt: HostRuntime) -> Result<(), Fail> {
         } else {
             segment0[at] = byte;
         }
-        assert_eq!(rt;
+        same_in_row(
+            &rt,
+            (byte, at),
             opened_with(rt.alloc(), &image0, &segment0)?,
             found,
-            "{byte} at {at}"
         );
     }
     Ok(())
@@ -118,13 +127,19 @@ fn cut_segments(rt: HostRuntime) -> Result<(), Fail> {
         (16, EMPTY),
         (15, damaged),
     ] {
-        assert_eq!(rt;
+        same_in_row(
+            &rt,
+            length,
             opened_with(rt.alloc(), &IMAGE, &SEGMENT[..length])?,
             found,
-            "{length}"
         );
     }
     Ok(())
+}
+
+// A disk with a stored record, and these bytes in the second slots.
+fn full_disk(alloc: Global, image1: &[u8], segment1: &[u8]) -> Result<MemDisk, Fail> {
+    Ok(MemDisk::with_slots(alloc, &IMAGE, image1, &SEGMENT, segment1)?)
 }
 
 #[test]
@@ -138,19 +153,18 @@ fn second_slots(rt: HostRuntime) -> Result<(), Fail> {
         (&[][..], &SEGMENT[..15], STORED),
         (&IMAGE[..24], &other[..], Err(StoreFault::Version)),
     ] {
-        let disk = MemDisk::with_slots(rt.alloc(), &IMAGE, image1, &SEGMENT, segment1)?;
-        assert_eq!(rt; reopened(rt.alloc(), disk), found);
+        let disk = full_disk(rt.alloc(), image1, segment1)?;
+        same(&rt, reopened(rt.alloc(), disk), found);
     }
     Ok(())
 }
 
 // Stores a record, and opens what a stop at a device call leaves.
 fn stopped(alloc: Global, stop_at: u64, torn: Torn) -> Result<Found, Fail> {
-    let mut disk = MemDisk::with_slots(alloc, &IMAGE, &[], &NEW_SEGMENT, &[])?;
-    disk.plan(Some(stop_at), None, torn);
-    let mut journal = Journal::new(alloc, disk, 0);
-    let _ = journal.append(&allocation());
-    Ok(reopened(alloc, journal.into_disk().after_stop()?))
+    let disk = disk_with(alloc, &IMAGE, &NEW_SEGMENT)?;
+    let mut journal = journal_on(alloc, planned(disk, Some(stop_at), None, torn))?;
+    let _ = append_allocation(&mut journal);
+    Ok(reopened(alloc, after_stop(journal.into_disk())?))
 }
 
 #[test]
@@ -166,14 +180,21 @@ fn stops_within_an_append(rt: HostRuntime) -> Result<(), Fail> {
         for stop_at in 1..6u64 {
             let is_stored = stop_at == 5 || stop_at >= 3 && opens;
             let found = if is_stored { STORED } else { EMPTY };
-            assert_eq!(rt;
+            same_in_row(
+                &rt,
+                (torn, stop_at),
                 stopped(rt.alloc(), stop_at, torn)?,
                 found,
-                "{torn:?} at {stop_at}"
             );
         }
     }
     Ok(())
+}
+
+// Makes a store, and opens what a stop at a device call leaves.
+fn stopped_in_making(alloc: Global, stop_at: u64, torn: Torn) -> Result<Found, Fail> {
+    let disk = planned(MemDisk::new(alloc), Some(stop_at), None, torn);
+    Ok(reopened(alloc, after_stop(disk_of_opened(alloc, disk))?))
 }
 
 #[test]
@@ -187,14 +208,12 @@ fn stops_within_the_making(rt: HostRuntime) -> Result<(), Fail> {
     ] {
         // The making has 24 device calls.
         for stop_at in 1..26u64 {
-            let mut disk = MemDisk::new(rt.alloc());
-            disk.plan(Some(stop_at), None, torn);
-            let disk = match open(rt.alloc(), disk) {
-                Ok(opened) => opened.journal.into_disk(),
-                Err((_, disk)) => disk,
-            };
-            let found = reopened(rt.alloc(), disk.after_stop()?);
-            assert_eq!(rt; found, EMPTY, "{torn:?} at {stop_at}");
+            same_in_row(
+                &rt,
+                (torn, stop_at),
+                stopped_in_making(rt.alloc(), stop_at, torn)?,
+                EMPTY,
+            );
         }
     }
     Ok(())

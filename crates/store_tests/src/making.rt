@@ -1,0 +1,66 @@
+//! A stored record and the journal that stores it. What is made here has no contract, so that a test's proof doesn't
+//! carry it along.
+ghost use Rattle.std.specs.Prelude.{◌<◌, ◌^◌, length};
+ghost use Rattle.ipc_model.specs.texts.Texts.{call_text, reply_text};
+
+use disk::{Disk, MemDisk, Slot, Torn};
+use ipc_model::{Call, Record, Reply};
+use journal::{Journal, StoreFault};
+use std::alloc::Global;
+use std::test::Fail;
+
+/// A segment of epoch 0 with one batch: that of the record 0, which is the allocation of the name 0x100.
+pub(crate) const SEGMENT: [u8; 70] = [
+    0x5a, 1, 0, 0, 0, 0, 0, 0, 0, 0, 0, 0, 0, 0, 0, 0, 0x5a, 1, 0, 0, 0, 40, 0, 0, 0, 0, 0, 0, 0,
+    0, 0, 0, 0, 0, 0, 0, 0, 1, 0, 0, 0, 8, 0, 0, 0, 5, 0, 0, 0, 1, 0, 0, 0, 12, 0, 0, 0, 5, 0, 0,
+    0, 0, 0, 0, 0, 0, 1, 0, 0, 0,
+];
+
+/// A segment of epoch 0 with no batch.
+pub(crate) const NEW_SEGMENT: [u8; 17] = [0x5a, 1, 0, 0, 0, 0, 0, 0, 0, 0, 0, 0, 0, 0, 0, 0, 0];
+
+#[tactic(auto, unfolding(ipc_model::specs::texts::Texts::call_text, ipc_model::specs::texts::Texts::reply_text))]
+fn allocation() -> Record
+    ensures call { length (call_text result.call) < 2 ^ 32 }
+    ensures reply { length (reply_text result.reply) < 2 ^ 32 }
+{
+    Record {
+        space: 1,
+        call: Call::Allocate { right: 1 },
+        reply: Reply::Allocate { name: 0x100 },
+    }
+}
+
+/// A journal of epoch 0 with no record on a disk with a segment.
+pub(crate) fn journal_on(alloc: Global, disk: MemDisk) -> Result<Journal<MemDisk>, Fail> {
+    if disk.length(Slot::Segment0) == 0 {
+        return Err(Fail::from("the disk has a segment"));
+    }
+    Ok(Journal::new(alloc, disk, 0))
+}
+
+/// Appends the record of [`SEGMENT`].
+pub(crate) fn append_allocation(journal: &mut Journal<MemDisk>) -> Result<(), StoreFault> {
+    journal.append(&allocation())
+}
+
+/// A disk with these bytes in the image 0 and the segment 0.
+pub(crate) fn disk_with(alloc: Global, image0: &[u8], segment0: &[u8]) -> Result<MemDisk, Fail> {
+    Ok(MemDisk::with_slots(alloc, image0, &[], segment0, &[])?)
+}
+
+/// Plans failures of a disk's calls, as `MemDisk::plan` does.
+pub(crate) fn planned(
+    mut disk: MemDisk,
+    stop_at: Option<u64>,
+    fail_at: Option<u64>,
+    torn: Torn,
+) -> MemDisk {
+    disk.plan(stop_at, fail_at, torn);
+    disk
+}
+
+/// The bytes of a slot.
+pub(crate) fn slot(disk: &MemDisk, slot: Slot) -> &[u8] {
+    disk.content(slot)
+}
