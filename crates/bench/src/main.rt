@@ -4,13 +4,15 @@
 #![tactic(auto)]
 
 mod costs;
+mod memory;
 
 use crate::costs::print_costs;
-use disk::FileDisk;
+use crate::memory::{Before, HERE, Pair, time_in_memory};
+use disk::{Disk, FileDisk};
 use ipc_model::{Call, Reply};
-use kernel::Kernel;
 use recover::open;
 use server::{Alone, Caller};
+use std::alloc::Global;
 use std::fs::File;
 use std::io::{self, Write};
 use std::process::ExitCode;
@@ -20,27 +22,32 @@ use std::{env, fmt};
 /// How many calls are stored, and how many pairs of syncs are made.
 const ROUNDS: u64 = 500;
 
-/// How often a pair of calls is made in memory.
-const PAIRS: u64 = 20_000;
-
-/// How many names a space has whose names are asked for, and how often they are.
-const NAMES: u64 = 1_000;
-
-/// A new receive right, and its end.
-const ALLOCATE_DESTROY: [Call; 2] = [Call::Allocate { right: 1 }, Call::Destroy { name: 0x100 }];
-
-/// A send right made from a receive right, and given up.
-const INSERT_DEALLOCATE: [Call; 2] = [
-    Call::InsertRight {
-        name: 0x100,
-        right_name: 0x100,
-        disposition: 20,
-    },
-    Call::Deallocate { name: 0x100 },
+/// What is measured in memory: what is made before and how often, a pair of calls, and how often the pair is made. These
+/// are a new receive right and its end, a send right made from a receive right and given up, and the names of a space that
+/// has 1,000.
+static IN_MEMORY: [(&str, (&str, u32), (&str, &str), u64); 3] = [
+    (
+        "allocate and destroy:       ",
+        ("names", 0),
+        ("allocate receive", "destroy 0x100"),
+        20_000,
+    ),
+    (
+        "insert_right and deallocate:",
+        ("allocate receive", 1),
+        ("insert_right 0x100 0x100 make_send", "deallocate 0x100"),
+        20_000,
+    ),
+    (
+        "names of 1,000 names:       ",
+        ("allocate dead_name", 1_000),
+        ("names", "names"),
+        500,
+    ),
 ];
 
 /// What went wrong.
-#[derive(Clone, Copy, Debug, PartialEq, Eq)]
+#[derive(Clone, Copy)]
 enum Fault {
     /// The store could not be opened.
     Store,
@@ -66,7 +73,38 @@ impl fmt::Display for Fault {
     }
 }
 
-/// How long so many allocations of a dead name take, each acknowledged.
+/// A caller on a new store in a folder.
+fn open_caller<D: Disk + Drop>(alloc: Global, disk: D) -> Result<Alone<D>, Fault> {
+    let Ok(opened) = open(alloc, disk) else {
+        return Err(Fault::Store);
+    };
+    Ok(Alone::new(alloc, opened))
+}
+
+/// Allocates a dead name, which has to be acknowledged.
+fn allocate<D: Disk>(caller: &mut Alone<D>) -> Result<(), Fault> {
+    match caller.call(Call::Allocate { right: 4 }) {
+        Ok(Reply::Allocate { .. }) => Ok(()),
+        _ => Err(Fault::Call),
+    }
+}
+
+/// How long so many allocations take, each acknowledged.
+fn time_allocations<D: Disk>(rt: &HostRuntime, caller: &mut Alone<D>) -> Result<Duration, Fault> {
+    let start = Instant::now(rt)?;
+    for _ in 0..ROUNDS {
+        allocate(caller)?;
+    }
+    Ok(start.elapsed(rt)?)
+}
+
+/// How long they take on a disk that has no store yet.
+fn time_disk<D: Disk + Drop>(rt: &HostRuntime, disk: D) -> Result<Duration, Fault> {
+    let mut caller = open_caller(rt.alloc(), disk)?;
+    time_allocations(rt, &mut caller)
+}
+
+/// How long they take in a folder.
 fn time_calls(rt: &HostRuntime, folder: &str) -> Result<Duration, Fault> {
     let Ok(store) = format!(in rt.alloc(); "{folder}/store") else {
         return Err(Fault::Device);
@@ -74,66 +112,34 @@ fn time_calls(rt: &HostRuntime, folder: &str) -> Result<Duration, Fault> {
     let Ok(disk) = FileDisk::at(rt.alloc(), rt, store.as_str()) else {
         return Err(Fault::Store);
     };
-    let Ok(opened) = open(rt.alloc(), disk) else {
-        return Err(Fault::Store);
-    };
-    let mut caller = Alone::new(rt.alloc(), opened);
-    let start = Instant::now(rt)?;
-    for _ in 0..ROUNDS {
-        if !matches!(
-            caller.call(Call::Allocate { right: 4 }),
-            Ok(Reply::Allocate { .. })
-        ) {
-            return Err(Fault::Call);
-        }
-    }
-    Ok(start.elapsed(rt)?)
+    time_disk(rt, disk)
 }
 
-/// How long so many pairs of writes take, each synced.
-fn time_syncs(rt: &HostRuntime, folder: &str) -> Result<Duration, Fault> {
-    let Ok(path) = format!(in rt.alloc(); "{folder}/syncs") else {
-        return Err(Fault::Device);
-    };
-    let mut file = File::create(rt, path.as_str())?;
-    let start = Instant::now(rt)?;
+/// Writes so many pairs, each write synced.
+fn sync_pairs(file: &mut File) -> io::Result<()> {
     for _ in 0..ROUNDS {
         file.write_all(&[0; 54])?;
         file.sync_all()?;
         file.write_all(&[0x5a])?;
         file.sync_all()?;
     }
-    Ok(start.elapsed(rt)?)
-}
-
-/// Makes calls of a task of space 1 so often, one after another, each of which has to be done.
-fn make(kernel: &mut Kernel, calls: &[Call], rounds: u64) -> Result<(), Fault> {
-    for _ in 0..rounds {
-        for call in calls {
-            match kernel.apply(1, call) {
-                Ok(reply) if reply.is_success() => {}
-                _ => return Err(Fault::Call),
-            }
-        }
-    }
     Ok(())
 }
 
-/// How long so many rounds of calls take in memory, after others were made so often.
-fn time_rounds(
-    rt: &HostRuntime,
-    first: &[Call],
-    before: u64,
-    calls: &[Call],
-    rounds: u64,
-) -> Result<Duration, Fault> {
-    let Ok(mut kernel) = Kernel::opening(rt.alloc()) else {
-        return Err(Fault::Call);
-    };
-    make(&mut kernel, first, before)?;
+/// How long they take.
+fn time_pairs(rt: &HostRuntime, file: &mut File) -> io::Result<Duration> {
     let start = Instant::now(rt)?;
-    make(&mut kernel, calls, rounds)?;
-    Ok(start.elapsed(rt)?)
+    sync_pairs(file)?;
+    start.elapsed(rt)
+}
+
+/// How long they take in a folder.
+fn time_syncs(rt: &HostRuntime, folder: &str) -> Result<Duration, Fault> {
+    let Ok(path) = format!(in rt.alloc(); "{folder}/syncs") else {
+        return Err(Fault::Device);
+    };
+    let mut file = File::create(rt, path.as_str())?;
+    Ok(time_pairs(rt, &mut file)?)
 }
 
 /// How many nanoseconds one of so many took.
@@ -153,67 +159,70 @@ fn per_second(count: u64, duration: Duration) -> u64 {
     u64::try_from(u128::from(count) * 1_000_000 / micros).unwrap_or(u64::MAX)
 }
 
-/// What is printed: how many calls a second are stored, how many pairs of syncs are made, and how many calls are made
-/// in memory.
-#[derive(Drop)]
-struct Figures {
-    stored: u64,
-    syncs: u64,
-    allocations: u64,
-    insertions: u64,
-    listings: u64,
+fn print_figure(rt: &HostRuntime, label: &str, figure: u64) {
+    let _ = println!(rt; "{label} {figure}");
 }
 
-fn measure(rt: &HostRuntime, folder: &str) -> Result<Figures, Fault> {
-    let stored = time_calls(rt, folder)?;
-    let syncs = time_syncs(rt, folder)?;
-    let allocations = time_rounds(rt, &[], 0, &ALLOCATE_DESTROY, PAIRS)?;
-    let a_port = [Call::Allocate { right: 1 }];
-    let insertions = time_rounds(rt, &a_port, 1, &INSERT_DEALLOCATE, PAIRS)?;
-    let a_dead_name = [Call::Allocate { right: 4 }];
-    let listings = time_rounds(rt, &a_dead_name, NAMES, &[Call::Names], NAMES)?;
-    Ok(Figures {
-        stored: per_second(ROUNDS, stored),
-        syncs: per_second(ROUNDS, syncs),
-        allocations: per_second(PAIRS * 2, allocations),
-        insertions: per_second(PAIRS * 2, insertions),
-        listings: per_second(NAMES, listings),
-    })
+/// Prints how many calls a second are stored, and how many pairs of syncs are made.
+fn print_stored(rt: &HostRuntime, folder: &str) -> Result<(), Fault> {
+    let stored = per_second(ROUNDS, time_calls(rt, folder)?);
+    let syncs = per_second(ROUNDS, time_syncs(rt, folder)?);
+    let ratio = stored.saturating_mul(100).checked_div(syncs).unwrap_or(0);
+    print_figure(rt, "acknowledged calls a second:", stored);
+    print_figure(rt, "pairs of syncs a second:    ", syncs);
+    print_figure(rt, "calls for 100 pairs:        ", ratio);
+    Ok(())
 }
 
-fn print(rt: &HostRuntime, figures: &Figures) {
-    let ratio = if figures.syncs == 0 {
-        0
-    } else {
-        figures.stored.saturating_mul(100) / figures.syncs
+/// How many calls of a pair a second are made in memory, after this line so often.
+fn in_memory(
+    rt: &HostRuntime,
+    before: (&str, u32),
+    calls: (&str, &str),
+    rounds: u64,
+) -> Result<u64, Fault> {
+    let before = Before {
+        lines: &[(HERE, before.0, before.1)],
+        names: 0,
     };
-    let _ = println!(rt; "acknowledged calls a second: {}", figures.stored);
-    let _ = println!(rt; "pairs of syncs a second:     {}", figures.syncs);
-    let _ = println!(rt; "calls for 100 pairs:         {ratio}");
+    let pair = Pair {
+        first: calls.0,
+        space: HERE,
+        second: calls.1,
+        is_done: true,
+    };
+    let duration = time_in_memory(rt, before, pair, rounds)?;
+    Ok(per_second(rounds.saturating_mul(2), duration))
+}
+
+/// Prints how many calls a second are made in memory.
+fn print_in_memory(rt: &HostRuntime) -> Result<(), Fault> {
     let _ = println!(rt; "calls a second in memory, without a store:");
-    let _ = println!(rt; "allocate and destroy:        {}", figures.allocations);
-    let _ = println!(rt; "insert_right and deallocate: {}", figures.insertions);
-    let _ = println!(rt; "names of 1,000 names:        {}", figures.listings);
+    for (label, before, calls, rounds) in &IN_MEMORY {
+        let figure = in_memory(rt, *before, *calls, *rounds)?;
+        print_figure(rt, label, figure);
+    }
+    Ok(())
+}
+
+/// Measures and prints everything.
+fn run(rt: &HostRuntime, folder: &str) -> Result<(), Fault> {
+    print_stored(rt, folder)?;
+    print_in_memory(rt)?;
+    print_costs(rt)
+}
+
+/// The first word behind the program's name.
+fn first_argument(rt: &HostRuntime) -> Option<String> {
+    env::args(rt).ok()?.skip(1).next()
 }
 
 fn main(rt: HostRuntime) -> ExitCode {
-    let folder = env::args(&rt).ok().and_then(|words| words.skip(1).next());
-    let Some(folder) = folder else {
+    let Some(folder) = first_argument(&rt) else {
         let _ = eprintln!(rt; "bench: name a folder that has an empty folder `store`");
         return ExitCode::from(2);
     };
-    match measure(&rt, folder.as_str()) {
-        Ok(figures) => {
-            print(&rt, &figures);
-            end(&rt, print_costs(&rt))
-        }
-        Err(fault) => end(&rt, Err(fault)),
-    }
-}
-
-/// Tells of a fault, and gives the status to end with.
-fn end(rt: &HostRuntime, outcome: Result<(), Fault>) -> ExitCode {
-    match outcome {
+    match run(&rt, folder.as_str()) {
         Ok(()) => ExitCode::SUCCESS,
         Err(fault) => {
             let _ = eprintln!(rt; "bench: {fault}");

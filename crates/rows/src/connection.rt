@@ -4,6 +4,7 @@ use disk::{Disk, MemDisk, Slot};
 use recover::open;
 use server::{Alone, serve};
 use std::alloc::{AllocError, Global};
+use std::mem;
 use words::take_word;
 
 /// The space that a connection's task is attached to at first.
@@ -16,7 +17,8 @@ const ATTACH: u32 = 0;
 #[derive(Drop)]
 pub struct Store {
     pub disk: MemDisk,
-    pub space: u32,
+    alloc: Global,
+    space: u32,
 }
 
 impl Store {
@@ -24,15 +26,22 @@ impl Store {
     pub fn new(alloc: Global) -> Store {
         Store {
             disk: MemDisk::new(alloc),
+            alloc,
             space: FIRST_SPACE,
         }
     }
 
-    /// The store for another connection.
-    pub fn connected_anew(self) -> Store {
+    /// Makes it the store for another connection.
+    pub fn connect_anew(&mut self) {
+        self.space = FIRST_SPACE;
+    }
+
+    /// Takes the store out, and leaves an empty one.
+    fn take(&mut self) -> Store {
         Store {
-            space: FIRST_SPACE,
-            ..self
+            disk: mem::replace(&mut self.disk, MemDisk::new(self.alloc)),
+            alloc: self.alloc,
+            space: self.space,
         }
     }
 
@@ -74,8 +83,8 @@ fn attached_by(frame: &[u8]) -> Option<u32> {
 
 impl Connection {
     /// Opens a store.
-    pub fn open(alloc: Global, store: Store, place: Place) -> Result<Connection, Failure> {
-        let Store { disk, space } = store;
+    pub fn open(store: Store, place: Place) -> Result<Connection, Failure> {
+        let Store { disk, alloc, space } = store;
         let opened = match open(alloc, disk) {
             Ok(opened) => opened,
             Err((fault, _)) => return Err(place.differs(Difference::Unopened(fault))),
@@ -88,6 +97,12 @@ impl Connection {
             space,
             records,
         })
+    }
+
+    /// Opens a store that `stop` gives back: until then it is an empty one. So whoever goes on with it has no store to drop
+    /// where a call fails.
+    pub fn borrow(store: &mut Store, place: Place) -> Result<Connection, Failure> {
+        Connection::open(store.take(), place)
     }
 
     /// How many records the store had when it was opened.
@@ -137,7 +152,7 @@ impl Connection {
     /// The store, once the server has ended.
     pub fn close(self) -> Store {
         let Connection {
-            alloc: _,
+            alloc,
             caller,
             attached: _,
             space,
@@ -145,16 +160,24 @@ impl Connection {
         } = self;
         Store {
             disk: caller.into_disk(),
+            alloc,
             space,
         }
     }
 
     /// The store that a stop leaves, which is the planned one where it came.
     pub fn stop(self) -> Result<Store, AllocError> {
-        let Store { disk, space } = self.close();
+        let Store { disk, alloc, space } = self.close();
         Ok(Store {
             disk: disk.after_stop()?,
+            alloc,
             space,
         })
+    }
+
+    /// Gives back the store that a stop leaves.
+    pub fn stop_in(self, store: &mut Store) -> Result<(), AllocError> {
+        *store = self.stop()?;
+        Ok(())
     }
 }

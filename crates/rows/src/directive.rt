@@ -5,7 +5,7 @@ ghost use Rattle.rows.specs.Lines.{text_length, before_comment, is_space, behind
 use std::str;
 
 /// What a line of a script is, by its first word.
-#[derive(Clone, Copy, Debug, PartialEq, Eq)]
+#[derive(Clone, Copy)]
 pub enum Directive<'a> {
     /// Nothing, or a comment.
     Nothing,

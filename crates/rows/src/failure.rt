@@ -4,7 +4,7 @@ use std::alloc::AllocError;
 use std::fmt;
 
 /// Why a frame has no reply.
-#[derive(Clone, Copy, Debug, PartialEq, Eq)]
+#[derive(Clone, Copy)]
 pub enum Unanswered {
     /// The server ended in place of it.
     NoReply,
@@ -13,7 +13,7 @@ pub enum Unanswered {
 }
 
 /// How a script went wrong at a line.
-#[derive(Debug, Drop)]
+#[derive(Drop)]
 pub enum Difference {
     /// The reply was another frame.
     Reply(Vec<u8>),
@@ -28,14 +28,14 @@ pub enum Difference {
 }
 
 /// A line of a script, and how the script is run.
-#[derive(Clone, Copy, Debug, PartialEq, Eq)]
+#[derive(Clone, Copy)]
 pub struct Place {
     pub line: u32,
     pub way: Way,
 }
 
 /// How a script is run.
-#[derive(Clone, Copy, Debug, PartialEq, Eq)]
+#[derive(Clone, Copy)]
 pub enum Way {
     /// On one server.
     Straight,
@@ -46,7 +46,7 @@ pub enum Way {
 }
 
 /// A stop at one of the device calls of an append.
-#[derive(Clone, Copy, Debug, PartialEq, Eq)]
+#[derive(Clone, Copy)]
 pub struct Stop {
     /// Which of them, from 1.
     pub at: u64,
@@ -67,7 +67,7 @@ impl fmt::Display for Way {
 }
 
 /// Why a script was not run to its end.
-#[derive(Debug, Drop)]
+#[derive(Drop)]
 pub enum Failure {
     NoMemory,
     At {

@@ -15,30 +15,40 @@ mod telling;
 
 use passes::run_script;
 use reading::read_script;
+use row::Script;
 use std::process::ExitCode;
 use std::{env, fs, io};
 use telling::{tell_failure, tell_fault};
 
-/// Runs the script of a file, and tells how it went: whether each answer was the one written.
-fn run_file(rt: &HostRuntime, name: &str) -> io::Result<bool> {
-    let text = fs::read(rt, name)?;
-    let script = match read_script(rt.alloc(), &text) {
-        Ok(script) => script,
-        Err(fault) => {
-            tell_fault(rt, name, &fault)?;
-            return Ok(false);
-        }
-    };
-    match run_script(rt.alloc(), &script) {
+/// Runs a script, and tells how it went: whether each answer was the one written.
+fn run_read(rt: &HostRuntime, name: &str, text: &[u8], script: &Script) -> io::Result<bool> {
+    match run_script(rt.alloc(), script) {
         Ok(calls) => {
             println!(rt; "{name}: {calls} calls, ok")?;
             Ok(true)
         }
         Err(failure) => {
-            tell_failure(rt, name, &text, &script, &failure)?;
+            tell_failure(rt, name, text, script, &failure)?;
             Ok(false)
         }
     }
+}
+
+/// Runs the script of a text, and tells how it went.
+fn run_text(rt: &HostRuntime, name: &str, text: &[u8]) -> io::Result<bool> {
+    match read_script(rt.alloc(), text) {
+        Ok(script) => run_read(rt, name, text, &script),
+        Err(fault) => {
+            tell_fault(rt, name, &fault)?;
+            Ok(false)
+        }
+    }
+}
+
+/// Runs the script of a file, and tells how it went.
+fn run_file(rt: &HostRuntime, name: &str) -> io::Result<bool> {
+    let text = fs::read(rt, name)?;
+    run_text(rt, name, &text)
 }
 
 /// Runs the scripts of the files that the command line names.

@@ -11,7 +11,7 @@ const OPENING_CALLS: u64 = 10;
 const APPEND_CALLS: u64 = 4;
 
 /// What a stop is told to leave of the writes since the last sync.
-const TORN: [Torn; 4] = [Torn::Old, Torn::New, Torn::Half, Torn::Fill(0x5a)];
+static TORN: [Torn; 4] = [Torn::Old, Torn::New, Torn::Half, Torn::Fill(0x5a)];
 
 /// Whether a reply is what it should be.
 fn check_reply(place: Place, reply: Vec<u8>, ask: &Ask) -> Result<(), Failure> {
@@ -40,145 +40,193 @@ fn check_length(place: Place, store: &Store, wanted: u64) -> Result<(), Failure>
     }
 }
 
+/// Sends a frame as often as its row says.
+fn check_asks(place: Place, connection: &mut Connection, ask: &Ask) -> Result<(), Failure> {
+    for _ in 0..ask.times {
+        check_ask(place, connection, ask)?;
+    }
+    Ok(())
+}
+
+/// Opens a store again whose slot is looked at.
+fn opened_of_length(store: Store, place: Place, wanted: u64) -> Result<Connection, Failure> {
+    check_length(place, &store, wanted)?;
+    Connection::open(store, place)
+}
+
 /// A line of a script on a server that goes on behind it. To look at a slot the server ends, and another begins.
-fn straight_row(
-    alloc: Global,
-    mut connection: Connection,
-    row: &Row,
-) -> Result<Connection, Failure> {
+fn straight_row(mut connection: Connection, row: &Row) -> Result<Connection, Failure> {
     let place = row.place(Way::Straight);
     match &row.step {
         Step::Ask(ask) => {
-            for _ in 0..ask.times {
-                check_ask(place, &mut connection, ask)?;
-            }
+            check_asks(place, &mut connection, ask)?;
             Ok(connection)
         }
-        Step::Connect => Connection::open(alloc, connection.close().connected_anew(), place),
-        Step::Length(length) => {
-            let store = connection.close();
-            check_length(place, &store, *length)?;
-            Connection::open(alloc, store, place)
+        Step::Connect => {
+            let mut store = connection.close();
+            store.connect_anew();
+            Connection::open(store, place)
         }
+        Step::Length(length) => opened_of_length(connection.close(), place, *length),
     }
 }
 
 /// A script on one server.
 fn run_straight(alloc: Global, rows: &[Row]) -> Result<(), Failure> {
-    let mut connection = Connection::open(alloc, Store::new(alloc), Place::start(Way::Straight))?;
+    let mut connection = Connection::open(Store::new(alloc), Place::start(Way::Straight))?;
     for row in rows {
-        connection = straight_row(alloc, connection, row)?;
+        connection = straight_row(connection, row)?;
     }
     Ok(())
 }
 
 /// A new store, which has been opened once: that makes it, by other device calls than later ones.
 fn new_store(alloc: Global, way: Way) -> Result<Store, Failure> {
-    let connection = Connection::open(alloc, Store::new(alloc), Place::start(way))?;
+    let connection = Connection::open(Store::new(alloc), Place::start(way))?;
     Ok(connection.stop()?)
 }
 
 /// A frame on a server of its own, which stops when it is answered.
-fn reopened_ask(alloc: Global, store: Store, place: Place, ask: &Ask) -> Result<Store, Failure> {
-    let mut connection = Connection::open(alloc, store, place)?;
-    check_ask(place, &mut connection, ask)?;
-    Ok(connection.stop()?)
+fn reopened_ask(store: &mut Store, place: Place, ask: &Ask) -> Result<(), Failure> {
+    let mut connection = Connection::borrow(store, place)?;
+    let outcome = check_ask(place, &mut connection, ask);
+    connection.stop_in(store)?;
+    outcome
+}
+
+/// A line of a script on a store that is stopped and opened again after each call.
+fn reopened_row(store: &mut Store, row: &Row) -> Result<(), Failure> {
+    let place = row.place(Way::Reopened);
+    match &row.step {
+        Step::Ask(ask) => {
+            for _ in 0..ask.times {
+                reopened_ask(store, place, ask)?;
+            }
+        }
+        Step::Connect => store.connect_anew(),
+        Step::Length(length) => check_length(place, store, *length)?,
+    }
+    Ok(())
+}
+
+fn reopened_rows(store: &mut Store, rows: &[Row]) -> Result<(), Failure> {
+    for row in rows {
+        reopened_row(store, row)?;
+    }
+    Ok(())
 }
 
 /// A script on a store that is stopped and opened again after each call.
 fn run_reopened(alloc: Global, rows: &[Row]) -> Result<(), Failure> {
     let mut store = new_store(alloc, Way::Reopened)?;
-    for row in rows {
-        let place = row.place(Way::Reopened);
-        match &row.step {
-            Step::Ask(ask) => {
-                for _ in 0..ask.times {
-                    store = reopened_ask(alloc, store, place, ask)?;
-                }
-            }
-            Step::Connect => store = store.connected_anew(),
-            Step::Length(length) => check_length(place, &store, *length)?,
-        }
-    }
-    Ok(())
+    reopened_rows(&mut store, rows)
 }
 
-/// What a frame left whose append was to be stopped.
+/// What became of a frame whose append was to be stopped.
+#[derive(Clone, Copy)]
 struct Stopped {
-    store: Store,
     /// How many records the store had before.
     records: u64,
     /// Whether the frame was answered all the same, since nothing was appended.
     is_answered: bool,
 }
 
+/// Sends a frame, and tells whether it was answered, as it should be.
+fn is_answered(place: Place, connection: &mut Connection, ask: &Ask) -> Result<bool, Failure> {
+    match connection.ask(&ask.frame) {
+        Ok(reply) => {
+            check_reply(place, reply, ask)?;
+            Ok(true)
+        }
+        Err(Unanswered::NoReply) => Ok(false),
+        Err(unanswered) => Err(place.differs(Difference::Unanswered(unanswered))),
+    }
+}
+
 /// A frame on a store that stops at a device call of its append.
 fn stopped_once(
-    alloc: Global,
-    mut store: Store,
+    store: &mut Store,
     stop: Stop,
     place: Place,
     ask: &Ask,
 ) -> Result<Stopped, Failure> {
     let stop_at = OPENING_CALLS + stop.at.min(APPEND_CALLS);
     store.disk.plan(Some(stop_at), None, stop.torn);
-    let mut connection = Connection::open(alloc, store, place)?;
+    let mut connection = Connection::borrow(store, place)?;
     let records = connection.records();
-    let is_answered = match connection.ask(&ask.frame) {
-        Ok(reply) => {
-            check_reply(place, reply, ask)?;
-            true
-        }
-        Err(Unanswered::NoReply) => false,
-        Err(unanswered) => return Err(place.differs(Difference::Unanswered(unanswered))),
-    };
+    let outcome = is_answered(place, &mut connection, ask);
+    connection.stop_in(store)?;
     Ok(Stopped {
-        store: connection.stop()?,
         records,
-        is_answered,
+        is_answered: outcome?,
     })
 }
 
-/// A frame on a store that stops at a device call of its append. Where the store doesn't know the call then, it is made
-/// again.
-fn stopped_ask(
-    alloc: Global,
-    store: Store,
-    stop: Stop,
+/// Makes a call again that was stopped, where the store doesn't know it.
+fn ask_again(
     place: Place,
+    connection: &mut Connection,
+    stopped: Stopped,
     ask: &Ask,
-) -> Result<Store, Failure> {
+) -> Result<(), Failure> {
     let Stopped {
-        store,
         records,
         is_answered,
-    } = stopped_once(alloc, store, stop, place, ask)?;
-    let mut connection = Connection::open(alloc, store, place)?;
+    } = stopped;
     let found = connection.records();
     // What was answered has no record, since the stop came before the end of any append.
     if found > records.saturating_add(u64::from(!is_answered)) || found < records {
         return Err(place.differs(Difference::Records));
     }
     if found == records && !is_answered {
-        check_ask(place, &mut connection, ask)?;
+        check_ask(place, connection, ask)?;
     }
-    Ok(connection.stop()?)
+    Ok(())
+}
+
+/// A frame on a store that stops at a device call of its append. Where the store doesn't know the call then, it is made
+/// again.
+fn stopped_ask(store: &mut Store, stop: Stop, place: Place, ask: &Ask) -> Result<(), Failure> {
+    let stopped = stopped_once(store, stop, place, ask)?;
+    let mut connection = Connection::borrow(store, place)?;
+    let outcome = ask_again(place, &mut connection, stopped, ask);
+    connection.stop_in(store)?;
+    outcome
+}
+
+/// A line of a script on a store that stops at one device call of each append.
+fn stopped_row(store: &mut Store, stop: Stop, row: &Row) -> Result<(), Failure> {
+    match &row.step {
+        Step::Ask(ask) => {
+            for _ in 0..ask.times {
+                stopped_ask(store, stop, row.place(Way::Stopped(stop)), ask)?;
+            }
+        }
+        Step::Connect => store.connect_anew(),
+        // Bytes that a stop left behind the last gate may stand there still.
+        Step::Length(_) => {}
+    }
+    Ok(())
+}
+
+fn stopped_rows(store: &mut Store, stop: Stop, rows: &[Row]) -> Result<(), Failure> {
+    for row in rows {
+        stopped_row(store, stop, row)?;
+    }
+    Ok(())
 }
 
 /// A script on a store that stops at one device call of each append.
 fn run_stopped(alloc: Global, rows: &[Row], stop: Stop) -> Result<(), Failure> {
-    let way = Way::Stopped(stop);
-    let mut store = new_store(alloc, way)?;
-    for row in rows {
-        match &row.step {
-            Step::Ask(ask) => {
-                for _ in 0..ask.times {
-                    store = stopped_ask(alloc, store, stop, row.place(way), ask)?;
-                }
-            }
-            Step::Connect => store = store.connected_anew(),
-            // Bytes that a stop left behind the last gate may stand there still.
-            Step::Length(_) => {}
+    let mut store = new_store(alloc, Way::Stopped(stop))?;
+    stopped_rows(&mut store, stop, rows)
+}
+
+/// A script with each stop, at each device call and with each of what it may leave.
+fn run_stops(alloc: Global, rows: &[Row]) -> Result<(), Failure> {
+    for torn in &TORN {
+        for at in 1..=APPEND_CALLS {
+            run_stopped(alloc, rows, Stop { at, torn: *torn })?;
         }
     }
     Ok(())
@@ -200,11 +248,7 @@ pub fn run_script(alloc: Global, script: &Script) -> Result<u64, Failure> {
     run_straight(alloc, &script.rows)?;
     if !script.is_straight {
         run_reopened(alloc, &script.rows)?;
-        for torn in TORN {
-            for at in 1..=APPEND_CALLS {
-                run_stopped(alloc, &script.rows, Stop { at, torn })?;
-            }
-        }
+        run_stops(alloc, &script.rows)?;
     }
     Ok(count_calls(&script.rows))
 }

@@ -13,7 +13,7 @@ use std::fmt;
 use words::push_word;
 
 /// Why a script can't be read.
-#[derive(Clone, Copy, Debug, PartialEq, Eq)]
+#[derive(Clone, Copy)]
 pub enum ReadFault {
     /// No memory for what the script holds.
     NoMemory,
@@ -27,12 +27,13 @@ pub enum ReadFault {
 
 impl fmt::Display for ReadFault {
     fn fmt<W: fmt::Write>(&self, f: &mut fmt::Formatter<W>) -> fmt::Result {
-        match self {
-            ReadFault::NoMemory => f.write_str("no memory"),
-            ReadFault::Line { line, fault } => write!(f, "line {line}, {fault}"),
-            ReadFault::Digits { line } => write!(f, "line {line}: no hexadecimal digits"),
-            ReadFault::Long { line } => write!(f, "line {line}: a reply that is too long"),
-        }
+        let (line, problem) = match self {
+            ReadFault::NoMemory => return f.write_str("no memory"),
+            ReadFault::Line { line, fault } => return write!(f, "line {line}, {fault}"),
+            ReadFault::Digits { line } => (line, "no hexadecimal digits"),
+            ReadFault::Long { line } => (line, "a reply that is too long"),
+        };
+        write!(f, "line {line}: {problem}")
     }
 }
 
@@ -84,14 +85,14 @@ fn is_short(reply: &Reply) -> bool
     count_items(reply) <= MAX_FRAME_CONTENT as usize
 }
 
-/// The frame of a reply, where it has one.
-fn reply_frame(alloc: Global, reply: &Reply) -> Result<Option<Vec<u8>>, AllocError> {
+/// The frame of a reply, which has to be short enough.
+fn reply_frame(alloc: Global, reply: &Reply, line: u32) -> Result<Vec<u8>, ReadFault> {
     if !is_short(reply) {
-        return Ok(None);
+        return Err(ReadFault::Long { line });
     }
     let mut content = Vec::new(alloc);
     push_reply(&mut content, reply)?;
-    Ok(Some(frame_of(alloc, &content)?))
+    Ok(frame_of(alloc, &content)?)
 }
 
 /// The bytes that hexadecimal digits spell, with any spaces between them.
@@ -124,18 +125,42 @@ fn code_of(reply: &Reply) -> u32 {
     }
 }
 
-/// A call and what it answers, as a step.
-fn call_step(alloc: Global, exchange: Exchange, line: u32) -> Result<Step, ReadFault> {
-    let Exchange { call, reply } = exchange;
-    let Some(wanted) = reply_frame(alloc, &reply)? else {
-        return Err(ReadFault::Long { line });
-    };
+/// A call that is made so many times, each with an answer that is wanted.
+fn asking(alloc: Global, call: Call, wanted: Wanted, times: u32) -> Result<Step, ReadFault> {
     Ok(Step::Ask(Ask {
         frame: call_frame(alloc, &call)?,
-        wanted: Wanted::Frame(wanted),
-        times: 1,
+        wanted,
+        times,
         call: Some(call),
     }))
+}
+
+/// A call and what it answers, as a step.
+fn call_step(alloc: Global, exchange: Exchange, line: u32) -> Result<Step, ReadFault> {
+    let wanted = reply_frame(alloc, &exchange.reply, line)?;
+    asking(alloc, exchange.call, Wanted::Frame(wanted), 1)
+}
+
+/// A call that is made so many times, each with the return code that stands behind it.
+fn refused_step(
+    alloc: Global,
+    times: u32,
+    text: &[u8],
+    line: u32,
+) -> Result<Option<Step>, ReadFault> {
+    let Some(Exchange { call, reply }) = exchange_of(alloc, text, line)? else {
+        return Ok(None);
+    };
+    let wanted = Wanted::Code(code_of(&reply));
+    Ok(Some(asking(alloc, call, wanted, times)?))
+}
+
+/// A call that is made so many times, each with success.
+fn done_step(alloc: Global, times: u32, text: &[u8], line: u32) -> Result<Step, ReadFault> {
+    match read_request_line(alloc, text) {
+        Ok(call) => asking(alloc, call, Wanted::Code(0), times),
+        Err(fault) => Err(ReadFault::Line { line, fault }),
+    }
 }
 
 /// A call that is made so many times, each with the return code that stands behind it, or with success.
@@ -145,23 +170,10 @@ fn repeat_step(
     text: &[u8],
     line: u32,
 ) -> Result<Option<Step>, ReadFault> {
-    let (call, code) = if text.contains(&b'!') {
-        let Some(Exchange { call, reply }) = exchange_of(alloc, text, line)? else {
-            return Ok(None);
-        };
-        (call, code_of(&reply))
-    } else {
-        match read_request_line(alloc, text) {
-            Ok(call) => (call, 0),
-            Err(fault) => return Err(ReadFault::Line { line, fault }),
-        }
-    };
-    Ok(Some(Step::Ask(Ask {
-        frame: call_frame(alloc, &call)?,
-        wanted: Wanted::Code(code),
-        times,
-        call: Some(call),
-    })))
+    if text.contains(&b'!') {
+        return refused_step(alloc, times, text, line);
+    }
+    Ok(Some(done_step(alloc, times, text, line)?))
 }
 
 /// A frame of these digits, and its answer.
@@ -191,6 +203,14 @@ fn step_of(alloc: Global, text: &[u8], line: u32) -> Result<Option<Step>, ReadFa
     }
 }
 
+/// Adds the row of a line, if it has one.
+fn add_row(alloc: Global, rows: &mut Vec<Row>, text: &[u8], line: u32) -> Result<(), ReadFault> {
+    if let Some(step) = step_of(alloc, text, line)? {
+        rows.push(Row { line, step })?;
+    }
+    Ok(())
+}
+
 /// The lines of a script.
 pub fn read_script(alloc: Global, text: &[u8]) -> Result<Script, ReadFault> {
     let mut is_straight = false;
@@ -198,12 +218,10 @@ pub fn read_script(alloc: Global, text: &[u8]) -> Result<Script, ReadFault> {
     let mut line = 0_u32;
     for text in text.split(|byte| *byte == b'\n') {
         line = line.saturating_add(1);
-        if directive_of(text) == Directive::Straight {
+        if matches!(directive_of(text), Directive::Straight) {
             is_straight = true;
         }
-        if let Some(step) = step_of(alloc, text, line)? {
-            rows.push(Row { line, step })?;
-        }
+        add_row(alloc, &mut rows, text, line)?;
     }
     Ok(Script { is_straight, rows })
 }

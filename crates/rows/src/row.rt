@@ -6,7 +6,7 @@ use ipc_model::Call;
 use words::take_word;
 
 /// What a reply has to be.
-#[derive(Debug, Drop)]
+#[derive(Drop)]
 pub enum Wanted {
     /// This frame, its length in front.
     Frame(Vec<u8>),
@@ -15,7 +15,7 @@ pub enum Wanted {
 }
 
 /// A frame that is sent, and what answers it.
-#[derive(Debug, Drop)]
+#[derive(Drop)]
 pub struct Ask {
     /// The frame, its length in front.
     pub frame: Vec<u8>,
@@ -27,7 +27,7 @@ pub struct Ask {
 }
 
 /// What a line of a script has done or looks at.
-#[derive(Debug, Drop)]
+#[derive(Drop)]
 pub enum Step {
     /// A frame is sent.
     Ask(Ask),
@@ -38,7 +38,7 @@ pub enum Step {
 }
 
 /// A line of a script that isn't a comment.
-#[derive(Debug, Drop)]
+#[derive(Drop)]
 pub struct Row {
     /// Its number, from 1.
     pub line: u32,
@@ -56,7 +56,7 @@ impl Row {
 }
 
 /// A script as it is run.
-#[derive(Debug, Drop)]
+#[derive(Drop)]
 pub struct Script {
     /// Whether it is run straight alone.
     pub is_straight: bool,

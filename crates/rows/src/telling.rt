@@ -9,7 +9,7 @@ use std::alloc::{AllocError, Global};
 use std::{io, str};
 
 /// The return codes that calls but `mach_msg` are refused with.
-const REFUSALS: [KernReturn; 13] = [
+static REFUSALS: [KernReturn; 13] = [
     KernReturn::NoSpace,
     KernReturn::InvalidArgument,
     KernReturn::Failure,
@@ -55,17 +55,28 @@ fn reply_of(alloc: Global, call: &Call, frame: &[u8]) -> Result<Option<Reply>, A
     }
 }
 
+/// A call and its reply as the line of a script, or the bytes of the reply's frame.
+fn exchange_text(
+    alloc: Global,
+    call: &Call,
+    reply: &Reply,
+    frame: &[u8],
+) -> Result<String, AllocError> {
+    let mut line = Vec::new(alloc);
+    push_call(&mut line, call)?;
+    push_reply(&mut line, reply)?;
+    match str::from_utf8(&line) {
+        Ok(line) => String::from_str(alloc, line),
+        Err(_) => hex::encode(alloc, frame),
+    }
+}
+
 /// A reply's frame as the line of a script, where it can be read as one, else its bytes.
 fn frame_text(alloc: Global, call: Option<&Call>, frame: &[u8]) -> Result<String, AllocError> {
     if let Some(call) = call
         && let Some(reply) = reply_of(alloc, call, frame)?
     {
-        let mut line = Vec::new(alloc);
-        push_call(&mut line, call)?;
-        push_reply(&mut line, &reply)?;
-        if let Ok(line) = str::from_utf8(&line) {
-            return String::from_str(alloc, line);
-        }
+        return exchange_text(alloc, call, &reply, frame);
     }
     hex::encode(alloc, frame)
 }
