@@ -116,7 +116,8 @@ kept_send-is_record = record {
   frames = (omega arith, omega arith);
 }
 
--- What is no record: a send that isn't kept, one without its header, results that a call of its number hasn't, and a receipt of another size.
+-- What is no record: a send that isn't kept, one without its header, results that a call of its number hasn't, and a
+-- receipt of another size, above its limit or destroyed within it, of an odd size, or of no name.
 
 pub raw_send-no_record : (answer : Reply) → IsRecord (of_send raw_send answer) → ⊥
 unfolding kept_message
@@ -131,8 +132,20 @@ answered_send-no_record is = absurd (omega (arith, is.reply.results.0))
 pub done_allocation-no_record : IsRecord (record { space = 1; call = call.Allocate 1; reply = reply.Done 5 }) → ⊥
 done_allocation-no_record is = cc is.reply.results
 
-pub shorter_receipt-no_record : IsRecord (record { space = 1; call = call.Receive 28 false 0x100 false; reply = reply.Message Success 29 0x100 kept_send }) → ⊥
-shorter_receipt-no_record is = absurd (omega (arith, is.reply.results.1))
+pub shorter_receipt-no_record : IsRecord (record { space = 1; call = call.Receive 32 false 0x100 false; reply = reply.Message Success 32 0x100 kept_send }) → ⊥
+shorter_receipt-no_record is = absurd (omega (arith, is.reply.results.3.1))
+
+pub receipt_above_limit-no_record : IsRecord (record { space = 1; call = call.Receive 24 false 0x100 false; reply = reply.Message Success 28 0x100 kept_send }) → ⊥
+receipt_above_limit-no_record is = absurd (omega (arith, is.reply.results.3.0))
+
+pub nameless_receipt-no_record : IsRecord (record { space = 1; call = call.Receive 28 false 0x100 false; reply = reply.Message Success 28 0 kept_send }) → ⊥
+nameless_receipt-no_record is = absurd (omega (arith, is.reply.results.1))
+
+pub odd_size-no_record : IsRecord (record { space = 1; call = call.Receive 24 false 0x100 false; reply = reply.Message RcvTooLarge 30 0x100 [] }) → ⊥
+odd_size-no_record is = absurd (omega (arith, is.reply.results.0.2))
+
+pub destroyed_within_limit-no_record : IsRecord (record { space = 1; call = call.Receive 28 false 0x100 false; reply = reply.Message RcvTooLarge 28 0x100 [] }) → ⊥
+destroyed_within_limit-no_record is = absurd (omega (arith, is.reply.results.3.0))
 
 pub destroyed_with_bytes-no_record : IsRecord (record { space = 1; call = call.Receive 24 false 0x100 false; reply = reply.Message RcvTooLarge 28 0x100 kept_send }) → ⊥
-destroyed_with_bytes-no_record is = absurd (omega (arith, ap length is.reply.results))
+destroyed_with_bytes-no_record is = absurd (omega (arith, ap length is.reply.results.3.1))
