@@ -1,6 +1,4 @@
-pub mod Absent
 pub mod Added
-pub mod Changed
-pub mod Mentioned
+pub mod Live
+pub mod Running
 pub mod There
-pub mod Walked
