@@ -1,0 +1,6 @@
+//! The spaces with their names, whose changes are kept or given up.
+#![tactic(auto)]
+
+mod slot;
+mod slots;
+
