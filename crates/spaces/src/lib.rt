@@ -1,6 +1,0 @@
-//! The spaces with their names, whose changes are kept or given up.
-#![tactic(auto)]
-
-mod slot;
-mod slots;
-
