@@ -1,4 +1,6 @@
+pub mod Absent
 pub mod Added
-pub mod Live
-pub mod Running
+pub mod Changed
+pub mod Mentioned
 pub mod There
+pub mod Walked

@@ -1,119 +1,109 @@
-ghost use Rattle.std.specs.Prelude.{◌≡◌, ◌++◌, ◌==◌, not, None, Some, IfOk, OnOk, OnErr};
-ghost use Rattle.ipc_model.specs.effects.Effects.{dead_name_notices};
+ghost use Rattle.std.specs.Prelude.{◌≡◌, ◌++◌, ◌==◌, not, nat_le, IfOk, OnOk, OnErr, is_some};
+ghost use Rattle.std.specs.FinMap as map;
+ghost use Rattle.ipc_model.specs.effects.Effects.{map_values, entry_after_death, port_after_death, dead_name_notices};
 ghost use Rattle.ipc_model.specs.state.Lawful.{ShortQueues};
 ghost use Rattle.ipc_model.specs.state.Placed.{placed, send_count};
-ghost use Rattle.ipc_model.specs.state.State.{State, opening_state};
-ghost use Rattle.ipc_state.specs.Running.{at_rest};
+ghost use Rattle.ipc_model.specs.state.State.{opening_state};
 ghost use Rattle.queue.specs.Counts.{capped_count};
 
+use crate::indexed::IndexedSpaces;
 use effects::Effects;
 use ipc_model::RightKind;
-use state_tables::StateTables;
+use port_space::PortSpace;
+use ports::Ports;
 use std::alloc::{AllocError, Global};
 use std::marker::Model;
 
-/// The spaces, the live ports, and the serial that the next port gets, whose changes are kept or given up. Contracts see
-/// the state of the written definition as it was when they last were, and as it is.
-///
-/// A change for which memory is wanted gives all changes up.
+/// The number of the space that is always there.
+const FIRST_SPACE: u32 = 1;
+
+/// The spaces, the live ports, and the serial that the next port gets. Contracts see the state of the written
+/// definition.
 #[derive(Drop)]
 pub struct IpcState {
-    pub(crate) tables: StateTables,
-    pub(crate) former: Option<StateTables>,
+    pub(crate) alloc: Global,
+    pub(crate) spaces: IndexedSpaces,
+    pub(crate) ports: Ports,
+    pub(crate) next: u64,
 }
 
 impl Model for IpcState {
-    ghost use Rattle.std.specs.Prelude.{None, Some};
     ghost use Rattle.ipc_model.specs.state.State.{State};
-    ghost use Rattle.ipc_state.specs.Running.{Running, running_code};
+    ghost use Rattle.ipc_model.specs.state.StateCode.{state_code};
 
-    ghost Value = { Running };
+    ghost Value = { State };
 
-    ghost coded = { running_code };
+    ghost coded = { state_code };
 
-    ghost view = { λ s. record { before = elim s.former as (λ _. State) [ None ↦ s.tables | Some state ↦ state ]; current = s.tables } };
+    ghost view = { λ s. record { spaces = s.spaces; ports = s.ports; next = s.next } };
 }
 
 impl IpcState {
     /// The state of a new store: space 1 without names, and no port.
     pub fn opening(alloc: Global) -> Result<Self, AllocError>
-        ensures { IfOk result (λ state. state ≡ at_rest opening_state) }
+        ensures { IfOk result (λ state. state ≡ opening_state) }
     {
-        let tables = StateTables::opening(alloc)?;
+        let mut spaces = IndexedSpaces::new(alloc);
+        spaces.put(FIRST_SPACE, PortSpace::new(alloc))?;
         Ok(IpcState {
-            tables,
-            former: None,
+            alloc,
+            spaces,
+            ports: Ports::new(alloc),
+            next: 1,
         })
     }
 
-    /// The same state again, at rest.
+    /// The same state again.
     pub fn copy(&self) -> Result<Self, AllocError>
-        ensures { IfOk result (λ copy. copy ≡ at_rest self.now.current) }
+        ensures { IfOk result (λ copy. copy ≡ self.now) }
     {
-        let tables = self.tables.copy()?;
         Ok(IpcState {
-            tables,
-            former: None,
+            alloc: self.alloc,
+            spaces: self.spaces.copy()?,
+            ports: self.ports.copy()?,
+            next: self.next,
         })
-    }
-
-    /// Keeps the changes. It takes no memory.
-    pub fn keep(&mut self)
-        ensures { self.new ≡ at_rest self.old.current }
-    {
-        self.former = None;
-    }
-
-    /// Gives the changes up. It takes no memory.
-    pub fn give_up(&mut self)
-        ensures { self.new ≡ at_rest self.old.before }
-    {
-        if let Some(former) = self.former.take() {
-            self.tables = former;
-        }
     }
 
     /// No queue holds more messages than a word counts. It does nothing but show it.
     pub fn queues_are_short(&self)
-        ensures { ShortQueues self.now.current }
+        ensures { ShortQueues self.now }
     {
-        self.tables.queues_are_short();
+        self.ports.are_short();
     }
 
     /// How many rights of a kind a port has, wherever they stand; at most `u32::MAX`.
+    #[tactic(auto, unfolding(ipc_model::specs::state::Placed::placed))]
     pub fn rights_to(&self, kind: RightKind, serial: u64) -> u32
-        ensures { result ≡ capped_count kind serial (placed self.now.current) }
+        ensures { result ≡ capped_count kind serial (placed self.now) }
     {
-        self.tables.rights_to(kind, serial)
+        let held = self.spaces.rights_to(kind, serial);
+        held.saturating_add(self.ports.rights_to(kind, serial))
     }
 
     /// Whether there are send rights to a port, held or in messages.
     pub fn has_senders(&self, serial: u64) -> bool
-        ensures { result ≡ not (send_count self.now.current serial == 0) }
+        ensures { result ≡ not (send_count self.now serial == 0) }
     {
-        self.tables.has_senders(serial)
+        self.rights_to(RightKind::Send, serial) != 0
     }
 
     /// Adds the dead-name notices of the port's names to the effects, by space and name.
     pub fn dead_names(&self, serial: u64, effects: &mut Effects) -> Result<(), AllocError>
-        ensures { OnOk result (effects.new ≡ effects.old ++ dead_name_notices self.now.current serial) }
+        ensures { OnOk result (effects.new ≡ effects.old ++ dead_name_notices self.now serial) }
     {
-        self.tables.dead_names(serial, effects)
+        self.spaces.dead_names(serial, effects)
     }
-}
 
-/// The state from before the changes is at hand from here on.
-pub(crate) fn track(
-    tables: &StateTables,
-    former: &mut Option<StateTables>,
-) -> Result<(), AllocError>
-    ensures ok { OnOk result (former.new ≡ Some (elim former.old as (λ _. State) [ None ↦ tables.now | Some state ↦ state ])) }
-    ensures err { OnErr result (former.new ≡ former.old) }
-{
-    if former.is_some() {
-        return Ok(());
+    /// A port that has died is forgotten: names of it become dead names, carried rights to it become
+    /// `MACH_PORT_DEAD`, and requests that were to tell it go.
+    pub fn forget_port(&mut self, serial: u64)
+        ensures { self.new ≡ record self.old {
+          spaces = map_values (map_values (entry_after_death serial)) self.old.spaces;
+          ports = map_values (port_after_death serial) self.old.ports;
+        } }
+    {
+        self.spaces.forget_port(serial);
+        self.ports.forget_port(serial);
     }
-    let copy = tables.copy()?;
-    *former = Some(copy);
-    Ok(())
 }

@@ -22,7 +22,7 @@ use std::alloc::{AllocError, Global};
 /// `mach_port_type`: the type bits of a name.
 #[tactic(auto, unfolding(ipc_model::specs::calls::PortCalls::tests_of, ipc_model::specs::calls::Actions::Done))]
 pub fn port_type(state: &IpcState, space: u32, name: u32) -> Reply
-    ensures { ActsIn state.now.current space (names_in state.now.current space) (call.Type name) result state.now.current [] }
+    ensures { ActsIn state.now space (names_in state.now space) (call.Type name) result state.now [] }
 {
     match named(state, space, name) {
         Some(entry) => Reply::Type {
@@ -35,7 +35,7 @@ pub fn port_type(state: &IpcState, space: u32, name: u32) -> Reply
 /// `mach_port_get_refs`: user references of a right under a name.
 #[tactic(auto, unfolding(ipc_model::specs::calls::PortCalls::tests_of, ipc_model::specs::calls::Actions::Done))]
 pub fn get_refs(state: &IpcState, space: u32, name: u32, right: u32) -> Reply
-    ensures { ActsIn state.now.current space (names_in state.now.current space) (call.GetRefs name right) result state.now.current [] }
+    ensures { ActsIn state.now space (names_in state.now space) (call.GetRefs name right) result state.now [] }
 {
     let number = MACH_PORT_GET_REFS;
     let Some(wanted) = Right::from_number(right) else {
@@ -52,7 +52,7 @@ pub fn get_refs(state: &IpcState, space: u32, name: u32, right: u32) -> Reply
 /// `mach_port_names`: the names in use, rising, with their type bits.
 #[tactic(auto, unfolding(ipc_model::specs::calls::PortCalls::tests_of, ipc_model::specs::calls::Actions::Done))]
 pub fn names(alloc: Global, state: &IpcState, space: u32) -> Result<Reply, AllocError>
-    ensures { IfOk result (λ reply. ActsIn state.now.current space (names_in state.now.current space) call.Names reply state.now.current []) }
+    ensures { IfOk result (λ reply. ActsIn state.now space (names_in state.now space) call.Names reply state.now []) }
 {
     let names = named_types(alloc, state, space)?;
     Ok(Reply::Names {
@@ -61,13 +61,15 @@ pub fn names(alloc: Global, state: &IpcState, space: u32) -> Result<Reply, Alloc
 }
 
 fn named_types(alloc: Global, state: &IpcState, space: u32) -> Result<Vec<NamedType>, AllocError>
-    ensures { IfOk result (λ names. names.items ≡ map (λ e. record { name = e.0; bits = type_of e.1 }) (finmap.entries (names_in state.now.current space))) }
+    ensures { IfOk result (λ names. names.items ≡ map (λ e. record { name = e.0; bits = type_of e.1 }) (finmap.entries (names_in state.now space))) }
 {
     let mut types = Vec::new(alloc);
-    let entries = state.entries(alloc, space)?;
-    for (name, entry) in entries.as_slice() {
+    let Some(names) = state.space(space) else {
+        return Ok(types);
+    };
+    for (name, entry) in names.iter() {
         types.push(NamedType {
-            name: *name,
+            name: *name as u32,
             bits: type_of(entry),
         })?;
     }
@@ -77,7 +79,7 @@ fn named_types(alloc: Global, state: &IpcState, space: u32) -> Result<Vec<NamedT
 /// `mach_port_get_receive_status`: what a port keeps, and whether there are rights and requests.
 #[tactic(auto, unfolding(ipc_model::specs::calls::PortCalls::tests_of, ipc_model::specs::calls::Actions::Done))]
 pub fn receive_status(state: &IpcState, space: u32, name: u32) -> Reply
-    ensures { ActsIn state.now.current space (names_in state.now.current space) (call.GetReceiveStatus name) result state.now.current [] }
+    ensures { ActsIn state.now space (names_in state.now space) (call.GetReceiveStatus name) result state.now [] }
 {
     let number = MACH_PORT_GET_RECEIVE_STATUS;
     let Some(entry) = named(state, space, name) else {
@@ -94,15 +96,16 @@ pub fn receive_status(state: &IpcState, space: u32, name: u32) -> Reply
 
 /// What a live port keeps, and which rights and requests there are.
 fn status_of(state: &IpcState, port: u64) -> Option<ReceiveStatus>
-    ensures { result ≡ option_map (status_of state.now.current port) (finmap.get state.now.current.ports port) }
+    ensures { result ≡ option_map (status_of state.now port) (finmap.get state.now.ports port) }
 {
     let numbers = state.numbers(port)?;
+    let queue = state.ports().queue(port)?;
     Some(ReceiveStatus {
         set: numbers.set.unwrap_or(MACH_PORT_NULL),
         sequence_number: numbers.sequence_number,
         make_send_count: numbers.make_send_count,
         limit: numbers.limit,
-        messages: state.message_count(port),
+        messages: queue.len(),
         send_once_count: state.rights_to(RightKind::SendOnce, port),
         has_senders: state.has_senders(port),
         has_port_destroyed_request: numbers.port_destroyed_target.is_some(),
@@ -118,7 +121,7 @@ pub fn get_set_status(
     space: u32,
     name: u32,
 ) -> Result<Reply, AllocError>
-    ensures { IfOk result (λ reply. ActsIn state.now.current space (names_in state.now.current space) (call.GetSetStatus name) reply state.now.current []) }
+    ensures { IfOk result (λ reply. ActsIn state.now space (names_in state.now space) (call.GetSetStatus name) reply state.now []) }
 {
     let number = MACH_PORT_GET_SET_STATUS;
     match named(state, space, name) {

@@ -1,4 +1,4 @@
-ghost use Rattle.std.specs.Prelude.{◌≡◌, ◌<◌, ℕ, ◌++◌, List, [], flat_map, Some, None, IfOk, IfErr, OnOk};
+ghost use Rattle.std.specs.Prelude.{◌≡◌, ◌<◌, ℕ, ◌++◌, List, [], flat_map, Some, None, IfOk, IfErr, OnOk, OnErr};
 ghost use Rattle.std.specs.FinMap as map;
 ghost use Rattle.ipc_model.specs.calls.Actions.{IsUnusedSpace, effects_of_name, received_serials, taken_by, with_ports};
 ghost use Rattle.ipc_model.specs.rights.CopyOut.{MayArrive, names_after};
@@ -22,13 +22,14 @@ use effects::Effects;
 use ipc_model::{CarriedRight, PortInMessage, Reply};
 use ipc_state::IpcState;
 use port_set::{move_ports, received_ports};
+use port_space::PortSpace;
 use rights::{put_right, take_right};
 use std::alloc::{AllocError, Global};
 
 /// Attaches a task to another space, which has to be there.
 #[tactic(auto, unfolding(ipc_model::specs::calls::PortCalls::tests_of, ipc_model::specs::calls::Actions::Done))]
 pub fn attach(state: &IpcState, space: u32, other: u32) -> Reply
-    ensures { ActsIn state.now.current space (names_in state.now.current space) (call.Attach other) result state.now.current [] }
+    ensures { ActsIn state.now space (names_in state.now space) (call.Attach other) result state.now [] }
 {
     let number = ATTACH;
     if !state.has_space(other) {
@@ -38,8 +39,8 @@ pub fn attach(state: &IpcState, space: u32, other: u32) -> Reply
 }
 
 /// Makes a space whose one name holds a right that is copied in from a name of the caller's. Its number and its name
-/// are the wanted ones, each where it may be used, and else the least that are unused. Where the call is refused, or
-/// memory is wanted, the changes are to be given up.
+/// are the wanted ones, each where it may be used, and else the least that are unused. The call is tried on a copy of
+/// the state, which is to be given up where the call is refused, and on Err.
 #[tactic(auto, unfolding(ipc_model::specs::calls::Actions::Done))]
 pub fn space_create(
     alloc: Global,
@@ -51,10 +52,9 @@ pub fn space_create(
     effects: &mut Effects,
 ) -> Result<Reply, AllocError>
     requires none { effects.old ≡ [] }
-    ensures tries { IfOk result (λ reply. Tries state.old.current space (call.SpaceCreate name disposition) reply state.new.current effects.new) }
+    ensures tries { IfOk result (λ reply. Tries state.old space (call.SpaceCreate name disposition) reply state.new effects.new) }
     ensures wanted { IfOk result (λ reply. (number : ℕ) → (child : ℕ) → wanted ≡ Some (number, child) → (new : State) → (effects : List Effect)
-        → ActsIn state.old.current space (names_in state.old.current space) (call.SpaceCreate name disposition) (Reply.SpaceCreated number child) new effects → reply ≡ Reply.SpaceCreated number child) }
-    ensures before { state.new.before ≡ state.old.before }
+        → ActsIn state.old space (names_in state.old space) (call.SpaceCreate name disposition) (Reply.SpaceCreated number child) new effects → reply ≡ Reply.SpaceCreated number child) }
 {
     match take_for_space(state, space, name, disposition, effects)? {
         Err(code) => Ok(refused(SPACE_CREATE, code)),
@@ -65,8 +65,8 @@ pub fn space_create(
     }
 }
 
-/// The caller's space goes, with all its names and its sets; space 1 doesn't. Where memory is wanted the
-/// changes are to be given up.
+/// The caller's space goes, with all its names and its sets; space 1 doesn't. Where memory is wanted the state is as
+/// before, and the effects are to be given up.
 #[tactic(auto, unfolding(ipc_model::specs::calls::PortCalls::tests_of, ipc_model::specs::calls::Actions::Done))]
 pub fn space_destroy(
     alloc: Global,
@@ -75,42 +75,45 @@ pub fn space_destroy(
     effects: &mut Effects,
 ) -> Result<Reply, AllocError>
     requires none { effects.old ≡ [] }
-    ensures acts { IfOk result (λ reply. ActsIn state.old.current space (names_in state.old.current space) call.SpaceDestroy reply state.new.current effects.new) }
-    ensures before { state.new.before ≡ state.old.before }
+    ensures acts { IfOk result (λ reply. ActsIn state.old space (names_in state.old space) call.SpaceDestroy reply state.new effects.new) }
+    ensures err { OnErr result (state.new ≡ state.old) }
 {
     let number = SPACE_DESTROY;
     if space == FIRST_SPACE {
         return Ok(refused(number, KernReturn::Failure));
     }
-    release_names(alloc, state, space, effects)?;
+    release_names(state, space, effects)?;
     leave_sets(alloc, state, space)?;
-    state.remove_space(space)?;
+    state.remove_space(space);
     Ok(Reply::Done { number })
 }
 
-/// The ports whose receive rights the names of a space hold leave their sets. Where memory is wanted the changes are to be given up.
+/// The ports whose receive rights the names of a space hold leave their sets. Where memory is wanted nothing changed.
 fn leave_sets(alloc: Global, state: &mut IpcState, space: u32) -> Result<(), AllocError>
-    ensures left { OnOk result (state.new.current ≡ with_ports state.old.current (received_serials (names_in state.old.current space)) (λ port. record port { set = None })) }
-    ensures spaces { OnOk result (state.new.current.spaces ≡ state.old.current.spaces) }
-    ensures before { state.new.before ≡ state.old.before }
+    ensures left { OnOk result (state.new ≡ with_ports state.old (received_serials (names_in state.old space)) (λ port. record port { set = None })) }
+    ensures spaces { OnOk result (state.new.spaces ≡ state.old.spaces) }
+    ensures err { OnErr result (state.new ≡ state.old) }
 {
     let ports = received_ports(alloc, state, space)?;
-    move_ports(state, ports.as_slice(), None)?;
+    move_ports(state, ports.as_slice(), None);
     Ok(())
 }
 
 /// Adds the releases of all that the names of a space stand for, and their port-deleted notices, rising by name.
-fn release_names(
-    alloc: Global,
-    state: &IpcState,
-    space: u32,
-    effects: &mut Effects,
-) -> Result<(), AllocError>
-    ensures { OnOk result (effects.new ≡ effects.old ++ flat_map (λ e. effects_of_name e.0 e.1) (map.entries (names_in state.now.current space))) }
+fn release_names(state: &IpcState, space: u32, effects: &mut Effects) -> Result<(), AllocError>
+    ensures { OnOk result (effects.new ≡ effects.old ++ flat_map (λ e. effects_of_name e.0 e.1) (map.entries (names_in state.now space))) }
 {
-    let entries = state.entries(alloc, space)?;
-    for (name, entry) in entries.as_slice() {
-        release_name(effects, *name, *entry)?;
+    match state.space(space) {
+        Some(names) => release_each(names, effects),
+        None => Ok(()),
+    }
+}
+
+fn release_each(names: &PortSpace, effects: &mut Effects) -> Result<(), AllocError>
+    ensures { OnOk result (effects.new ≡ effects.old ++ flat_map (λ e. effects_of_name e.0 e.1) (map.entries names.now)) }
+{
+    for (name, entry) in names.iter() {
+        release_name(effects, *name as u32, *entry)?;
     }
     Ok(())
 }
@@ -125,11 +128,10 @@ fn take_for_space(
     effects: &mut Effects,
 ) -> Result<Result<CarriedRight, KernReturn>, AllocError>
     requires none { effects.old ≡ [] }
-    ensures refused { IfOk result (λ outcome. IfErr outcome (λ code. first_failing (tests_of state.old.current space (names_in state.old.current space) (call.SpaceCreate name disposition)) ≡ Some code)) }
-    ensures passed { IfOk result (λ outcome. IfOk outcome (λ right. first_failing (tests_of state.old.current space (names_in state.old.current space) (call.SpaceCreate name disposition)) ≡ None)) }
-    ensures taken { IfOk result (λ outcome. IfOk outcome (λ right. Takes (taken_by state.old.current space name disposition) state.old.current [] (Some right) state.new.current effects.new)) }
-    ensures room { IfOk result (λ outcome. IfOk outcome (λ right. map.len state.new.current.spaces < MAX_SPACES)) }
-    ensures before { state.new.before ≡ state.old.before }
+    ensures refused { IfOk result (λ outcome. IfErr outcome (λ code. first_failing (tests_of state.old space (names_in state.old space) (call.SpaceCreate name disposition)) ≡ Some code)) }
+    ensures passed { IfOk result (λ outcome. IfOk outcome (λ right. first_failing (tests_of state.old space (names_in state.old space) (call.SpaceCreate name disposition)) ≡ None)) }
+    ensures taken { IfOk result (λ outcome. IfOk outcome (λ right. Takes (taken_by state.old space name disposition) state.old [] (Some right) state.new effects.new)) }
+    ensures room { IfOk result (λ outcome. IfOk outcome (λ right. map.len state.new.spaces < MAX_SPACES)) }
 {
     let Some(disposition) = Disposition::from_number(disposition) else {
         return Ok(Err(KernReturn::InvalidValue));
@@ -158,16 +160,15 @@ fn add_child(
     right: CarriedRight,
     wanted: Option<(u32, u32)>,
 ) -> Result<(u32, u32), AllocError>
-    requires room { map.len state.old.current.spaces < MAX_SPACES }
-    ensures number { IfOk result (λ child. IsUnusedSpace state.old.current child.0) }
+    requires room { map.len state.old.spaces < MAX_SPACES }
+    ensures number { IfOk result (λ child. IsUnusedSpace state.old child.0) }
     ensures name { IfOk result (λ child. MayArrive map.empty right.kind right.port child.1) }
-    ensures state { IfOk result (λ child. state.new.current ≡ with_names state.old.current child.0 (names_after map.empty right.kind right.port child.1)) }
-    ensures wanted { IfOk result (λ child. (number : ℕ) → (name : ℕ) → wanted ≡ Some (number, name) → IsUnusedSpace state.old.current number → MayArrive map.empty right.kind right.port name → child ≡ (number, name)) }
-    ensures before { state.new.before ≡ state.old.before }
+    ensures state { IfOk result (λ child. state.new ≡ with_names state.old child.0 (names_after map.empty right.kind right.port child.1)) }
+    ensures wanted { IfOk result (λ child. (number : ℕ) → (name : ℕ) → wanted ≡ Some (number, name) → IsUnusedSpace state.old number → MayArrive map.empty right.kind right.port name → child ≡ (number, name)) }
 {
     let (wanted_number, wanted_name) = wanted.unzip();
     let number = space_number(state, wanted_number);
-    state.add_space(alloc, number)?;
+    state.add_space(number, PortSpace::new(alloc))?;
     let name = arrival_wanted(state, number, right, wanted_name);
     put_right(state, number, right, name)?;
     Ok((number, name))
@@ -175,9 +176,9 @@ fn add_child(
 
 /// The wanted number of a new space where no space has it, and else the least that none has.
 fn space_number(state: &IpcState, wanted: Option<u32>) -> u32
-    requires room { map.len state.now.current.spaces < MAX_SPACES }
-    ensures unused { IsUnusedSpace state.now.current result }
-    ensures wanted { (number : ℕ) → wanted ≡ Some number → IsUnusedSpace state.now.current number → result ≡ number }
+    requires room { map.len state.now.spaces < MAX_SPACES }
+    ensures unused { IsUnusedSpace state.now result }
+    ensures wanted { (number : ℕ) → wanted ≡ Some number → IsUnusedSpace state.now number → result ≡ number }
 {
     if let Some(number) = wanted {
         if state.is_unused_space(number) {

@@ -14,13 +14,15 @@ pub fn members(
     space: u32,
     set: u32,
 ) -> Result<Vec<u32>, AllocError>
-    ensures { IfOk result (λ members. members.items ≡ members_of state.now.current (names_in state.now.current space) set) }
+    ensures { IfOk result (λ members. members.items ≡ members_of state.now (names_in state.now space) set) }
 {
     let mut members = Vec::new(alloc);
-    let entries = state.entries(alloc, space)?;
-    for (name, entry) in entries.as_slice() {
+    let Some(names) = state.space(space) else {
+        return Ok(members);
+    };
+    for (name, entry) in names.iter() {
         if is_member(state, set, *entry) {
-            members.push(*name)?;
+            members.push(*name as u32)?;
         }
     }
     Ok(members)
@@ -33,11 +35,13 @@ pub fn member_ports(
     space: u32,
     set: u32,
 ) -> Result<Vec<u64>, AllocError>
-    ensures { IfOk result (λ ports. ports.items ≡ serials_of_members state.now.current (names_in state.now.current space) set) }
+    ensures { IfOk result (λ ports. ports.items ≡ serials_of_members state.now (names_in state.now space) set) }
 {
     let mut ports = Vec::new(alloc);
-    let entries = state.entries(alloc, space)?;
-    for (_, entry) in entries.as_slice() {
+    let Some(names) = state.space(space) else {
+        return Ok(ports);
+    };
+    for (_, entry) in names.iter() {
         if let Some(port) = member_port(state, set, *entry) {
             ports.push(port)?;
         }
@@ -47,11 +51,13 @@ pub fn member_ports(
 
 /// The ports whose receive rights the names of a space hold, in the order of their names.
 pub fn received_ports(alloc: Global, state: &IpcState, space: u32) -> Result<Vec<u64>, AllocError>
-    ensures { IfOk result (λ ports. ports.items ≡ received_serials (names_in state.now.current space)) }
+    ensures { IfOk result (λ ports. ports.items ≡ received_serials (names_in state.now space)) }
 {
     let mut ports = Vec::new(alloc);
-    let entries = state.entries(alloc, space)?;
-    for (_, entry) in entries.as_slice() {
+    let Some(names) = state.space(space) else {
+        return Ok(ports);
+    };
+    for (_, entry) in names.iter() {
         if let Some(port) = received_port(*entry) {
             ports.push(port)?;
         }
@@ -61,7 +67,7 @@ pub fn received_ports(alloc: Global, state: &IpcState, space: u32) -> Result<Vec
 
 /// The port whose receive right a name holds, where it is a member of the set.
 fn member_port(state: &IpcState, set: u32, entry: Entry) -> Option<u64>
-    ensures { result ≡ (if is_member state.now.current set entry then received_port entry else None) }
+    ensures { result ≡ (if is_member state.now set entry then received_port entry else None) }
 {
     if is_member(state, set, entry) {
         received_port(entry)
@@ -72,7 +78,7 @@ fn member_port(state: &IpcState, set: u32, entry: Entry) -> Option<u64>
 
 /// Whether a name holds the receive right of a port that is a member of the set.
 fn is_member(state: &IpcState, set: u32, entry: Entry) -> bool
-    ensures { result ≡ is_member state.now.current set entry }
+    ensures { result ≡ is_member state.now set entry }
 {
     let Some(port) = received_port(entry) else {
         return false;

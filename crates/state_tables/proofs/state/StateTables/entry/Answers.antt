@@ -1,6 +1,0 @@
-use Rattle.std.proofs.Common.{sym}
-use Rattle.state_tables.specs.Absent.{no_name}
-use Rattle.state_tables.proofs.state.StateTables.entry.Goals as goal
-
-pub returns-in_default-clause-named : goal.returns-in_default-clause-named
-returns-in_default-clause-named c = sym (no_name c.args.self.now c.args.space (sym c.in_default.ensures) c.args.name)
