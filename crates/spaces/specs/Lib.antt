@@ -1,0 +1,4 @@
+pub mod Indexes
+pub mod Laws
+pub mod Looking
+pub mod Slots
