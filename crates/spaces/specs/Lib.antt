@@ -1,4 +1,0 @@
-pub mod Indexes
-pub mod Laws
-pub mod Looking
-pub mod Slots
