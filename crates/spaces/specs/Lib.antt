@@ -1,0 +1,5 @@
+pub mod Burying
+pub mod Indexes
+pub mod Laws
+pub mod Looking
+pub mod Slots
