@@ -1,0 +1,155 @@
+ghost use Rattle.std.specs.Prelude.{◌≡◌, ◌<◌, ◌≤◌, ◌-◌, ◌^◌, ◌↔◌, ◌==◌, ◌∷◌, ◌++◌, [], length, drop, option_copied, IfOk, OnOk, OnErr, IsErrOf, MatchOption, slice_index_or};
+ghost use Rattle.message_queue.specs.TrackedList.{list_at_rest};
+
+use crate::copy::copy_of_message;
+use ipc_model::Message;
+use std::alloc::{AllocError, Global};
+use std::collections::VecDeque;
+use std::marker::Model;
+
+/// Why a message couldn't be put into a queue.
+#[derive(Clone, Copy, Debug, PartialEq, Eq)]
+pub enum PushFault {
+    /// The queue holds as many messages as its limit allows.
+    Full,
+    /// No memory.
+    NoMemory,
+}
+
+impl From<AllocError> for PushFault {
+    ghost use Rattle.std.specs.Prelude.{◌≡◌};
+    ghost use Rattle.message_queue.specs.declared.queue.PushFault.TheVariants.{NoMemory};
+
+    ghost from_gives = { λ _ e. e ≡ NoMemory };
+
+    fn from(_: AllocError) -> Self {
+        PushFault::NoMemory
+    }
+}
+
+/// How many messages a queue holds at most.
+const MAX_MESSAGES: usize = u32::MAX as usize;
+
+/// The messages in a port's queue (`ipc_mqueue`), oldest first: at most `u32::MAX`. Contracts see the list of them as it
+/// was when its changes were last kept or given up, and as it is. Messages that are taken stay in the ring until then.
+#[derive(Drop)]
+pub struct Queue {
+    alloc: Global,
+    messages: VecDeque<Message>,
+    /// How many of the messages are taken, the oldest ones.
+    taken: usize,
+    /// How many messages there were.
+    before: usize,
+}
+
+impl Model for Queue {
+    ghost use Rattle.std.specs.Prelude.{◌≤◌, ◌+◌, length, take, drop};
+    ghost use Rattle.ipc_model.specs.declared.message.Message.{Message};
+    ghost use Rattle.ipc_model.specs.contracts.message.Message as message;
+    ghost use Rattle.message_queue.specs.TrackedList.{TrackedList, tracked_list_code};
+    ghost use Rattle.message_queue.specs.declared.queue.TheConstants.{MAX_MESSAGES};
+
+    ghost Value = { TrackedList Message };
+
+    ghost coded = { tracked_list_code message.the_row.coded };
+
+    ghost view = { λ q. record { before = take q.before q.messages.items; current = drop q.taken q.messages.items } };
+
+    ghost invariant = { λ q. (q.before ≤ length q.messages.items) × (q.taken ≤ length q.messages.items) × (q.before ≤ MAX_MESSAGES) × (length q.messages.items ≤ MAX_MESSAGES + q.taken) };
+}
+
+impl Queue {
+    /// A queue without messages. It takes no memory.
+    pub fn new(alloc: Global) -> Self
+        ensures { result ≡ list_at_rest [] }
+    {
+        Queue {
+            alloc,
+            messages: VecDeque::new(alloc),
+            taken: 0,
+            before: 0,
+        }
+    }
+
+    /// How many messages there are.
+    pub fn len(&self) -> u32
+        ensures { result ≡ length self.now.current }
+    {
+        (self.messages.len() - self.taken) as u32
+    }
+
+    /// Whether there is no message.
+    pub fn is_empty(&self) -> bool
+        ensures { result ≡ (length self.now.current == 0) }
+    {
+        self.len() == 0
+    }
+
+    /// Puts a message at the end, unless the queue holds as many as its limit allows. With a fault nothing changed.
+    pub fn push(&mut self, limit: u32, message: Message) -> Result<(), PushFault>
+        ensures ok { OnOk result (self.new ≡ record self.old { current = self.old.current ++ message ∷ [] }) }
+        ensures err { OnErr result (self.new ≡ self.old) }
+        ensures full { IsErrOf result PushFault.Full ↔ limit ≤ length self.old.current }
+    {
+        if limit <= self.len() {
+            return Err(PushFault::Full);
+        }
+        Ok(self.push_forced(message)?)
+    }
+
+    /// Puts a message at the end, whatever the limit. Without memory nothing changed; a queue of `u32::MAX`
+    /// messages has none.
+    pub fn push_forced(&mut self, message: Message) -> Result<(), AllocError>
+        ensures ok { OnOk result (self.new ≡ record self.old { current = self.old.current ++ message ∷ [] }) }
+        ensures err { OnErr result (self.new ≡ self.old) }
+    {
+        if MAX_MESSAGES <= self.messages.len() - self.taken {
+            return Err(AllocError);
+        }
+        Ok(self.messages.push_back(message)?)
+    }
+
+    /// Takes the oldest message out, if there is one.
+    pub fn take(&mut self)
+        ensures { self.new ≡ record self.old { current = drop 1 self.old.current } }
+    {
+        if self.taken < self.messages.len() {
+            self.taken += 1;
+        }
+    }
+
+    /// The message of an index, counted from the oldest.
+    pub fn message(&self, index: u32) -> &Message
+        requires { index < length self.now.current }
+        ensures { result.now ≡ slice_index_or self.now.current index result.now }
+    {
+        &self.messages[self.taken + index as usize]
+    }
+
+    /// Keeps the changes. It takes no memory.
+    pub fn keep(&mut self)
+        ensures { self.new ≡ list_at_rest self.old.current }
+    {
+        drop_front(&mut self.messages, self.taken);
+        self.taken = 0;
+        self.before = self.messages.len();
+    }
+
+    /// Gives the changes up. It takes no memory.
+    pub fn give_up(&mut self)
+        ensures { self.new ≡ list_at_rest self.old.before }
+    {
+        self.messages.truncate(self.before);
+        self.taken = 0;
+    }
+}
+
+/// Drops so many of the oldest messages.
+fn drop_front(messages: &mut VecDeque<Message>, count: usize)
+    requires { count ≤ length messages.old.items }
+    ensures { messages.new.items ≡ drop count messages.old.items }
+{
+    for _ in 0..count {
+        messages.pop_front();
+    }
+}

@@ -1,0 +1,5 @@
+mod Answering
+mod Bounds
+mod ByPort
+mod Free
+mod Standing

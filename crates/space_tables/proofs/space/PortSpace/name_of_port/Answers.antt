@@ -1,0 +1,12 @@
+use Rattle.std.proofs.Common.{ap, ◌∙◌}
+use Rattle.ipc_model.specs.declared.entry.Entry.{Entry}
+use Rattle.ipc_model.specs.state.State.{name_of_port}
+use Rattle.tracked_map.specs.Tracked.{Tracked}
+use Rattle.space_tables.proofs.Answering.{name_is}
+use Rattle.space_tables.proofs.Standing.{small_bounded}
+use Rattle.space_tables.proofs.space.PortSpace.name_of_port.Goals as goal
+
+pub returns : goal.returns
+returns c =
+    let names = c.self.inside.tables.names.current in
+    name_is names c.args.port c.next_name.result (small_bounded names c.self.invariant.1.bounded) c.next_name.ensures ∙ ap (λ (t : Tracked Entry). name_of_port t.current c.args.port) c.self.view_is

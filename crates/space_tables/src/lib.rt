@@ -1,0 +1,7 @@
+//! Tables.
+#![tactic(auto)]
+
+mod space;
+mod tables;
+
+pub use space::PortSpace;

@@ -1,0 +1,176 @@
+ghost use Rattle.std.specs.Prelude.{◌≡◌, ℕ, ◌≤◌, ◌<◌, ◌↔◌, true, false, OnOk, OnErr, IsSome, IfSome, IsTrue, MatchBool, None, is_some, option_copied};
+ghost use Rattle.std.specs.FinMap as map;
+ghost use Rattle.ipc_model.specs.calls.PortCalls.{stands_elsewhere};
+ghost use Rattle.ipc_model.specs.state.State.{IsUnused, name_of_port};
+ghost use Rattle.space_tables.specs.Beside.{holds};
+ghost use Rattle.space_tables.specs.References.{AreFewReferences};
+ghost use Rattle.space_tables.specs.Renaming.{under_other_name};
+ghost use Rattle.tracked_map.specs.Tracked.{at_rest};
+
+use crate::tables::Tables;
+use codes::{FIRST_NAME, MACH_PORT_DEAD, MACH_PORT_NULL, MAX_NAMES};
+use ipc_model::Entry;
+use std::alloc::{AllocError, Global};
+use std::marker::Model;
+
+/// A port name space (`ipc_space`): at most `MAX_NAMES` names, each with what it stands for, whose changes are kept or
+/// given up. Contracts see the finite map from names to entries as it was when they last were, and as it is.
+#[derive(Drop)]
+pub struct PortSpace {
+    tables: Tables,
+}
+
+impl Model for PortSpace {
+    ghost use Rattle.ipc_model.specs.declared.entry.Entry.{Entry};
+    ghost use Rattle.ipc_model.specs.contracts.entry.Entry as entry;
+    ghost use Rattle.space_tables.specs.Beside.{StandBeside};
+    ghost use Rattle.tracked_map.specs.Tracked.{Tracked, tracked_code};
+
+    ghost Value = { Tracked Entry };
+
+    ghost coded = { tracked_code entry.the_row.coded };
+
+    ghost view = { λ s. s.tables.names };
+
+    ghost invariant = { λ s.
+        StandBeside s.tables.names.before s.tables.by_port.before s.tables.gaps.before s.tables.low_before
+        × StandBeside s.tables.names.current s.tables.by_port.current s.tables.gaps.current s.tables.low };
+}
+
+impl PortSpace {
+    /// A space without names. It takes no memory.
+    pub fn new(alloc: Global) -> Self
+        ensures { result ≡ at_rest map.empty }
+    {
+        PortSpace {
+            tables: Tables::new(alloc),
+        }
+    }
+
+    /// How many names are in use.
+    pub fn len(&self) -> usize
+        ensures { result ≡ map.len self.now.current }
+    {
+        self.tables.names.len()
+    }
+
+    /// Whether a name is in use.
+    pub fn contains(&self, name: u32) -> bool
+        ensures { result ≡ is_some (map.get self.now.current name) }
+    {
+        self.tables.names.contains_key(u128::from(name))
+    }
+
+    /// What a name stands for, if it is in use.
+    pub fn get(&self, name: u32) -> Option<Entry>
+        ensures value { result ≡ map.get self.now.current name }
+        ensures few { IfSome result AreFewReferences }
+    {
+        self.tables.names.get(u128::from(name)).copied()
+    }
+
+    /// Has a name stand for this. Where memory is wanted the changes are given up.
+    pub fn put(&mut self, name: u32, entry: Entry) -> Result<(), AllocError>
+        requires room { map.get self.old.current name ≡ None → map.len self.old.current < MAX_NAMES }
+        requires few { AreFewReferences entry }
+        ensures ok { OnOk result (self.new ≡ record self.old { current = map.insert self.old.current name entry }) }
+        ensures err { OnErr result (self.new ≡ at_rest self.old.before) }
+    {
+        match self.tables.put(name, entry) {
+            Ok(()) => Ok(()),
+            Err(error) => {
+                self.tables.give_up();
+                Err(error)
+            }
+        }
+    }
+
+    /// Takes a name out of use. Where memory is wanted the changes are given up.
+    pub fn remove(&mut self, name: u32) -> Result<(), AllocError>
+        ensures ok { OnOk result (self.new ≡ record self.old { current = map.remove self.old.current name }) }
+        ensures err { OnErr result (self.new ≡ at_rest self.old.before) }
+    {
+        match self.tables.remove(name) {
+            Ok(()) => Ok(()),
+            Err(error) => {
+                self.tables.give_up();
+                Err(error)
+            }
+        }
+    }
+
+    /// Has what stands under one name, if anything does, stand under another. Where memory is wanted the changes are
+    /// given up.
+    pub fn rename(&mut self, from: u32, to: u32) -> Result<(), AllocError>
+        ensures ok { OnOk result (self.new ≡ record self.old { current = under_other_name self.old.current from to }) }
+        ensures err { OnErr result (self.new ≡ at_rest self.old.before) }
+    {
+        let _ = &self.tables;
+        let Some(entry) = self.get(from) else {
+            return Ok(());
+        };
+        self.remove(from)?;
+        self.put(to, entry)
+    }
+
+    /// The name under which the space holds a send or receive right of a port, the least if there were several.
+    pub fn name_of_port(&self, port: u64) -> Option<u32>
+        ensures { result ≡ name_of_port self.now.current port }
+    {
+        self.tables.next_name(port, 0)
+    }
+
+    /// Whether a send or receive right of a port stands under a name other than this one.
+    pub fn stands_elsewhere(&self, name: u32, port: u64) -> bool
+        ensures { result ≡ stands_elsewhere self.now.current name port }
+    {
+        let Some(first) = self.tables.next_name(port, 0) else {
+            return false;
+        };
+        first != name || self.stands_above(name, port)
+    }
+
+    /// Whether a send or receive right of a port stands under a greater name.
+    fn stands_above(&self, name: u32, port: u64) -> bool
+        ensures { MatchBool result ((other : ℕ) × (name < other) × (holds self.now.current port other ≡ true))
+            ((other : ℕ) → name < other → holds self.now.current port other ≡ false) }
+    {
+        match name.checked_add(1) {
+            Some(next) => self.tables.next_name(port, next).is_some(),
+            None => false,
+        }
+    }
+
+    /// Whether a name may be handed out: it is neither `MACH_PORT_NULL` nor `MACH_PORT_DEAD`, and not in use.
+    pub fn is_unused(&self, name: u32) -> bool
+        ensures { IsTrue result ↔ IsUnused self.now.current name }
+    {
+        name != MACH_PORT_NULL && name != MACH_PORT_DEAD && !self.contains(name)
+    }
+
+    /// The least name from `FIRST_NAME` on that isn't in use. There always is one.
+    pub fn free_name(&self) -> u32
+        ensures unused { IsUnused self.now.current result }
+        ensures from { FIRST_NAME ≤ result }
+        ensures least { (k : ℕ) → FIRST_NAME ≤ k → k < result → IsSome (map.get self.now.current k) }
+    {
+        match self.tables.gaps.next_from(0) {
+            Some((gap, _)) => gap as u32,
+            None => self.tables.low as u32,
+        }
+    }
+
+    /// Keeps the changes. It takes no memory.
+    pub fn keep(&mut self)
+        ensures { self.new ≡ at_rest self.old.current }
+    {
+        self.tables.keep();
+    }
+
+    /// Gives the changes up. It takes no memory.
+    pub fn give_up(&mut self)
+        ensures { self.new ≡ at_rest self.old.before }
+    {
+        self.tables.give_up();
+    }
+}
