@@ -1,5 +1,0 @@
-mod Answering
-mod Bounds
-mod ByPort
-mod Free
-mod Standing

@@ -1,7 +1,0 @@
-use Rattle.std.proofs.Common.{arith}
-use Rattle.space_tables.proofs.Standing.{removed_stands, same_stands}
-use Rattle.space_tables.proofs.space.PortSpace.remove.Goals as goal
-
-pub invariant_of-self : goal.invariant_of-self
-invariant_of-self c =
-    (same_stands c.self.inside.tables c.remove.new.self c.in-Ok.ensures.before c.self.invariant.0, removed_stands c.self.inside.tables c.remove.new.self c.args.name (omega arith) c.self.invariant.1 c.in-Ok.ensures.ok)

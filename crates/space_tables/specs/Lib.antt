@@ -1,6 +1,0 @@
-pub mod Beside
-pub mod Crowded
-pub mod References
-pub mod Renaming
-pub mod Tables
-pub mod Finding

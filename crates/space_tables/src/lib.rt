@@ -1,7 +1,0 @@
-//! Tables.
-#![tactic(auto)]
-
-mod space;
-mod tables;
-
-pub use space::PortSpace;
