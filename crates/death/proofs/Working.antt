@@ -1,8 +1,14 @@
 -- Working a list of effects off, one after another.
-use Rattle.std.proofs.Common.{◌≡◌, ◌<◌, List, [], ◌∷◌, ◌++◌, sym, subst}
+use Rattle.std.proofs.Common.{◌≡◌, ℕ, ◌<◌, Bool, true, cond, List, [], ◌∷◌, ◌++◌, Option, None, Some, is_some, option_map, refl, sym, ◌∙◌, ap, subst}
+use Rattle.std.specs.Cmp.{nat_cmp_total}
+use Rattle.std.specs.FinMap.{get, insert, get-insert}
+use Rattle.ipc_laws.specs.MapSums.{same_key}
+use Rattle.ipc_model.specs.declared.port.PortState.{PortState}
+use Rattle.live_ports.specs.Changed.{numbers_of}
+use Rattle.live_ports.specs.declared.port.PortNumbers.{PortNumbers}
 use Rattle.ipc_model.specs.effects.Effects.{Effect, Settles, settled, next_effect, effect}
 use Rattle.ipc_laws.specs.Settling.{measure, effects_lower}
-use Rattle.ipc_model.specs.state.State.{State}
+use Rattle.ipc_model.specs.state.State.{State, lives, with_port}
 
 module _ (state new : State) (effects rest after : List Effect) (first : Effect)
     (front : effects ≡ first ∷ rest) (changed : new ≡ (effect state first).0) (added : after ≡ rest ++ (effect state first).1) where
@@ -20,3 +26,13 @@ module _ (state new : State) (effects rest after : List Effect) (first : Effect)
 
 pub all_done : (state : State) (effects : List Effect) → effects ≡ [] → Settles state effects state
 all_done state effects none = subst (λ (es : List Effect). Settles state es state) (sym none) settled
+
+-- a port that lives does so whatever it keeps
+pub lives_on : (state new : State) (serial : ℕ) (numbers : PortNumbers) (change : PortState → PortState) → option_map numbers_of (get state.ports serial) ≡ Some numbers → new ≡ with_port state serial change → lives new serial ≡ true
+lives_on state new serial numbers change there is = ap (λ (s : State). lives s serial) is ∙ by_case (get state.ports serial) refl there
+  where
+    by_case : (o : Option PortState) → get state.ports serial ≡ o → option_map numbers_of o ≡ Some numbers → lives (with_port state serial change) serial ≡ true
+    by_case None none some = absurd (cc some)
+    by_case (Some port) at some =
+        ap (λ (o : Option PortState). lives (elim o as (λ _. State) [ None ↦ state | Some port ↦ record state { ports = insert state.ports serial (change port) } ]) serial) at
+        ∙ ap is_some (get-insert nat_cmp_total state.ports serial (change port) serial) ∙ ap (λ (b : Bool). is_some (cond b (Some (change port)) (get state.ports serial))) (same_key serial)

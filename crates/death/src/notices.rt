@@ -1,20 +1,39 @@
-ghost use Rattle.std.specs.Prelude.{◌≡◌, OnOk};
+ghost use Rattle.std.specs.Prelude.{◌≡◌, true, OnOk};
 ghost use Rattle.ipc_model.specs.effects.Effects.{notified};
+ghost use Rattle.ipc_model.specs.messages.Notices as notice;
+ghost use Rattle.ipc_model.specs.state.State.{lives};
 ghost use Rattle.effects.specs.Meaning.{notice_meant};
 
 use effects::Notice;
 use ipc_state::IpcState;
 use std::alloc::{AllocError, Global};
 
-/// Queues a notice at its target's port, whatever the queue's limit. Where the port is dead it is dropped.
+/// Queues a notice at its target's port, whatever the queue's limit. Where the port is dead it is dropped. Where memory is
+/// wanted the changes are to be given up.
 pub fn notify(
     alloc: Global,
     state: &mut IpcState,
     target: u64,
     notice: Notice,
 ) -> Result<(), AllocError>
-    ensures { OnOk result (state.new ≡ notified state.old target (notice_meant notice)) }
+    ensures ok { OnOk result (state.new.current ≡ notified state.old.current target (notice_meant notice)) }
+    ensures before { state.new.before ≡ state.old.before }
 {
     let message = notify::message(alloc, notice)?;
+    state.queue_message(target, message)
+}
+
+/// Queues the port-destroyed notice that brings the receive right of a live port, in the same way.
+pub fn notify_port_destroyed(
+    alloc: Global,
+    state: &mut IpcState,
+    target: u64,
+    serial: u64,
+) -> Result<(), AllocError>
+    requires live { lives state.old.current serial ≡ true }
+    ensures ok { OnOk result (state.new.current ≡ notified state.old.current target (notice.PortDestroyed serial)) }
+    ensures before { state.new.before ≡ state.old.before }
+{
+    let message = notify::port_destroyed(alloc, serial)?;
     state.queue_message(target, message)
 }

@@ -1,16 +1,15 @@
-ghost use Rattle.std.specs.Prelude.{◌≡◌, ◌++◌, OnOk, Some, None};
+ghost use Rattle.std.specs.Prelude.{◌≡◌, ◌++◌, OnOk, Some, None, option_map};
 ghost use Rattle.std.specs.FinMap as map;
-ghost use Rattle.ipc_model.specs.effects.Effects.{released_if_live, after_death, effects_of_death, releases_of, sent_to_target};
+ghost use Rattle.ipc_model.specs.effects.Effects.{released_if_live, after_death, effects_of_death, sent_to_target};
 ghost use Rattle.ipc_model.specs.declared.port.PortState.{PortState};
 ghost use Rattle.death.specs.Taking.{taker};
-ghost use Rattle.std.specs.Prelude.{flat_map};
+ghost use Rattle.live_ports.specs.Changed.{numbers_of};
 
-use crate::notices::notify;
-use effects::{Effects, Notice};
+use crate::notices::notify_port_destroyed;
+use effects::Effects;
 use ipc_model::RightKind;
 use ipc_state::IpcState;
 use ports::PortNumbers;
-use queue::Queue;
 use std::alloc::{AllocError, Global};
 use transit::would_circle;
 
@@ -22,39 +21,40 @@ pub fn release_receive(
     serial: u64,
     effects: &mut Effects,
 ) -> Result<(), AllocError>
-    ensures state { OnOk result (state.new ≡ (released_if_live state.old serial RightKind.Receive (map.get state.old.ports serial)).0) }
-    ensures effects { OnOk result (effects.new ≡ effects.old ++ (released_if_live state.old serial RightKind.Receive (map.get state.old.ports serial)).1) }
+    ensures state { OnOk result (state.new.current ≡ (released_if_live state.old.current serial RightKind.Receive (map.get state.old.current.ports serial)).0) }
+    ensures effects { OnOk result (effects.new ≡ effects.old ++ (released_if_live state.old.current serial RightKind.Receive (map.get state.old.current.ports serial)).1) }
+    ensures before { state.new.before ≡ state.old.before }
 {
     let Some(numbers) = state.numbers(serial) else {
         return Ok(());
     };
     match taker(state, serial, numbers.port_destroyed_target) {
-        Some(target) => send_to_target(alloc, state, serial, target),
+        Some(target) => send_to_target(alloc, state, serial, target, numbers),
         None => die(state, serial, numbers, effects),
     }
 }
 
 /// The target that a released receive right goes to, if it goes to one.
 fn taker(state: &IpcState, serial: u64, request: Option<u64>) -> Option<u64>
-    ensures { result ≡ taker state.now serial request }
+    ensures { result ≡ taker state.now.current serial request }
 {
     let target = request?;
-    let ports = state.ports();
-    (ports.contains(target) && !would_circle(ports, serial, target)).then_some(target)
+    (state.has_port(target) && !would_circle(state, serial, target)).then_some(target)
 }
 
-/// The receive right goes to the request's target with a port-destroyed notice.
+/// The receive right of a live port goes to the request's target with a port-destroyed notice.
+#[tactic(auto, using(crate::proofs::Working::lives_on))]
 fn send_to_target(
     alloc: Global,
     state: &mut IpcState,
     serial: u64,
     target: u64,
+    numbers: PortNumbers,
 ) -> Result<(), AllocError>
-    ensures { OnOk result (state.new ≡ sent_to_target state.old serial target) }
+    requires there { option_map numbers_of (map.get state.old.current.ports serial) ≡ Some numbers }
+    ensures ok { OnOk result (state.new.current ≡ sent_to_target state.old.current serial target) }
+    ensures before { state.new.before ≡ state.old.before }
 {
-    let Some(numbers) = state.numbers(serial) else {
-        return notify(alloc, state, target, Notice::PortDestroyed { serial });
-    };
     let sent = PortNumbers {
         set: None,
         sequence_number: 0,
@@ -62,8 +62,8 @@ fn send_to_target(
         port_destroyed_target: None,
         ..numbers
     };
-    state.set_numbers(serial, sent);
-    notify(alloc, state, target, Notice::PortDestroyed { serial })
+    state.set_numbers(serial, sent)?;
+    notify_port_destroyed(alloc, state, target, serial)
 }
 
 /// A port dies: names of it become dead names, carried rights to it become `MACH_PORT_DEAD`, requests that were to
@@ -74,26 +74,27 @@ fn die(
     numbers: PortNumbers,
     effects: &mut Effects,
 ) -> Result<(), AllocError>
-    ensures state { OnOk result (state.new ≡ after_death state.old serial) }
-    ensures effects { OnOk result ((port : PortState) → map.get state.old.ports serial ≡ Some port → port.no_senders_target ≡ numbers.no_senders_target
-        → effects.new ≡ effects.old ++ effects_of_death state.old serial port) }
+    ensures state { OnOk result (state.new.current ≡ after_death state.old.current serial) }
+    ensures effects { OnOk result ((port : PortState) → map.get state.old.current.ports serial ≡ Some port → port.no_senders_target ≡ numbers.no_senders_target
+        → effects.new ≡ effects.old ++ effects_of_death state.old.current serial port) }
+    ensures before { state.new.before ≡ state.old.before }
 {
-    if let Some(port) = state.remove_port(serial) {
-        release_queue(effects, port.into_queue())?;
-    }
-    state.dead_names(serial, effects)?;
-    effects.release_target(numbers.no_senders_target)?;
-    state.forget_port(serial);
-    Ok(())
+    release_all(state, serial, numbers, effects)?;
+    state.bury(serial)
 }
 
-/// The releases of the rights of a dead port's messages, oldest message first.
-fn release_queue(effects: &mut Effects, queue: Queue) -> Result<(), AllocError>
-    ensures { OnOk result (effects.new ≡ effects.old ++ flat_map releases_of queue) }
+/// Adds what the death of a port sets off: the releases of the rights of its messages, the dead-name notices, and the
+/// release of the target that no notice will go to.
+fn release_all(
+    state: &IpcState,
+    serial: u64,
+    numbers: PortNumbers,
+    effects: &mut Effects,
+) -> Result<(), AllocError>
+    ensures { OnOk result ((port : PortState) → map.get state.now.current.ports serial ≡ Some port → port.no_senders_target ≡ numbers.no_senders_target
+        → effects.new ≡ effects.old ++ effects_of_death state.now.current serial port) }
 {
-    let mut queue = queue;
-    while let Some(message) = queue.take() {
-        effects.release_message(&message)?;
-    }
-    Ok(())
+    state.releases(serial, effects)?;
+    state.dead_names(serial, effects)?;
+    effects.release_target(numbers.no_senders_target)
 }

@@ -11,7 +11,8 @@ use std::alloc::{AllocError, Global};
 
 /// A send right was released: where none is left, a no-senders request is taken, and its notice goes out.
 pub fn release_send(alloc: Global, state: &mut IpcState, serial: u64) -> Result<(), AllocError>
-    ensures { OnOk result (state.new ≡ (released_if_live state.old serial RightKind.Send (map.get state.old.ports serial)).0) }
+    ensures ok { OnOk result (state.new.current ≡ (released_if_live state.old.current serial RightKind.Send (map.get state.old.current.ports serial)).0) }
+    ensures before { state.new.before ≡ state.old.before }
 {
     let Some(numbers) = state.numbers(serial) else {
         return Ok(());
@@ -26,14 +27,15 @@ pub fn release_send(alloc: Global, state: &mut IpcState, serial: u64) -> Result<
         no_senders_target: None,
         ..numbers
     };
-    state.set_numbers(serial, told);
+    state.set_numbers(serial, told)?;
     let count = numbers.make_send_count;
     notify(alloc, state, target, Notice::NoSenders { count })
 }
 
 /// A send-once right was released: a send-once notice comes by it.
 pub fn release_send_once(alloc: Global, state: &mut IpcState, serial: u64) -> Result<(), AllocError>
-    ensures { OnOk result (state.new ≡ (released_if_live state.old serial RightKind.SendOnce (map.get state.old.ports serial)).0) }
+    ensures ok { OnOk result (state.new.current ≡ (released_if_live state.old.current serial RightKind.SendOnce (map.get state.old.current.ports serial)).0) }
+    ensures before { state.new.before ≡ state.old.before }
 {
     notify(alloc, state, serial, Notice::SendOnce)
 }

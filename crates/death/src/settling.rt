@@ -1,4 +1,4 @@
-ghost use Rattle.std.specs.Prelude.{◌≡◌, ◌++◌, IfOk, OnOk};
+ghost use Rattle.std.specs.Prelude.{◌≡◌, ◌++◌, OnOk};
 ghost use Rattle.std.specs.FinMap as map;
 ghost use Rattle.ipc_model.specs.effects.Effects.{Settles, effect, released_if_live};
 ghost use Rattle.effects.specs.Meaning.{effect_meant};
@@ -11,17 +11,16 @@ use ipc_model::RightKind;
 use ipc_state::IpcState;
 use std::alloc::{AllocError, Global};
 
-/// The state once the effects of a call are worked off, each in its turn, until none is left; deaths add to them. Where
-/// memory is wanted the state is given up.
-pub fn settle(alloc: Global, state: IpcState, effects: Effects) -> Result<IpcState, AllocError>
-    ensures { IfOk result (λ settled. Settles state effects settled) }
+/// Works the effects of a call off, each in its turn, until none is left; deaths add to them. Where memory is wanted the
+/// changes are to be given up.
+pub fn settle(alloc: Global, state: &mut IpcState, effects: &mut Effects) -> Result<(), AllocError>
+    ensures settled { OnOk result (Settles state.old.current effects.old state.new.current) }
+    ensures before { state.new.before ≡ state.old.before }
 {
-    let mut state = state;
-    let mut effects = effects;
     while let Some(first) = effects.take() {
-        run(alloc, &mut state, first, &mut effects)?;
+        run(alloc, state, first, effects)?;
     }
-    Ok(state)
+    Ok(())
 }
 
 /// One effect; what it sets off goes to the end of the list.
@@ -32,8 +31,9 @@ fn run(
     first: Effect,
     effects: &mut Effects,
 ) -> Result<(), AllocError>
-    ensures state { OnOk result (state.new ≡ (effect state.old (effect_meant first)).0) }
-    ensures effects { OnOk result (effects.new ≡ effects.old ++ (effect state.old (effect_meant first)).1) }
+    ensures state { OnOk result (state.new.current ≡ (effect state.old.current (effect_meant first)).0) }
+    ensures effects { OnOk result (effects.new ≡ effects.old ++ (effect state.old.current (effect_meant first)).1) }
+    ensures before { state.new.before ≡ state.old.before }
 {
     match first {
         Effect::Notify { target, notice } => notify(alloc, state, target, notice),
@@ -48,8 +48,9 @@ fn release(
     port: u64,
     effects: &mut Effects,
 ) -> Result<(), AllocError>
-    ensures state { OnOk result (state.new ≡ (released_if_live state.old port kind (map.get state.old.ports port)).0) }
-    ensures effects { OnOk result (effects.new ≡ effects.old ++ (released_if_live state.old port kind (map.get state.old.ports port)).1) }
+    ensures state { OnOk result (state.new.current ≡ (released_if_live state.old.current port kind (map.get state.old.current.ports port)).0) }
+    ensures effects { OnOk result (effects.new ≡ effects.old ++ (released_if_live state.old.current port kind (map.get state.old.current.ports port)).1) }
+    ensures before { state.new.before ≡ state.old.before }
 {
     match kind {
         RightKind::Send => release_send(alloc, state, port),

@@ -8,7 +8,6 @@ use Rattle.ipc_model.specs.messages.Notices as notice
 
 abbrev pub notice_meant : Notice → notice.Notice
 notice_meant (told.PortDeleted name) = notice.PortDeleted name
-notice_meant (told.PortDestroyed serial) = notice.PortDestroyed serial
 notice_meant (told.NoSenders count) = notice.NoSenders count
 notice_meant told.SendOnce = notice.SendOnce
 notice_meant (told.DeadName name) = notice.DeadName name

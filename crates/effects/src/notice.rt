@@ -1,10 +1,9 @@
-/// What the kernel tells the holder of a request, or of a send-once right.
+/// What the kernel tells the holder of a request, or of a send-once right, by a message without rights.
+/// (`MACH_NOTIFY_PORT_DESTROYED`, which brings a receive right, doesn't wait for its turn.)
 #[derive(Clone, Copy, Debug, PartialEq, Eq)]
 pub enum Notice {
     /// A name with a dead-name request ceased to be (`MACH_NOTIFY_PORT_DELETED`).
     PortDeleted { name: u32 },
-    /// The receive right of a port would have been destroyed, and comes along (`MACH_NOTIFY_PORT_DESTROYED`).
-    PortDestroyed { serial: u64 },
     /// No send right is left, of so many that were made (`MACH_NOTIFY_NO_SENDERS`).
     NoSenders { count: u32 },
     /// A send-once right was destroyed and not used (`MACH_NOTIFY_SEND_ONCE`).

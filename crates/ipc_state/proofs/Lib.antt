@@ -1,1 +1,3 @@
-mod Failing
+mod Kept
+mod Releasing
+mod Alive

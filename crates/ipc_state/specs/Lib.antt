@@ -1,6 +1,8 @@
 pub mod Absent
 pub mod Added
-pub mod Changed
-pub mod Mentioned
+pub mod Counts
+pub mod Live
+pub mod Members
+pub mod Running
 pub mod There
-pub mod Walked
+pub mod SetNames

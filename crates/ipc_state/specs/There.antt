@@ -1,5 +1,5 @@
 -- A space that is there has its names changed.
-use Rattle.std.specs.Prelude.{◌≡◌, ℕ, Bool, true, false, cond, Option, None, Some, IsSome}
+use Rattle.std.specs.Prelude.{◌≡◌, ℕ, Bool, true, false, cond, Option, None, Some, IsSome, option_and_then}
 use Rattle.std.proofs.Common.{refl, sym, ◌∙◌, ap}
 use Rattle.std.specs.Cmp.{nat_cmp_total}
 use Rattle.std.specs.Ordering.{nat_cmp, eq_by_cmp}
@@ -8,7 +8,7 @@ use Rattle.std.specs.FinMap.{FinMap, get-insert, get-remove, same_map, nat_cmp-I
 use Rattle.ipc_model.specs.declared.entry.Entry.{Entry}
 use Rattle.ipc_laws.specs.MapSums.{insert-insert, insert-same, key_is, same_key}
 use Rattle.ipc_model.specs.calls.PortCalls.{names_in}
-use Rattle.ipc_model.specs.state.State.{State, Names, with_names, with_changed, with_entry, without_name}
+use Rattle.ipc_model.specs.state.State.{State, Names, entry_at, with_names, with_changed, with_entry, without_name}
 
 abbrev pub or_empty : Option Names → Names
 or_empty None = finmap.empty
@@ -62,3 +62,11 @@ put_and_gone state space name entry none =
           ∙ ap (λ (n : Names). finmap.insert state.spaces space n) (removed_again names name entry absent)
           ∙ insert-same state.spaces space names there)
     ] refl
+
+-- what stands under a name, there or not
+pub entry_named : (state : State) (space name : ℕ) → entry_at state space name ≡ finmap.get (names_in state space) name
+entry_named state space name = go (finmap.get state.spaces space)
+  where
+    go : (o : Option Names) → option_and_then (λ (names : Names). finmap.get names name) o ≡ finmap.get (or_empty o) name
+    go None = sym (finmap.get-empty nat_cmp name)
+    go (Some names) = refl

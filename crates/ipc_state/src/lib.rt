@@ -1,13 +1,15 @@
-//! The state as it runs: the spaces with their names, the live ports, and the serial that the next port gets.
+//! The state as it runs: the spaces with their names, the live ports, and the serial that the next port gets. Its
+//! changes are kept or given up.
 #![tactic(auto)]
 
-mod dead_names;
-mod indexed;
-mod live_ports;
-mod mentions;
+mod carried;
+mod counts;
+mod deaths;
 mod names;
-mod space_changes;
-mod spaces;
+mod port_changes;
+mod sets;
+mod space_table;
 mod state;
 
+pub use names::request_of;
 pub use state::IpcState;

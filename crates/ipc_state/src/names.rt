@@ -1,145 +1,241 @@
-ghost use Rattle.std.specs.Prelude.{◌≡◌, ℕ, ◌<◌, ◌≤◌, ◌↔◌, None, Some, OnOk, OnErr, IsSome, IfSome, IsTrue, is_some, option_copied};
+ghost use Rattle.std.specs.Prelude.{◌≡◌, ℕ, ◌<◌, ◌≤◌, ◌↔◌, None, Some, IfOk, OnOk, OnErr, IsSome, IfSome, IsTrue, is_some, option_and_then, option_map};
 ghost use Rattle.std.specs.FinMap as map;
 ghost use Rattle.ipc_model.specs.calls.PortCalls.{names_in, stands_elsewhere};
-ghost use Rattle.ipc_model.specs.state.State.{IsUnused, entry_at, with_changed, with_entry, without_name, name_of_port};
-ghost use Rattle.port_index.specs.Indexed.{MentionsNoOther};
-ghost use Rattle.port_space.specs.Mentions.{entry_mentions};
+ghost use Rattle.ipc_model.specs.state.State.{IsUnused, Names, entry_at, with_changed, with_entry, without_name, name_of_port, received_port, request_of};
+ghost use Rattle.ipc_state.specs.Members.{set_place_of};
+ghost use Rattle.ipc_state.specs.Running.{at_rest};
+ghost use Rattle.place_index.specs.Places.{moved};
 ghost use Rattle.port_space.specs.References.{AreFewReferences};
 ghost use Rattle.port_space.specs.Renaming.{under_other_name};
+ghost use Rattle.spaces.specs.Looking.{entry_in, place};
+ghost use Rattle.spaces.specs.Slots.{names_changed, spaces_at_rest};
 
 use crate::IpcState;
-use codes::{FIRST_NAME, MACH_PORT_DEAD, MACH_PORT_NULL, MAX_NAMES};
+use crate::sets::{place, set_place};
+use codes::{FIRST_NAME, MAX_NAMES};
 use ipc_model::Entry;
-use port_space::PortSpace;
-use std::alloc::AllocError;
+use place_index::PlaceIndex;
+use ports::Ports;
+use spaces::Spaces;
+use std::alloc::{AllocError, Global};
 
-/// What is asked of the names of a space, and done to them. A space that isn't there has none.
+/// What is asked of the names of a space. A space that isn't there has none.
 impl IpcState {
-    /// The names of a space, if it is there.
-    pub fn space(&self, space: u32) -> Option<&PortSpace>
-        ensures { option_copied result ≡ map.get self.now.spaces space }
-    {
-        self.spaces.get(space)
-    }
-
     /// Whether a space is there.
     pub fn has_space(&self, space: u32) -> bool
-        ensures { result ≡ is_some (map.get self.now.spaces space) }
+        ensures { result ≡ is_some (map.get self.now.current.spaces space) }
     {
         self.spaces.contains(space)
     }
 
     /// How many names a space has in use.
-    pub fn names(&self, space: u32) -> usize
-        ensures { result ≡ map.len (names_in self.now space) }
+    pub fn name_count(&self, space: u32) -> usize
+        ensures { result ≡ map.len (names_in self.now.current space) }
     {
-        match self.space(space) {
-            Some(names) => names.len(),
-            None => 0,
-        }
+        self.spaces.name_count(space)
+    }
+
+    /// The names that a space has in use, rising, each with what it stands for.
+    pub fn entries(&self, alloc: Global, space: u32) -> Result<Vec<(u32, Entry)>, AllocError>
+        ensures { IfOk result (λ entries. entries.items ≡ map.entries (names_in self.now.current space)) }
+    {
+        self.spaces.entries(alloc, space)
     }
 
     /// What a name of a space stands for, if it is in use.
     pub fn entry(&self, space: u32, name: u32) -> Option<Entry>
-        ensures entry { result ≡ entry_at self.now space name }
-        ensures named { result ≡ map.get (names_in self.now space) name }
+        ensures entry { result ≡ entry_at self.now.current space name }
+        ensures named { result ≡ map.get (names_in self.now.current space) name }
         ensures few { IfSome result AreFewReferences }
     {
-        let Some(names) = self.space(space) else {
-            return None;
-        };
-        names.get(name)
+        self.spaces.entry(space, name)
     }
 
     /// The name under which a space holds a send or receive right of a port, if it does.
     pub fn name_of_port(&self, space: u32, serial: u64) -> Option<u32>
-        ensures { result ≡ name_of_port (names_in self.now space) serial }
+        ensures { result ≡ name_of_port (names_in self.now.current space) serial }
     {
-        match self.space(space) {
-            Some(names) => names.name_of_port(serial),
-            None => None,
-        }
+        self.spaces.name_of_port(space, serial)
     }
 
     /// Whether a space holds a send or receive right of a port under a name other than this one.
     pub fn stands_elsewhere(&self, space: u32, name: u32, serial: u64) -> bool
-        ensures { result ≡ stands_elsewhere (names_in self.now space) name serial }
+        ensures { result ≡ stands_elsewhere (names_in self.now.current space) name serial }
     {
-        match self.space(space) {
-            Some(names) => names.stands_elsewhere(name, serial),
-            None => false,
-        }
+        self.spaces.stands_elsewhere(space, name, serial)
     }
 
     /// Whether a name may be handed out in a space: it is neither `MACH_PORT_NULL` nor `MACH_PORT_DEAD`, and not
     /// in use.
     pub fn is_unused(&self, space: u32, name: u32) -> bool
-        ensures { IsTrue result ↔ IsUnused (names_in self.now space) name }
+        ensures { IsTrue result ↔ IsUnused (names_in self.now.current space) name }
     {
-        match self.space(space) {
-            Some(names) => names.is_unused(name),
-            None => is_a_name(name),
-        }
+        self.spaces.is_unused(space, name)
     }
 
     /// The least name from `FIRST_NAME` on that a space doesn't use. There always is one.
     pub fn free_name(&self, space: u32) -> u32
-        ensures unused { IsUnused (names_in self.now space) result }
+        ensures unused { IsUnused (names_in self.now.current space) result }
         ensures from { FIRST_NAME ≤ result }
-        ensures least { (k : ℕ) → FIRST_NAME ≤ k → k < result → IsSome (map.get (names_in self.now space) k) }
+        ensures least { (k : ℕ) → FIRST_NAME ≤ k → k < result → IsSome (map.get (names_in self.now.current space) k) }
     {
-        match self.space(space) {
-            Some(names) => names.free_name(),
-            None => FIRST_NAME,
-        }
-    }
-
-    /// Has a name of a space stand for this, where the space is there. Where memory is wanted nothing changed.
-    #[tactic(auto, using(crate::specs::Changed::changed_state))]
-    pub fn put_name(&mut self, space: u32, name: u32, entry: Entry) -> Result<(), AllocError>
-        requires room { entry_at self.old space name ≡ None → map.len (names_in self.old space) < MAX_NAMES }
-        requires few { AreFewReferences entry }
-        ensures ok { OnOk result (self.new ≡ with_entry self.old space name entry) }
-        ensures err { OnErr result (self.new ≡ self.old) }
-    {
-        self.spaces.put_name(space, name, entry)
-    }
-
-    /// Has a name that is in use stand for this, where it mentions no port that the name doesn't mention already.
-    /// It takes no memory.
-    #[tactic(auto, using(crate::specs::Changed::changed_state))]
-    pub fn set_entry(&mut self, space: u32, name: u32, entry: Entry)
-        requires named { IsSome (entry_at self.old space name) }
-        requires known { (former : Entry) → entry_at self.old space name ≡ Some former → MentionsNoOther entry_mentions entry former }
-        requires few { AreFewReferences entry }
-        ensures { self.new ≡ with_entry self.old space name entry }
-    {
-        self.spaces.set_entry(space, name, entry);
-    }
-
-    /// Has what stands under one name of a space, if anything does, stand under another. Where memory is wanted
-    /// nothing changed.
-    #[tactic(auto, using(crate::specs::Changed::changed_state))]
-    pub fn rename(&mut self, space: u32, from: u32, to: u32) -> Result<(), AllocError>
-        requires unused { entry_at self.old space to ≡ None }
-        ensures ok { OnOk result (self.new ≡ with_changed self.old space (λ names. under_other_name names from to)) }
-        ensures err { OnErr result (self.new ≡ self.old) }
-    {
-        self.spaces.rename(space, from, to)
-    }
-
-    /// Takes a name of a space out of use.
-    #[tactic(auto, using(crate::specs::Changed::changed_state))]
-    pub fn remove_name(&mut self, space: u32, name: u32)
-        ensures { self.new ≡ without_name self.old space name }
-    {
-        self.spaces.remove_name(space, name);
+        self.spaces.free_name(space)
     }
 }
 
-/// Whether this is neither `MACH_PORT_NULL` nor `MACH_PORT_DEAD`.
-fn is_a_name(name: u32) -> bool
-    ensures { IsTrue result ↔ ((0 < name) × (name < MACH_PORT_DEAD)) }
+/// What is done to the names of a space.
+impl IpcState {
+    /// Has a name of a space stand for this, where the space is there. Where memory is wanted the changes are given up.
+    pub fn put_name(&mut self, space: u32, name: u32, entry: Entry) -> Result<(), AllocError>
+        requires room { entry_at self.old.current space name ≡ None → map.len (names_in self.old.current space) < MAX_NAMES }
+        requires few { AreFewReferences entry }
+        ensures ok { OnOk result (self.new ≡ record self.old { current = with_entry self.old.current space name entry }) }
+        ensures err { OnErr result (self.new ≡ at_rest self.old.before) }
+    {
+        if !self.spaces.contains(space) {
+            return Ok(());
+        }
+        match put_in_both(
+            &mut self.spaces,
+            &self.ports,
+            &mut self.members,
+            space,
+            name,
+            entry,
+        ) {
+            Ok(()) => Ok(()),
+            Err(error) => {
+                self.spaces.give_up();
+                self.ports.give_up();
+                self.members.give_up();
+                Err(error)
+            }
+        }
+    }
+
+    /// Takes a name of a space out of use. Where memory is wanted the changes are given up.
+    pub fn remove_name(&mut self, space: u32, name: u32) -> Result<(), AllocError>
+        ensures ok { OnOk result (self.new ≡ record self.old { current = without_name self.old.current space name }) }
+        ensures err { OnErr result (self.new ≡ at_rest self.old.before) }
+    {
+        if !self.spaces.contains(space) {
+            return Ok(());
+        }
+        match remove_from_both(
+            &mut self.spaces,
+            &self.ports,
+            &mut self.members,
+            space,
+            name,
+        ) {
+            Ok(()) => Ok(()),
+            Err(error) => {
+                self.spaces.give_up();
+                self.ports.give_up();
+                self.members.give_up();
+                Err(error)
+            }
+        }
+    }
+
+    /// Has what stands under one name of a space, if anything does, stand under another. Where memory is wanted
+    /// the changes are given up.
+    pub fn rename(&mut self, space: u32, from: u32, to: u32) -> Result<(), AllocError>
+        requires unused { entry_at self.old.current space to ≡ None }
+        ensures ok { OnOk result (self.new ≡ record self.old { current = with_changed self.old.current space (λ names. under_other_name names from to) }) }
+        ensures err { OnErr result (self.new ≡ at_rest self.old.before) }
+    {
+        let Some(entry) = self.entry(space, from) else {
+            return Ok(());
+        };
+        match rename_in_both(
+            &mut self.spaces,
+            &self.ports,
+            &mut self.members,
+            space,
+            (from, to),
+            entry,
+        ) {
+            Ok(()) => Ok(()),
+            Err(error) => {
+                self.spaces.give_up();
+                self.ports.give_up();
+                self.members.give_up();
+                Err(error)
+            }
+        }
+    }
+}
+
+/// The target of a name's dead-name request, if there is a request.
+pub fn request_of(entry: Entry) -> Option<u64>
+    ensures { result ≡ request_of entry }
 {
-    name != MACH_PORT_NULL && name != MACH_PORT_DEAD
+    match entry {
+        Entry::Port(rights) => rights.dead_name_target,
+        Entry::SendOnce {
+            dead_name_target,
+            ..
+        } => dead_name_target,
+        Entry::Set | Entry::Dead { .. } => None,
+    }
+}
+
+fn put_in_both(
+    spaces: &mut Spaces,
+    ports: &Ports,
+    members: &mut PlaceIndex,
+    space: u32,
+    name: u32,
+    entry: Entry,
+) -> Result<(), AllocError>
+    requires room { (names : Names) → map.get spaces.old.current space ≡ Some names → map.get names name ≡ None → map.len names < MAX_NAMES }
+    requires few { AreFewReferences entry }
+    ensures spaces { OnOk result (spaces.new ≡ record spaces.old { current = names_changed spaces.old.current space (λ names. map.insert names name entry) }) }
+    ensures members { OnOk result (members.new ≡ record members.old { current = moved members.old.current (place space name) (set_place_of ports.now.current.ports space (entry_in spaces.old.current space name)) (set_place_of ports.now.current.ports space (Some entry)) }) }
+    ensures before { spaces.new.before ≡ spaces.old.before }
+    ensures members_before { members.new.before ≡ members.old.before }
+{
+    let former = set_place(ports, space, spaces.entry(space, name));
+    let later = set_place(ports, space, Some(entry));
+    members.change(place(space, name), former, later)?;
+    spaces.put_name(space, name, entry)
+}
+
+fn remove_from_both(
+    spaces: &mut Spaces,
+    ports: &Ports,
+    members: &mut PlaceIndex,
+    space: u32,
+    name: u32,
+) -> Result<(), AllocError>
+    ensures spaces { OnOk result (spaces.new ≡ record spaces.old { current = names_changed spaces.old.current space (λ names. map.remove names name) }) }
+    ensures members { OnOk result (members.new ≡ record members.old { current = moved members.old.current (place space name) (set_place_of ports.now.current.ports space (entry_in spaces.old.current space name)) (set_place_of ports.now.current.ports space None) }) }
+    ensures before { spaces.new.before ≡ spaces.old.before }
+    ensures members_before { members.new.before ≡ members.old.before }
+{
+    let former = set_place(ports, space, spaces.entry(space, name));
+    members.change(place(space, name), former, None)?;
+    spaces.remove_name(space, name)
+}
+
+fn rename_in_both(
+    spaces: &mut Spaces,
+    ports: &Ports,
+    members: &mut PlaceIndex,
+    space: u32,
+    names: (u32, u32),
+    entry: Entry,
+) -> Result<(), AllocError>
+    requires unused { entry_in spaces.old.current space names.1 ≡ None }
+    ensures spaces { OnOk result (spaces.new ≡ record spaces.old { current = names_changed spaces.old.current space (λ n. under_other_name n names.0 names.1) }) }
+    ensures members { OnOk result (members.new ≡ record members.old { current = moved (moved members.old.current (place space names.0) (set_place_of ports.now.current.ports space (Some entry)) None) (place space names.1) None (set_place_of ports.now.current.ports space (Some entry)) }) }
+    ensures before { spaces.new.before ≡ spaces.old.before }
+    ensures members_before { members.new.before ≡ members.old.before }
+{
+    let (from, to) = names;
+    let set = set_place(ports, space, Some(entry));
+    members.change(place(space, from), set, None)?;
+    members.change(place(space, to), None, set)?;
+    spaces.rename(space, from, to)
 }

@@ -1,4 +1,4 @@
-ghost use Rattle.std.specs.Prelude.{◌≡◌, [], false, true, None, IfOk, IfSome, IfNone, OnErr, IsSome};
+ghost use Rattle.std.specs.Prelude.{◌≡◌, [], false, true, None, IfOk, IfSome, IfNone, IsSome};
 ghost use Rattle.std.specs.FinMap as map;
 ghost use Rattle.ipc_model.specs.calls.PortCalls.{names_in};
 ghost use Rattle.ipc_model.specs.calls.Step.{ActsIn};
@@ -19,7 +19,7 @@ pub fn read(
     space: u32,
     call: &Call,
 ) -> Result<Option<Reply>, AllocError>
-    ensures acts { IfOk result (λ done. IfSome done (λ reply. ActsIn state.now space (names_in state.now space) call.now reply state.now [])) }
+    ensures acts { IfOk result (λ done. IfSome done (λ reply. ActsIn state.now.current space (names_in state.now.current space) call.now reply state.now.current [])) }
     ensures reads { IfOk result (λ done. IfSome done (λ reply. only_reads call.now ≡ true)) }
     ensures none { IfOk result (λ done. IfNone done (only_reads call.now ≡ false)) }
 {
@@ -44,8 +44,8 @@ pub fn read(
     }
 }
 
-/// Makes a call that changes the state and sets nothing off; `None` for other calls. Where memory is wanted nothing
-/// changed.
+/// Makes a call that changes the state and sets nothing off; `None` for other calls. Where memory is wanted the
+/// changes are to be given up.
 pub fn change(
     alloc: Global,
     state: &mut IpcState,
@@ -53,14 +53,14 @@ pub fn change(
     call: &Call,
     shown: Shown,
 ) -> Result<Option<Reply>, AllocError>
-    requires there { IsSome (map.get state.old.spaces space) }
-    requires fresh { map.get state.old.ports state.old.next ≡ None }
-    ensures acts { IfOk result (λ done. IfSome done (λ reply. ActsIn state.old space (names_in state.old space) call.now reply state.new [])) }
+    requires there { IsSome (map.get state.old.current.spaces space) }
+    requires fresh { map.get state.old.current.ports state.old.current.next ≡ None }
+    ensures acts { IfOk result (λ done. IfSome done (λ reply. ActsIn state.old.current space (names_in state.old.current space) call.now reply state.new.current [])) }
     ensures changes { IfOk result (λ done. IfSome done (λ reply. sets_nothing_off call.now ≡ true)) }
-    ensures shown { IfOk result (λ done. IfSome done (λ reply. Prefers state.old space call.now shown reply)) }
+    ensures shown { IfOk result (λ done. IfSome done (λ reply. Prefers state.old.current space call.now shown reply)) }
     ensures none { IfOk result (λ done. IfNone done (sets_nothing_off call.now ≡ false)) }
     ensures same { IfOk result (λ done. IfNone done (state.new ≡ state.old)) }
-    ensures err { OnErr result (state.new ≡ state.old) }
+    ensures before { state.new.before ≡ state.old.before }
 {
     match call {
         Call::Rename { from, to } => {
@@ -76,27 +76,27 @@ pub fn change(
             Ok(Some(reply))
         }
         Call::SetQlimit { name, limit } => {
-            let reply = port_calls::set_qlimit(state, space, *name, *limit);
+            let reply = port_calls::set_qlimit(state, space, *name, *limit)?;
             Ok(Some(reply))
         }
         Call::SetMscount { name, count } => {
-            let reply = port_calls::set_mscount(state, space, *name, *count);
+            let reply = port_calls::set_mscount(state, space, *name, *count)?;
             Ok(Some(reply))
         }
         Call::SetSeqno { name, seqno } => {
-            let reply = port_calls::set_seqno(state, space, *name, *seqno);
+            let reply = port_calls::set_seqno(state, space, *name, *seqno)?;
             Ok(Some(reply))
         }
         Call::MoveMember { member, after } => {
-            let reply = port_calls::move_member(state, space, *member, *after);
+            let reply = port_calls::move_member(state, space, *member, *after)?;
             Ok(Some(reply))
         }
         _ => Ok(None),
     }
 }
 
-/// Tries a call that gives rights up on a copy of the state, which is to be given up where the call is refused or memory
-/// is wanted; `None` for other calls.
+/// Makes a call that gives rights up. Where it is refused, or memory is wanted, the changes are to be given up; `None` for
+/// other calls.
 pub fn give_up(
     alloc: Global,
     state: &mut IpcState,
@@ -105,10 +105,11 @@ pub fn give_up(
     effects: &mut Effects,
 ) -> Result<Option<Reply>, AllocError>
     requires none { effects.old ≡ [] }
-    requires there { IsSome (map.get state.old.spaces space) }
-    ensures tries { IfOk result (λ done. IfSome done (λ reply. Tries state.old space call.now reply state.new effects.new)) }
+    requires there { IsSome (map.get state.old.current.spaces space) }
+    ensures tries { IfOk result (λ done. IfSome done (λ reply. Tries state.old.current space call.now reply state.new.current effects.new)) }
     ensures gives { IfOk result (λ done. IfSome done (λ reply. gives_up call.now ≡ true)) }
     ensures none { IfOk result (λ done. IfNone done ((gives_up call.now ≡ false) × (state.new ≡ state.old) × (effects.new ≡ effects.old))) }
+    ensures before { state.new.before ≡ state.old.before }
 {
     match call {
         Call::Destroy { name } => {
@@ -131,8 +132,8 @@ pub fn give_up(
     }
 }
 
-/// Tries a call that copies a right in on a copy of the state, which is to be given up where the call is refused or
-/// memory is wanted; `None` for other calls.
+/// Makes a call that copies a right in. Where it is refused, or memory is wanted, the changes are to be given up; `None`
+/// for other calls.
 pub fn hand_over(
     alloc: Global,
     state: &mut IpcState,
@@ -142,11 +143,12 @@ pub fn hand_over(
     effects: &mut Effects,
 ) -> Result<Option<Reply>, AllocError>
     requires none { effects.old ≡ [] }
-    requires there { IsSome (map.get state.old.spaces space) }
-    ensures tries { IfOk result (λ done. IfSome done (λ reply. Tries state.old space call.now reply state.new effects.new)) }
+    requires there { IsSome (map.get state.old.current.spaces space) }
+    ensures tries { IfOk result (λ done. IfSome done (λ reply. Tries state.old.current space call.now reply state.new.current effects.new)) }
     ensures hands { IfOk result (λ done. IfSome done (λ reply. hands_over call.now ≡ true)) }
-    ensures shown { IfOk result (λ done. IfSome done (λ reply. Prefers state.old space call.now shown reply)) }
-    ensures none { IfOk result (λ done. IfNone done (hands_over call.now ≡ false)) }
+    ensures shown { IfOk result (λ done. IfSome done (λ reply. Prefers state.old.current space call.now shown reply)) }
+    ensures none { IfOk result (λ done. IfNone done ((hands_over call.now ≡ false) × (state.new ≡ state.old))) }
+    ensures before { state.new.before ≡ state.old.before }
 {
     match call {
         Call::RequestNotification {

@@ -44,6 +44,7 @@ pub struct Kernel {
 }
 
 impl Model for Kernel {
+    ghost use Rattle.std.specs.Prelude.{◌≡◌};
     ghost use Rattle.ipc_model.specs.state.Circular.{Grounded};
     ghost use Rattle.ipc_model.specs.state.Lawful.{Lawful, ShortQueues};
     ghost use Rattle.ipc_model.specs.state.State.{State};
@@ -53,11 +54,11 @@ impl Model for Kernel {
 
     ghost coded = { state_code };
 
-    ghost view = { λ k. k.state };
+    ghost view = { λ k. k.state.current };
 
     // Each live port has one receive right, each right names a live port, no ports carry one another in a circle, and no
-    // queue is too long for an image.
-    ghost invariant = { λ k. Lawful k.state × Grounded k.state × ShortQueues k.state };
+    // queue is too long for an image. Between calls there is no change to keep or to give up.
+    ghost invariant = { λ k. Lawful k.state.current × Grounded k.state.current × ShortQueues k.state.current × (k.state.before ≡ k.state.current) };
 }
 
 impl Kernel {
@@ -88,9 +89,17 @@ impl Kernel {
         ensures err { OnErr result (self.new ≡ self.old) }
     {
         call_in_range(call);
-        let answered = step(self.alloc, &mut self.state, space, call, Shown::nothing());
-        self.state.queues_are_short();
-        answered
+        match step(self.alloc, &mut self.state, space, call, Shown::nothing()) {
+            Ok(reply) => {
+                self.state.keep();
+                self.state.queues_are_short();
+                Ok(reply)
+            }
+            Err(error) => {
+                self.state.give_up();
+                Err(error)
+            }
+        }
     }
 
     /// What `apply` answers to a call that has no record, or `None` where a step of the call has one. It changes
@@ -104,6 +113,24 @@ impl Kernel {
     {
         let mut state = self.state.copy()?;
         let reply = step(self.alloc, &mut state, space, call, Shown::nothing())?;
+        if call.has_record(&reply) {
+            return Ok(None);
+        }
+        Ok(Some(reply))
+    }
+
+    /// What `answer` answers, without a copy of the state: the call is made and given up.
+    pub fn answer_in_place(&mut self, space: u32, call: &Call) -> Result<Option<Reply>, AllocError>
+        ensures answered { IfOk result (λ answer. IfSome answer
+            (λ reply. ServedStep self.old space call.now reply self.old × (has_record call.now reply ≡ false))) }
+        ensures none { IfOk result (λ answer. IfNone answer ((reply : Reply) × (new : State)
+            × ServedStep self.old space call.now reply new × (has_record call.now reply ≡ true))) }
+        ensures fits { IfOk result (λ answer. IfSome answer (λ reply. length (reply_text reply) ≤ MAX_FRAME_CONTENT)) }
+        ensures same { self.new ≡ self.old }
+    {
+        let answered = step(self.alloc, &mut self.state, space, call, Shown::nothing());
+        self.state.give_up();
+        let reply = answered?;
         if call.has_record(&reply) {
             return Ok(None);
         }
@@ -155,6 +182,7 @@ impl Kernel {
         if !is_same_reply(&reply, &record.reply) {
             return Err(ReplayFault::Mismatch);
         }
+        state.keep();
         state.queues_are_short();
         Ok(Kernel { alloc, state })
     }

@@ -5,4 +5,4 @@ mod requests;
 mod text;
 
 pub use requests::{replace_no_senders, replace_port_destroyed, with_request};
-pub use text::message;
+pub use text::{message, port_destroyed};

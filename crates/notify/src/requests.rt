@@ -1,4 +1,4 @@
-ghost use Rattle.std.specs.Prelude.{◌≡◌, IfOk, OnOk, OnErr, option_and_then};
+ghost use Rattle.std.specs.Prelude.{◌≡◌, IfOk, OnOk, option_and_then};
 ghost use Rattle.std.specs.FinMap as map;
 ghost use Rattle.ipc_model.specs.state.State.{with_port};
 ghost use Rattle.port_space.specs.References.{AreFewReferences};
@@ -10,15 +10,15 @@ use ports::PortNumbers;
 use std::alloc::AllocError;
 
 /// The target of a port's no-senders request becomes this one, or the request is taken or cancelled where it is
-/// none. It gives the former target. Where memory is wanted nothing changed.
+/// none. It gives the former target. Where memory is wanted the changes are to be given up.
 pub fn replace_no_senders(
     state: &mut IpcState,
     port: u64,
     target: Option<u64>,
 ) -> Result<Option<u64>, AllocError>
-    ensures former { IfOk result (λ former. former ≡ option_and_then (λ port. port.no_senders_target) (map.get state.old.ports port)) }
-    ensures kept { OnOk result (state.new ≡ with_port state.old port (λ port. record port { no_senders_target = target })) }
-    ensures err { OnErr result (state.new ≡ state.old) }
+    ensures former { IfOk result (λ former. former ≡ option_and_then (λ port. port.no_senders_target) (map.get state.old.current.ports port)) }
+    ensures kept { OnOk result (state.new.current ≡ with_port state.old.current port (λ port. record port { no_senders_target = target })) }
+    ensures before { state.new.before ≡ state.old.before }
 {
     let Some(numbers) = state.numbers(port) else {
         return Ok(None);
@@ -28,20 +28,20 @@ pub fn replace_no_senders(
         no_senders_target: target,
         ..numbers
     };
-    state.replace_numbers(port, asked)?;
+    state.set_numbers(port, asked)?;
     Ok(former)
 }
 
 /// The target of a port's port-destroyed request becomes this one, or the request is taken or cancelled where it
-/// is none. It gives the former target. Where memory is wanted nothing changed.
+/// is none. It gives the former target. Where memory is wanted the changes are to be given up.
 pub fn replace_port_destroyed(
     state: &mut IpcState,
     port: u64,
     target: Option<u64>,
 ) -> Result<Option<u64>, AllocError>
-    ensures former { IfOk result (λ former. former ≡ option_and_then (λ port. port.port_destroyed_target) (map.get state.old.ports port)) }
-    ensures kept { OnOk result (state.new ≡ with_port state.old port (λ port. record port { port_destroyed_target = target })) }
-    ensures err { OnErr result (state.new ≡ state.old) }
+    ensures former { IfOk result (λ former. former ≡ option_and_then (λ port. port.port_destroyed_target) (map.get state.old.current.ports port)) }
+    ensures kept { OnOk result (state.new.current ≡ with_port state.old.current port (λ port. record port { port_destroyed_target = target })) }
+    ensures before { state.new.before ≡ state.old.before }
 {
     let Some(numbers) = state.numbers(port) else {
         return Ok(None);
@@ -51,7 +51,7 @@ pub fn replace_port_destroyed(
         port_destroyed_target: target,
         ..numbers
     };
-    state.replace_numbers(port, asked)?;
+    state.set_numbers(port, asked)?;
     Ok(former)
 }
 

@@ -2,6 +2,7 @@ ghost use Rattle.std.specs.Prelude.{◌≡◌, ◌∷◌, [], ◌++◌, IfOk, No
 ghost use Rattle.words.specs.Words.{word};
 ghost use Rattle.ipc_model.specs.messages.Notices.{notice_message, notice_body};
 ghost use Rattle.effects.specs.Meaning.{notice_meant};
+ghost use Rattle.ipc_model.specs.messages.Notices as notice;
 
 use effects::Notice;
 use ipc_model::{CarriedRight, Message, PortInMessage, RightKind, Sequence};
@@ -26,13 +27,13 @@ const ONE_RECEIVE_RIGHT: u32 = 0x1001_2010;
 /// The descriptor of one inline 32-bit integer (type 2).
 const ONE_INTEGER: u32 = 0x1001_2002;
 
-/// A notice as a message, which is sent by a send-once right and names no reply.
+/// A notice as a message, which is sent by a send-once right, names no reply and carries no rights.
 pub fn message(alloc: Global, notice: Notice) -> Result<Message, AllocError>
-    ensures { IfOk result (λ message. message ≡ notice_message (notice_meant notice)) }
+    ensures message { IfOk result (λ message. message ≡ notice_message (notice_meant notice)) }
+    ensures plain { IfOk result (λ message. (message.reply ≡ None) × (message.rights ≡ [])) }
 {
     match notice {
         Notice::PortDeleted { name } => plain(alloc, PORT_DELETED, ONE_NAME, name),
-        Notice::PortDestroyed { serial } => port_destroyed(alloc, serial),
         Notice::NoSenders { count } => plain(alloc, NO_SENDERS, ONE_INTEGER, count),
         Notice::SendOnce => Ok(without_rights(SEND_ONCE, alloc, Vec::new(alloc))),
         Notice::DeadName { name } => plain(alloc, DEAD_NAME, ONE_NAME, name),
@@ -60,9 +61,10 @@ fn without_rights(id: u32, alloc: Global, body: Vec<u8>) -> Message
     }
 }
 
-/// The notice that carries the receive right.
-fn port_destroyed(alloc: Global, serial: u64) -> Result<Message, AllocError>
-    ensures { IfOk result (λ message. message ≡ notice_message (notice_meant (Notice.PortDestroyed serial))) }
+/// The notice that the receive right of a port would have been destroyed, as a message that brings it
+/// (`MACH_NOTIFY_PORT_DESTROYED`).
+pub fn port_destroyed(alloc: Global, serial: u64) -> Result<Message, AllocError>
+    ensures { IfOk result (λ message. message ≡ notice_message (notice.PortDestroyed serial)) }
 {
     let body = one_item(alloc, ONE_RECEIVE_RIGHT, 0)?;
     let mut rights = Vec::new(alloc);

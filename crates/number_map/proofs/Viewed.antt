@@ -1,14 +1,19 @@
 -- The entries of a std map seen as a finite map.
-use Rattle.std.proofs.Common.{◌≡◌, ℕ, false, cond, List, [], ◌∷◌, length, Option, None, Some, is_some, map, T, refl, sym, ◌∙◌, ap, arith}
-use Rattle.std.specs.Cmp.{nat_cmp_total, eq_by_cmp_equiv}
+use Rattle.std.proofs.Common.{◌≡◌, ◌≤◌, ◌<◌, ℕ, false, subst, slice_get, cond, List, [], ◌∷◌, length, Option, None, Some, is_some, map, T, refl, sym, ◌∙◌, ap, arith}
+use Rattle.std.specs.Cmp.{nat_cmp_total, eq_by_cmp_equiv, ranked}
 use Rattle.std.specs.Ordering.{nat_cmp}
-use Rattle.std.specs.declared.cmp.Ordering.TheVariants.{Less}
+use Rattle.std.specs.declared.cmp.Ordering.{Ordering}
+use Rattle.std.specs.declared.cmp.Ordering.TheVariants.{Less, Equal, Greater}
 use Rattle.std.specs.FinMap.{FinMap, find, put, empty, entries, entries-insert, from_entries, get, insert, remove, len, get-from_entries, get-insert, get-remove, len-empty, len-entries, len-insert, same_map, nat_cmp-IsAntisymmetric}
-use Rattle.std.specs.BTreeMap.{is_at}
+use Rattle.std.specs.BTreeMap.{BTreeMap, is_at}
+use Rattle.std.specs.BTreeMap.Range.{IsRangeOf, IsEntryInRange, IsLeBy}
+use Rattle.std.specs.declared.ops.Bound.TheVariants.{Included, Unbounded}
+use Rattle.std.specs.Option.{IsSome, IfSome}
+use Rattle.std.specs.Ordering.{is_gt}
 use Rattle.std.specs.Map.{lookup, keys_of}
 use Rattle.std.specs.List.{AllByRecursion}
 use Rattle.std.specs.List.Sorted.{IsStrictlySortedBy}
-use Rattle.std.proofs.lemmas.Map.Keys.{sorted_head, sorted_tail}
+use Rattle.std.proofs.lemmas.Map.Keys.{le_from_not_gt, sorted_head, sorted_tail}
 
 module _ {X : Type 0} where
   find_lookup : (es : List (ℕ × X)) (q : ℕ) → find nat_cmp q es ≡ lookup (is_at (nat_cmp q)) es
@@ -66,3 +71,38 @@ module _ {X : Type 0} where
   removed es fs k is = same_map nat_cmp_total nat_cmp-IsAntisymmetric _ _ (λ q.
       get_viewed fs q ∙ is q ∙ ap (λ b. cond b None (lookup (is_at (nat_cmp q)) es)) ((eq_by_cmp_equiv nat_cmp_total).symm k q)
       ∙ sym (get-remove nat_cmp_total (from_entries es) k q ∙ ap (cond (is_at (nat_cmp q) k) None) (get_viewed es q)))
+
+at_most : (a b : ℕ) → a ≤ b → is_gt (nat_cmp a b) ≡ false
+at_most a b le = elim (nat_cmp a b) as (λ (o : Ordering). nat_cmp a b ≡ o → is_gt o ≡ false) [
+  | Less ↦ λ (_ : _). refl
+  | Equal ↦ λ (_ : _). refl
+  | Greater ↦ λ (more : _). absurd (omega (arith, le, ranked a b Greater (sym more)))
+] refl
+
+-- the least key from a given one on
+module _ {X : Type 0} where
+  abbrev FromOn : ℕ → BTreeMap ℕ X → List (ℕ × X) → Type 0
+  FromOn from m r = IsRangeOf nat_cmp (Included from) Unbounded m r
+
+  pub none_from : (from : ℕ) (m : BTreeMap ℕ X) (r : List (ℕ × X)) → FromOn from m r → r ≡ [] → (key : ℕ) → from ≤ key → get (from_entries {R = nat_cmp} m.entries) key ≡ None
+  none_from from m r range none key le = get_viewed m.entries key ∙ range.5 none key (at_most from key le, tt)
+
+  pub record IsFirstFrom (from : ℕ) (n : FinMap {K = ℕ} nat_cmp X) (key : ℕ) (value : X) : Type 0 where
+    pub from_on : from ≤ key
+    pub there : get n key ≡ Some value
+    pub least : (other : ℕ) → from ≤ other → other < key → get n other ≡ None
+
+  pub first_from : (from : ℕ) (m : BTreeMap ℕ X) (r rest : List (ℕ × X)) (key : ℕ) (value : X) → FromOn from m r → r ≡ (key, value) ∷ rest → IsFirstFrom from (from_entries {R = nat_cmp} m.entries) key value
+  first_from from m r rest key value range is =
+      let first : IsEntryInRange nat_cmp (Included from) Unbounded m (key, value) = subst (λ (l : List (ℕ × X)). IfSome (slice_get l 0) (IsEntryInRange nat_cmp (Included from) Unbounded m)) is range.1 in
+      record {
+        from_on = le_from_not_gt from key first.0.0;
+        there = get_viewed m.entries key ∙ first.1;
+        least = λ other le below. get_viewed m.entries other ∙ none_below other le below (lookup (is_at (nat_cmp other)) m.entries) refl;
+      }
+    where
+      none_below : (other : ℕ) → from ≤ other → other < key → (o : Option X) → lookup (is_at (nat_cmp other)) m.entries ≡ o → o ≡ None
+      none_below other le below None found = refl
+      none_below other le below (Some there) found =
+          let least = subst (λ (l : List (ℕ × X)). IfSome (slice_get l 0) (λ e. IsLeBy nat_cmp e.0 other)) is (range.2 other (at_most from other le, tt) (ap is_some found)) in
+          absurd (omega (arith, le_from_not_gt key other least, below))

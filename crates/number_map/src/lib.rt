@@ -1,7 +1,7 @@
 //! A map from numbers to values, which contracts see as a finite map.
 #![tactic(auto)]
 
-ghost use Rattle.std.specs.Prelude.{◌≡◌, ◌==◌, IfOk, OnOk, OnErr, is_some, None, option_copied, ℕ};
+ghost use Rattle.std.specs.Prelude.{◌≡◌, ◌≤◌, ◌<◌, ◌==◌, IfOk, OnOk, OnErr, MatchOption, is_some, None, Some, option_copied, ℕ};
 ghost use Rattle.std.specs.Ordering.{nat_cmp};
 ghost use Rattle.std.specs.FinMap as map;
 ghost use Rattle.std.specs.Map.Iter.{ShowsInOrder, ShowsValuesInOrder, deref_pair};
@@ -25,7 +25,7 @@ pub trait Copier<V> {
 #[derive(Drop)]
 pub struct NumberMap<V> {
     alloc: Global,
-    entries: BTreeMap<u64, V>,
+    entries: BTreeMap<u128, V>,
 }
 
 impl<V> Model for NumberMap<V> {
@@ -66,30 +66,41 @@ impl<V> NumberMap<V> {
     }
 
     /// Whether a key has a value.
-    pub fn contains_key(&self, key: u64) -> bool
+    pub fn contains_key(&self, key: u128) -> bool
         ensures { result ≡ is_some (map.get self.now key) }
     {
         self.entries.contains_key(&key)
     }
 
     /// The value of a key.
-    pub fn get(&self, key: u64) -> Option<&V>
+    pub fn get(&self, key: u128) -> Option<&V>
         ensures { option_copied result ≡ map.get self.now key }
     {
         self.entries.get(&key)
     }
 
     /// The value of a key, to be changed in place. What is left there is the key's value afterwards.
-    pub fn get_mut(&mut self, key: u64) -> Option<&mut V>
+    pub fn get_mut(&mut self, key: u128) -> Option<&mut V>
         ensures* writes_back { sem 𝓛 (LendsIf (the_row V.row) V.row self.entry result (map.insert self.old key) self.old) }
         ensures value { option_copied_mut result ≡ map.get self.old key }
     {
         self.entries.get_mut(&key)
     }
 
+    /// The least key from this one on that has a value, with its value.
+    pub fn next_from(&self, from: u128) -> Option<(u128, &V)>
+        ensures { MatchOption result ((key : ℕ) → from ≤ key → map.get self.now key ≡ None)
+            (λ e. (from ≤ e.0) × (map.get self.now e.0 ≡ Some e.1.now) × ((key : ℕ) → from ≤ key → key < e.0 → map.get self.now key ≡ None)) }
+    {
+        let Some((key, value)) = self.entries.range(from..).next() else {
+            return None;
+        };
+        Some((*key, value))
+    }
+
     /// The entries, rising by key.
     #[tactic(auto, using(crate::proofs::Viewed::same_rest))]
-    pub fn iter(&self) -> Iter<'_, u64, V>
+    pub fn iter(&self) -> Iter<'_, u128, V>
         ensures rest { result ≡ map.entries self.now }
         ensures runs { ShowsInOrder (deref_pair {K = ℕ} {X = V}) }
         ensures values_run { ShowsValuesInOrder (deref_pair {K = ℕ} {X = V}) }
@@ -101,7 +112,7 @@ impl<V> NumberMap<V> {
 impl<V: Drop> NumberMap<V> {
     /// Sets the value of a key, and gives the one before. Only a key without a value may lack memory, and then
     /// nothing changed.
-    pub fn insert(&mut self, key: u64, value: V) -> Result<Option<V>, AllocError>
+    pub fn insert(&mut self, key: u128, value: V) -> Result<Option<V>, AllocError>
         ensures before { IfOk result (λ before. before ≡ map.get self.old key) }
         ensures ok { OnOk result (self.new ≡ map.insert self.old key value) }
         ensures err { OnErr result (self.new ≡ self.old) }
@@ -111,7 +122,7 @@ impl<V: Drop> NumberMap<V> {
     }
 
     /// Takes the value of a key out.
-    pub fn remove(&mut self, key: u64) -> Option<V>
+    pub fn remove(&mut self, key: u128) -> Option<V>
         ensures before { result ≡ map.get self.old key }
         ensures removed { self.new ≡ map.remove self.old key }
     {

@@ -1,4 +1,4 @@
-ghost use Rattle.std.specs.Prelude.{◌≡◌, ◌&&◌, ◌∷◌, ℕ, List, [], None, Some, IfOk, OnOk, OnErr, IsSome};
+ghost use Rattle.std.specs.Prelude.{◌≡◌, ◌&&◌, ◌∷◌, ℕ, List, [], None, Some, IfOk, OnOk, IsSome};
 ghost use Rattle.std.specs.FinMap as map;
 ghost use Rattle.ipc_model.specs.calls.Actions.{allocated};
 ghost use Rattle.ipc_model.specs.declared.call.Call.TheVariants as call;
@@ -17,7 +17,7 @@ use ipc_state::IpcState;
 use std::alloc::AllocError;
 
 /// `mach_port_allocate`: a new name with a new right: the wanted name where it is unused, else the least unused one
-/// from `FIRST_NAME` on. Where memory is wanted nothing changed.
+/// from `FIRST_NAME` on. Where memory is wanted the changes are to be given up.
 #[tactic(auto, unfolding(ipc_model::specs::calls::PortCalls::tests_of, ipc_model::specs::calls::Actions::Done))]
 pub fn allocate(
     state: &mut IpcState,
@@ -25,12 +25,12 @@ pub fn allocate(
     right: u32,
     wanted: Option<u32>,
 ) -> Result<Reply, AllocError>
-    requires there { IsSome (map.get state.old.spaces space) }
-    requires fresh { map.get state.old.ports state.old.next ≡ None }
-    ensures acts { IfOk result (λ reply. ActsIn state.old space (names_in state.old space) (call.Allocate right) reply state.new []) }
+    requires there { IsSome (map.get state.old.current.spaces space) }
+    requires fresh { map.get state.old.current.ports state.old.current.next ≡ None }
+    ensures acts { IfOk result (λ reply. ActsIn state.old.current space (names_in state.old.current space) (call.Allocate right) reply state.new.current []) }
     // Where the call may be answered with the wanted name, it is.
-    ensures wanted { IfOk result (λ reply. (shown : ℕ) → wanted ≡ Some shown → (new : State) → (effects : List Effect) → ActsIn state.old space (names_in state.old space) (call.Allocate right) (Reply.Allocate shown) new effects → reply ≡ Reply.Allocate shown) }
-    ensures err { OnErr result (state.new ≡ state.old) }
+    ensures wanted { IfOk result (λ reply. (shown : ℕ) → wanted ≡ Some shown → (new : State) → (effects : List Effect) → ActsIn state.old.current space (names_in state.old.current space) (call.Allocate right) (Reply.Allocate shown) new effects → reply ≡ Reply.Allocate shown) }
+    ensures before { state.new.before ≡ state.old.before }
 {
     if let Some(code) = refusal_of_allocate(state, space, right) {
         return Ok(refused(MACH_PORT_ALLOCATE, code));
@@ -42,8 +42,8 @@ pub fn allocate(
 
 /// The name that a new right gets: the wanted one where it is unused, else the least unused one.
 pub fn chosen_name(state: &IpcState, space: u32, wanted: Option<u32>) -> u32
-    ensures unused { IsUnused (names_in state.now space) result }
-    ensures wanted { (shown : ℕ) → wanted ≡ Some shown → IsUnused (names_in state.now space) shown → result ≡ shown }
+    ensures unused { IsUnused (names_in state.now.current space) result }
+    ensures wanted { (shown : ℕ) → wanted ≡ Some shown → IsUnused (names_in state.now.current space) shown → result ≡ shown }
 {
     let Some(name) = wanted else {
         return state.free_name(space);
@@ -57,7 +57,7 @@ pub fn chosen_name(state: &IpcState, space: u32, wanted: Option<u32>) -> u32
 /// The code that an allocation is refused with, if it is refused.
 #[tactic(auto, unfolding(ipc_model::specs::calls::PortCalls::tests_of))]
 pub fn refusal_of_allocate(state: &IpcState, space: u32, right: u32) -> Option<KernReturn>
-    ensures { result ≡ first_failing (tests_of state.now space (names_in state.now space) (call.Allocate right)) }
+    ensures { result ≡ first_failing (tests_of state.now.current space (names_in state.now.current space) (call.Allocate right)) }
 {
     if !is_allocatable(right) {
         return Some(KernReturn::InvalidValue);
@@ -68,9 +68,9 @@ pub fn refusal_of_allocate(state: &IpcState, space: u32, right: u32) -> Option<K
 /// The code that a right is refused with for which there is no room: the space uses all names that it may, or no
 /// further port can be made.
 fn refusal_for_want(state: &IpcState, space: u32, right: u32) -> Option<KernReturn>
-    ensures { result ≡ first_failing ((names_are_used_up (names_in state.now space), KernReturn.NoSpace) ∷ (is_right right Right.Receive && ports_are_used_up state.now, KernReturn.ResourceShortage) ∷ []) }
+    ensures { result ≡ first_failing ((names_are_used_up (names_in state.now.current space), KernReturn.NoSpace) ∷ (is_right right Right.Receive && ports_are_used_up state.now.current, KernReturn.ResourceShortage) ∷ []) }
 {
-    if state.names(space) >= MAX_NAMES {
+    if state.name_count(space) >= MAX_NAMES {
         return Some(KernReturn::NoSpace);
     }
     if right == Right::Receive.number() && state.is_out_of_ports() {
@@ -79,8 +79,8 @@ fn refusal_for_want(state: &IpcState, space: u32, right: u32) -> Option<KernRetu
     None
 }
 
-/// `mach_port_allocate_name`: a new right under a name that the task chooses. Where memory is wanted nothing
-/// changed.
+/// `mach_port_allocate_name`: a new right under a name that the task chooses. Where memory is wanted the
+/// changes are to be given up.
 #[tactic(auto, unfolding(ipc_model::specs::calls::PortCalls::tests_of, ipc_model::specs::calls::Actions::Done))]
 pub fn allocate_name(
     state: &mut IpcState,
@@ -88,10 +88,10 @@ pub fn allocate_name(
     right: u32,
     name: u32,
 ) -> Result<Reply, AllocError>
-    requires there { IsSome (map.get state.old.spaces space) }
-    requires fresh { map.get state.old.ports state.old.next ≡ None }
-    ensures acts { IfOk result (λ reply. ActsIn state.old space (names_in state.old space) (call.AllocateName right name) reply state.new []) }
-    ensures err { OnErr result (state.new ≡ state.old) }
+    requires there { IsSome (map.get state.old.current.spaces space) }
+    requires fresh { map.get state.old.current.ports state.old.current.next ≡ None }
+    ensures acts { IfOk result (λ reply. ActsIn state.old.current space (names_in state.old.current space) (call.AllocateName right name) reply state.new.current []) }
+    ensures before { state.new.before ≡ state.old.before }
 {
     let number = MACH_PORT_ALLOCATE_NAME;
     if let Some(code) = refusal_of_name(state, space, right, name) {
@@ -104,7 +104,7 @@ pub fn allocate_name(
 /// The code that an allocation under a chosen name is refused with, if it is refused.
 #[tactic(auto, unfolding(ipc_model::specs::calls::PortCalls::tests_of))]
 fn refusal_of_name(state: &IpcState, space: u32, right: u32, name: u32) -> Option<KernReturn>
-    ensures { result ≡ first_failing (tests_of state.now space (names_in state.now space) (call.AllocateName right name)) }
+    ensures { result ≡ first_failing (tests_of state.now.current space (names_in state.now.current space) (call.AllocateName right name)) }
 {
     if is_null_or_dead(name) {
         return Some(KernReturn::InvalidValue);
@@ -118,23 +118,19 @@ fn refusal_of_name(state: &IpcState, space: u32, right: u32, name: u32) -> Optio
     refusal_for_want(state, space, right)
 }
 
-/// Has an unused name stand for a new right. Where memory is wanted nothing changed.
+/// Has an unused name stand for a new right. Where memory is wanted the changes are to be given up.
 pub fn add_right(state: &mut IpcState, space: u32, right: u32, name: u32) -> Result<(), AllocError>
-    requires there { IsSome (map.get state.old.spaces space) }
-    requires fresh { map.get state.old.ports state.old.next ≡ None }
-    requires room { first_failing ((names_are_used_up (names_in state.old space), KernReturn.NoSpace) ∷ (is_right right Right.Receive && ports_are_used_up state.old, KernReturn.ResourceShortage) ∷ []) ≡ None }
-    requires unused { map.get (names_in state.old space) name ≡ None }
-    ensures ok { OnOk result (state.new ≡ allocated state.old space (names_in state.old space) right name) }
-    ensures err { OnErr result (state.new ≡ state.old) }
+    requires there { IsSome (map.get state.old.current.spaces space) }
+    requires fresh { map.get state.old.current.ports state.old.current.next ≡ None }
+    requires room { first_failing ((names_are_used_up (names_in state.old.current space), KernReturn.NoSpace) ∷ (is_right right Right.Receive && ports_are_used_up state.old.current, KernReturn.ResourceShortage) ∷ []) ≡ None }
+    requires unused { map.get (names_in state.old.current space) name ≡ None }
+    ensures ok { OnOk result (state.new.current ≡ allocated state.old.current space (names_in state.old.current space) right name) }
+    ensures before { state.new.before ≡ state.old.before }
 {
     let entry = allocated_entry(state.next_serial(), right);
-    if right != Right::Receive.number() {
-        return state.put_name(space, name, entry);
-    }
     state.put_name(space, name, entry)?;
-    if let Err(full) = state.add_port() {
-        state.remove_name(space, name);
-        return Err(full);
+    if right != Right::Receive.number() {
+        return Ok(());
     }
-    Ok(())
+    state.add_port()
 }

@@ -14,7 +14,7 @@ mod renaming;
 mod reply;
 mod requests;
 mod right_transfer;
-mod spaces;
+mod space_calls;
 
 pub use allocation::{allocate, allocate_name};
 pub use modifying::mod_refs;
@@ -26,4 +26,4 @@ pub use removal::destroy;
 pub use renaming::rename;
 pub use requests::{NoticeRequest, request_notification};
 pub use right_transfer::{extract_right, insert_right};
-pub use spaces::{attach, space_create, space_destroy};
+pub use space_calls::{attach, space_create, space_destroy};

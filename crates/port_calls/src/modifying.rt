@@ -24,7 +24,7 @@ use std::alloc::{AllocError, Global};
 const MINUS_ONE: u32 = u32::MAX;
 
 /// `mach_port_mod_refs`: so many references of a right more or less, in two's complement. Where memory is wanted
-/// the state has to be given up.
+/// the changes are to be given up.
 #[tactic(auto, unfolding(ipc_model::specs::calls::PortCalls::tests_of, ipc_model::specs::calls::Actions::Done))]
 pub fn mod_refs(
     alloc: Global,
@@ -36,7 +36,8 @@ pub fn mod_refs(
     effects: &mut Effects,
 ) -> Result<Reply, AllocError>
     requires none { effects.old ≡ [] }
-    ensures { IfOk result (λ reply. ActsIn state.old space (names_in state.old space) (call.ModRefs name right delta) reply state.new effects.new) }
+    ensures acts { IfOk result (λ reply. ActsIn state.old.current space (names_in state.old.current space) (call.ModRefs name right delta) reply state.new.current effects.new) }
+    ensures before { state.new.before ≡ state.old.before }
 {
     let Some(wanted) = Right::from_number(right) else {
         return Ok(refused(MACH_PORT_MOD_REFS, KernReturn::InvalidValue));
@@ -74,10 +75,11 @@ fn mod_send(
     effects: &mut Effects,
 ) -> Result<Reply, AllocError>
     requires none { effects.old ≡ [] }
-    requires a_name { is_no_name (names_in state.old space) name ≡ false }
-    requires found { map.get (names_in state.old space) name ≡ Some (Entry.Port rights) }
-    requires at { entry_at state.old space name ≡ Some (Entry.Port rights) }
-    ensures { IfOk result (λ reply. ActsIn state.old space (names_in state.old space) (call.ModRefs name (number_of Right.Send) delta) reply state.new effects.new) }
+    requires a_name { is_no_name (names_in state.old.current space) name ≡ false }
+    requires found { map.get (names_in state.old.current space) name ≡ Some (Entry.Port rights) }
+    requires at { entry_at state.old.current space name ≡ Some (Entry.Port rights) }
+    ensures acts { IfOk result (λ reply. ActsIn state.old.current space (names_in state.old.current space) (call.ModRefs name (number_of Right.Send) delta) reply state.new.current effects.new) }
+    ensures before { state.new.before ≡ state.old.before }
 {
     if rights.send == 0 {
         return Ok(refused(MACH_PORT_MOD_REFS, KernReturn::InvalidRight));
@@ -105,11 +107,12 @@ fn mod_receive(
     effects: &mut Effects,
 ) -> Result<Reply, AllocError>
     requires none { effects.old ≡ [] }
-    requires a_name { is_no_name (names_in state.old space) name ≡ false }
-    requires found { map.get (names_in state.old space) name ≡ Some (Entry.Port rights) }
-    requires at { entry_at state.old space name ≡ Some (Entry.Port rights) }
+    requires a_name { is_no_name (names_in state.old.current space) name ≡ false }
+    requires found { map.get (names_in state.old.current space) name ≡ Some (Entry.Port rights) }
+    requires at { entry_at state.old.current space name ≡ Some (Entry.Port rights) }
     requires few { AreFewReferences (Entry.Port rights) }
-    ensures { IfOk result (λ reply. ActsIn state.old space (names_in state.old space) (call.ModRefs name (number_of Right.Receive) delta) reply state.new effects.new) }
+    ensures acts { IfOk result (λ reply. ActsIn state.old.current space (names_in state.old.current space) (call.ModRefs name (number_of Right.Receive) delta) reply state.new.current effects.new) }
+    ensures before { state.new.before ≡ state.old.before }
 {
     if !rights.receive {
         return Ok(refused(MACH_PORT_MOD_REFS, KernReturn::InvalidRight));
@@ -132,10 +135,11 @@ fn receive_gone(
     rights: PortRights,
     effects: &mut Effects,
 ) -> Result<(), AllocError>
-    requires at { entry_at state.old space name ≡ Some (Entry.Port rights) }
+    requires at { entry_at state.old.current space name ≡ Some (Entry.Port rights) }
     requires few { AreFewReferences (Entry.Port rights) }
-    ensures state { OnOk result (state.new ≡ with_left state.old space name (Entry.Port (record rights { receive = false }))) }
+    ensures state { OnOk result (state.new.current ≡ with_left state.old.current space name (Entry.Port (record rights { receive = false }))) }
     ensures effects { OnOk result (effects.new ≡ effects.old ++ (release RightKind.Receive rights.port ∷ notices_of_left name (Entry.Port (record rights { receive = false })))) }
+    ensures before { state.new.before ≡ state.old.before }
 {
     let left = Entry::Port(PortRights {
         receive: false,
@@ -143,8 +147,7 @@ fn receive_gone(
     });
     release(effects, RightKind::Receive, rights.port)?;
     announce_left(effects, name, left)?;
-    set_left(state, space, name, left);
-    Ok(())
+    set_left(state, space, name, left)
 }
 
 #[tactic(auto, unfolding(ipc_model::specs::calls::PortCalls::tests_of, ipc_model::specs::calls::Actions::Done))]
@@ -158,9 +161,10 @@ fn mod_send_once(
     effects: &mut Effects,
 ) -> Result<Reply, AllocError>
     requires none { effects.old ≡ [] }
-    requires a_name { is_no_name (names_in state.old space) name ≡ false }
-    requires found { map.get (names_in state.old space) name ≡ Some (Entry.SendOnce port request) }
-    ensures { IfOk result (λ reply. ActsIn state.old space (names_in state.old space) (call.ModRefs name (number_of Right.SendOnce) delta) reply state.new effects.new) }
+    requires a_name { is_no_name (names_in state.old.current space) name ≡ false }
+    requires found { map.get (names_in state.old.current space) name ≡ Some (Entry.SendOnce port request) }
+    ensures acts { IfOk result (λ reply. ActsIn state.old.current space (names_in state.old.current space) (call.ModRefs name (number_of Right.SendOnce) delta) reply state.new.current effects.new) }
+    ensures before { state.new.before ≡ state.old.before }
 {
     if delta == MINUS_ONE {
         send_once_gone(state, space, name, port, request, effects)?;
@@ -182,10 +186,11 @@ fn mod_dead(
     effects: &mut Effects,
 ) -> Result<Reply, AllocError>
     requires none { effects.old ≡ [] }
-    requires a_name { is_no_name (names_in state.old space) name ≡ false }
-    requires found { map.get (names_in state.old space) name ≡ Some (Entry.Dead references) }
-    requires at { entry_at state.old space name ≡ Some (Entry.Dead references) }
-    ensures { IfOk result (λ reply. ActsIn state.old space (names_in state.old space) (call.ModRefs name (number_of Right.DeadName) delta) reply state.new effects.new) }
+    requires a_name { is_no_name (names_in state.old.current space) name ≡ false }
+    requires found { map.get (names_in state.old.current space) name ≡ Some (Entry.Dead references) }
+    requires at { entry_at state.old.current space name ≡ Some (Entry.Dead references) }
+    ensures acts { IfOk result (λ reply. ActsIn state.old.current space (names_in state.old.current space) (call.ModRefs name (number_of Right.DeadName) delta) reply state.new.current effects.new) }
+    ensures before { state.new.before ≡ state.old.before }
 {
     if references == 0 {
         return Ok(refused(MACH_PORT_MOD_REFS, KernReturn::InvalidRight));
@@ -205,7 +210,7 @@ fn mod_dead(
         Entry::Dead {
             references: left as u32,
         },
-    );
+    )?;
     Ok(Reply::Done {
         number: MACH_PORT_MOD_REFS,
     })
@@ -221,10 +226,11 @@ fn mod_set(
     effects: &mut Effects,
 ) -> Result<Reply, AllocError>
     requires none { effects.old ≡ [] }
-    requires a_name { is_no_name (names_in state.old space) name ≡ false }
-    requires found { map.get (names_in state.old space) name ≡ Some Entry.Set }
-    requires at { entry_at state.old space name ≡ Some Entry.Set }
-    ensures { IfOk result (λ reply. ActsIn state.old space (names_in state.old space) (call.ModRefs name (number_of Right.PortSet) delta) reply state.new effects.new) }
+    requires a_name { is_no_name (names_in state.old.current space) name ≡ false }
+    requires found { map.get (names_in state.old.current space) name ≡ Some Entry.Set }
+    requires at { entry_at state.old.current space name ≡ Some Entry.Set }
+    ensures acts { IfOk result (λ reply. ActsIn state.old.current space (names_in state.old.current space) (call.ModRefs name (number_of Right.PortSet) delta) reply state.new.current effects.new) }
+    ensures before { state.new.before ≡ state.old.before }
 {
     let _none = &effects;
     if delta == 0 {
@@ -236,7 +242,7 @@ fn mod_set(
         return Ok(refused(MACH_PORT_MOD_REFS, KernReturn::InvalidValue));
     }
     move_members(alloc, state, space, name, None, Entry::Set)?;
-    state.remove_name(space, name);
+    state.remove_name(space, name)?;
     Ok(Reply::Done {
         number: MACH_PORT_MOD_REFS,
     })

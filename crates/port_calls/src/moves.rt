@@ -1,4 +1,4 @@
-ghost use Rattle.std.specs.Prelude.{◌≡◌, []};
+ghost use Rattle.std.specs.Prelude.{◌≡◌, [], IfOk};
 ghost use Rattle.ipc_model.specs.declared.call.Call.TheVariants as call;
 ghost use Rattle.ipc_model.specs.calls.PortCalls.{names_in, is_in_some_set};
 ghost use Rattle.ipc_model.specs.calls.Step.{ActsIn};
@@ -9,38 +9,45 @@ use codes::{KernReturn, MACH_PORT_MOVE_MEMBER, MACH_PORT_NULL};
 use ipc_model::{Entry, Reply};
 use ipc_state::IpcState;
 use port_set::received_port;
+use std::alloc::AllocError;
 
 /// `mach_port_move_member`: a port becomes a member of the set `after`, or of none where that is
-/// `MACH_PORT_NULL`.
+/// `MACH_PORT_NULL`. Where memory is wanted the changes are to be given up.
 #[tactic(auto, unfolding(ipc_model::specs::calls::PortCalls::tests_of, ipc_model::specs::calls::Actions::Done))]
-pub fn move_member(state: &mut IpcState, space: u32, member: u32, after: u32) -> Reply
-    ensures { ActsIn state.old space (names_in state.old space) (call.MoveMember member after) result state.new [] }
+pub fn move_member(
+    state: &mut IpcState,
+    space: u32,
+    member: u32,
+    after: u32,
+) -> Result<Reply, AllocError>
+    ensures acts { IfOk result (λ reply. ActsIn state.old.current space (names_in state.old.current space) (call.MoveMember member after) reply state.new.current []) }
+    ensures before { state.new.before ≡ state.old.before }
 {
     let number = MACH_PORT_MOVE_MEMBER;
     let Some(entry) = named(state, space, member) else {
-        return refused(number, KernReturn::InvalidName);
+        return Ok(refused(number, KernReturn::InvalidName));
     };
     if received_port(entry).is_none() {
-        return refused(number, KernReturn::InvalidRight);
+        return Ok(refused(number, KernReturn::InvalidRight));
     }
     if after == MACH_PORT_NULL {
         if !is_in_some_set(state, entry) {
-            return refused(number, KernReturn::NotInSet);
+            return Ok(refused(number, KernReturn::NotInSet));
         }
     } else {
         match named(state, space, after) {
-            None => return refused(number, KernReturn::InvalidName),
+            None => return Ok(refused(number, KernReturn::InvalidName)),
             Some(Entry::Set) => {}
-            Some(_) => return refused(number, KernReturn::InvalidRight),
+            Some(_) => return Ok(refused(number, KernReturn::InvalidRight)),
         }
     }
-    port_set::move_member(state, entry, after);
-    Reply::Done { number }
+    port_set::move_member(state, entry, after)?;
+    Ok(Reply::Done { number })
 }
 
 /// Whether the port whose receive right a name holds is a member of a set.
 fn is_in_some_set(state: &IpcState, entry: Entry) -> bool
-    ensures { result ≡ is_in_some_set state.now entry }
+    ensures { result ≡ is_in_some_set state.now.current entry }
 {
     let Some(port) = received_port(entry) else {
         return false;

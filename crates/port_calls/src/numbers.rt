@@ -1,4 +1,4 @@
-ghost use Rattle.std.specs.Prelude.{◌≡◌, []};
+ghost use Rattle.std.specs.Prelude.{◌≡◌, [], IfOk};
 ghost use Rattle.ipc_model.specs.declared.call.Call.TheVariants as call;
 ghost use Rattle.ipc_model.specs.calls.PortCalls.{names_in};
 ghost use Rattle.ipc_model.specs.calls.Step.{ActsIn};
@@ -12,39 +12,54 @@ use ipc_model::Reply;
 use ipc_state::IpcState;
 use port_set::received_port;
 use ports::PortNumbers;
+use std::alloc::AllocError;
 
-/// `mach_port_set_qlimit`: how many messages the queue of a port holds at most.
+/// `mach_port_set_qlimit`: how many messages the queue of a port holds at most. Where memory is wanted the
+/// changes are to be given up.
 #[tactic(auto, unfolding(ipc_model::specs::calls::PortCalls::tests_of, ipc_model::specs::calls::Actions::Done))]
-pub fn set_qlimit(state: &mut IpcState, space: u32, name: u32, limit: u32) -> Reply
-    ensures { ActsIn state.old space (names_in state.old space) (call.SetQlimit name limit) result state.new [] }
+pub fn set_qlimit(
+    state: &mut IpcState,
+    space: u32,
+    name: u32,
+    limit: u32,
+) -> Result<Reply, AllocError>
+    ensures acts { IfOk result (λ reply. ActsIn state.old.current space (names_in state.old.current space) (call.SetQlimit name limit) reply state.new.current []) }
+    ensures before { state.new.before ≡ state.old.before }
 {
     let number = MACH_PORT_SET_QLIMIT;
     if limit > MAX_QUEUE_LIMIT {
-        return refused(number, KernReturn::InvalidValue);
+        return Ok(refused(number, KernReturn::InvalidValue));
     }
     let Some(entry) = named(state, space, name) else {
-        return refused(number, KernReturn::InvalidName);
+        return Ok(refused(number, KernReturn::InvalidName));
     };
     let Some(port) = received_port(entry) else {
-        return refused(number, KernReturn::InvalidRight);
+        return Ok(refused(number, KernReturn::InvalidRight));
     };
     if let Some(numbers) = state.numbers(port) {
-        state.set_numbers(port, PortNumbers { limit, ..numbers });
+        state.set_numbers(port, PortNumbers { limit, ..numbers })?;
     }
-    Reply::Done { number }
+    Ok(Reply::Done { number })
 }
 
-/// `mach_port_set_mscount`: the make-send count of a port.
+/// `mach_port_set_mscount`: the make-send count of a port. Where memory is wanted the
+/// changes are to be given up.
 #[tactic(auto, unfolding(ipc_model::specs::calls::PortCalls::tests_of, ipc_model::specs::calls::Actions::Done))]
-pub fn set_mscount(state: &mut IpcState, space: u32, name: u32, count: u32) -> Reply
-    ensures { ActsIn state.old space (names_in state.old space) (call.SetMscount name count) result state.new [] }
+pub fn set_mscount(
+    state: &mut IpcState,
+    space: u32,
+    name: u32,
+    count: u32,
+) -> Result<Reply, AllocError>
+    ensures acts { IfOk result (λ reply. ActsIn state.old.current space (names_in state.old.current space) (call.SetMscount name count) reply state.new.current []) }
+    ensures before { state.new.before ≡ state.old.before }
 {
     let number = MACH_PORT_SET_MSCOUNT;
     let Some(entry) = named(state, space, name) else {
-        return refused(number, KernReturn::InvalidName);
+        return Ok(refused(number, KernReturn::InvalidName));
     };
     let Some(port) = received_port(entry) else {
-        return refused(number, KernReturn::InvalidRight);
+        return Ok(refused(number, KernReturn::InvalidRight));
     };
     if let Some(numbers) = state.numbers(port) {
         let make_send_count = count;
@@ -54,22 +69,29 @@ pub fn set_mscount(state: &mut IpcState, space: u32, name: u32, count: u32) -> R
                 make_send_count,
                 ..numbers
             },
-        );
+        )?;
     }
-    Reply::Done { number }
+    Ok(Reply::Done { number })
 }
 
-/// `mach_port_set_seqno`: the sequence number of the next message from a port.
+/// `mach_port_set_seqno`: the sequence number of the next message from a port. Where memory is wanted the
+/// changes are to be given up.
 #[tactic(auto, unfolding(ipc_model::specs::calls::PortCalls::tests_of, ipc_model::specs::calls::Actions::Done))]
-pub fn set_seqno(state: &mut IpcState, space: u32, name: u32, seqno: u32) -> Reply
-    ensures { ActsIn state.old space (names_in state.old space) (call.SetSeqno name seqno) result state.new [] }
+pub fn set_seqno(
+    state: &mut IpcState,
+    space: u32,
+    name: u32,
+    seqno: u32,
+) -> Result<Reply, AllocError>
+    ensures acts { IfOk result (λ reply. ActsIn state.old.current space (names_in state.old.current space) (call.SetSeqno name seqno) reply state.new.current []) }
+    ensures before { state.new.before ≡ state.old.before }
 {
     let number = MACH_PORT_SET_SEQNO;
     let Some(entry) = named(state, space, name) else {
-        return refused(number, KernReturn::InvalidName);
+        return Ok(refused(number, KernReturn::InvalidName));
     };
     let Some(port) = received_port(entry) else {
-        return refused(number, KernReturn::InvalidRight);
+        return Ok(refused(number, KernReturn::InvalidRight));
     };
     if let Some(numbers) = state.numbers(port) {
         let sequence_number = seqno;
@@ -79,7 +101,7 @@ pub fn set_seqno(state: &mut IpcState, space: u32, name: u32, seqno: u32) -> Rep
                 sequence_number,
                 ..numbers
             },
-        );
+        )?;
     }
-    Reply::Done { number }
+    Ok(Reply::Done { number })
 }

@@ -1,6 +1,7 @@
-ghost use Rattle.std.specs.Prelude.{◌≡◌, [], IfOk, map, option_map};
+ghost use Rattle.std.specs.Prelude.{◌≡◌, ◌-◌, ◌^◌, [], min, IfOk, map, option_map};
 ghost use Rattle.std.specs.FinMap as finmap;
 ghost use Rattle.ipc_model.specs.calls.Actions.{status_of};
+ghost use Rattle.ipc_model.specs.state.Placed.{send_once_count};
 ghost use Rattle.ipc_model.specs.state.State.{type_of};
 ghost use Rattle.ipc_model.specs.declared.call.Call.TheVariants as call;
 ghost use Rattle.ipc_model.specs.calls.PortCalls.{names_in, references_of};
@@ -14,7 +15,7 @@ use codes::{
     KernReturn, MACH_PORT_GET_RECEIVE_STATUS, MACH_PORT_GET_REFS, MACH_PORT_GET_SET_STATUS,
     MACH_PORT_NULL, MACH_PORT_TYPE, Right,
 };
-use ipc_model::{Entry, NamedType, ReceiveStatus, Reply, RightKind, Sequence};
+use ipc_model::{Entry, NamedType, ReceiveStatus, Reply, Sequence};
 use ipc_state::IpcState;
 use port_set::received_port;
 use std::alloc::{AllocError, Global};
@@ -22,7 +23,7 @@ use std::alloc::{AllocError, Global};
 /// `mach_port_type`: the type bits of a name.
 #[tactic(auto, unfolding(ipc_model::specs::calls::PortCalls::tests_of, ipc_model::specs::calls::Actions::Done))]
 pub fn port_type(state: &IpcState, space: u32, name: u32) -> Reply
-    ensures { ActsIn state.now space (names_in state.now space) (call.Type name) result state.now [] }
+    ensures { ActsIn state.now.current space (names_in state.now.current space) (call.Type name) result state.now.current [] }
 {
     match named(state, space, name) {
         Some(entry) => Reply::Type {
@@ -35,7 +36,7 @@ pub fn port_type(state: &IpcState, space: u32, name: u32) -> Reply
 /// `mach_port_get_refs`: user references of a right under a name.
 #[tactic(auto, unfolding(ipc_model::specs::calls::PortCalls::tests_of, ipc_model::specs::calls::Actions::Done))]
 pub fn get_refs(state: &IpcState, space: u32, name: u32, right: u32) -> Reply
-    ensures { ActsIn state.now space (names_in state.now space) (call.GetRefs name right) result state.now [] }
+    ensures { ActsIn state.now.current space (names_in state.now.current space) (call.GetRefs name right) result state.now.current [] }
 {
     let number = MACH_PORT_GET_REFS;
     let Some(wanted) = Right::from_number(right) else {
@@ -52,7 +53,7 @@ pub fn get_refs(state: &IpcState, space: u32, name: u32, right: u32) -> Reply
 /// `mach_port_names`: the names in use, rising, with their type bits.
 #[tactic(auto, unfolding(ipc_model::specs::calls::PortCalls::tests_of, ipc_model::specs::calls::Actions::Done))]
 pub fn names(alloc: Global, state: &IpcState, space: u32) -> Result<Reply, AllocError>
-    ensures { IfOk result (λ reply. ActsIn state.now space (names_in state.now space) call.Names reply state.now []) }
+    ensures { IfOk result (λ reply. ActsIn state.now.current space (names_in state.now.current space) call.Names reply state.now.current []) }
 {
     let names = named_types(alloc, state, space)?;
     Ok(Reply::Names {
@@ -61,15 +62,13 @@ pub fn names(alloc: Global, state: &IpcState, space: u32) -> Result<Reply, Alloc
 }
 
 fn named_types(alloc: Global, state: &IpcState, space: u32) -> Result<Vec<NamedType>, AllocError>
-    ensures { IfOk result (λ names. names.items ≡ map (λ e. record { name = e.0; bits = type_of e.1 }) (finmap.entries (names_in state.now space))) }
+    ensures { IfOk result (λ names. names.items ≡ map (λ e. record { name = e.0; bits = type_of e.1 }) (finmap.entries (names_in state.now.current space))) }
 {
     let mut types = Vec::new(alloc);
-    let Some(names) = state.space(space) else {
-        return Ok(types);
-    };
-    for (name, entry) in names.iter() {
+    let entries = state.entries(alloc, space)?;
+    for (name, entry) in entries.as_slice() {
         types.push(NamedType {
-            name: *name as u32,
+            name: *name,
             bits: type_of(entry),
         })?;
     }
@@ -79,7 +78,7 @@ fn named_types(alloc: Global, state: &IpcState, space: u32) -> Result<Vec<NamedT
 /// `mach_port_get_receive_status`: what a port keeps, and whether there are rights and requests.
 #[tactic(auto, unfolding(ipc_model::specs::calls::PortCalls::tests_of, ipc_model::specs::calls::Actions::Done))]
 pub fn receive_status(state: &IpcState, space: u32, name: u32) -> Reply
-    ensures { ActsIn state.now space (names_in state.now space) (call.GetReceiveStatus name) result state.now [] }
+    ensures { ActsIn state.now.current space (names_in state.now.current space) (call.GetReceiveStatus name) result state.now.current [] }
 {
     let number = MACH_PORT_GET_RECEIVE_STATUS;
     let Some(entry) = named(state, space, name) else {
@@ -96,21 +95,27 @@ pub fn receive_status(state: &IpcState, space: u32, name: u32) -> Reply
 
 /// What a live port keeps, and which rights and requests there are.
 fn status_of(state: &IpcState, port: u64) -> Option<ReceiveStatus>
-    ensures { result ≡ option_map (status_of state.now port) (finmap.get state.now.ports port) }
+    ensures { result ≡ option_map (status_of state.now.current port) (finmap.get state.now.current.ports port) }
 {
     let numbers = state.numbers(port)?;
-    let queue = state.ports().queue(port)?;
     Some(ReceiveStatus {
         set: numbers.set.unwrap_or(MACH_PORT_NULL),
         sequence_number: numbers.sequence_number,
         make_send_count: numbers.make_send_count,
         limit: numbers.limit,
-        messages: queue.len(),
-        send_once_count: state.rights_to(RightKind::SendOnce, port),
+        messages: state.message_count(port),
+        send_once_count: send_once_count(state, port),
         has_senders: state.has_senders(port),
         has_port_destroyed_request: numbers.port_destroyed_target.is_some(),
         has_no_senders_request: numbers.no_senders_target.is_some(),
     })
+}
+
+/// How many send-once rights a port has; at most `u32::MAX`.
+fn send_once_count(state: &IpcState, port: u64) -> u32
+    ensures { result ≡ min (2 ^ 32 - 1) (send_once_count state.now.current port) }
+{
+    state.send_once_count(port).min(u64::from(u32::MAX)) as u32
 }
 
 /// `mach_port_get_set_status`: the names of a set's members, rising.
@@ -121,7 +126,7 @@ pub fn get_set_status(
     space: u32,
     name: u32,
 ) -> Result<Reply, AllocError>
-    ensures { IfOk result (λ reply. ActsIn state.now space (names_in state.now space) (call.GetSetStatus name) reply state.now []) }
+    ensures { IfOk result (λ reply. ActsIn state.now.current space (names_in state.now.current space) (call.GetSetStatus name) reply state.now.current []) }
 {
     let number = MACH_PORT_GET_SET_STATUS;
     match named(state, space, name) {

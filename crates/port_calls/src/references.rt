@@ -7,9 +7,6 @@ ghost use Rattle.ipc_model.specs.effects.Effects.{release, port_deleted};
 ghost use Rattle.ipc_model.specs.calls.PortCalls.{names_in, is_set, has_receive, send_references};
 ghost use Rattle.ipc_model.specs.state.State.{entry_at, without_name};
 ghost use Rattle.ipc_model.specs.calls.Step.{ActsIn};
-ghost use Rattle.ipc_model.specs.declared.entry.Entry.{Entry};
-ghost use Rattle.port_index.specs.Indexed.{MentionsNoOther};
-ghost use Rattle.port_space.specs.Mentions.{entry_mentions};
 
 use crate::name_lookup::named;
 use crate::reply::refused;
@@ -29,7 +26,8 @@ pub fn deallocate(
     effects: &mut Effects,
 ) -> Result<Reply, AllocError>
     requires none { effects.old ≡ [] }
-    ensures { IfOk result (λ reply. ActsIn state.old space (names_in state.old space) (call.Deallocate name) reply state.new effects.new) }
+    ensures acts { IfOk result (λ reply. ActsIn state.old.current space (names_in state.old.current space) (call.Deallocate name) reply state.new.current effects.new) }
+    ensures before { state.new.before ≡ state.old.before }
 {
     let number = MACH_PORT_DEALLOCATE;
     let Some(entry) = named(state, space, name) else {
@@ -59,7 +57,7 @@ pub fn deallocate(
             Entry::Dead {
                 references: references.saturating_sub(1),
             },
-        ),
+        )?,
     }
     Ok(Reply::Done { number })
 }
@@ -84,11 +82,11 @@ pub fn send_left(
     left: u32,
     effects: &mut Effects,
 ) -> Result<(), AllocError>
-    requires named { IsSome (entry_at state.old space name) }
+    requires named { IsSome (entry_at state.old.current space name) }
     requires few { left ≤ MAX_SEND_REFERENCES }
-    requires known { (former : Entry) → entry_at state.old space name ≡ Some former → MentionsNoOther entry_mentions (Entry.Port rights) former }
-    ensures state { OnOk result (state.new ≡ with_left state.old space name (Entry.Port (record rights { send = left }))) }
+    ensures state { OnOk result (state.new.current ≡ with_left state.old.current space name (Entry.Port (record rights { send = left }))) }
     ensures effects { OnOk result (effects.new ≡ effects.old ++ (release_if (left == 0) (release RightKind.Send rights.port) ++ notices_of_left name (Entry.Port (record rights { send = left })))) }
+    ensures before { state.new.before ≡ state.old.before }
 {
     let entry = Entry::Port(PortRights {
         send: left,
@@ -98,8 +96,7 @@ pub fn send_left(
         release(effects, RightKind::Send, rights.port)?;
     }
     announce_left(effects, name, entry)?;
-    set_left(state, space, name, entry);
-    Ok(())
+    set_left(state, space, name, entry)
 }
 
 /// Adds the release of a right to the effects.
@@ -118,13 +115,13 @@ pub fn send_once_gone(
     request: Option<u64>,
     effects: &mut Effects,
 ) -> Result<(), AllocError>
-    ensures state { OnOk result (state.new ≡ without_name state.old space name) }
+    ensures state { OnOk result (state.new.current ≡ without_name state.old.current space name) }
     ensures effects { OnOk result (effects.new ≡ effects.old ++ (release RightKind.SendOnce port ∷ port_deleted name request)) }
+    ensures before { state.new.before ≡ state.old.before }
 {
     release(effects, RightKind::SendOnce, port)?;
     effects.port_deleted(name, request)?;
-    state.remove_name(space, name);
-    Ok(())
+    state.remove_name(space, name)
 }
 
 /// Adds the releases of all that a name stands for, and its port-deleted notice.

@@ -24,7 +24,8 @@ pub fn destroy(
     effects: &mut Effects,
 ) -> Result<Reply, AllocError>
     requires none { effects.old ≡ [] }
-    ensures { IfOk result (λ reply. ActsIn state.old space (names_in state.old space) (call.Destroy name) reply state.new effects.new) }
+    ensures acts { IfOk result (λ reply. ActsIn state.old.current space (names_in state.old.current space) (call.Destroy name) reply state.new.current effects.new) }
+    ensures before { state.new.before ≡ state.old.before }
 {
     let number = MACH_PORT_DESTROY;
     let Some(entry) = named(state, space, name) else {
@@ -32,7 +33,7 @@ pub fn destroy(
     };
     release_name(effects, name, entry)?;
     move_members(alloc, state, space, name, None, entry)?;
-    state.remove_name(space, name);
+    state.remove_name(space, name)?;
     Ok(Reply::Done { number })
 }
 
@@ -45,13 +46,14 @@ pub fn move_members(
     other: Option<u32>,
     entry: Entry,
 ) -> Result<(), AllocError>
-    ensures moved { OnOk result (state.new ≡ members_moved state.old (names_in state.old space) name other entry) }
-    ensures spaces { OnOk result (state.new.spaces ≡ state.old.spaces) }
+    ensures moved { OnOk result (state.new.current ≡ members_moved state.old.current (names_in state.old.current space) name other entry) }
+    ensures spaces { OnOk result (state.new.current.spaces ≡ state.old.current.spaces) }
+    ensures before { state.new.before ≡ state.old.before }
 {
     let Entry::Set = entry else {
         return Ok(());
     };
     let ports = member_ports(alloc, state, space, name)?;
-    move_ports(state, ports.as_slice(), other);
+    move_ports(state, ports.as_slice(), other)?;
     Ok(())
 }

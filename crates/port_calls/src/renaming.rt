@@ -1,4 +1,4 @@
-ghost use Rattle.std.specs.Prelude.{◌≡◌, [], Some, None, IfOk, OnOk, OnErr, IsSome};
+ghost use Rattle.std.specs.Prelude.{◌≡◌, [], Some, None, IfOk, OnOk, IsSome};
 ghost use Rattle.std.specs.FinMap as map;
 ghost use Rattle.ipc_model.specs.calls.Actions.{renamed};
 ghost use Rattle.ipc_model.specs.declared.call.Call.TheVariants as call;
@@ -15,7 +15,7 @@ use port_set::{member_ports, move_ports};
 use std::alloc::{AllocError, Global};
 
 /// `mach_port_rename`: what a name stands for comes to stand under another one. The space is there. Where memory is
-/// wanted nothing changed.
+/// wanted the changes are to be given up.
 #[tactic(auto, unfolding(ipc_model::specs::calls::PortCalls::tests_of, ipc_model::specs::calls::Actions::Done))]
 pub fn rename(
     alloc: Global,
@@ -24,9 +24,9 @@ pub fn rename(
     from: u32,
     to: u32,
 ) -> Result<Reply, AllocError>
-    requires there { IsSome (map.get state.old.spaces space) }
-    ensures acts { IfOk result (λ reply. ActsIn state.old space (names_in state.old space) (call.Rename from to) reply state.new []) }
-    ensures err { OnErr result (state.new ≡ state.old) }
+    requires there { IsSome (map.get state.old.current.spaces space) }
+    ensures acts { IfOk result (λ reply. ActsIn state.old.current space (names_in state.old.current space) (call.Rename from to) reply state.new.current []) }
+    ensures before { state.new.before ≡ state.old.before }
 {
     let number = MACH_PORT_RENAME;
     let Some(entry) = named(state, space, from) else {
@@ -43,7 +43,7 @@ pub fn rename(
 }
 
 /// Has what stands under one name stand under another; a set takes its members along. Where memory is wanted
-/// nothing changed.
+/// the changes are to be given up.
 #[tactic(auto, using(crate::proofs::Moved::names_renamed, crate::proofs::Moved::set_renamed))]
 fn move_entry(
     alloc: Global,
@@ -53,19 +53,17 @@ fn move_entry(
     to: u32,
     entry: Entry,
 ) -> Result<(), AllocError>
-    requires there { IsSome (map.get state.old.spaces space) }
-    requires named { map.get (names_in state.old space) from ≡ Some entry }
-    requires unused { entry_at state.old space to ≡ None }
-    ensures ok { OnOk result (state.new ≡ renamed state.old space (names_in state.old space) from to entry) }
-    ensures err { OnErr result (state.new ≡ state.old) }
+    requires there { IsSome (map.get state.old.current.spaces space) }
+    requires named { map.get (names_in state.old.current space) from ≡ Some entry }
+    requires unused { entry_at state.old.current space to ≡ None }
+    ensures ok { OnOk result (state.new.current ≡ renamed state.old.current space (names_in state.old.current space) from to entry) }
+    ensures before { state.new.before ≡ state.old.before }
 {
     let Entry::Set = entry else {
-        state.rename(space, from, to)?;
-        return Ok(());
+        return state.rename(space, from, to);
     };
-    // The members are listed first, so that nothing has changed where memory is wanted.
     let members = member_ports(alloc, state, space, from)?;
     state.rename(space, from, to)?;
-    move_ports(state, members.as_slice(), Some(to));
+    move_ports(state, members.as_slice(), Some(to))?;
     Ok(())
 }

@@ -20,10 +20,9 @@ use codes::{
 };
 use effects::{Effect, Effects, Notice};
 use ipc_model::{Entry, PortInMessage, Reply};
-use ipc_state::IpcState;
+use ipc_state::{IpcState, request_of};
 use notify::{replace_no_senders, replace_port_destroyed, with_request};
 use port_set::received_port;
-use port_space::request_of;
 use rights::take_right;
 use std::alloc::AllocError;
 
@@ -44,8 +43,8 @@ pub struct NoticeRequest {
 
 /// `mach_port_request_notification`: a request for a notice to a port is made, or cancelled where the notice's name is
 /// `MACH_PORT_NULL`. The former target comes back as a send-once right, under the wanted name where that is unused, and
-/// else under the least unused one. The call is tried on a copy of the state, which is to be given up where it is
-/// refused, and on Err.
+/// else under the least unused one. Where the call is refused, or memory is wanted,
+/// the changes are to be given up.
 #[tactic(auto, unfolding(ipc_model::specs::calls::Actions::Done))]
 pub fn request_notification(
     state: &mut IpcState,
@@ -55,9 +54,10 @@ pub fn request_notification(
     effects: &mut Effects,
 ) -> Result<Reply, AllocError>
     requires none { effects.old ≡ [] }
-    ensures tries { IfOk result (λ reply. Tries state.old space (call.RequestNotification asked.name asked.variant asked.sync asked.notify asked.disposition) reply state.new effects.new) }
+    ensures tries { IfOk result (λ reply. Tries state.old.current space (call.RequestNotification asked.name asked.variant asked.sync asked.notify asked.disposition) reply state.new.current effects.new) }
     ensures wanted { IfOk result (λ reply. (shown : ℕ) → wanted ≡ Some shown → (new : State) → (effects : List machine.Effect)
-        → ActsIn state.old space (names_in state.old space) (call.RequestNotification asked.name asked.variant asked.sync asked.notify asked.disposition) (Reply.PreviousTarget shown) new effects → reply ≡ Reply.PreviousTarget shown) }
+        → ActsIn state.old.current space (names_in state.old.current space) (call.RequestNotification asked.name asked.variant asked.sync asked.notify asked.disposition) (Reply.PreviousTarget shown) new effects → reply ≡ Reply.PreviousTarget shown) }
+    ensures before { state.new.before ≡ state.old.before }
 {
     match take_target(state, space, asked, effects)? {
         Err(code) => Ok(refused(MACH_PORT_REQUEST_NOTIFICATION, code)),
@@ -78,10 +78,11 @@ fn take_target(
     effects: &mut Effects,
 ) -> Result<Result<Option<u64>, KernReturn>, AllocError>
     requires none { effects.old ≡ [] }
-    ensures refused { IfOk result (λ outcome. IfErr outcome (λ code. first_failing (tests_of state.old space (names_in state.old space) (call.RequestNotification asked.name asked.variant asked.sync asked.notify asked.disposition)) ≡ Some code)) }
-    ensures passed { IfOk result (λ outcome. IfOk outcome (λ target. first_failing (tests_of state.old space (names_in state.old space) (call.RequestNotification asked.name asked.variant asked.sync asked.notify asked.disposition)) ≡ None)) }
-    ensures taken { IfOk result (λ outcome. IfOk outcome (λ target. target_for state.old space asked.notify asked.disposition ≡ record { target = target; state = state.new; notices = effects.new })) }
-    ensures allowed { IfOk result (λ outcome. IfOk outcome (λ target. first_failing (tests_of_request state.new space asked.name asked.variant asked.sync (is_none target)) ≡ None)) }
+    ensures refused { IfOk result (λ outcome. IfErr outcome (λ code. first_failing (tests_of state.old.current space (names_in state.old.current space) (call.RequestNotification asked.name asked.variant asked.sync asked.notify asked.disposition)) ≡ Some code)) }
+    ensures passed { IfOk result (λ outcome. IfOk outcome (λ target. first_failing (tests_of state.old.current space (names_in state.old.current space) (call.RequestNotification asked.name asked.variant asked.sync asked.notify asked.disposition)) ≡ None)) }
+    ensures taken { IfOk result (λ outcome. IfOk outcome (λ target. target_for state.old.current space asked.notify asked.disposition ≡ record { target = target; state = state.new.current; notices = effects.new })) }
+    ensures allowed { IfOk result (λ outcome. IfOk outcome (λ target. first_failing (tests_of_request state.new.current space asked.name asked.variant asked.sync (is_none target)) ≡ None)) }
+    ensures before { state.new.before ≡ state.old.before }
 {
     if !is_variant(asked.variant) {
         return Ok(Err(KernReturn::InvalidValue));
@@ -120,9 +121,9 @@ fn is_variant(variant: u32) -> bool
 fn notify_disposition(disposition: u32) -> Option<Disposition>
     ensures { result ≡ notify_disposition disposition }
 {
-    match disposition {
-        18 => Some(Disposition::MoveSendOnce),
-        21 => Some(Disposition::MakeSendOnce),
+    match Disposition::from_number(disposition)? {
+        Disposition::MoveSendOnce => Some(Disposition::MoveSendOnce),
+        Disposition::MakeSendOnce => Some(Disposition::MakeSendOnce),
         _ => None,
     }
 }
@@ -134,7 +135,7 @@ fn refusal_of_request(
     asked: NoticeRequest,
     cancels: bool,
 ) -> Option<KernReturn>
-    ensures { result ≡ first_failing (tests_of_request state.now space asked.name asked.variant asked.sync cancels) }
+    ensures { result ≡ first_failing (tests_of_request state.now.current space asked.name asked.variant asked.sync cancels) }
 {
     let Some(entry) = named(state, space, asked.name) else {
         return Some(KernReturn::InvalidName);
@@ -145,7 +146,7 @@ fn refusal_of_request(
     if target_under(state, space, asked.name, asked.variant).is_none() {
         return None;
     }
-    if state.names(space) >= MAX_NAMES {
+    if state.name_count(space) >= MAX_NAMES {
         return Some(KernReturn::NoSpace);
     }
     None
@@ -159,8 +160,8 @@ fn refusal_of_variant(
     entry: Entry,
     cancels: bool,
 ) -> Option<KernReturn>
-    requires named { map.get (names_in state.now space) asked.name ≡ Some entry }
-    ensures { result ≡ first_failing (tests_of_variant (names_in state.now space) asked.name asked.variant asked.sync cancels) }
+    requires named { map.get (names_in state.now.current space) asked.name ≡ Some entry }
+    ensures { result ≡ first_failing (tests_of_variant (names_in state.now.current space) asked.name asked.variant asked.sync cancels) }
 {
     if asked.variant == MACH_NOTIFY_PORT_DESTROYED {
         if asked.sync != 0 {
@@ -194,7 +195,7 @@ fn refusal_of_variant(
 
 /// The target of the request for this notice that stands under a name.
 fn target_under(state: &IpcState, space: u32, name: u32, variant: u32) -> Option<u64>
-    ensures { result ≡ target_under state.now (names_in state.now space) variant name }
+    ensures { result ≡ target_under state.now.current (names_in state.now.current space) variant name }
 {
     let Some(entry) = state.entry(space, name) else {
         return None;
@@ -223,11 +224,12 @@ fn replace_target(
     wanted: Option<u32>,
     effects: &mut Effects,
 ) -> Result<u32, AllocError>
-    requires allowed { first_failing (tests_of_request state.old space asked.name asked.variant asked.sync (is_none target)) ≡ None }
-    ensures given { IfOk result (λ given. GivesBack (request_set_under state.old space asked.name asked.variant asked.sync target).0 space (target_under state.old (names_in state.old space) asked.variant asked.name) given state.new) }
-    ensures effects { OnOk result (effects.new ≡ effects.old ++ (request_set_under state.old space asked.name asked.variant asked.sync target).1) }
+    requires allowed { first_failing (tests_of_request state.old.current space asked.name asked.variant asked.sync (is_none target)) ≡ None }
+    ensures given { IfOk result (λ given. GivesBack (request_set_under state.old.current space asked.name asked.variant asked.sync target).0 space (target_under state.old.current (names_in state.old.current space) asked.variant asked.name) given state.new.current) }
+    ensures effects { OnOk result (effects.new ≡ effects.old ++ (request_set_under state.old.current space asked.name asked.variant asked.sync target).1) }
     ensures wanted { IfOk result (λ given. (shown : ℕ) → wanted ≡ Some shown → (new : State)
-        → GivesBack (request_set_under state.old space asked.name asked.variant asked.sync target).0 space (target_under state.old (names_in state.old space) asked.variant asked.name) shown new → given ≡ shown) }
+        → GivesBack (request_set_under state.old.current space asked.name asked.variant asked.sync target).0 space (target_under state.old.current (names_in state.old.current space) asked.variant asked.name) shown new → given ≡ shown) }
+    ensures before { state.new.before ≡ state.old.before }
 {
     let former = target_under(state, space, asked.name, asked.variant);
     set_request(state, space, asked, target, effects)?;
@@ -243,9 +245,10 @@ fn set_request(
     target: Option<u64>,
     effects: &mut Effects,
 ) -> Result<(), AllocError>
-    requires allowed { first_failing (tests_of_request state.old space asked.name asked.variant asked.sync (is_none target)) ≡ None }
-    ensures state { OnOk result (state.new ≡ (request_set_under state.old space asked.name asked.variant asked.sync target).0) }
-    ensures effects { OnOk result (effects.new ≡ effects.old ++ (request_set_under state.old space asked.name asked.variant asked.sync target).1) }
+    requires allowed { first_failing (tests_of_request state.old.current space asked.name asked.variant asked.sync (is_none target)) ≡ None }
+    ensures state { OnOk result (state.new.current ≡ (request_set_under state.old.current space asked.name asked.variant asked.sync target).0) }
+    ensures effects { OnOk result (effects.new ≡ effects.old ++ (request_set_under state.old.current space asked.name asked.variant asked.sync target).1) }
+    ensures before { state.new.before ≡ state.old.before }
 {
     let Some(entry) = state.entry(space, asked.name) else {
         return Ok(());
@@ -271,16 +274,16 @@ fn set_dead_name_request(
     entry: Entry,
     effects: &mut Effects,
 ) -> Result<(), AllocError>
-    requires named { entry_at state.old space name ≡ Some entry }
+    requires named { entry_at state.old.current space name ≡ Some entry }
     requires few { AreFewReferences entry }
     requires one_more { dead_references entry < MAX_DEAD_REFERENCES }
-    ensures state { OnOk result (state.new ≡ (dead_name_request_set state.old space name target entry).0) }
-    ensures effects { OnOk result (effects.new ≡ effects.old ++ (dead_name_request_set state.old space name target entry).1) }
+    ensures state { OnOk result (state.new.current ≡ (dead_name_request_set state.old.current space name target entry).0) }
+    ensures effects { OnOk result (effects.new ≡ effects.old ++ (dead_name_request_set state.old.current space name target entry).1) }
+    ensures before { state.new.before ≡ state.old.before }
 {
     match entry {
         Entry::Port(_) | Entry::SendOnce { .. } => {
-            state.put_name(space, name, with_request(entry, target))?;
-            Ok(())
+            state.put_name(space, name, with_request(entry, target))
         }
         Entry::Set => Ok(()),
         Entry::Dead { references } => {
@@ -288,14 +291,13 @@ fn set_dead_name_request(
                 return Ok(());
             }
             effects.dead_name(name, target)?;
-            state.set_entry(
+            state.put_name(
                 space,
                 name,
                 Entry::Dead {
                     references: references + 1,
                 },
-            );
-            Ok(())
+            )
         }
     }
 }
@@ -309,8 +311,9 @@ fn set_port_request(
     target: Option<u64>,
     effects: &mut Effects,
 ) -> Result<(), AllocError>
-    ensures state { OnOk result (state.new ≡ (port_request_set state.old variant sync port target).0) }
-    ensures effects { OnOk result (effects.new ≡ effects.old ++ (port_request_set state.old variant sync port target).1) }
+    ensures state { OnOk result (state.new.current ≡ (port_request_set state.old.current variant sync port target).0) }
+    ensures effects { OnOk result (effects.new ≡ effects.old ++ (port_request_set state.old.current variant sync port target).1) }
+    ensures before { state.new.before ≡ state.old.before }
 {
     if variant == MACH_NOTIFY_PORT_DESTROYED {
         replace_port_destroyed(state, port, target)?;
@@ -335,7 +338,7 @@ fn set_port_request(
 
 /// Whether a port has no send right, and as many were made as the task knows of, or more.
 fn lacks_senders(state: &IpcState, sync: u32, port: u64) -> bool
-    ensures { result ≡ lacks_senders state.now sync port }
+    ensures { result ≡ lacks_senders state.now.current sync port }
 {
     let Some(numbers) = state.numbers(port) else {
         return false;
@@ -347,7 +350,7 @@ fn lacks_senders(state: &IpcState, sync: u32, port: u64) -> bool
 }
 
 fn make_send_count(state: &IpcState, port: u64) -> u32
-    ensures { result ≡ make_send_count_of state.now port }
+    ensures { result ≡ make_send_count_of state.now.current port }
 {
     match state.numbers(port) {
         Some(numbers) => numbers.make_send_count,
@@ -363,9 +366,10 @@ fn give_back(
     former: Option<u64>,
     wanted: Option<u32>,
 ) -> Result<u32, AllocError>
-    requires room { IsSome former → map.len (names_in state.old space) < MAX_NAMES }
-    ensures given { IfOk result (λ given. GivesBack state.old space former given state.new) }
-    ensures wanted { IfOk result (λ given. (shown : ℕ) → wanted ≡ Some shown → (new : State) → GivesBack state.old space former shown new → given ≡ shown) }
+    requires room { IsSome former → map.len (names_in state.old.current space) < MAX_NAMES }
+    ensures given { IfOk result (λ given. GivesBack state.old.current space former given state.new.current) }
+    ensures wanted { IfOk result (λ given. (shown : ℕ) → wanted ≡ Some shown → (new : State) → GivesBack state.old.current space former shown new → given ≡ shown) }
+    ensures before { state.new.before ≡ state.old.before }
 {
     let Some(port) = former else {
         return Ok(MACH_PORT_NULL);

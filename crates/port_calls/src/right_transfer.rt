@@ -24,7 +24,7 @@ use rights::{arrival_name, may_arrive, names_wanted, put_right, take_right};
 use std::alloc::AllocError;
 
 /// `mach_port_insert_right`: a right that a name hands over comes to stand under a name that the task chooses. The
-/// space is there, and no effect waits. Where the call is refused, or memory is wanted, the state has to be given up.
+/// space is there, and no effect waits. Where the call is refused, or memory is wanted, the changes are to be given up.
 #[tactic(auto, unfolding(ipc_model::specs::calls::PortCalls::tests_of, ipc_model::specs::calls::Actions::Done))]
 pub fn insert_right(
     state: &mut IpcState,
@@ -35,8 +35,9 @@ pub fn insert_right(
     effects: &mut Effects,
 ) -> Result<Reply, AllocError>
     requires none { effects.old ≡ [] }
-    requires there { IsSome (map.get state.old.spaces space) }
-    ensures { IfOk result (λ reply. Tries state.old space (call.InsertRight name right_name disposition) reply state.new effects.new) }
+    requires there { IsSome (map.get state.old.current.spaces space) }
+    ensures tries { IfOk result (λ reply. Tries state.old.current space (call.InsertRight name right_name disposition) reply state.new.current effects.new) }
+    ensures before { state.new.before ≡ state.old.before }
 {
     let number = MACH_PORT_INSERT_RIGHT;
     if is_null_or_dead(name) {
@@ -68,10 +69,11 @@ fn take_given(
     effects: &mut Effects,
 ) -> Result<Option<CarriedRight>, AllocError>
     requires none { effects.old ≡ [] }
-    requires there { IsSome (map.get state.old.spaces space) }
-    ensures taken { IfOk result (λ taken. IfSome taken (λ right. copy_in state.old space name disposition ≡ Some (record { right = right; state = state.new; notices = effects.new }))) }
-    ensures refused { IfOk result (λ taken. IfNone taken (copy_in state.old space name disposition ≡ None)) }
-    ensures there { IfOk result (λ taken. IfSome taken (λ right. IsSome (map.get state.new.spaces space))) }
+    requires there { IsSome (map.get state.old.current.spaces space) }
+    ensures taken { IfOk result (λ taken. IfSome taken (λ right. copy_in state.old.current space name disposition ≡ Some (record { right = right; state = state.new.current; notices = effects.new }))) }
+    ensures refused { IfOk result (λ taken. IfNone taken (copy_in state.old.current space name disposition ≡ None)) }
+    ensures there { IfOk result (λ taken. IfSome taken (λ right. IsSome (map.get state.new.current.spaces space))) }
+    ensures before { state.new.before ≡ state.old.before }
 {
     let Some(right) = take_right(state, space, name, disposition, effects)? else {
         return Ok(None);
@@ -86,9 +88,10 @@ fn put_given(
     right: CarriedRight,
     name: u32,
 ) -> Result<(), AllocError>
-    requires there { IsSome (map.get state.old.spaces space) }
-    requires room { map.get (names_in state.old space) name ≡ None → map.len (names_in state.old space) < MAX_NAMES }
-    ensures { OnOk result (state.new ≡ with_names state.old space (names_after (names_in state.old space) right.kind right.port name)) }
+    requires there { IsSome (map.get state.old.current.spaces space) }
+    requires room { map.get (names_in state.old.current space) name ≡ None → map.len (names_in state.old.current space) < MAX_NAMES }
+    ensures ok { OnOk result (state.new.current ≡ with_names state.old.current space (names_after (names_in state.old.current space) right.kind right.port name)) }
+    ensures before { state.new.before ≡ state.old.before }
 {
     put_right(state, space, right, name)
 }
@@ -101,11 +104,11 @@ fn refusal_of_insert(
     kind: RightKind,
     port: u64,
 ) -> Option<KernReturn>
-    ensures refusal { result ≡ first_failing ((not (is_send_once_kind kind) && stands_elsewhere (names_in state.now space) name port, KernReturn.RightExists)
-        ∷ (is_taken_otherwise kind port (map.get (names_in state.now space) name), KernReturn.NameExists)
-        ∷ (passes_bound kind (map.get (names_in state.now space) name), KernReturn.UrefsOverflow)
-        ∷ (not (is_in_use (names_in state.now space) name) && names_are_used_up (names_in state.now space), KernReturn.NoSpace) ∷ []) }
-    ensures room { IfNone result (map.get (names_in state.now space) name ≡ None → map.len (names_in state.now space) < MAX_NAMES) }
+    ensures refusal { result ≡ first_failing ((not (is_send_once_kind kind) && stands_elsewhere (names_in state.now.current space) name port, KernReturn.RightExists)
+        ∷ (is_taken_otherwise kind port (map.get (names_in state.now.current space) name), KernReturn.NameExists)
+        ∷ (passes_bound kind (map.get (names_in state.now.current space) name), KernReturn.UrefsOverflow)
+        ∷ (not (is_in_use (names_in state.now.current space) name) && names_are_used_up (names_in state.now.current space), KernReturn.NoSpace) ∷ []) }
+    ensures room { IfNone result (map.get (names_in state.now.current space) name ≡ None → map.len (names_in state.now.current space) < MAX_NAMES) }
 {
     if kind != RightKind::SendOnce && state.stands_elsewhere(space, name, port) {
         return Some(KernReturn::RightExists);
@@ -117,7 +120,7 @@ fn refusal_of_insert(
     if passes_bound(kind, entry) {
         return Some(KernReturn::UrefsOverflow);
     }
-    if entry.is_none() && state.names(space) >= MAX_NAMES {
+    if entry.is_none() && state.name_count(space) >= MAX_NAMES {
         return Some(KernReturn::NoSpace);
     }
     None
@@ -149,7 +152,7 @@ fn passes_bound(kind: RightKind, entry: Option<Entry>) -> bool
 
 /// `mach_port_extract_right`: a right that a name hands over comes out under its port's name, or a new one: the wanted
 /// one where it may. The space is there, and no effect waits. Where the call is refused, or memory is wanted, the
-/// state has to be given up.
+/// changes are to be given up.
 #[tactic(auto, unfolding(ipc_model::specs::calls::PortCalls::tests_of, ipc_model::specs::calls::Actions::Done))]
 pub fn extract_right(
     state: &mut IpcState,
@@ -160,10 +163,11 @@ pub fn extract_right(
     effects: &mut Effects,
 ) -> Result<Reply, AllocError>
     requires none { effects.old ≡ [] }
-    requires there { IsSome (map.get state.old.spaces space) }
-    ensures acts { IfOk result (λ reply. Tries state.old space (call.ExtractRight name disposition) reply state.new effects.new) }
+    requires there { IsSome (map.get state.old.current.spaces space) }
+    ensures acts { IfOk result (λ reply. Tries state.old.current space (call.ExtractRight name disposition) reply state.new.current effects.new) }
     ensures wanted { IfOk result (λ reply. (shown : ℕ) → wanted ≡ Some shown → (kind : RightKind) → (new : State) → (effects : List Effect)
-        → ActsIn state.old space (names_in state.old space) (call.ExtractRight name disposition) (Reply.Extracted shown kind) new effects → reply ≡ Reply.Extracted shown kind) }
+        → ActsIn state.old.current space (names_in state.old.current space) (call.ExtractRight name disposition) (Reply.Extracted shown kind) new effects → reply ≡ Reply.Extracted shown kind) }
+    ensures before { state.new.before ≡ state.old.before }
 {
     let right = match take_extracted(state, space, name, disposition, effects)? {
         Ok(right) => right,
@@ -187,13 +191,14 @@ fn take_extracted(
     effects: &mut Effects,
 ) -> Result<Result<CarriedRight, KernReturn>, AllocError>
     requires none { effects.old ≡ [] }
-    requires there { IsSome (map.get state.old.spaces space) }
-    ensures refused { IfOk result (λ taken. IfErr taken (λ code. first_failing (tests_of state.old space (names_in state.old space) (call.ExtractRight name disposition)) ≡ Some code)) }
-    ensures passed { IfOk result (λ taken. IfOk taken (λ right. first_failing (tests_of state.old space (names_in state.old space) (call.ExtractRight name disposition)) ≡ None)) }
-    ensures taken { IfOk result (λ taken. IfOk taken (λ right. taken_by state.old space name disposition ≡ Some (record { right = right; state = state.new; notices = effects.new }))) }
-    ensures there { IfOk result (λ taken. IfOk taken (λ right. IsSome (map.get state.new.spaces space))) }
-    ensures room { IfOk result (λ taken. IfOk taken (λ right. (name : ℕ) → MayArrive (names_in state.new space) right.kind right.port name
-        → map.get (names_in state.new space) name ≡ None → map.len (names_in state.new space) < MAX_NAMES)) }
+    requires there { IsSome (map.get state.old.current.spaces space) }
+    ensures refused { IfOk result (λ taken. IfErr taken (λ code. first_failing (tests_of state.old.current space (names_in state.old.current space) (call.ExtractRight name disposition)) ≡ Some code)) }
+    ensures passed { IfOk result (λ taken. IfOk taken (λ right. first_failing (tests_of state.old.current space (names_in state.old.current space) (call.ExtractRight name disposition)) ≡ None)) }
+    ensures taken { IfOk result (λ taken. IfOk taken (λ right. taken_by state.old.current space name disposition ≡ Some (record { right = right; state = state.new.current; notices = effects.new }))) }
+    ensures there { IfOk result (λ taken. IfOk taken (λ right. IsSome (map.get state.new.current.spaces space))) }
+    ensures room { IfOk result (λ taken. IfOk taken (λ right. (name : ℕ) → MayArrive (names_in state.new.current space) right.kind right.port name
+        → map.get (names_in state.new.current space) name ≡ None → map.len (names_in state.new.current space) < MAX_NAMES)) }
+    ensures before { state.new.before ≡ state.old.before }
 {
     let Some(disposition) = Disposition::from_number(disposition) else {
         return Ok(Err(KernReturn::InvalidValue));
@@ -207,7 +212,7 @@ fn take_extracted(
     let PortInMessage::Live(_) = right.port else {
         return Ok(Err(KernReturn::InvalidRight));
     };
-    if state.names(space) > MAX_NAMES - names_wanted(state, space, &[right]) {
+    if state.name_count(space) > MAX_NAMES - names_wanted(state, space, &[right]) {
         return Ok(Err(KernReturn::NoSpace));
     }
     Ok(Ok(right))
@@ -221,8 +226,8 @@ pub(crate) fn arrival_wanted(
     right: CarriedRight,
     wanted: Option<u32>,
 ) -> u32
-    ensures may { MayArrive (names_in state.now space) right.kind right.port result }
-    ensures wanted { (shown : ℕ) → wanted ≡ Some shown → MayArrive (names_in state.now space) right.kind right.port shown → result ≡ shown }
+    ensures may { MayArrive (names_in state.now.current space) right.kind right.port result }
+    ensures wanted { (shown : ℕ) → wanted ≡ Some shown → MayArrive (names_in state.now.current space) right.kind right.port shown → result ≡ shown }
 {
     match wanted {
         Some(name) if may_arrive(state, space, right, name) => name,

@@ -1,4 +1,5 @@
+mod Answering
 mod Bounds
-mod Renamed
-mod Small
-mod Walked
+mod ByPort
+mod Free
+mod Standing

@@ -1,8 +1,7 @@
+pub mod Beside
 pub mod Crowded
-pub mod Deaths
-pub mod Forgotten
-pub mod Mentions
 pub mod References
 pub mod Renaming
-pub mod Unmentioned
-pub mod Walks
+pub mod Tables
+pub mod Finding
+pub mod Walking

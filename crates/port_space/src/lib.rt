@@ -1,11 +1,7 @@
-//! The names of one space, each with what it stands for.
+//! Tables.
 #![tactic(auto)]
 
-mod count;
-mod death;
-mod indexed;
-mod mentions;
 mod space;
+mod tables;
 
-pub use mentions::{request_of, right_port};
 pub use space::PortSpace;

@@ -1,4 +1,6 @@
-pub mod Changed
-pub mod Lookups
-pub mod Mentions
-pub mod PlaceChanges
+pub mod Burials
+pub mod Carriers
+pub mod Counting
+pub mod IndexLaws
+pub mod Indexes
+pub mod Requests

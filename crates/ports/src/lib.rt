@@ -1,10 +1,14 @@
-//! The live ports.
+//! The live ports with the rights that they carry and keep, counted, and found by the ports that they are to. Changes are
+//! kept or given up.
 #![tactic(auto)]
 
-mod places;
-mod port;
-mod port_changes;
+mod burials;
+mod changes;
+mod deaths;
+mod indexes;
 mod ports;
+mod reads;
+mod rights;
 
-pub use port::{Port, PortNumbers};
+pub use live_ports::PortNumbers;
 pub use ports::Ports;

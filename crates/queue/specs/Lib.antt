@@ -1,3 +1,1 @@
-pub mod CountLaws
-pub mod Counts
-pub mod Mentions
+pub mod TrackedList

@@ -2,9 +2,10 @@ ghost use Rattle.std.specs.Prelude.{◌≡◌, IfOk};
 
 use ipc_model::{Message, Sequence};
 use std::alloc::{AllocError, Global};
+use std::collections::VecDeque;
 
 /// Another message of the same value.
-pub(crate) fn copy_of_message(alloc: Global, message: &Message) -> Result<Message, AllocError>
+fn copy_of_message(alloc: Global, message: &Message) -> Result<Message, AllocError>
     ensures { IfOk result (λ copy. copy ≡ message.now) }
 {
     let rights = Vec::from_slice(alloc, message.rights.as_slice())?;
@@ -17,4 +18,19 @@ pub(crate) fn copy_of_message(alloc: Global, message: &Message) -> Result<Messag
         rights: Sequence::new(rights),
         body: Sequence::new(body),
     })
+}
+
+/// Other messages of the same values.
+pub(crate) fn copy_of_messages(
+    alloc: Global,
+    messages: &VecDeque<Message>,
+) -> Result<VecDeque<Message>, AllocError>
+    ensures { IfOk result (λ copy. copy.items ≡ messages.now.items) }
+{
+    let mut copy = VecDeque::new(alloc);
+    for index in 0..messages.len() {
+        let message = copy_of_message(alloc, &messages[index])?;
+        copy.push_back(message)?;
+    }
+    Ok(copy)
 }

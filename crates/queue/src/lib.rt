@@ -1,9 +1,7 @@
-//! The messages in a port's queue.
+//! The messages in a port's queue, whose changes are kept or given up.
 #![tactic(auto)]
 
 mod copy;
-mod death;
 mod queue;
-mod rights;
 
 pub use queue::{PushFault, Queue};

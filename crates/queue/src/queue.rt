@@ -1,15 +1,8 @@
-ghost use Rattle.std.specs.Prelude.{◌≡◌, ◌<◌, ◌≤◌, ◌-◌, ◌^◌, ◌↔◌, ◌==◌, ◌∷◌, ◌++◌, [], length, drop, map, flat_map, option_copied, IfOk, OnOk, OnErr, IsErrOf, MatchOption, slice_index_or};
-ghost use Rattle.std.specs.List.{list_any};
-ghost use Rattle.ipc_model.specs.state.Circular.{is_receive_right};
-ghost use Rattle.ipc_model.specs.effects.Effects.{message_after_death};
-ghost use Rattle.ipc_model.specs.state.Placed.{rights_of_message};
-ghost use Rattle.queue.specs.Counts.{capped_count};
-ghost use Rattle.queue.specs.Mentions.{message_mentions};
+ghost use Rattle.std.specs.Prelude.{◌≡◌, ◌<◌, ◌≤◌, ◌-◌, ◌^◌, ◌↔◌, ◌==◌, ◌∷◌, ◌++◌, [], length, drop, option_copied, IfOk, OnOk, OnErr, IsErrOf, MatchOption, slice_index_or};
+ghost use Rattle.queue.specs.TrackedList.{list_at_rest};
 
-use crate::copy::copy_of_message;
-use crate::death::forget_in_message;
-use crate::rights::{carries_receive_right, count_in_message, mentions_port};
-use ipc_model::{Message, RightKind};
+use crate::copy::copy_of_messages;
+use ipc_model::Message;
 use std::alloc::{AllocError, Global};
 use std::collections::VecDeque;
 use std::marker::Model;
@@ -37,56 +30,66 @@ impl From<AllocError> for PushFault {
 /// How many messages a queue holds at most.
 const MAX_MESSAGES: usize = u32::MAX as usize;
 
-/// The messages in a port's queue (`ipc_mqueue`), oldest first: at most `u32::MAX`. Contracts see it as the list
-/// of them.
+/// The messages in a port's queue (`ipc_mqueue`), oldest first: at most `u32::MAX`. Contracts see the list of them as it
+/// was when its changes were last kept or given up, and as it is. Messages that are taken stay in the ring until then.
 #[derive(Drop)]
 pub struct Queue {
     alloc: Global,
     messages: VecDeque<Message>,
+    /// How many of the messages are taken, the oldest ones.
+    taken: usize,
+    /// How many messages there were.
+    before: usize,
 }
 
 impl Model for Queue {
-    ghost use Rattle.std.specs.Prelude.{◌≤◌, List, length};
+    ghost use Rattle.std.specs.Prelude.{◌≤◌, ◌+◌, length, take, drop};
     ghost use Rattle.ipc_model.specs.declared.message.Message.{Message};
+    ghost use Rattle.ipc_model.specs.contracts.message.Message as message;
+    ghost use Rattle.queue.specs.TrackedList.{TrackedList, tracked_list_code};
     ghost use Rattle.queue.specs.declared.queue.TheConstants.{MAX_MESSAGES};
 
-    ghost Value = { List Message };
+    ghost Value = { TrackedList Message };
 
-    ghost view = { λ q. q.messages.items };
+    ghost coded = { tracked_list_code message.the_row.coded };
 
-    ghost invariant = { λ q. length q.messages.items ≤ MAX_MESSAGES };
+    ghost view = { λ q. record { before = take q.before q.messages.items; current = drop q.taken q.messages.items } };
+
+    ghost invariant = { λ q. (q.before ≤ length q.messages.items) × (q.taken ≤ length q.messages.items) × (q.before ≤ MAX_MESSAGES) × (length q.messages.items ≤ MAX_MESSAGES + q.taken) };
 }
 
 impl Queue {
     /// A queue without messages. It takes no memory.
     pub fn new(alloc: Global) -> Self
-        ensures { result ≡ [] }
+        ensures { result ≡ list_at_rest [] }
     {
         Queue {
             alloc,
             messages: VecDeque::new(alloc),
+            taken: 0,
+            before: 0,
         }
     }
 
     /// How many messages there are.
     pub fn len(&self) -> u32
-        ensures { result ≡ length self.now }
+        ensures { result ≡ length self.now.current }
     {
-        self.messages.len() as u32
+        (self.messages.len() - self.taken) as u32
     }
 
     /// Whether there is no message.
     pub fn is_empty(&self) -> bool
-        ensures { result ≡ (length self.now == 0) }
+        ensures { result ≡ (length self.now.current == 0) }
     {
-        self.messages.is_empty()
+        self.len() == 0
     }
 
     /// Puts a message at the end, unless the queue holds as many as its limit allows. With a fault nothing changed.
     pub fn push(&mut self, limit: u32, message: Message) -> Result<(), PushFault>
-        ensures ok { OnOk result (self.new ≡ self.old ++ message ∷ []) }
+        ensures ok { OnOk result (self.new ≡ record self.old { current = self.old.current ++ message ∷ [] }) }
         ensures err { OnErr result (self.new ≡ self.old) }
-        ensures full { IsErrOf result PushFault.Full ↔ limit ≤ length self.old }
+        ensures full { IsErrOf result PushFault.Full ↔ limit ≤ length self.old.current }
     {
         if limit <= self.len() {
             return Err(PushFault::Full);
@@ -97,88 +100,69 @@ impl Queue {
     /// Puts a message at the end, whatever the limit. Without memory nothing changed; a queue of `u32::MAX`
     /// messages has none.
     pub fn push_forced(&mut self, message: Message) -> Result<(), AllocError>
-        ensures ok { OnOk result (self.new ≡ self.old ++ message ∷ []) }
-        ensures room { OnOk result (length self.old < 2 ^ 32 - 1) }
+        ensures ok { OnOk result (self.new ≡ record self.old { current = self.old.current ++ message ∷ [] }) }
         ensures err { OnErr result (self.new ≡ self.old) }
     {
-        if MAX_MESSAGES <= self.messages.len() {
+        if MAX_MESSAGES <= self.messages.len() - self.taken {
             return Err(AllocError);
         }
         Ok(self.messages.push_back(message)?)
     }
 
     /// Takes the oldest message out, if there is one.
-    pub fn take(&mut self) -> Option<Message>
-        ensures { MatchOption result ((self.old ≡ []) × (self.new ≡ [])) (λ message. self.old ≡ message ∷ self.new) }
+    pub fn take(&mut self)
+        ensures { self.new ≡ record self.old { current = drop 1 self.old.current } }
     {
-        self.messages.pop_front()
-    }
-
-    /// The oldest message, if there is one.
-    pub fn first(&self) -> Option<&Message>
-        ensures { MatchOption (option_copied result) (self.now ≡ []) (λ message. self.now ≡ message ∷ drop 1 self.now) }
-    {
-        self.messages.front()
+        if self.taken < self.messages.len() {
+            self.taken += 1;
+        }
     }
 
     /// The message of an index, counted from the oldest.
     pub fn message(&self, index: u32) -> &Message
-        requires { index < length self.now }
-        ensures { result.now ≡ slice_index_or self.now index result.now }
+        requires { index < length self.now.current }
+        ensures { result.now ≡ slice_index_or self.now.current index result.now }
     {
-        &self.messages[index as usize]
+        &self.messages[self.taken + index as usize]
     }
 
-    /// Another queue of the same messages.
+    /// The same queue again, with the changes to keep or to give up.
     pub fn copy(&self) -> Result<Queue, AllocError>
         ensures { IfOk result (λ copy. copy ≡ self.now) }
     {
-        let mut messages = VecDeque::new(self.alloc);
-        for index in 0..self.messages.len() {
-            messages.push_back(copy_of_message(self.alloc, &self.messages[index])?)?;
-        }
+        let messages = copy_of_messages(self.alloc, &self.messages)?;
         Ok(Queue {
             alloc: self.alloc,
             messages,
+            taken: self.taken,
+            before: self.before,
         })
     }
 
-    /// Carried rights to a port that has died become `MACH_PORT_DEAD`.
-    pub fn forget_port(&mut self, serial: u64)
-        ensures { self.new ≡ map (message_after_death serial) self.old }
+    /// Keeps the changes. It takes no memory.
+    pub fn keep(&mut self)
+        ensures { self.new ≡ list_at_rest self.old.current }
     {
-        for index in 0..self.messages.len() {
-            forget_in_message(self.alloc, &mut self.messages[index], serial);
-        }
+        drop_front(&mut self.messages, self.taken);
+        self.taken = 0;
+        self.before = self.messages.len();
     }
 
-    /// How many rights of a kind to the port `serial` the queue of the port `owner` holds, at most `u32::MAX`.
-    pub fn rights_to(&self, owner: u64, kind: RightKind, serial: u64) -> u32
-        ensures { result ≡ capped_count kind serial (flat_map (rights_of_message owner) self.now) }
+    /// Gives the changes up. It takes no memory.
+    pub fn give_up(&mut self)
+        ensures { self.new ≡ list_at_rest self.old.before }
     {
-        let mut count: u32 = 0;
-        for index in 0..self.messages.len() {
-            let more = count_in_message(owner, &self.messages[index], kind, serial);
-            count = count.saturating_add(more);
-        }
-        count
+        self.messages.truncate(self.before);
+        self.taken = 0;
     }
+}
 
-    /// Whether a message carries the receive right of the port.
-    pub fn carries(&self, serial: u64) -> bool
-        ensures { result ≡ list_any (λ message. list_any (is_receive_right serial) message.rights) self.now }
-    {
-        self.messages
-            .iter()
-            .any(|message| carries_receive_right(message, serial))
-    }
-
-    /// Whether a message has a right to the port beside its destination, which is the queue's own port.
-    pub fn mentions(&self, serial: u64) -> bool
-        ensures { result ≡ list_any (message_mentions serial) self.now }
-    {
-        self.messages
-            .iter()
-            .any(|message| mentions_port(message, serial))
+/// Drops so many of the oldest messages.
+fn drop_front(messages: &mut VecDeque<Message>, count: usize)
+    requires { count ≤ length messages.old.items }
+    ensures { messages.new.items ≡ drop count messages.old.items }
+{
+    for _ in 0..count {
+        messages.pop_front();
     }
 }

@@ -1,10 +1,6 @@
-ghost use Rattle.std.specs.Prelude.{◌≡◌, Some, true, false, IfOk, OnErr, IfSome, IfNone, IsSome};
+ghost use Rattle.std.specs.Prelude.{◌≡◌, Some, true, false, IfOk, OnOk, IfSome, IfNone, IsSome};
 ghost use Rattle.ipc_model.specs.rights.CopyIn.{copy_in, taken_of_port, taken_of_send_once, taken_of_dead, taken_leaving, moved_port};
 ghost use Rattle.ipc_model.specs.state.State.{entry_at, with_port, next_count};
-ghost use Rattle.ipc_model.specs.declared.port.PortState.{PortState};
-ghost use Rattle.ipc_model.specs.declared.entry.Entry.{Entry};
-ghost use Rattle.port_index.specs.Indexed.{MentionsNoOther};
-ghost use Rattle.port_space.specs.Mentions.{entry_mentions};
 ghost use Rattle.port_space.specs.References.{AreFewReferences};
 ghost use Rattle.rights.specs.Taking.{Takes};
 
@@ -18,7 +14,7 @@ use std::alloc::AllocError;
 
 /// Copy in: takes a right from a name of a space by a disposition, or nothing where that is refused, and then
 /// all is as before. The port-deleted notice of a name that ceases to be goes to the end of the effects. Where memory is
-/// wanted nothing changed.
+/// wanted the changes are to be given up.
 #[tactic(auto, unfolding(ipc_model::specs::rights::CopyIn::copy_in))]
 pub fn take_right(
     state: &mut IpcState,
@@ -27,8 +23,8 @@ pub fn take_right(
     disposition: Disposition,
     effects: &mut Effects,
 ) -> Result<Option<CarriedRight>, AllocError>
-    ensures taken { IfOk result (λ right. Takes (copy_in state.old space name disposition) state.old effects.old right state.new effects.new) }
-    ensures err { OnErr result ((state.new ≡ state.old) × (effects.new ≡ effects.old)) }
+    ensures taken { IfOk result (λ right. Takes (copy_in state.old.current space name disposition) state.old.current effects.old right state.new.current effects.new) }
+    ensures before { state.new.before ≡ state.old.before }
 {
     let Some(entry) = state.entry(space, name) else {
         return Ok(None);
@@ -76,11 +72,10 @@ fn take_from_port(
     rights: PortRights,
     effects: &mut Effects,
 ) -> Result<Option<CarriedRight>, AllocError>
-    requires named { IsSome (entry_at state.old space name) }
+    requires named { IsSome (entry_at state.old.current space name) }
     requires few { AreFewReferences (Entry.Port rights) }
-    requires known { (former : Entry) → entry_at state.old space name ≡ Some former → MentionsNoOther entry_mentions (Entry.Port rights) former }
-    ensures taken { IfOk result (λ right. Takes (taken_of_port state.old space name disposition rights) state.old effects.old right state.new effects.new) }
-    ensures err { OnErr result ((state.new ≡ state.old) × (effects.new ≡ effects.old)) }
+    ensures taken { IfOk result (λ right. Takes (taken_of_port state.old.current space name disposition rights) state.old.current effects.old right state.new.current effects.new) }
+    ensures before { state.new.before ≡ state.old.before }
 {
     match disposition {
         Disposition::MoveReceive => move_receive(state, space, name, rights, effects),
@@ -89,7 +84,7 @@ fn take_from_port(
         Disposition::CopySend => Ok(
             (rights.send != 0).then_some(right_to(RightKind::Send, rights.port)),
         ),
-        Disposition::MakeSend => Ok(make_send(state, rights)),
+        Disposition::MakeSend => make_send(state, rights),
         Disposition::MakeSendOnce => Ok(
             rights
                 .receive
@@ -105,11 +100,10 @@ fn move_receive(
     rights: PortRights,
     effects: &mut Effects,
 ) -> Result<Option<CarriedRight>, AllocError>
-    requires named { IsSome (entry_at state.old space name) }
+    requires named { IsSome (entry_at state.old.current space name) }
     requires few { AreFewReferences (Entry.Port rights) }
-    requires known { (former : Entry) → entry_at state.old space name ≡ Some former → MentionsNoOther entry_mentions (Entry.Port rights) former }
-    ensures taken { IfOk result (λ right. Takes (taken_of_port state.old space name Disposition.MoveReceive rights) state.old effects.old right state.new effects.new) }
-    ensures err { OnErr result ((state.new ≡ state.old) × (effects.new ≡ effects.old)) }
+    ensures taken { IfOk result (λ right. Takes (taken_of_port state.old.current space name Disposition.MoveReceive rights) state.old.current effects.old right state.new.current effects.new) }
+    ensures before { state.new.before ≡ state.old.before }
 {
     if !rights.receive {
         return Ok(None);
@@ -119,18 +113,19 @@ fn move_receive(
         ..rights
     });
     announce_left(effects, name, left)?;
-    reset_port(state, rights.port);
-    set_left(state, space, name, left);
+    reset_port(state, rights.port)?;
+    set_left(state, space, name, left)?;
     Ok(Some(right_to(RightKind::Receive, rights.port)))
 }
 
 /// A moved receive right leaves its set, and loses its sequence number and make-send count.
-fn reset_port(state: &mut IpcState, serial: u64)
-    ensures moved { state.new ≡ moved_port state.old serial }
-    ensures spaces { state.new.spaces ≡ state.old.spaces }
+fn reset_port(state: &mut IpcState, serial: u64) -> Result<(), AllocError>
+    ensures moved { OnOk result (state.new.current ≡ moved_port state.old.current serial) }
+    ensures spaces { OnOk result (state.new.current.spaces ≡ state.old.current.spaces) }
+    ensures before { state.new.before ≡ state.old.before }
 {
     let Some(numbers) = state.numbers(serial) else {
-        return;
+        return Ok(());
     };
     let moved = PortNumbers {
         set: None,
@@ -138,7 +133,7 @@ fn reset_port(state: &mut IpcState, serial: u64)
         make_send_count: 0,
         ..numbers
     };
-    state.set_numbers(serial, moved);
+    state.set_numbers(serial, moved)
 }
 
 fn move_send(
@@ -148,11 +143,10 @@ fn move_send(
     rights: PortRights,
     effects: &mut Effects,
 ) -> Result<Option<CarriedRight>, AllocError>
-    requires named { IsSome (entry_at state.old space name) }
+    requires named { IsSome (entry_at state.old.current space name) }
     requires few { AreFewReferences (Entry.Port rights) }
-    requires known { (former : Entry) → entry_at state.old space name ≡ Some former → MentionsNoOther entry_mentions (Entry.Port rights) former }
-    ensures taken { IfOk result (λ right. Takes (taken_of_port state.old space name Disposition.MoveSend rights) state.old effects.old right state.new effects.new) }
-    ensures err { OnErr result ((state.new ≡ state.old) × (effects.new ≡ effects.old)) }
+    ensures taken { IfOk result (λ right. Takes (taken_of_port state.old.current space name Disposition.MoveSend rights) state.old.current effects.old right state.new.current effects.new) }
+    ensures before { state.new.before ≡ state.old.before }
 {
     if rights.send == 0 {
         return Ok(None);
@@ -162,18 +156,19 @@ fn move_send(
         ..rights
     });
     announce_left(effects, name, left)?;
-    set_left(state, space, name, left);
+    set_left(state, space, name, left)?;
     Ok(Some(right_to(RightKind::Send, rights.port)))
 }
 
 /// A send right is made from the receive right, and counted.
-fn make_send(state: &mut IpcState, rights: PortRights) -> Option<CarriedRight>
-    ensures none { IfNone result ((rights.receive ≡ false) × (state.new ≡ state.old)) }
-    ensures made { IfSome result (λ right. (rights.receive ≡ true) × (right ≡ record { kind = RightKind.Send; port = PortInMessage.Live rights.port })
-        × (state.new ≡ with_port state.old rights.port (λ port. record port { make_send_count = next_count port.make_send_count }))) }
+fn make_send(state: &mut IpcState, rights: PortRights) -> Result<Option<CarriedRight>, AllocError>
+    ensures none { IfOk result (λ made. IfNone made ((rights.receive ≡ false) × (state.new.current ≡ state.old.current))) }
+    ensures made { IfOk result (λ made. IfSome made (λ right. (rights.receive ≡ true) × (right ≡ record { kind = RightKind.Send; port = PortInMessage.Live rights.port })
+        × (state.new.current ≡ with_port state.old.current rights.port (λ port. record port { make_send_count = next_count port.make_send_count })))) }
+    ensures before { state.new.before ≡ state.old.before }
 {
     if !rights.receive {
-        return None;
+        return Ok(None);
     }
     if let Some(numbers) = state.numbers(rights.port) {
         let make_send_count = numbers.make_send_count.wrapping_add(1);
@@ -183,9 +178,9 @@ fn make_send(state: &mut IpcState, rights: PortRights) -> Option<CarriedRight>
                 make_send_count,
                 ..numbers
             },
-        );
+        )?;
     }
-    Some(right_to(RightKind::Send, rights.port))
+    Ok(Some(right_to(RightKind::Send, rights.port)))
 }
 
 /// A send-once right is moved, and its name ceases to be.
@@ -198,14 +193,14 @@ fn take_send_once(
     request: Option<u64>,
     effects: &mut Effects,
 ) -> Result<Option<CarriedRight>, AllocError>
-    ensures taken { IfOk result (λ right. Takes (taken_of_send_once state.old space name disposition port request) state.old effects.old right state.new effects.new) }
-    ensures err { OnErr result ((state.new ≡ state.old) × (effects.new ≡ effects.old)) }
+    ensures taken { IfOk result (λ right. Takes (taken_of_send_once state.old.current space name disposition port request) state.old.current effects.old right state.new.current effects.new) }
+    ensures before { state.new.before ≡ state.old.before }
 {
     if disposition != Disposition::MoveSendOnce {
         return Ok(None);
     }
     effects.port_deleted(name, request)?;
-    state.remove_name(space, name);
+    state.remove_name(space, name)?;
     Ok(Some(right_to(RightKind::SendOnce, port)))
 }
 
@@ -218,10 +213,10 @@ fn take_dead(
     references: u32,
     effects: &mut Effects,
 ) -> Result<Option<CarriedRight>, AllocError>
-    requires named { IsSome (entry_at state.old space name) }
+    requires named { IsSome (entry_at state.old.current space name) }
     requires few { AreFewReferences (Entry.Dead references) }
-    ensures taken { IfOk result (λ right. Takes (taken_of_dead state.old space name disposition references) state.old effects.old right state.new effects.new) }
-    ensures err { OnErr result ((state.new ≡ state.old) × (effects.new ≡ effects.old)) }
+    ensures taken { IfOk result (λ right. Takes (taken_of_dead state.old.current space name disposition references) state.old.current effects.old right state.new.current effects.new) }
+    ensures before { state.new.before ≡ state.old.before }
 {
     let kind = match disposition {
         Disposition::CopySend => return Ok(Some(dead_right(RightKind::Send))),
@@ -233,7 +228,7 @@ fn take_dead(
         references: references.saturating_sub(1),
     };
     announce_left(effects, name, left)?;
-    set_left(state, space, name, left);
+    set_left(state, space, name, left)?;
     Ok(Some(dead_right(kind)))
 }
 

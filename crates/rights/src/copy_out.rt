@@ -1,4 +1,4 @@
-ghost use Rattle.std.specs.Prelude.{◌≡◌, ◌<◌, ◌↔◌, ◌≤◌, None, Some, IsTrue, IfSome, OnOk, OnErr};
+ghost use Rattle.std.specs.Prelude.{◌≡◌, ◌<◌, ◌↔◌, ◌≤◌, None, Some, IsTrue, IfSome, OnOk};
 ghost use Rattle.std.specs.FinMap as map;
 ghost use Rattle.ipc_model.specs.rights.CopyOut.{MayArrive, MayBeNamed, merged_entry, merged_rights, names_after, new_entry};
 ghost use Rattle.ipc_model.specs.calls.PortCalls.{names_in};
@@ -13,7 +13,7 @@ use std::alloc::AllocError;
 /// The name that a right gets which arrives in a space: a send or receive right the name of its port, if it
 /// has one there, and else the least unused name; `MACH_PORT_NULL` and `MACH_PORT_DEAD` arrive as themselves.
 pub fn arrival_name(state: &IpcState, space: u32, right: CarriedRight) -> u32
-    ensures { MayArrive (names_in state.now space) right.kind right.port result }
+    ensures { MayArrive (names_in state.now.current space) right.kind right.port result }
 {
     match right.port {
         PortInMessage::Null => MACH_PORT_NULL,
@@ -23,7 +23,7 @@ pub fn arrival_name(state: &IpcState, space: u32, right: CarriedRight) -> u32
 }
 
 fn name_for(state: &IpcState, space: u32, kind: RightKind, port: u64) -> u32
-    ensures { MayBeNamed (names_in state.now space) kind port result }
+    ensures { MayBeNamed (names_in state.now.current space) kind port result }
 {
     if kind == RightKind::SendOnce {
         return state.free_name(space);
@@ -36,7 +36,7 @@ fn name_for(state: &IpcState, space: u32, kind: RightKind, port: u64) -> u32
 
 /// Whether a right may arrive in a space under this name.
 pub fn may_arrive(state: &IpcState, space: u32, right: CarriedRight, name: u32) -> bool
-    ensures { IsTrue result ↔ MayArrive (names_in state.now space) right.kind right.port name }
+    ensures { IsTrue result ↔ MayArrive (names_in state.now.current space) right.kind right.port name }
 {
     match right.port {
         PortInMessage::Null => name == MACH_PORT_NULL,
@@ -46,7 +46,7 @@ pub fn may_arrive(state: &IpcState, space: u32, right: CarriedRight, name: u32) 
 }
 
 fn may_be_named(state: &IpcState, space: u32, kind: RightKind, port: u64, name: u32) -> bool
-    ensures { IsTrue result ↔ MayBeNamed (names_in state.now space) kind port name }
+    ensures { IsTrue result ↔ MayBeNamed (names_in state.now.current space) kind port name }
 {
     if kind == RightKind::SendOnce {
         return state.is_unused(space, name);
@@ -58,17 +58,17 @@ fn may_be_named(state: &IpcState, space: u32, kind: RightKind, port: u64, name: 
 }
 
 /// Copy out: a right arrives in a space under a name; a send right adds a reference, up to the greatest number of
-/// them. Where memory is wanted nothing changed.
+/// them. Where memory is wanted the changes are to be given up.
 pub fn put_right(
     state: &mut IpcState,
     space: u32,
     right: CarriedRight,
     name: u32,
 ) -> Result<(), AllocError>
-    requires room { entry_at state.old space name ≡ None → map.len (names_in state.old space) < MAX_NAMES }
-    ensures ok { OnOk result ((names : Names) → map.get state.old.spaces space ≡ Some names
-        → state.new ≡ with_names state.old space (names_after names right.kind right.port name)) }
-    ensures err { OnErr result (state.new ≡ state.old) }
+    requires room { entry_at state.old.current space name ≡ None → map.len (names_in state.old.current space) < MAX_NAMES }
+    ensures ok { OnOk result ((names : Names) → map.get state.old.current.spaces space ≡ Some names
+        → state.new.current ≡ with_names state.old.current space (names_after names right.kind right.port name)) }
+    ensures before { state.new.before ≡ state.old.before }
 {
     let PortInMessage::Live(port) = right.port else {
         return Ok(());

@@ -1,15 +1,11 @@
-ghost use Rattle.std.specs.Prelude.{◌≡◌, ◌++◌, OnOk, OnErr, IsSome, Some};
+ghost use Rattle.std.specs.Prelude.{◌≡◌, ◌++◌, OnOk, OnErr, IsSome};
 ghost use Rattle.ipc_model.specs.rights.CopyIn.{with_left, notices_of_left};
 ghost use Rattle.ipc_model.specs.state.State.{entry_at, is_empty_entry};
-ghost use Rattle.ipc_model.specs.declared.entry.Entry.{Entry};
-ghost use Rattle.port_index.specs.Indexed.{MentionsNoOther};
-ghost use Rattle.port_space.specs.Mentions.{entry_mentions};
 ghost use Rattle.port_space.specs.References.{AreFewReferences};
 
 use effects::Effects;
 use ipc_model::Entry;
-use ipc_state::IpcState;
-use port_space::request_of;
+use ipc_state::{IpcState, request_of};
 use std::alloc::AllocError;
 
 /// Whether a name stands for nothing any more, and so ceases to be.
@@ -35,17 +31,17 @@ pub fn announce_left(effects: &mut Effects, name: u32, entry: Entry) -> Result<(
     Ok(())
 }
 
-/// A name that is in use comes to stand for this, which mentions no port that it didn't; left without a right, it
-/// ceases to be.
-pub fn set_left(state: &mut IpcState, space: u32, name: u32, entry: Entry)
-    requires named { IsSome (entry_at state.old space name) }
+/// A name that is in use comes to stand for this; left without a right, it ceases to be. Where memory is wanted the changes
+/// are to be given up.
+pub fn set_left(state: &mut IpcState, space: u32, name: u32, entry: Entry) -> Result<(), AllocError>
+    requires named { IsSome (entry_at state.old.current space name) }
     requires few { AreFewReferences entry }
-    requires known { (former : Entry) → entry_at state.old space name ≡ Some former → MentionsNoOther entry_mentions entry former }
-    ensures { state.new ≡ with_left state.old space name entry }
+    ensures ok { OnOk result (state.new.current ≡ with_left state.old.current space name entry) }
+    ensures before { state.new.before ≡ state.old.before }
 {
     if is_empty(entry) {
-        state.remove_name(space, name);
+        state.remove_name(space, name)
     } else {
-        state.set_entry(space, name, entry);
+        state.put_name(space, name, entry)
     }
 }

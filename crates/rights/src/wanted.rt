@@ -10,7 +10,7 @@ use ipc_state::IpcState;
 /// How many new names rights want that arrive in a space one after another: each send-once right to a port wants
 /// one, and each port one that has no name there. It takes no memory.
 pub fn names_wanted(state: &IpcState, space: u32, rights: &[CarriedRight]) -> usize
-    ensures wanted { result ≡ names_wanted (names_in state.now space) [] rights.now }
+    ensures wanted { result ≡ names_wanted (names_in state.now.current space) [] rights.now }
     ensures few { result ≤ length rights.now }
 {
     let mut wanted = 0;
@@ -24,7 +24,7 @@ pub fn names_wanted(state: &IpcState, space: u32, rights: &[CarriedRight]) -> us
 
 /// Whether a right wants a new name that arrives after others.
 fn wants_name(state: &IpcState, space: u32, before: &[CarriedRight], right: CarriedRight) -> bool
-    ensures { result ≡ wants_name (names_in state.now space) (named_after [] before.now) right.kind right.port }
+    ensures { result ≡ wants_name (names_in state.now.current space) (named_after [] before.now) right.kind right.port }
 {
     let PortInMessage::Live(port) = right.port else {
         return false;

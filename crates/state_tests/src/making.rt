@@ -1,32 +1,27 @@
-//! Small messages for tests. What is made here has no contract, so that a test's proof doesn't carry it along.
+//! Ports and messages for tests.
 
-use ipc_model::{CarriedRight, Message, PortInMessage, RightKind, Sequence};
-use std::alloc::{AllocError, Global};
+use ipc_model::{Message, RightKind, Sequence};
+use ports::Ports;
+use std::alloc::Global;
+use std::test::Fail;
 
-/// A right of a kind to a live port.
-pub(crate) fn right(kind: RightKind, port: u64) -> CarriedRight {
-    CarriedRight {
-        kind,
-        port: PortInMessage::Live(port),
+/// Makes a port.
+pub(crate) fn add_port(ports: &mut Ports) -> Result<(), Fail> {
+    if ports.is_full() || ports.next_serial() == u64::MAX {
+        return Err(Fail::new("a further port may be made"));
     }
+    ports.add()?;
+    Ok(())
 }
 
-/// A message by a send right that carries these rights.
-pub(crate) fn carrying(
-    alloc: Global,
-    id: u32,
-    rights: &[CarriedRight],
-) -> Result<Message, AllocError> {
-    let mut carried = Vec::new(alloc);
-    for right in rights {
-        carried.push(*right)?;
-    }
-    Ok(Message {
+/// A message by a send right that carries no rights.
+pub(crate) fn empty(alloc: Global, id: u32) -> Message {
+    Message {
         destination: RightKind::Send,
         reply: None,
         id,
-        complex: true,
-        rights: Sequence::new(carried),
+        complex: false,
+        rights: Sequence::new(Vec::new(alloc)),
         body: Sequence::new(Vec::new(alloc)),
-    })
+    }
 }

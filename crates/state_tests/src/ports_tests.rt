@@ -1,63 +1,179 @@
-use crate::making::{carrying, right};
-use ipc_model::RightKind;
-use ports::Ports;
-use queue::PushFault;
+ghost use Rattle.std.specs.Prelude.{◌≡◌, ◌∷◌, [], Some, IfOk};
+ghost use Rattle.ipc_model.specs.declared.message.PortInMessage.TheVariants as in_message;
+ghost use Rattle.ipc_model.specs.declared.message.RightKind.TheVariants as kinds;
+
+use crate::expect::same;
+use crate::making::add_port;
+use ipc_model::{CarriedRight, Message, PortInMessage, RightKind, Sequence};
+use ports::{PortNumbers, Ports};
 use std::alloc::{AllocError, Global};
 use std::test::Fail;
 
-/// Ports 4 and 7; the receive right of port 9 travels in the queues of both.
-fn two_ports(alloc: Global) -> Result<Ports, AllocError> {
-    let mut ports = Ports::new(alloc);
-    for serial in [7, 4] {
-        if !ports.is_full() && !ports.contains(serial) {
-            ports.add(serial)?;
-        }
-        ports.push_forced(serial, carrying(alloc, 1, &[right(RightKind::Receive, 9)])?)?;
+/// A message by a send right, with a right to reply by and a right in its body, both to one port.
+fn message(alloc: Global, kind: RightKind, port: u64) -> Result<Message, AllocError>
+    ensures reply { IfOk result (λ message. message.reply ≡ Some (record { kind = kinds.SendOnce; port = in_message.Live port })) }
+    ensures rights { IfOk result (λ message. message.rights ≡ (record { kind = kind; port = in_message.Live port }) ∷ []) }
+{
+    let mut rights = Vec::new(alloc);
+    let port = PortInMessage::Live(port);
+    rights.push(CarriedRight { kind, port })?;
+    Ok(Message {
+        destination: RightKind::Send,
+        reply: Some(CarriedRight {
+            kind: RightKind::SendOnce,
+            port,
+        }),
+        id: 1,
+        complex: true,
+        rights: Sequence::new(rights),
+        body: Sequence::new(Vec::new(alloc)),
+    })
+}
+
+/// Queues a message with rights to a port.
+fn send(alloc: Global, ports: &mut Ports, to: u64, kind: RightKind, port: u64) -> Result<(), Fail> {
+    if !ports.contains(port) {
+        return Err(Fail::new("the port lives"));
     }
-    Ok(ports)
-}
-
-/// Queues an empty message.
-fn push(
-    alloc: Global,
-    ports: &mut Ports,
-    serial: u64,
-    id: u32,
-) -> Result<Result<(), PushFault>, Fail> {
-    Ok(ports.push(serial, carrying(alloc, id, &[])?))
-}
-
-/// The ids of the next two messages of a port.
-fn take_two(ports: &mut Ports, serial: u64) -> [Option<u32>; 2] {
-    [
-        ports.take(serial).map(|message| message.id),
-        ports.take(serial).map(|message| message.id),
-    ]
-}
-
-#[test]
-fn a_queue_is_full_at_its_limit(rt: HostRuntime) -> Result<(), Fail> {
-    let mut ports = two_ports(rt.alloc())?;
-    for id in 2..6 {
-        assert_eq!(rt; push(rt.alloc(), &mut ports, 7, id)?, Ok(()));
-    }
-    assert_eq!(rt; push(rt.alloc(), &mut ports, 7, 6)?, Err(PushFault::Full));
-    assert_eq!(rt; push(rt.alloc(), &mut ports, 8, 7)?, Ok(()));
-    let lengths = [7, 4, 8].map(|serial| ports.queue(serial).map(|queue| queue.len()));
-    assert_eq!(rt; lengths, [Some(5), Some(1), None]);
+    ports.push(to, message(alloc, kind, port)?)?;
     Ok(())
 }
 
-#[test]
-fn messages_are_taken_in_their_order(rt: HostRuntime) -> Result<(), Fail> {
-    let mut ports = two_ports(rt.alloc())?;
-    let pushed = push(rt.alloc(), &mut ports, 7, 2)?;
+/// Asks that port 1 be told when port 3 has no senders.
+fn request(ports: &mut Ports) -> Result<(), Fail> {
+    let numbers = ports.numbers(3).ok_or("port 3 lives")?;
+    let asked = PortNumbers {
+        no_senders_target: Some(1),
+        ..numbers
+    };
+    ports.set_numbers(3, asked)?;
+    Ok(())
+}
+
+/// Makes ports 1 to 3, and keeps them. In the queue of port 2 travel rights to port 1, and the receive right of port 3.
+fn fill(alloc: Global, ports: &mut Ports) -> Result<(), Fail> {
+    for _port in 0..3 {
+        add_port(ports)?;
+    }
+    send(alloc, ports, 2, RightKind::Send, 1)?;
+    send(alloc, ports, 2, RightKind::Receive, 3)?;
+    request(ports)?;
+    ports.keep();
+    Ok(())
+}
+
+/// What stands in the place of the reply right's port in a port's oldest message.
+fn reply_port(ports: &Ports) -> Option<PortInMessage> {
+    let message = ports.message_as_sent(2, 0)?;
+    let reply = message.reply?;
+    Some(ports.seen(reply).port)
+}
+
+/// What stands in the place of the first port of the body of the oldest message of port 2.
+fn body_port(ports: &Ports) -> Option<PortInMessage> {
+    let message = ports.message_as_sent(2, 0)?;
+    let right = message.rights.as_slice().first()?;
+    Some(ports.seen(*right).port)
+}
+
+/// What is seen of the ports.
+#[derive(Clone, Copy, Debug, PartialEq)]
+struct Picture {
+    /// The send and send-once rights to port 1, the send rights to port 2 and the send-once rights to port 3.
+    counts: [u64; 4],
+    /// The port in whose queue the receive right of port 3 travels.
+    carrier: Option<u64>,
+    /// How many messages port 2 has, and what its oldest has in the places of ports.
+    messages: u32,
+    oldest: [Option<PortInMessage>; 2],
+    /// The target of the request of port 3.
+    target: Option<u64>,
+}
+
+fn seen(ports: &Ports) -> Picture {
+    Picture {
+        counts: [
+            ports.sends(1),
+            ports.send_onces(1),
+            ports.sends(2),
+            ports.send_onces(3),
+        ],
+        carrier: ports.carrier(3),
+        messages: ports.message_count(2),
+        oldest: [reply_port(ports), body_port(ports)],
+        target: ports
+            .numbers(3)
+            .and_then(|numbers| numbers.no_senders_target),
+    }
+}
+
+/// What is seen of a copy that keeps its changes.
+fn kept(ports: &Ports) -> Result<Picture, AllocError> {
     let mut copy = ports.copy()?;
-    assert_eq!(rt;
-        (pushed, take_two(&mut ports, 7)),
-        (Ok(()), [Some(1), Some(2)])
-    );
-    assert_eq!(rt; take_two(&mut ports, 8), [None, None]);
-    assert_eq!(rt; take_two(&mut copy, 7), [Some(1), Some(2)]);
+    copy.keep();
+    Ok(seen(&copy))
+}
+
+/// What is seen: at first, once port 1 has died, of a copy that keeps this, once port 2 has died too, and once all is
+/// given up.
+fn buried(alloc: Global, ports: &mut Ports) -> Result<[Picture; 5], Fail> {
+    fill(alloc, ports)?;
+    let first = seen(ports);
+    ports.bury(1)?;
+    let without_1 = seen(ports);
+    let kept = kept(ports)?;
+    ports.bury(2)?;
+    let without_2 = seen(ports);
+    ports.give_up();
+    Ok([first, without_1, kept, without_2, seen(ports)])
+}
+
+fn buried_from_none(alloc: Global) -> Result<[Picture; 5], Fail> {
+    let mut ports = Ports::new(alloc);
+    let seen = buried(alloc, &mut ports);
+    seen
+}
+
+fn at_first() -> Picture {
+    Picture {
+        counts: [1, 2, 2, 1],
+        carrier: Some(2),
+        messages: 2,
+        oldest: [Some(PortInMessage::Live(1)); 2],
+        target: Some(1),
+    }
+}
+
+fn without_1() -> Picture {
+    Picture {
+        counts: [0, 0, 2, 1],
+        carrier: Some(2),
+        messages: 2,
+        oldest: [Some(PortInMessage::Dead); 2],
+        target: None,
+    }
+}
+
+fn without_2() -> Picture {
+    Picture {
+        counts: [0; 4],
+        carrier: None,
+        messages: 0,
+        oldest: [None; 2],
+        target: None,
+    }
+}
+
+#[test]
+fn ports_die_and_live_again(rt: HostRuntime) -> Result<(), Fail> {
+    let seen = buried_from_none(rt.alloc())?;
+    let wanted = [
+        at_first(),
+        without_1(),
+        without_1(),
+        without_2(),
+        at_first(),
+    ];
+    same(&rt, seen, wanted);
     Ok(())
 }

@@ -1,39 +1,52 @@
-use crate::making::{carrying, right};
-use ipc_model::RightKind;
-use ports::Ports;
-use std::alloc::{AllocError, Global};
+use crate::expect::same;
+use ipc_state::IpcState;
+use notify::port_destroyed;
+use std::alloc::Global;
 use std::test::Fail;
 use transit::would_circle;
 
-/// Ports 1 to 3; the receive right of port 1 travels in the queue of port 2, and that of port 2 in the queue of port 3.
-fn two_hops(alloc: Global) -> Result<Ports, AllocError> {
-    let mut ports = Ports::new(alloc);
-    for serial in 1..4 {
-        if !ports.is_full() && !ports.contains(serial) {
-            ports.add(serial)?;
-        }
+/// Makes a port.
+fn add_port(state: &mut IpcState) -> Result<(), Fail> {
+    if state.is_out_of_ports() || state.has_port(state.next_serial()) {
+        return Err(Fail::new("a further port may be made"));
     }
-    ports.push_forced(2, carrying(alloc, 0, &[right(RightKind::Receive, 1)])?)?;
-    ports.push_forced(3, carrying(alloc, 0, &[right(RightKind::Receive, 2)])?)?;
-    Ok(ports)
+    state.add_port()?;
+    Ok(())
+}
+
+/// The receive right of a port travels in the queue of another.
+fn carry(alloc: Global, state: &mut IpcState, port: u64, queue: u64) -> Result<(), Fail> {
+    if !state.has_port(port) {
+        return Err(Fail::new("the port lives"));
+    }
+    let message = port_destroyed(alloc, port)?;
+    state.queue_message(queue, message)?;
+    Ok(())
+}
+
+/// Ports 1 to 3; the receive right of port 1 travels in the queue of port 2, and that of port 2 in the queue of port 3.
+fn make_two_hops(alloc: Global, state: &mut IpcState) -> Result<(), Fail> {
+    for _ in 0..3 {
+        add_port(state)?;
+    }
+    carry(alloc, state, 1, 2)?;
+    carry(alloc, state, 2, 3)
+}
+
+fn circles(state: &IpcState) -> [bool; 6] {
+    [(1, 1), (2, 1), (3, 1), (1, 2), (1, 3), (4, 1)].map(|(port, queue)| would_circle(
+        state, port, queue,
+    ))
 }
 
 #[test]
 fn finds_a_circle_over_two_hops(rt: HostRuntime) -> Result<(), Fail> {
-    let ports = two_hops(rt.alloc())?;
-    for (port, destination, circles) in [
-        (1, 1, true),
-        (2, 1, true),
-        (3, 1, true),
-        (1, 2, false),
-        (1, 3, false),
-        (4, 1, false),
-    ] {
-        assert_eq!(rt;
-            would_circle(&ports, port, destination),
-            circles,
-            "{port} to {destination}"
-        );
-    }
+    let mut state = IpcState::opening(rt.alloc())?;
+    make_two_hops(rt.alloc(), &mut state)?;
+    same(
+        &rt,
+        circles(&state),
+        [true, true, true, false, false, false],
+    );
     Ok(())
 }

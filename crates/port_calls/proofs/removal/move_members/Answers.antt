@@ -20,5 +20,5 @@ ports_aside state (serial ∷ serials) change = ports_aside (with_port state ser
 
 pub returns-clause-spaces : goal.returns-clause-spaces
 returns-clause-spaces c =
-    ap (λ (s : State). s.spaces) c.move_ports.ensures
-    ∙ ports_aside c.args.state.now c.as_slice.result.now (λ (port : PortState). record port { set = c.args.other })
+    ap (λ (s : State). s.spaces) c.in_ok-move_ports.ensures.ok
+    ∙ ports_aside c.args.state.now.current c.as_slice.result.now (λ (port : PortState). record port { set = c.args.other })

@@ -9,8 +9,8 @@ use Rattle.port_calls.proofs.right_transfer.take_given.Goals as goal
 
 pub returns-clause-there : goal.returns-clause-there
 returns-clause-there c =
-    let old = c.args.state.now in
-    let new = c.take_right.new.state in
+    let old = c.args.state.now.current in
+    let new = c.take_right.new.state.current in
     let after = c.take_right.new.effects in
     let by = c.args.disposition in
     let took = subst (λ (o : Option CarriedRight). Takes (copy_in old c.args.space c.args.name by) old c.args.effects.now o new after) c.in-Some.is c.in_ok-right.ensures.taken in

@@ -10,7 +10,7 @@ pub loop-index-preserved : goal.loop-index-preserved
 loop-index-preserved c =
     let rights = c.args.rights.now in
     let i : ℕ = c.loop-index.index in
-    let names = names_in c.args.state.now c.args.space in
+    let names = names_in c.args.state.now.current c.args.space in
     let more = one_wants names rights i blank c.loop-index-test.true in
     let before = c.loop-index.invariant.rest in
     elim c.if-wants_name.branch [

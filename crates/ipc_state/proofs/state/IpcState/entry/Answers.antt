@@ -1,6 +1,8 @@
-use Rattle.std.proofs.Common.{sym}
-use Rattle.ipc_state.specs.Absent.{no_name}
+use Rattle.std.proofs.Common.{◌≡◌, None, Some, refl, ap, sym, ◌∙◌, arith}
+use Rattle.ipc_model.specs.state.State.{entry_at}
+use Rattle.ipc_state.specs.Running.{Running}
+use Rattle.ipc_state.specs.There.{entry_named}
 use Rattle.ipc_state.proofs.state.IpcState.entry.Goals as goal
 
-pub returns-in_default-clause-named : goal.returns-in_default-clause-named
-returns-in_default-clause-named c = sym (no_name c.args.self.now c.args.space (sym c.in_default.ensures) c.args.name)
+pub returns-clause-named : goal.returns-clause-named
+returns-clause-named c = c.entry.ensures.value ∙ ap (λ (r : Running). entry_at r.current c.args.space c.args.name) c.self.view_is ∙ entry_named c.args.self.now.current c.args.space c.args.name

@@ -1,5 +1,6 @@
-use Rattle.std.proofs.Common.{sym, subst, ◌∙◌, arith}
+use Rattle.std.proofs.Common.{sym, ap, subst, ◌∙◌, arith}
 use Rattle.ipc_model.specs.state.State.{State}
+use Rattle.ipc_state.specs.Running.{Running}
 use Rattle.kernel.specs.Fitting.{step_within}
 use Rattle.kernel.specs.Served.{ServedStep}
 use Rattle.kernel.specs.ServedLaws.{unrecorded_step}
@@ -8,8 +9,8 @@ use Rattle.kernel.proofs.kernel.Kernel.answer.Goals as goal
 pub returns-then-has_record-clause-none : goal.returns-then-has_record-clause-none
 returns-then-has_record-clause-none c = (
   c.in_ok-reply.reply,
-  c.step.new.state,
-  subst (λ (s : State). ServedStep s c.args.space c.args.call.now c.in_ok-reply.reply c.step.new.state) (c.in_ok-state.ensures ∙ c.self.view_is) c.in_ok-reply.ensures.step,
+  c.step.new.state.current,
+  subst (λ (s : State). ServedStep s c.args.space c.args.call.now c.in_ok-reply.reply c.step.new.state.current) (ap (λ (r : Running). r.current) c.in_ok-state.ensures ∙ c.self.view_is) c.in_ok-reply.ensures.step,
   sym c.has_record.ensures ∙ c.if-has_record.true,
 )
 
@@ -17,11 +18,11 @@ pub returns-clause-answered : goal.returns-clause-answered
 returns-clause-answered c =
     let step = c.in_ok-reply.ensures.step in
     let none = sym c.has_record.ensures ∙ c.if-has_record.false in
-    let same = unrecorded_step c.in_ok-state.state c.args.space c.args.call.now c.in_ok-reply.reply c.step.new.state step none in
-    let stays = subst (λ (s : State). ServedStep c.in_ok-state.state c.args.space c.args.call.now c.in_ok-reply.reply s) same step in
-    (subst (λ (s : State). ServedStep s c.args.space c.args.call.now c.in_ok-reply.reply s) (c.in_ok-state.ensures ∙ c.self.view_is) stays, none)
+    let same = unrecorded_step c.in_ok-state.state.current c.args.space c.args.call.now c.in_ok-reply.reply c.step.new.state.current step none in
+    let stays = subst (λ (s : State). ServedStep c.in_ok-state.state.current c.args.space c.args.call.now c.in_ok-reply.reply s) same step in
+    (subst (λ (s : State). ServedStep s c.args.space c.args.call.now c.in_ok-reply.reply s) (ap (λ (r : Running). r.current) c.in_ok-state.ensures ∙ c.self.view_is) stays, none)
 
 pub returns-clause-fits : goal.returns-clause-fits
 returns-clause-fits c =
-    let step = subst (λ (s : State). ServedStep s c.args.space c.args.call.now c.in_ok-reply.reply c.step.new.state) c.in_ok-state.ensures c.in_ok-reply.ensures.step in
-    omega (arith, (step_within c.self.inside.state c.args.space c.args.call.now c.in_ok-reply.reply c.step.new.state c.self.invariant.0 step).bytes)
+    let step = subst (λ (s : State). ServedStep s c.args.space c.args.call.now c.in_ok-reply.reply c.step.new.state.current) (ap (λ (r : Running). r.current) c.in_ok-state.ensures) c.in_ok-reply.ensures.step in
+    omega (arith, (step_within c.self.inside.state.current c.args.space c.args.call.now c.in_ok-reply.reply c.step.new.state.current c.self.invariant.0 step).bytes)

@@ -1,16 +1,27 @@
-use Rattle.kernel.specs.Keeping.{applied_keeps, applied_fits, applied_number, applied_whole}
+use Rattle.std.proofs.Common.{sym, ap, subst, ◌∙◌, arith}
+use Rattle.ipc_model.specs.state.Circular.{Grounded}
+use Rattle.ipc_model.specs.state.Lawful.{Lawful}
+use Rattle.ipc_model.specs.state.State.{State}
+use Rattle.ipc_laws.specs.RecordedSteps.{answered_whole}
+use Rattle.ipc_state.specs.Running.{Running}
+use Rattle.kernel.specs.Fitting.{step_number, step_within}
+use Rattle.kernel.specs.Keeping.{served_keeps}
+use Rattle.kernel.specs.ServedLaws.{recorded_step}
 use Rattle.kernel.proofs.kernel.Kernel.apply.Goals as goal
 
 pub invariant_of-self : goal.invariant_of-self
 invariant_of-self c =
-    let kept = applied_keeps c.step-answered.result c.self.inside.state c.args.space c.args.call.now c.step-answered.new.state c.call_in_range.ensures (c.self.invariant.0, c.self.invariant.1) c.step-answered.ensures.step c.step-answered.ensures.err in
-    (kept.0, kept.1, c.queues_are_short.ensures)
+    let done = served_keeps c.self.inside.state.current c.args.space c.args.call.now c.in-Ok.reply c.step.new.state.current c.call_in_range.ensures (c.self.invariant.0, c.self.invariant.1) c.in-Ok.ensures.step in
+    let kept = subst (λ (s : State). Lawful s × Grounded s) (sym (ap (λ (r : Running). r.current) c.keep.ensures)) done in
+    (kept.0, kept.1, c.queues_are_short.ensures, ap (λ (r : Running). r.before) c.keep.ensures ∙ sym (ap (λ (r : Running). r.current) c.keep.ensures))
 
-pub returns-clause-number : goal.returns-clause-number
-returns-clause-number c = applied_number c.step-answered.result c.self.inside.state c.args.space c.args.call.now c.step-answered.new.state c.step-answered.ensures.step
+pub returns-in-Ok-clause-number : goal.returns-in-Ok-clause-number
+returns-in-Ok-clause-number c = step_number c.self.inside.state.current c.args.space c.args.call.now c.in-Ok.reply c.step.new.state.current c.in-Ok.ensures.step
 
-pub returns-clause-fits : goal.returns-clause-fits
-returns-clause-fits c = applied_fits c.step-answered.result c.self.inside.state c.args.space c.args.call.now c.step-answered.new.state c.self.invariant.0 c.step-answered.ensures.step
+pub returns-in-Ok-clause-recorded : goal.returns-in-Ok-clause-recorded
+returns-in-Ok-clause-recorded c = λ recorded.
+    answered_whole c.self.inside.state.current c.args.space c.args.call.now c.in-Ok.reply c.step.new.state.current c.self.invariant.0
+    (recorded_step c.self.inside.state.current c.args.space c.args.call.now c.in-Ok.reply c.step.new.state.current c.in-Ok.ensures.step recorded).1 recorded
 
-pub returns-clause-recorded : goal.returns-clause-recorded
-returns-clause-recorded c = applied_whole c.step-answered.result c.self.inside.state c.args.space c.args.call.now c.step-answered.new.state c.self.invariant.0 c.step-answered.ensures.step
+pub returns-in-Ok-clause-fits : goal.returns-in-Ok-clause-fits
+returns-in-Ok-clause-fits c = omega (arith, (step_within c.self.inside.state.current c.args.space c.args.call.now c.in-Ok.reply c.step.new.state.current c.self.invariant.0 c.in-Ok.ensures.step).bytes)

@@ -4,4 +4,4 @@ use Rattle.ipc_laws.specs.Spelling.{lawful_is_spellable}
 use Rattle.kernel.proofs.kernel.Kernel.has_image.Goals as goal
 
 pub returns : goal.returns
-returns c = subst Spellable c.self.view_is (lawful_is_spellable c.self.inside.state c.self.invariant.0 c.self.invariant.2)
+returns c = subst Spellable c.self.view_is (lawful_is_spellable c.self.inside.state.current c.self.invariant.0 c.self.invariant.2)

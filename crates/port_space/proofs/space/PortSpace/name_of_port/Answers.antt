@@ -1,15 +1,12 @@
-use Rattle.std.proofs.Common.{ℕ, List, ◌∙◌, ap}
-use Rattle.std.specs.FinMap as map
-use Rattle.port_index.specs.Standing.{standing, walk_is, walk_none}
-use Rattle.port_space.specs.Mentions.{entry_mentions}
-use Rattle.port_space.specs.Walks.{first_name}
-use Rattle.port_space.proofs.Walked.{first_goes_on, first_passes}
+use Rattle.std.proofs.Common.{ap, ◌∙◌}
+use Rattle.ipc_model.specs.declared.entry.Entry.{Entry}
+use Rattle.ipc_model.specs.state.State.{name_of_port}
+use Rattle.tracked_map.specs.Tracked.{Tracked}
+use Rattle.port_space.proofs.Answering.{name_is}
+use Rattle.port_space.proofs.Standing.{small_bounded}
 use Rattle.port_space.proofs.space.PortSpace.name_of_port.Goals as goal
 
-pub returns-in_default : goal.returns-in_default
-returns-in_default c = walk_none entry_mentions c.args.serial (first_name c.args.serial) (first_passes c.args.serial) c.args.self.now c.in_default.ensures.all (first_goes_on c.args.serial)
-
-pub loop-name-init : goal.loop-name-init
-loop-name-init c =
-    ap (λ (ss : List (ℕ × Unit {0})). (first_name c.args.serial) (standing c.args.self.now ss)) (c.into_iter-name-iterator.ensures.into_iter_gives ∙ c.iter-name-items.ensures.rest)
-    ∙ walk_is entry_mentions c.args.serial (first_name c.args.serial) (first_passes c.args.serial) c.args.self.now c.in-Some.names.now c.in-Some.ensures.all (first_goes_on c.args.serial)
+pub returns : goal.returns
+returns c =
+    let names = c.self.inside.tables.names.current in
+    name_is names c.args.port c.next_name.result (small_bounded names c.self.invariant.1.bounded) c.next_name.ensures ∙ ap (λ (t : Tracked Entry). name_of_port t.current c.args.port) c.self.view_is

@@ -1,22 +1,13 @@
-use Rattle.std.proofs.Common.{◌≡◌, ◌<◌, ◌^◌, Some, None, arith, subst, sym, ◌∙◌}
+use Rattle.std.proofs.Common.{◌≤◌, ap, sym, subst, arith}
 use Rattle.std.specs.FinMap as map
-use Rattle.port_space.specs.References.{AreBounded}
-use Rattle.port_space.proofs.Renamed.{bounded_rename, is_under, put_first}
+use Rattle.codes.specs.declared.limits.TheConstants.{MAX_NAMES}
+use Rattle.ipc_model.specs.declared.entry.Entry.{Entry}
+use Rattle.tracked_map.specs.Tracked.{Tracked}
+use Rattle.port_space.proofs.Answering.{room_after}
 use Rattle.port_space.proofs.space.PortSpace.rename.Goals as goal
 
-pub invariant_of-self-2 : goal.invariant_of-self-2
-invariant_of-self-2 c =
-    let names = c.self.inside.names in
-    let at : map.get names c.args.from ≡ Some c.in-Some.entry = cc in
-    let free : map.get names c.args.to ≡ None = cc in
-    let small : c.args.to < 2 ^ 32 = omega arith in
-    let same : c.remove.new.self ≡ map.remove (map.insert names c.args.to c.in-Some.entry) c.args.from = cc (c.in_ok-put.ensures.ok, c.remove.ensures.removed) in
-    subst AreBounded (sym (same ∙ put_first names c.args.from c.args.to c.in-Some.entry at free)) (bounded_rename names c.args.from c.args.to c.in-Some.entry at free c.self.invariant small)
-
-pub returns-clause-ok : goal.returns-clause-ok
-returns-clause-ok c =
-    let names = c.args.self.now in
-    let at : map.get names c.args.from ≡ Some c.in-Some.entry = cc in
-    let free : map.get names c.args.to ≡ None = c.requires.unused in
-    let same : c.remove.new.self ≡ map.remove (map.insert names c.args.to c.in-Some.entry) c.args.from = cc (c.in_ok-put.ensures.ok, c.remove.ensures.removed, c.self.view_is) in
-    same ∙ put_first names c.args.from c.args.to c.in-Some.entry at free ∙ sym (is_under names c.args.from c.args.to c.in-Some.entry at free)
+pub put-requires-clause-room : goal.put-requires-clause-room
+put-requires-clause-room c = λ _.
+    let few = subst (λ (t : Tracked Entry). map.len t.current ≤ MAX_NAMES) c.self.view_is c.self.invariant.1.bounded.few in
+    let fewer = room_after c.args.self.now.current c.args.from c.in-Some.entry few (sym c.in-Some.ensures.value) in
+    omega (arith, fewer, ap (λ (t : Tracked Entry). map.len t.current) c.in_ok-remove.ensures.ok)

@@ -1,15 +1,28 @@
-use Rattle.std.proofs.Common.{ℕ, List, ◌∙◌, ap}
-use Rattle.std.specs.FinMap as map
-use Rattle.port_index.specs.Standing.{standing, walk_is, walk_none}
-use Rattle.port_space.specs.Mentions.{entry_mentions}
-use Rattle.port_space.specs.Walks.{any_elsewhere}
-use Rattle.port_space.proofs.Walked.{any_goes_on, any_passes}
+use Rattle.std.proofs.Common.{Some, None, ap, sym, subst, ◌∙◌}
+use Rattle.ipc_model.specs.calls.PortCalls.{stands_elsewhere}
+use Rattle.ipc_model.specs.declared.entry.Entry.{Entry}
+use Rattle.ipc_laws.specs.ListLaws.{some_same}
+use Rattle.tracked_map.specs.Tracked.{Tracked}
+use Rattle.port_space.proofs.Answering.{NextName, StandsAbove, differ, elsewhere_above, elsewhere_first}
+use Rattle.port_space.proofs.Standing.{small_bounded}
 use Rattle.port_space.proofs.space.PortSpace.stands_elsewhere.Goals as goal
 
 pub returns-in_default : goal.returns-in_default
-returns-in_default c = walk_none entry_mentions c.args.serial (any_elsewhere c.args.name c.args.serial) (any_passes c.args.serial c.args.name) c.args.self.now c.in_default.ensures.all (any_goes_on c.args.serial c.args.name)
+returns-in_default c =
+    let names = c.self.inside.tables.names.current in
+    elsewhere_first names c.args.port c.args.name None (small_bounded names c.self.invariant.1.bounded) c.in_default.ensures (λ none. cc none)
+    ∙ ap (λ (t : Tracked Entry). stands_elsewhere t.current c.args.name c.args.port) c.self.view_is
 
-pub loop-other-init : goal.loop-other-init
-loop-other-init c =
-    ap (λ (ss : List (ℕ × Unit {0})). (any_elsewhere c.args.name c.args.serial) (standing c.args.self.now ss)) (c.into_iter-other-iterator.ensures.into_iter_gives ∙ c.iter-other-items.ensures.rest)
-    ∙ walk_is entry_mentions c.args.serial (any_elsewhere c.args.name c.args.serial) (any_passes c.args.serial c.args.name) c.args.self.now c.in-Some.names.now c.in-Some.ensures.all (any_goes_on c.args.serial c.args.name)
+pub returns-then-first-name : goal.returns-then-first-name
+returns-then-first-name c =
+    let names = c.self.inside.tables.names.current in
+    differ c.in-Some.first c.args.name c.if-first-name.true
+    ∙ elsewhere_first names c.args.port c.args.name (Some c.in-Some.first) (small_bounded names c.self.invariant.1.bounded) c.in-Some.ensures (λ same. c.if-first-name.true (some_same _ _ same))
+    ∙ ap (λ (t : Tracked Entry). stands_elsewhere t.current c.args.name c.args.port) c.self.view_is
+
+pub returns-else-first-name : goal.returns-else-first-name
+returns-else-first-name c =
+    let names = c.self.inside.tables.names.current in
+    elsewhere_above names c.args.port c.args.name c.stands_above.result (subst (λ n. NextName names c.args.port 0 (Some n)) c.if-first-name.false c.in-Some.ensures)
+    (subst (λ (t : Tracked Entry). StandsAbove t.current c.args.port c.args.name c.stands_above.result) (sym c.self.view_is) c.stands_above.ensures)
+    ∙ ap (λ (t : Tracked Entry). stands_elsewhere t.current c.args.name c.args.port) c.self.view_is

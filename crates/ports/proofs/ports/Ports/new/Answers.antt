@@ -1,10 +1,8 @@
-use Rattle.std.proofs.Common.{ap, arith, ◌∙◌}
-use Rattle.std.specs.Ordering.{nat_cmp}
-use Rattle.std.specs.FinMap.{len, len-empty}
-use Rattle.ipc_model.specs.declared.port.PortState.{PortState}
-use Rattle.ports.proofs.Kept.{no_ports}
-use Rattle.ports.proofs.Short.{none_short}
+use Rattle.std.proofs.Common.{ap, arith}
+use Rattle.live_ports.specs.PortTable.{TrackedPorts}
+use Rattle.ports.specs.IndexLaws.{none_indexed, rest_indexed}
 use Rattle.ports.proofs.ports.Ports.new.Goals as goal
 
 pub invariant_of-result : goal.invariant_of-result
-invariant_of-result c = let none = ap (λ m. len m) c.new.ensures ∙ len-empty nat_cmp PortState in (omega arith, no_ports c.new.result c.new-2.result c.new.ensures, none_short c.new.result c.new.ensures)
+invariant_of-result c =
+    rest_indexed _ c.new.result.before c.new.result.current c.new-2.result _ (ap (λ (t : TrackedPorts). t.before) c.new.ensures) (ap (λ (t : TrackedPorts). t.current) c.new.ensures) c.new-2.ensures (none_indexed 1 (omega arith))

@@ -1,16 +1,13 @@
-use Rattle.std.proofs.Common.{sym, ◌∙◌, ap}
-use Rattle.std.specs.FinMap as map
-use Rattle.ports.specs.Changed.{with_numbers}
-use Rattle.ports.proofs.Kept.{fewer_covered, indexed_changed, len_changed, numbers_fewer}
-use Rattle.ports.proofs.Short.{changed_short}
+use Rattle.std.proofs.Common.{ap}
+use Rattle.live_ports.specs.PortTable.{TrackedPorts}
+use Rattle.ports.specs.IndexLaws.{indexed_before, retargeted_indexed}
 use Rattle.ports.proofs.ports.Ports.set_numbers.Goals as goal
 
 pub invariant_of-self : goal.invariant_of-self
 invariant_of-self c =
-    let ports = c.self.inside.ports in
-    let change = with_numbers c.args.numbers in (
-      len_changed ports c.put_numbers.new.ports c.args.serial change c.put_numbers.ensures.ports c.self.invariant.0,
-      c.put_numbers.ensures.indexed (indexed_changed ports c.put_numbers.new.ports c.self.inside.index c.args.serial change c.put_numbers.ensures.ports c.self.invariant.1
-          (fewer_covered ports c.self.inside.index c.args.serial change c.self.invariant.1 (λ port there. numbers_fewer c.args.numbers port (c.requires.known port (sym (ap (λ m. map.get m c.args.serial) c.self.view_is) ∙ there))))),
-      changed_short ports c.put_numbers.new.ports c.args.serial change c.put_numbers.ensures.ports (c.self.invariant.2 c.args.serial) c.self.invariant.2,
+    let old = c.self.inside in
+    let new = c.set_in_both.new in (
+      indexed_before old.ports.before new.ports.before old.indexes new.indexes c.in-Ok.ensures.before c.in-Ok.ensures.indexes_before c.self.invariant.0,
+      retargeted_indexed old.ports.current new.ports.current old.indexes new.indexes c.args.serial c.in-Some.former c.args.numbers c.in-Some.ensures c.ranges.serial.fits c.targets_fit.ensures c.targets_fit-2.ensures
+          (ap (λ (t : TrackedPorts). t.current) c.in-Ok.ensures.ports) c.in-Ok.ensures.indexes c.self.invariant.1,
     )

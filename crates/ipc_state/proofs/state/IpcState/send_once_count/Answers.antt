@@ -1,0 +1,13 @@
+use Rattle.std.proofs.Common.{◌≡◌, ap, sym, ◌∙◌, arith}
+use Rattle.ipc_model.specs.declared.message.RightKind.TheVariants as kind
+use Rattle.ipc_model.specs.state.Placed.{count_of}
+use Rattle.ipc_state.specs.Counts.{counted_apart}
+use Rattle.ipc_state.specs.Members.{state_of}
+use Rattle.ipc_state.specs.Running.{Running}
+use Rattle.ipc_state.proofs.state.IpcState.send_once_count.Goals as goal
+
+pub returns : goal.returns
+returns c =
+    let whole = counted_apart kind.SendOnce (state_of c.self.inside.spaces.current c.self.inside.ports.current) c.args.serial in
+    let seen = ap (λ (r : Running). count_of kind.SendOnce r.current c.args.serial) c.self.view_is in
+    omega (arith, c.send_onces.ensures.value, c.send_onces-2.ensures.value, whole, seen)

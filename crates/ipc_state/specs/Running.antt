@@ -1,0 +1,17 @@
+-- The state as it runs: changes of it are kept or given up.
+use Rattle.std.specs.Prelude.{refl}
+use Rattle.std.specs.Coded.{Coded, code_by, coded×}
+use Rattle.ipc_model.specs.state.State.{State}
+use Rattle.ipc_model.specs.state.StateCode.{state_code}
+
+-- the state as it was when its changes were last kept or given up, and as it is
+pub record Running : Type 0 where
+  pub before : State
+  pub current : State
+
+abbrev pub running_code : Coded Running
+running_code = code_by (State × State) (coded× state_code state_code) (λ r. (r.before, r.current)) (λ p. record { before = p.0; current = p.1 }) (λ _. refl)
+
+-- a state without changes to keep or to give up
+abbrev pub at_rest : State → Running
+at_rest state = record { before = state; current = state }

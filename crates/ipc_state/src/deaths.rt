@@ -1,0 +1,79 @@
+//! What a port's death changes, and whom it tells.
+ghost use Rattle.std.specs.Prelude.{◌≡◌, ◌++◌, None, OnOk, OnErr};
+ghost use Rattle.std.specs.FinMap as map;
+ghost use Rattle.ipc_model.specs.effects.Effects.{after_death, dead_name_notices, entry_after_death, map_values, port_after_death};
+ghost use Rattle.ipc_model.specs.state.State.{with_port};
+ghost use Rattle.ipc_state.specs.Members.{set_in};
+ghost use Rattle.ipc_state.specs.Running.{at_rest};
+
+use crate::IpcState;
+use effects::Effects;
+use ports::{PortNumbers, Ports};
+use spaces::Spaces;
+use std::alloc::AllocError;
+
+impl IpcState {
+    /// Adds the dead-name notices of the port's names to the effects, by space and name.
+    pub fn dead_names(&self, serial: u64, effects: &mut Effects) -> Result<(), AllocError>
+        ensures { OnOk result (effects.new ≡ effects.old ++ dead_name_notices self.now.current serial) }
+    {
+        self.spaces.dead_names(serial, effects)
+    }
+
+    /// A port dies: names of it become dead names, carried rights to it become `MACH_PORT_DEAD`, and requests that were
+    /// to tell it go. Where memory is wanted the changes are given up.
+    pub fn bury(&mut self, serial: u64) -> Result<(), AllocError>
+        ensures ok { OnOk result (self.new ≡ record self.old { current = after_death self.old.current serial }) }
+        ensures err { OnErr result (self.new ≡ at_rest self.old.before) }
+    {
+        self.leave_set(serial)?;
+        self.bury_outside(serial)?;
+        Ok(())
+    }
+
+    /// A port leaves its set. Where memory is wanted the changes are given up.
+    fn leave_set(&mut self, serial: u64) -> Result<(), AllocError>
+        ensures ok { OnOk result (self.new ≡ record self.old { current = with_port self.old.current serial (λ port. record port { set = None }) }) }
+        ensures err { OnErr result (self.new ≡ at_rest self.old.before) }
+    {
+        let Some(numbers) = self.numbers(serial) else {
+            return Ok(());
+        };
+        let outside = PortNumbers {
+            set: None,
+            ..numbers
+        };
+        self.set_numbers(serial, outside)
+    }
+
+    /// A port that is in no set dies.
+    fn bury_outside(&mut self, serial: u64) -> Result<(), AllocError>
+        requires outside { set_in self.old.current.ports serial ≡ None }
+        ensures ok { OnOk result (self.new ≡ record self.old { current = after_death self.old.current serial }) }
+        ensures err { OnErr result (self.new ≡ at_rest self.old.before) }
+    {
+        match bury_in_both(&mut self.spaces, &mut self.ports, serial) {
+            Ok(()) => Ok(()),
+            Err(error) => {
+                self.spaces.give_up();
+                self.ports.give_up();
+                self.members.give_up();
+                Err(error)
+            }
+        }
+    }
+}
+
+fn bury_in_both(spaces: &mut Spaces, ports: &mut Ports, serial: u64) -> Result<(), AllocError>
+    ensures spaces { OnOk result (spaces.new ≡ record spaces.old { current = map_values (map_values (entry_after_death serial)) spaces.old.current }) }
+    ensures ports { OnOk result (ports.new ≡ record ports.old {
+      current = record ports.old.current {
+        ports = map_values (port_after_death serial) (map.remove ports.old.current.ports serial);
+      };
+    }) }
+    ensures before { spaces.new.before ≡ spaces.old.before }
+    ensures ports_before { ports.new.before ≡ ports.old.before }
+{
+    spaces.bury(serial)?;
+    ports.bury(serial)
+}

@@ -1,0 +1,124 @@
+//! The members of sets, found by the places of the sets.
+ghost use Rattle.std.specs.Prelude.{◌≡◌, ℕ, ◌++◌, ◌≤◌, ◌<◌, ◌^◌, [], Some, IfOk, OnOk, MatchOption, flat_map, option_and_then, option_map};
+ghost use Rattle.std.specs.FinMap as map;
+ghost use Rattle.ipc_model.specs.calls.PortCalls.{names_in};
+ghost use Rattle.ipc_model.specs.state.State.{entry_at, is_member, received_port};
+ghost use Rattle.ipc_state.specs.Members.{set_in, set_place_of};
+ghost use Rattle.ipc_state.specs.SetNames.{IsNextPlace, member_at, member_port, member_under};
+ghost use Rattle.spaces.specs.Looking.{place};
+
+use crate::IpcState;
+use ipc_model::Entry;
+use ports::Ports;
+use std::alloc::{AllocError, Global};
+
+impl IpcState {
+    /// The members of a set of a space, rising by name: the names, each with the port whose receive right it holds.
+    pub fn members(
+        &self,
+        alloc: Global,
+        space: u32,
+        set: u32,
+    ) -> Result<Vec<(u32, u64)>, AllocError>
+        ensures { IfOk result (λ members. members.items ≡ flat_map (member_under self.now.current set) (map.entries (names_in self.now.current space))) }
+    {
+        let mut members = Vec::new(alloc);
+        let mut from: u64 = 0;
+        while let Some(name) = self.next_place(space, set, from) {
+            self.add_member(space, set, name, &mut members)?;
+            from = u64::from(name) + 1;
+        }
+        Ok(members)
+    }
+
+    /// The first name from one on where a member of a set is found by the set's place.
+    fn next_place(&self, space: u32, set: u32, from: u64) -> Option<u32>
+        ensures { IsNextPlace self.now.current space set from result }
+    {
+        self.spaces.are_small();
+        if from > u64::from(u32::MAX) {
+            return None;
+        }
+        let first = place(space, from as u32);
+        let Some(found) = self.members.next(place(space, set), first) else {
+            return None;
+        };
+        if found / (1 << 32) != u64::from(space) {
+            return None;
+        }
+        Some((found % (1 << 32)) as u32)
+    }
+
+    /// Adds a name, with the port whose receive right it holds, if this is a member of the set.
+    fn add_member(
+        &self,
+        space: u32,
+        set: u32,
+        name: u32,
+        members: &mut Vec<(u32, u64)>,
+    ) -> Result<(), AllocError>
+        ensures { OnOk result (members.new.items ≡ members.old.items ++ member_at self.now.current set name (entry_at self.now.current space name)) }
+    {
+        match self.member_port(set, self.entry(space, name)) {
+            Some(port) => Ok(members.push((name, port))?),
+            None => Ok(()),
+        }
+    }
+
+    /// The port whose receive right a name holds that stands for this, if it is a member of the set.
+    fn member_port(&self, set: u32, entry: Option<Entry>) -> Option<u64>
+        ensures { result ≡ member_port self.now.current set entry }
+    {
+        let port = received(entry)?;
+        if set_of(&self.ports, port) == Some(set) {
+            Some(port)
+        } else {
+            None
+        }
+    }
+}
+
+/// A name in a space as one number.
+pub(crate) fn place(space: u32, name: u32) -> u64
+    ensures { result ≡ place space name }
+{
+    u64::from(space) * (1 << 32) + u64::from(name)
+}
+
+/// The place of the set that the port is a member of whose receive right a name of a space holds, if it stands for this.
+pub(crate) fn set_place(ports: &Ports, space: u32, entry: Option<Entry>) -> Option<u64>
+    ensures { result ≡ set_place_of ports.now.current.ports space entry }
+{
+    let serial = received(entry)?;
+    place_in(space, set_of(ports, serial))
+}
+
+/// The port whose receive right a name holds, if it stands for this.
+fn received(entry: Option<Entry>) -> Option<u64>
+    ensures { result ≡ option_and_then received_port entry }
+{
+    match entry {
+        Some(Entry::Port(rights)) if rights.receive => Some(rights.port),
+        _ => None,
+    }
+}
+
+/// The name of the set that a port is a member of.
+fn set_of(ports: &Ports, serial: u64) -> Option<u32>
+    ensures { result ≡ set_in ports.now.current.ports serial }
+{
+    match ports.numbers(serial) {
+        Some(numbers) => numbers.set,
+        None => None,
+    }
+}
+
+/// The place of a set in a space.
+pub(crate) fn place_in(space: u32, set: Option<u32>) -> Option<u64>
+    ensures { result ≡ option_map (place space) set }
+{
+    match set {
+        Some(set) => Some(place(space, set)),
+        None => None,
+    }
+}

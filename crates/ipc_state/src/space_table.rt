@@ -1,0 +1,88 @@
+ghost use Rattle.std.specs.Prelude.{◌≡◌, ℕ, ◌<◌, ◌↔◌, IsTrue, IsSome, OnOk, OnErr, None};
+ghost use Rattle.std.specs.FinMap as map;
+ghost use Rattle.ipc_model.specs.calls.Actions.{IsUnusedSpace};
+ghost use Rattle.ipc_model.specs.state.State.{Names, with_names};
+ghost use Rattle.ipc_state.specs.Running.{at_rest};
+
+use crate::IpcState;
+use codes::MAX_SPACES;
+use std::alloc::AllocError;
+
+/// What is asked of the spaces, and done to them.
+impl IpcState {
+    /// How many spaces there are.
+    pub fn space_count(&self) -> usize
+        ensures { result ≡ map.len self.now.current.spaces }
+    {
+        self.spaces.len()
+    }
+
+    /// Whether a space may be made under a number: it is one from 1 to `MAX_SPACES`, and no space has it.
+    pub fn is_unused_space(&self, number: u32) -> bool
+        ensures { IsTrue result ↔ IsUnusedSpace self.now.current number }
+    {
+        0 < number && number as usize <= MAX_SPACES && !self.spaces.contains(number)
+    }
+
+    /// The least number that no space has. There is one while there are fewer spaces than may be.
+    pub fn free_space(&self) -> u32
+        requires room { map.len self.now.current.spaces < MAX_SPACES }
+        ensures unused { IsUnusedSpace self.now.current result }
+        ensures least { (k : ℕ) → 0 < k → k < result → IsSome (map.get self.now.current.spaces k) }
+    {
+        // There are more numbers than spaces.
+        for number in 1..=MAX_SPACES as u32 {
+            if !self.has_space(number) {
+                return number;
+            }
+        }
+        unreachable!()
+    }
+
+    /// Makes a space without names under a number that no space has. Where memory is wanted the changes are given up.
+    pub fn add_space(&mut self, number: u32) -> Result<(), AllocError>
+        requires unused { map.get self.old.current.spaces number ≡ None }
+        requires room { map.len self.old.current.spaces < MAX_SPACES }
+        ensures ok { OnOk result (self.new ≡ record self.old { current = with_names self.old.current number map.empty }) }
+        ensures err { OnErr result (self.new ≡ at_rest self.old.before) }
+    {
+        match self.spaces.add(number) {
+            Ok(()) => Ok(()),
+            Err(error) => {
+                self.ports.give_up();
+                self.members.give_up();
+                Err(error)
+            }
+        }
+    }
+
+    /// Takes a space out with all its names, if it is there. Where memory is wanted the changes are given up.
+    pub fn remove_space(&mut self, number: u32) -> Result<(), AllocError>
+        ensures ok { OnOk result (self.new ≡ record self.old { current = record self.old.current { spaces = map.remove self.old.current.spaces number } }) }
+        ensures err { OnErr result (self.new ≡ at_rest self.old.before) }
+    {
+        // Upward: a name that is gone leaves a mark, which a walk from the first name would pass over again.
+        let mut at: u64 = 0;
+        while let Some((name, _)) = self.spaces.next_entry(number, at) {
+            self.remove_name(number, name)?;
+            at = u64::from(name) + 1;
+        }
+        self.close_space(number)
+    }
+
+    /// A space without names goes, if it is there. Where memory is wanted the changes are given up.
+    fn close_space(&mut self, number: u32) -> Result<(), AllocError>
+        requires empty { (names : Names) → map.get self.old.current.spaces number ≡ Some names → names ≡ map.empty }
+        ensures ok { OnOk result (self.new ≡ record self.old { current = record self.old.current { spaces = map.remove self.old.current.spaces number } }) }
+        ensures err { OnErr result (self.new ≡ at_rest self.old.before) }
+    {
+        match self.spaces.close(number) {
+            Ok(()) => Ok(()),
+            Err(error) => {
+                self.ports.give_up();
+                self.members.give_up();
+                Err(error)
+            }
+        }
+    }
+}

@@ -1,0 +1,9 @@
+//! The live ports, whose changes are kept or given up. Neither takes memory.
+#![tactic(auto)]
+
+mod port;
+mod ports;
+mod tables;
+
+pub use port::PortNumbers;
+pub use ports::LivePorts;

@@ -1,0 +1,184 @@
+ghost use Rattle.std.specs.Prelude.{◌≡◌, ◌<◌, ◌-◌, ◌^◌, None, Some, length, is_some, option_map, slice_index_or, IfOk, IfSome, OnOk, OnErr};
+ghost use Rattle.ipc_model.specs.state.State.{new_port};
+ghost use Rattle.live_ports.specs.Changed.{IsMessageAt, messages_in, numbers_of, with_message, with_numbers};
+ghost use Rattle.live_ports.specs.PortSlot.{slot_at_rest};
+
+use codes::DEFAULT_QUEUE_LIMIT;
+use ipc_model::Message;
+use queue::Queue;
+use std::alloc::{AllocError, Global};
+use std::marker::Model;
+
+/// What a port keeps beside its queue.
+#[derive(Clone, Copy, Debug, PartialEq, Eq)]
+pub struct PortNumbers {
+    /// How many messages its queue holds at most, for sends that the limit stops.
+    pub limit: u32,
+    /// The sequence number that the next message received from it gets.
+    pub sequence_number: u32,
+    /// How many send rights were made from its receive right (the make-send count).
+    pub make_send_count: u32,
+    /// The name of the port set that it is a member of, in the space that holds its receive right.
+    pub set: Option<u32>,
+    /// The port of the no-senders request's target, if there is a request.
+    pub no_senders_target: Option<u64>,
+    /// The port of the port-destroyed request's target, if there is a request.
+    pub port_destroyed_target: Option<u64>,
+}
+
+/// A port whose changes are kept or given up, its birth and its death among them. Contracts see the port as it was when
+/// they last were, and as it is: none where it didn't live or doesn't.
+#[derive(Drop)]
+pub(crate) struct Port {
+    numbers: PortNumbers,
+    former: PortNumbers,
+    queue: Queue,
+    lives: bool,
+    lived: bool,
+}
+
+impl Model for Port {
+    ghost use Rattle.std.specs.Prelude.{None, Some, if◌then◌else◌};
+    ghost use Rattle.ipc_model.specs.contracts.port.PortState as state;
+    ghost use Rattle.live_ports.specs.PortSlot.{PortSlot, slot_code};
+    ghost use Rattle.live_ports.specs.Changed.{port_of};
+
+    ghost Value = { PortSlot };
+
+    ghost coded = { slot_code state.the_row.coded };
+
+    ghost view = { λ p. record {
+      before = if p.lived then Some (port_of p.former p.queue.before) else None;
+      current = if p.lives then Some (port_of p.numbers p.queue.current) else None;
+    } };
+}
+
+impl Port {
+    /// A new port, which didn't live before: an empty queue with the default limit, in no set, with no requests. It
+    /// takes no memory.
+    pub(crate) fn new(alloc: Global) -> Self
+        ensures { result ≡ record { before = None; current = Some new_port } }
+    {
+        let numbers = PortNumbers {
+            limit: DEFAULT_QUEUE_LIMIT,
+            sequence_number: 0,
+            make_send_count: 0,
+            set: None,
+            no_senders_target: None,
+            port_destroyed_target: None,
+        };
+        Port {
+            numbers,
+            former: numbers,
+            queue: Queue::new(alloc),
+            lives: true,
+            lived: false,
+        }
+    }
+
+    /// Whether the port lives.
+    pub(crate) fn is_there(&self) -> bool
+        ensures { result ≡ is_some self.now.current }
+    {
+        self.lives
+    }
+
+    /// Whether the port lived before.
+    pub(crate) fn was_there(&self) -> bool
+        ensures { result ≡ is_some self.now.before }
+    {
+        self.lived
+    }
+
+    /// What the port keeps beside its queue, if it lives.
+    pub(crate) fn numbers(&self) -> Option<PortNumbers>
+        ensures { result ≡ option_map numbers_of self.now.current }
+    {
+        if self.lives { Some(self.numbers) } else { None }
+    }
+
+    /// Replaces what the port keeps beside its queue, if it lives.
+    pub(crate) fn set_numbers(&mut self, numbers: PortNumbers)
+        ensures { self.new ≡ record self.old { current = option_map (with_numbers numbers) self.old.current } }
+    {
+        self.numbers = numbers;
+    }
+
+    /// How many messages are in the queue: none where the port is dead.
+    pub(crate) fn message_count(&self) -> u32
+        ensures { result ≡ length (messages_in self.now.current) }
+    {
+        if self.lives { self.queue.len() } else { 0 }
+    }
+
+    /// The message of an index, counted from the oldest.
+    pub(crate) fn message(&self, index: u32) -> &Message
+        requires { index < length (messages_in self.now.current) }
+        ensures { result.now ≡ slice_index_or (messages_in self.now.current) index result.now }
+    {
+        self.queue.message(index)
+    }
+
+    /// The message of an index, counted from the oldest, if there is one.
+    pub(crate) fn message_at(&self, index: u32) -> Option<&Message>
+        ensures { IsMessageAt (messages_in self.now.current) index result }
+    {
+        if index < self.message_count() {
+            Some(self.message(index))
+        } else {
+            None
+        }
+    }
+
+    /// Puts a message at the queue's end, whatever the limit, if the port lives. Without memory nothing changed; a queue
+    /// of `u32::MAX` messages has none.
+    pub(crate) fn push_forced(&mut self, message: Message) -> Result<(), AllocError>
+        ensures ok { OnOk result (self.new ≡ record self.old { current = option_map (with_message message) self.old.current }) }
+        ensures room { OnOk result (IfSome self.old.current (λ port. length port.messages < 2 ^ 32 - 1)) }
+        ensures err { OnErr result (self.new ≡ self.old) }
+    {
+        if self.queue.len() == u32::MAX {
+            return Err(AllocError);
+        }
+        self.queue.push_forced(message)
+    }
+
+    /// The port dies.
+    pub(crate) fn bury(&mut self)
+        ensures { self.new ≡ record self.old { current = None } }
+    {
+        self.lives = false;
+    }
+
+    /// The same port again, with the changes to keep or to give up.
+    pub(crate) fn copy(&self) -> Result<Port, AllocError>
+        ensures { IfOk result (λ copy. copy ≡ self.now) }
+    {
+        let queue = self.queue.copy()?;
+        Ok(Port {
+            numbers: self.numbers,
+            former: self.former,
+            queue,
+            lives: self.lives,
+            lived: self.lived,
+        })
+    }
+
+    /// Keeps the changes. It takes no memory.
+    pub(crate) fn keep(&mut self)
+        ensures { self.new ≡ slot_at_rest self.old.current }
+    {
+        self.queue.keep();
+        self.former = self.numbers;
+        self.lived = self.lives;
+    }
+
+    /// Gives the changes up. It takes no memory.
+    pub(crate) fn give_up(&mut self)
+        ensures { self.new ≡ slot_at_rest self.old.before }
+    {
+        self.queue.give_up();
+        self.numbers = self.former;
+        self.lives = self.lived;
+    }
+}

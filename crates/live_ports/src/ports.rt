@@ -1,0 +1,235 @@
+ghost use Rattle.std.specs.Prelude.{◌≡◌, ◌<◌, ◌≤◌, ◌+◌, ◌-◌, ◌^◌, true, OnOk, OnErr, is_some, length, nat_le, option_map, slice_index_or, IfOk, MatchOption};
+ghost use Rattle.std.specs.FinMap as map;
+ghost use Rattle.codes.specs.declared.limits.TheConstants.{MAX_PORTS};
+ghost use Rattle.ipc_model.specs.effects.Effects.{map_values};
+ghost use Rattle.ipc_model.specs.state.Lawful.{AreShort};
+ghost use Rattle.ipc_model.specs.state.State.{new_port};
+ghost use Rattle.live_ports.specs.Changed.{changed, messages_at, numbers_of, with_message, with_numbers};
+ghost use Rattle.live_ports.specs.PortTable.{ports_at_rest};
+ghost use Rattle.live_ports.specs.Seen.{lives_in, queue_after_death, seen_message, seen_port, seen_right, AreLive};
+
+use crate::port::PortNumbers;
+use crate::tables::Tables;
+use codes::MAX_PORTS;
+use ipc_model::{CarriedRight, Message, PortInMessage};
+use std::alloc::{AllocError, Global};
+use std::marker::Model;
+
+/// The live ports by their serials, at most `MAX_PORTS`, with the serial that the next port gets. Their changes are kept
+/// or given up. Contracts see both as they were when they last were, and as they are.
+///
+/// Messages in queues keep the serials of ports that have died, and are seen with `MACH_PORT_DEAD` in their places, so a
+/// death visits no other queue.
+#[derive(Drop)]
+pub struct LivePorts {
+    tables: Tables,
+}
+
+impl Model for LivePorts {
+    ghost use Rattle.ipc_model.specs.contracts.port.PortState as state;
+    ghost use Rattle.live_ports.specs.PortTable.{TrackedPorts, tracked_ports_code};
+    ghost use Rattle.live_ports.specs.Seen.{as_seen};
+    ghost use Rattle.live_ports.specs.Tables.{former_ports, present_ports, AreStanding};
+
+    ghost Value = { TrackedPorts };
+
+    ghost coded = { tracked_ports_code state.the_row.coded };
+
+    ghost view = { λ p. record {
+      before = record { ports = as_seen (former_ports p.tables.slots); next = p.tables.next_before };
+      current = record { ports = as_seen (present_ports p.tables.slots); next = p.tables.next };
+    } };
+
+    ghost invariant = { λ p. AreStanding p.tables };
+}
+
+impl LivePorts {
+    /// No ports; the first gets the serial 1. It takes no memory.
+    pub fn new(alloc: Global) -> Self
+        ensures { result ≡ ports_at_rest (record { ports = map.empty; next = 1 }) }
+    {
+        LivePorts {
+            tables: Tables::new(alloc),
+        }
+    }
+
+    /// How many ports live.
+    pub fn len(&self) -> usize
+        ensures { result ≡ map.len self.now.current.ports }
+    {
+        self.tables.count
+    }
+
+    /// Whether as many ports live as may.
+    pub fn is_full(&self) -> bool
+        ensures { result ≡ nat_le MAX_PORTS (map.len self.now.current.ports) }
+    {
+        MAX_PORTS <= self.len()
+    }
+
+    /// The serial that the next port gets.
+    pub fn next_serial(&self) -> u64
+        ensures { result ≡ self.now.current.next }
+    {
+        self.tables.next
+    }
+
+    /// Whether a port lives.
+    pub fn contains(&self, serial: u64) -> bool
+        ensures { result ≡ is_some (map.get self.now.current.ports serial) }
+    {
+        self.tables.contains(serial)
+    }
+
+    /// What a port keeps beside its queue, if it lives.
+    pub fn numbers(&self, serial: u64) -> Option<PortNumbers>
+        ensures { result ≡ option_map numbers_of (map.get self.now.current.ports serial) }
+    {
+        self.tables.numbers(serial)
+    }
+
+    /// How many messages are in a port's queue: none where it is dead.
+    pub fn message_count(&self, serial: u64) -> u32
+        ensures { result ≡ length (messages_at self.now.current.ports serial) }
+    {
+        self.tables.message_count(serial)
+    }
+
+    /// The message of an index in a port's queue as it was sent, counted from the oldest, if there is one: what has become of
+    /// its rights `seen` tells.
+    pub fn message_as_sent(&self, serial: u64, index: u32) -> Option<&Message>
+        ensures { MatchOption result (length (messages_at self.now.current.ports serial) ≤ index)
+            (λ message. (index < length (messages_at self.now.current.ports serial)) × (seen_message (lives_in self.now.current.ports) message.now ≡ slice_index_or (messages_at self.now.current.ports serial) index (seen_message (lives_in self.now.current.ports) message.now))) }
+    {
+        self.tables.message(serial, index)
+    }
+
+    /// What a right of a message as it was sent is now: where its port has died, `MACH_PORT_DEAD`.
+    pub fn seen(&self, carried: CarriedRight) -> CarriedRight
+        ensures { result ≡ seen_right (lives_in self.now.current.ports) carried }
+    {
+        CarriedRight {
+            kind: carried.kind,
+            port: self.seen_port(carried.port),
+        }
+    }
+
+    fn seen_port(&self, port: PortInMessage) -> PortInMessage
+        ensures { result ≡ seen_port (lives_in self.now.current.ports) port }
+    {
+        match port {
+            PortInMessage::Live(serial) if !self.contains(serial) => PortInMessage::Dead,
+            _ => port,
+        }
+    }
+
+    /// No queue holds more messages than a word counts. It does nothing but show it.
+    pub fn are_short(&self)
+        ensures { AreShort self.now.current.ports }
+    {
+        let _ = &self.tables;
+    }
+
+    /// Replaces what a port keeps beside its queue, if it lives. Where memory is wanted the changes are given up.
+    pub fn set_numbers(&mut self, serial: u64, numbers: PortNumbers) -> Result<(), AllocError>
+        ensures ok { OnOk result (self.new ≡ record self.old {
+          current = record self.old.current {
+            ports = changed self.old.current.ports serial (with_numbers numbers);
+          };
+        }) }
+        ensures err { OnErr result (self.new ≡ ports_at_rest self.old.before) }
+    {
+        match self.tables.set_numbers(serial, numbers) {
+            Ok(()) => Ok(()),
+            Err(error) => {
+                self.tables.give_up();
+                Err(error)
+            }
+        }
+    }
+
+    /// Puts a message at the end of a port's queue, whatever the limit, if the port lives. Where memory is wanted, as by a
+    /// queue of `u32::MAX` messages, the changes are given up.
+    pub fn push(&mut self, serial: u64, message: Message) -> Result<(), AllocError>
+        requires { AreLive self.old.current.ports message }
+        ensures ok { OnOk result (self.new ≡ record self.old {
+          current = record self.old.current {
+            ports = changed self.old.current.ports serial (with_message message);
+          };
+        }) }
+        ensures err { OnErr result (self.new ≡ ports_at_rest self.old.before) }
+    {
+        match self.tables.push(serial, message) {
+            Ok(()) => Ok(()),
+            Err(error) => {
+                self.tables.give_up();
+                Err(error)
+            }
+        }
+    }
+
+    /// Makes a port, which gets the next serial. Where memory is wanted the changes are given up.
+    pub fn add(&mut self) -> Result<(), AllocError>
+        requires room { map.len self.old.current.ports < MAX_PORTS }
+        requires serials { self.old.current.next < 2 ^ 64 - 1 }
+        ensures ok { OnOk result (self.new ≡ record self.old {
+          current = record {
+            ports = map.insert self.old.current.ports self.old.current.next new_port;
+            next = self.old.current.next + 1;
+          };
+        }) }
+        ensures err { OnErr result (self.new ≡ ports_at_rest self.old.before) }
+    {
+        match self.tables.add() {
+            Ok(()) => Ok(()),
+            Err(error) => {
+                self.tables.give_up();
+                Err(error)
+            }
+        }
+    }
+
+    /// A port dies: it goes, and rights to it in other queues become `MACH_PORT_DEAD`. The targets of requests stay.
+    /// Nothing changes where it is dead. Where memory is wanted the changes are given up.
+    pub fn bury(&mut self, serial: u64) -> Result<(), AllocError>
+        ensures ok { OnOk result (self.new ≡ record self.old {
+          current = record self.old.current {
+            ports = map_values (queue_after_death serial) (map.remove self.old.current.ports serial);
+          };
+        }) }
+        ensures err { OnErr result (self.new ≡ ports_at_rest self.old.before) }
+    {
+        if !self.tables.contains(serial) {
+            return Ok(());
+        }
+        match self.tables.bury(serial) {
+            Ok(()) => Ok(()),
+            Err(error) => {
+                self.tables.give_up();
+                Err(error)
+            }
+        }
+    }
+
+    /// The same ports again, with the changes to keep or to give up.
+    pub fn copy(&self) -> Result<LivePorts, AllocError>
+        ensures { IfOk result (λ copy. copy ≡ self.now) }
+    {
+        let tables = self.tables.copy()?;
+        Ok(LivePorts { tables })
+    }
+
+    /// Keeps the changes. It takes no memory.
+    pub fn keep(&mut self)
+        ensures { self.new ≡ ports_at_rest self.old.current }
+    {
+        self.tables.keep();
+    }
+
+    /// Gives the changes up. It takes no memory.
+    pub fn give_up(&mut self)
+        ensures { self.new ≡ ports_at_rest self.old.before }
+    {
+        self.tables.give_up();
+    }
+}

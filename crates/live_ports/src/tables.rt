@@ -1,0 +1,285 @@
+//! The slots of ports, with the serials of those that were changed, as a plain table.
+ghost use Rattle.std.specs.Prelude.{◌≡◌, ◌<◌, ◌≤◌, ◌+◌, ◌-◌, ◌^◌, ◌∷◌, ◌++◌, [], true, None, Some, OnOk, OnErr, IfOk, IfSome, is_some, length, option_map, option_and_then, slice_index_or};
+ghost use Rattle.std.specs.FinMap as map;
+ghost use Rattle.codes.specs.declared.limits.TheConstants.{MAX_PORTS};
+ghost use Rattle.ipc_model.specs.state.State.{new_port};
+ghost use Rattle.live_ports.specs.Changed.{IsMessageAt, changed, messages_at, messages_in, numbers_of, with_message, with_numbers};
+ghost use Rattle.live_ports.specs.Tables.{before_of, current_of, former_ports, present_ports, slot_changed, present_changed, buried, kept_slot, given_up_slot, AreMarked, SameBefore, AreNow, AreAtRest, AreSame};
+ghost use Rattle.live_ports.specs.Touched.{worked_off};
+
+use crate::port::{Port, PortNumbers};
+use ipc_model::Message;
+use number_map::{Copier, NumberMap};
+use std::alloc::{AllocError, Global};
+
+/// The ports by their serials, the serials of those that were changed, how many live and lived, and the serials that the
+/// next port gets and would have got.
+#[derive(Drop)]
+pub(crate) struct Tables {
+    pub(crate) alloc: Global,
+    pub(crate) slots: NumberMap<Port>,
+    pub(crate) touched: Vec<u128>,
+    pub(crate) count: usize,
+    pub(crate) count_before: usize,
+    pub(crate) next: u64,
+    pub(crate) next_before: u64,
+}
+
+/// Copies ports.
+#[derive(Drop)]
+struct PortCopier;
+
+impl Copier<Port> for PortCopier {
+    fn copy(&self, value: &Port) -> Result<Port, AllocError> {
+        value.copy()
+    }
+}
+
+impl Tables {
+    /// The table of no ports. It takes no memory.
+    pub(crate) fn new(alloc: Global) -> Self
+        ensures { AreAtRest result map.empty 0 1 }
+    {
+        Tables {
+            alloc,
+            slots: NumberMap::new(alloc),
+            touched: Vec::new(alloc),
+            count: 0,
+            count_before: 0,
+            next: 1,
+            next_before: 1,
+        }
+    }
+
+    /// Whether a port lives.
+    pub(crate) fn contains(&self, serial: u64) -> bool
+        ensures { result ≡ is_some (map.get (present_ports self.now.slots) serial) }
+    {
+        match self.slots.get(u128::from(serial)) {
+            Some(port) => port.is_there(),
+            None => false,
+        }
+    }
+
+    /// What a port keeps beside its queue, if it lives.
+    pub(crate) fn numbers(&self, serial: u64) -> Option<PortNumbers>
+        ensures { result ≡ option_map numbers_of (map.get (present_ports self.now.slots) serial) }
+    {
+        match self.slots.get(u128::from(serial)) {
+            Some(port) => port.numbers(),
+            None => None,
+        }
+    }
+
+    /// How many messages are in a port's queue: none where it is dead.
+    pub(crate) fn message_count(&self, serial: u64) -> u32
+        ensures { result ≡ length (messages_at (present_ports self.now.slots) serial) }
+    {
+        match self.slots.get(u128::from(serial)) {
+            Some(port) => port.message_count(),
+            None => 0,
+        }
+    }
+
+    /// The message of an index in a port's queue as it was sent, counted from the oldest, if there is one.
+    pub(crate) fn message(&self, serial: u64, index: u32) -> Option<&Message>
+        ensures { IsMessageAt (messages_at (present_ports self.now.slots) serial) index result }
+    {
+        match self.slots.get(u128::from(serial)) {
+            Some(port) => port.message_at(index),
+            None => None,
+        }
+    }
+
+    /// Replaces what a port keeps beside its queue, if it lives. Where memory is wanted the changes are to be given up.
+    pub(crate) fn set_numbers(
+        &mut self,
+        serial: u64,
+        numbers: PortNumbers,
+    ) -> Result<(), AllocError>
+        requires { AreMarked self.old.slots self.old.touched.items }
+        ensures ok { OnOk result (AreNow self.new (changed (present_ports self.old.slots) serial (with_numbers numbers)) self.old.count self.old.next) }
+        ensures before { SameBefore self.old self.new }
+    {
+        touch(&mut self.touched, serial)?;
+        put_numbers(&mut self.slots, serial, numbers);
+        Ok(())
+    }
+
+    /// Puts a message at the end of a port's queue, whatever the limit, if it lives. Where memory is wanted the changes
+    /// are to be given up.
+    pub(crate) fn push(&mut self, serial: u64, message: Message) -> Result<(), AllocError>
+        requires { AreMarked self.old.slots self.old.touched.items }
+        ensures ok { OnOk result (AreNow self.new (changed (present_ports self.old.slots) serial (with_message message)) self.old.count self.old.next) }
+        ensures room { OnOk result (IfSome (map.get (present_ports self.old.slots) serial) (λ port. length port.messages < 2 ^ 32 - 1)) }
+        ensures before { SameBefore self.old self.new }
+    {
+        touch(&mut self.touched, serial)?;
+        push_message(&mut self.slots, serial, message)
+    }
+
+    /// Makes a port. Where memory is wanted the changes are to be given up.
+    pub(crate) fn add(&mut self) -> Result<(), AllocError>
+        requires marked { AreMarked self.old.slots self.old.touched.items }
+        requires unborn { map.get (former_ports self.old.slots) self.old.next ≡ None }
+        requires room { self.old.count < MAX_PORTS }
+        requires serials { self.old.next < 2 ^ 64 - 1 }
+        ensures ok { OnOk result (AreNow self.new (map.insert (present_ports self.old.slots) self.old.next new_port) (self.old.count + 1) (self.old.next + 1)) }
+        ensures before { SameBefore self.old self.new }
+    {
+        touch(&mut self.touched, self.next)?;
+        let port = Port::new(self.alloc);
+        self.slots.insert(u128::from(self.next), port)?;
+        self.count += 1;
+        self.next += 1;
+        Ok(())
+    }
+
+    /// A port that lives dies. Where memory is wanted the changes are to be given up.
+    pub(crate) fn bury(&mut self, serial: u64) -> Result<(), AllocError>
+        requires marked { AreMarked self.old.slots self.old.touched.items }
+        requires some { 0 < self.old.count }
+        ensures ok { OnOk result (AreNow self.new (map.remove (present_ports self.old.slots) serial) (self.old.count - 1) self.old.next) }
+        ensures before { SameBefore self.old self.new }
+    {
+        touch(&mut self.touched, serial)?;
+        bury_port(&mut self.slots, serial);
+        self.count -= 1;
+        Ok(())
+    }
+
+    /// The same table again, with the changes to keep or to give up.
+    pub(crate) fn copy(&self) -> Result<Tables, AllocError>
+        ensures { IfOk result (λ copy. AreSame self.now copy) }
+    {
+        let slots = self.slots.copy(&PortCopier)?;
+        let touched = Vec::from_slice(self.alloc, self.touched.as_slice())?;
+        Ok(Tables {
+            alloc: self.alloc,
+            slots,
+            touched,
+            count: self.count,
+            count_before: self.count_before,
+            next: self.next,
+            next_before: self.next_before,
+        })
+    }
+
+    /// Keeps the changes. It takes no memory.
+    pub(crate) fn keep(&mut self)
+        requires { AreMarked self.old.slots self.old.touched.items }
+        ensures { AreAtRest self.new (present_ports self.old.slots) self.old.count self.old.next }
+    {
+        keep_touched(&mut self.slots, &self.touched);
+        self.touched.clear();
+        self.count_before = self.count;
+        self.next_before = self.next;
+    }
+
+    /// Gives the changes up. It takes no memory.
+    pub(crate) fn give_up(&mut self)
+        requires { AreMarked self.old.slots self.old.touched.items }
+        ensures { AreAtRest self.new (former_ports self.old.slots) self.old.count_before self.old.next_before }
+    {
+        give_up_touched(&mut self.slots, &self.touched);
+        self.touched.clear();
+        self.count = self.count_before;
+        self.next = self.next_before;
+    }
+}
+
+/// Notes that a port is changed. Where memory is wanted nothing changed.
+fn touch(touched: &mut Vec<u128>, serial: u64) -> Result<(), AllocError>
+    ensures ok { OnOk result (touched.new.items ≡ touched.old.items ++ serial ∷ []) }
+    ensures err { OnErr result (touched.new.items ≡ touched.old.items) }
+{
+    touched.reserve(1)?;
+    touched.push_reserved(u128::from(serial));
+    Ok(())
+}
+
+fn put_numbers(slots: &mut NumberMap<Port>, serial: u64, numbers: PortNumbers)
+    ensures { slots.new ≡ slot_changed slots.old serial (present_changed (with_numbers numbers)) }
+{
+    if let Some(port) = slots.get_mut(u128::from(serial)) {
+        port.set_numbers(numbers);
+    }
+}
+
+fn push_message(
+    slots: &mut NumberMap<Port>,
+    serial: u64,
+    message: Message,
+) -> Result<(), AllocError>
+    ensures ok { OnOk result (slots.new ≡ slot_changed slots.old serial (present_changed (with_message message))) }
+    ensures room { OnOk result (IfSome (option_and_then current_of (map.get slots.old serial)) (λ port. length port.messages < 2 ^ 32 - 1)) }
+    ensures err { OnErr result (slots.new ≡ slots.old) }
+{
+    let Some(port) = slots.get_mut(u128::from(serial)) else {
+        return Ok(());
+    };
+    port.push_forced(message)?;
+    Ok(())
+}
+
+fn bury_port(slots: &mut NumberMap<Port>, serial: u64)
+    ensures { slots.new ≡ slot_changed slots.old serial buried }
+{
+    if let Some(port) = slots.get_mut(u128::from(serial)) {
+        port.bury();
+    }
+}
+
+/// Keeps the changes of these slots, which are among all that were changed.
+fn keep_touched(slots: &mut NumberMap<Port>, touched: &[u128])
+    requires { AreMarked slots.old touched.now }
+    ensures seen { present_ports slots.new ≡ present_ports slots.old }
+    ensures touched { AreMarked slots.new [] }
+{
+    let mut rest = touched;
+    while let Some((serial, before)) = rest.split_last() {
+        keep_slot(slots, *serial);
+        rest = before;
+    }
+}
+
+/// Gives the changes of these slots up, which are among all that were changed.
+fn give_up_touched(slots: &mut NumberMap<Port>, touched: &[u128])
+    requires { AreMarked slots.old touched.now }
+    ensures seen { former_ports slots.new ≡ former_ports slots.old }
+    ensures touched { AreMarked slots.new [] }
+{
+    let mut rest = touched;
+    while let Some((serial, before)) = rest.split_last() {
+        give_up_slot(slots, *serial);
+        rest = before;
+    }
+}
+
+/// Keeps the changes of a slot, which goes where its port is dead.
+fn keep_slot(slots: &mut NumberMap<Port>, serial: u128)
+    ensures { slots.new ≡ worked_off current_of kept_slot slots.old serial }
+{
+    let Some(port) = slots.get_mut(serial) else {
+        return;
+    };
+    if port.is_there() {
+        port.keep();
+    } else {
+        slots.remove(serial);
+    }
+}
+
+/// Gives the changes of a slot up, which goes where its port didn't live.
+fn give_up_slot(slots: &mut NumberMap<Port>, serial: u128)
+    ensures { slots.new ≡ worked_off before_of given_up_slot slots.old serial }
+{
+    let Some(port) = slots.get_mut(serial) else {
+        return;
+    };
+    if port.was_there() {
+        port.give_up();
+    } else {
+        slots.remove(serial);
+    }
+}

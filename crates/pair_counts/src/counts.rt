@@ -1,0 +1,203 @@
+ghost use Rattle.std.specs.Prelude.{◌≡◌, ◌+◌, ◌-◌, ◌<◌, ◌^◌, IfOk, OnOk, OnErr};
+ghost use Rattle.std.specs.FinMap as map;
+ghost use Rattle.pair_counts.specs.Counts.{count_at, key, with_count, IsLeast};
+ghost use Rattle.pair_counts.specs.Rights.{right_fewer, right_more};
+ghost use Rattle.tracked_map.specs.Tracked.{at_rest};
+
+use ipc_model::RightKind;
+use std::alloc::{AllocError, Global};
+use std::marker::Model;
+use tracked_map::TrackedMap;
+
+/// The greatest count.
+const MAX_COUNT: u64 = (1 << 63) - 1;
+
+/// Counts by pairs of numbers, whose changes are kept or given up. Contracts see the counts that aren't 0, each pair as
+/// one number, as they were when their changes last were, and as they are.
+#[derive(Drop)]
+pub struct PairCounts {
+    counts: TrackedMap<u64>,
+}
+
+impl Model for PairCounts {
+    ghost use Rattle.std.specs.Coded.{coded_ℕ};
+    ghost use Rattle.std.specs.Prelude.{ℕ};
+    ghost use Rattle.pair_counts.specs.Counts.{ArePositive};
+    ghost use Rattle.tracked_map.specs.Tracked.{Tracked, tracked_code};
+
+    ghost Value = { Tracked ℕ };
+
+    ghost coded = { tracked_code coded_ℕ };
+
+    ghost view = { λ c. c.counts };
+
+    ghost invariant = { λ c. ArePositive c.counts.before × ArePositive c.counts.current };
+}
+
+impl PairCounts {
+    /// Counts of nothing. They take no memory.
+    pub fn new(alloc: Global) -> Self
+        ensures { result ≡ at_rest map.empty }
+    {
+        PairCounts {
+            counts: TrackedMap::new(alloc),
+        }
+    }
+
+    /// The count of a pair.
+    pub fn count(&self, first: u64, second: u64) -> u64
+        ensures value { result ≡ count_at self.now.current first second }
+        ensures few { result < 2 ^ 63 }
+    {
+        match self.counts.get(key(first, second)) {
+            Some(count) => *count,
+            None => 0,
+        }
+    }
+
+    /// The least second number of the pairs with this first one whose count isn't 0.
+    pub fn least(&self, first: u64) -> Option<u64>
+        ensures { IsLeast self.now.current first result }
+    {
+        let Some((found, _)) = self.counts.next_from(key(first, 0)) else {
+            return None;
+        };
+        let second = found - key(first, 0);
+        if second <= u128::from(u64::MAX) {
+            Some(second as u64)
+        } else {
+            None
+        }
+    }
+
+    /// One more of a pair. Where memory is wanted, as by a count of 2^63 - 1, the changes are given up.
+    pub fn add(&mut self, first: u64, second: u64) -> Result<(), AllocError>
+        ensures ok { OnOk result (self.new ≡ record self.old { current = with_count self.old.current first second (count_at self.old.current first second + 1) }) }
+        ensures err { OnErr result (self.new ≡ at_rest self.old.before) }
+    {
+        let count = self.count(first, second);
+        if count == MAX_COUNT {
+            self.give_up();
+            return Err(AllocError);
+        }
+        self.set(first, second, count + 1)
+    }
+
+    /// One less of a pair, where there is one. Where memory is wanted the changes are given up.
+    pub fn subtract(&mut self, first: u64, second: u64) -> Result<(), AllocError>
+        ensures ok { OnOk result (self.new ≡ record self.old { current = with_count self.old.current first second (count_at self.old.current first second - 1) }) }
+        ensures err { OnErr result (self.new ≡ at_rest self.old.before) }
+    {
+        let count = self.count(first, second);
+        self.set(first, second, count.saturating_sub(1))
+    }
+
+    /// None of a pair. Where memory is wanted the changes are given up.
+    pub fn clear(&mut self, first: u64, second: u64) -> Result<(), AllocError>
+        ensures ok { OnOk result (self.new ≡ record self.old { current = with_count self.old.current first second 0 }) }
+        ensures err { OnErr result (self.new ≡ at_rest self.old.before) }
+    {
+        self.set(first, second, 0)
+    }
+
+    /// A right more, by its kind and port; receive rights aren't counted. Where memory is wanted the changes are given up.
+    pub fn add_right(&mut self, kind: RightKind, port: u64) -> Result<(), AllocError>
+        ensures ok { OnOk result (self.new ≡ record self.old { current = right_more self.old.current kind port }) }
+        ensures err { OnErr result (self.new ≡ at_rest self.old.before) }
+    {
+        match kind {
+            RightKind::Send => self.add(0, port),
+            RightKind::SendOnce => self.add(1, port),
+            RightKind::Receive => Ok(()),
+        }
+    }
+
+    /// A right less, by its kind and port. Where memory is wanted the changes are given up.
+    pub fn subtract_right(&mut self, kind: RightKind, port: u64) -> Result<(), AllocError>
+        ensures ok { OnOk result (self.new ≡ record self.old { current = right_fewer self.old.current kind port }) }
+        ensures err { OnErr result (self.new ≡ at_rest self.old.before) }
+    {
+        match kind {
+            RightKind::Send => self.subtract(0, port),
+            RightKind::SendOnce => self.subtract(1, port),
+            RightKind::Receive => Ok(()),
+        }
+    }
+
+    /// How many send rights to a port are counted.
+    pub fn sends(&self, port: u64) -> u64
+        ensures value { result ≡ count_at self.now.current 0 port }
+        ensures few { result < 2 ^ 63 }
+    {
+        self.count(0, port)
+    }
+
+    /// How many send-once rights to a port are counted.
+    pub fn send_onces(&self, port: u64) -> u64
+        ensures value { result ≡ count_at self.now.current 1 port }
+        ensures few { result < 2 ^ 63 }
+    {
+        self.count(1, port)
+    }
+
+    /// So many of a pair.
+    fn set(&mut self, first: u64, second: u64, count: u64) -> Result<(), AllocError>
+        requires few { count < 2 ^ 63 }
+        ensures ok { OnOk result (self.new ≡ record self.old { current = with_count self.old.current first second count }) }
+        ensures err { OnErr result (self.new ≡ at_rest self.old.before) }
+    {
+        match write(&mut self.counts, first, second, count) {
+            Ok(()) => Ok(()),
+            Err(error) => {
+                self.counts.give_up();
+                Err(error)
+            }
+        }
+    }
+
+    /// The same counts again, with the changes to keep or to give up.
+    pub fn copy(&self) -> Result<PairCounts, AllocError>
+        ensures { IfOk result (λ copy. copy ≡ self.now) }
+    {
+        let counts = self.counts.copy()?;
+        Ok(PairCounts { counts })
+    }
+
+    /// Keeps the changes. It takes no memory.
+    pub fn keep(&mut self)
+        ensures { self.new ≡ at_rest self.old.current }
+    {
+        self.counts.keep();
+    }
+
+    /// Gives the changes up. It takes no memory.
+    pub fn give_up(&mut self)
+        ensures { self.new ≡ at_rest self.old.before }
+    {
+        self.counts.give_up();
+    }
+}
+
+/// A pair as one number.
+fn key(first: u64, second: u64) -> u128
+    ensures key { result ≡ key first second }
+    ensures fits { result < 2 ^ 128 }
+{
+    u128::from(first) * (1 << 64) + u128::from(second)
+}
+
+fn write(
+    counts: &mut TrackedMap<u64>,
+    first: u64,
+    second: u64,
+    count: u64,
+) -> Result<(), AllocError>
+    ensures ok { OnOk result (counts.new ≡ record counts.old { current = with_count counts.old.current first second count }) }
+    ensures err { OnErr result (counts.new ≡ counts.old) }
+{
+    if count == 0 {
+        counts.remove(key(first, second))
+    } else {
+        counts.set(key(first, second), count)
+    }
+}

@@ -1,0 +1,134 @@
+ghost use Rattle.std.specs.Prelude.{◌≡◌, ◌<◌, ◌^◌, IfOk, OnOk, OnErr};
+ghost use Rattle.std.specs.FinMap as map;
+ghost use Rattle.place_index.specs.Places.{key, moved, with_place, without_place, IsNext};
+ghost use Rattle.tracked_map.specs.Tracked.{at_rest};
+
+use std::alloc::{AllocError, Global};
+use std::marker::Model;
+use tracked_map::TrackedMap;
+
+/// Places by a number that stands at each, as the names that stand for a port, whose changes are kept or given up.
+/// Contracts see the set of (number, place), each pair as one number.
+#[derive(Drop)]
+pub struct PlaceIndex {
+    places: TrackedMap<()>,
+}
+
+impl Model for PlaceIndex {
+    ghost use Rattle.place_index.specs.Places.{coded_unit};
+    ghost use Rattle.tracked_map.specs.Tracked.{Tracked, tracked_code};
+
+    ghost Value = { Tracked (Unit {0}) };
+
+    ghost coded = { tracked_code coded_unit };
+
+    ghost view = { λ i. i.places };
+}
+
+impl PlaceIndex {
+    /// An index of nothing. It takes no memory.
+    pub fn new(alloc: Global) -> Self
+        ensures { result ≡ at_rest map.empty }
+    {
+        PlaceIndex {
+            places: TrackedMap::new(alloc),
+        }
+    }
+
+    /// One number, or none, stands at a place in place of another. Where memory is wanted the changes are given up.
+    pub fn change(
+        &mut self,
+        place: u64,
+        former: Option<u64>,
+        number: Option<u64>,
+    ) -> Result<(), AllocError>
+        ensures ok { OnOk result (self.new ≡ record self.old { current = moved self.old.current place former number }) }
+        ensures err { OnErr result (self.new ≡ at_rest self.old.before) }
+    {
+        match replace(&mut self.places, place, former, number) {
+            Ok(()) => Ok(()),
+            Err(error) => {
+                self.places.give_up();
+                Err(error)
+            }
+        }
+    }
+
+    /// The first place from one on at which a number stands.
+    pub fn next(&self, number: u64, from: u64) -> Option<u64>
+        ensures { IsNext self.now.current number from result }
+    {
+        let Some((found, _)) = self.places.next_from(key(number, from)) else {
+            return None;
+        };
+        let place = found - key(number, 0);
+        if place <= u128::from(u64::MAX) {
+            Some(place as u64)
+        } else {
+            None
+        }
+    }
+
+    /// The same index again, with the changes to keep or to give up.
+    pub fn copy(&self) -> Result<PlaceIndex, AllocError>
+        ensures { IfOk result (λ copy. copy ≡ self.now) }
+    {
+        let places = self.places.copy()?;
+        Ok(PlaceIndex { places })
+    }
+
+    /// Keeps the changes. It takes no memory.
+    pub fn keep(&mut self)
+        ensures { self.new ≡ at_rest self.old.current }
+    {
+        self.places.keep();
+    }
+
+    /// Gives the changes up. It takes no memory.
+    pub fn give_up(&mut self)
+        ensures { self.new ≡ at_rest self.old.before }
+    {
+        self.places.give_up();
+    }
+}
+
+/// The number of a place by what stands there.
+fn key(number: u64, place: u64) -> u128
+    ensures key { result ≡ key number place }
+    ensures fits { result < 2 ^ 128 }
+{
+    u128::from(number) * (1 << 64) + u128::from(place)
+}
+
+fn replace(
+    places: &mut TrackedMap<()>,
+    place: u64,
+    former: Option<u64>,
+    number: Option<u64>,
+) -> Result<(), AllocError>
+    ensures ok { OnOk result (places.new.current ≡ moved places.old.current place former number) }
+    ensures before { places.new.before ≡ places.old.before }
+{
+    leave(places, former, place)?;
+    join(places, number, place)
+}
+
+fn leave(places: &mut TrackedMap<()>, number: Option<u64>, place: u64) -> Result<(), AllocError>
+    ensures ok { OnOk result (places.new.current ≡ without_place places.old.current number place) }
+    ensures before { places.new.before ≡ places.old.before }
+{
+    match number {
+        Some(number) => places.remove(key(number, place)),
+        None => Ok(()),
+    }
+}
+
+fn join(places: &mut TrackedMap<()>, number: Option<u64>, place: u64) -> Result<(), AllocError>
+    ensures ok { OnOk result (places.new.current ≡ with_place places.old.current number place) }
+    ensures before { places.new.before ≡ places.old.before }
+{
+    match number {
+        Some(number) => places.set(key(number, place), ()),
+        None => Ok(()),
+    }
+}

@@ -1,4 +1,0 @@
-pub mod Places
-pub mod PlaceLaws
-pub mod Indexed
-pub mod Standing

@@ -1,0 +1,62 @@
+-- What the changes of a space's tables leave.
+use Rattle.std.specs.Prelude.{◌≡◌, ℕ, ◌^◌, ◌<◌, ◌≤◌, ◌⊎◌, true, is_some, option_and_then}
+use Rattle.std.specs.FinMap as map
+use Rattle.codes.specs.declared.name.TheConstants.{FIRST_NAME}
+use Rattle.ipc_model.specs.declared.entry.Entry.{Entry}
+use Rattle.ipc_model.specs.state.State.{Names, port_held}
+use Rattle.port_space.specs.Beside.{with_port, without_port, GoesOn}
+use Rattle.tracked_map.specs.Tracked.{at_rest}
+use Rattle.port_space.specs.declared.tables.Tables.{Tables}
+
+-- names are words
+abbrev pub AreSmall : Names → Type 0
+AreSmall names = (name : ℕ) → is_some (map.get names name) ≡ true → name < 2 ^ 32
+
+-- what the changes began with stays
+pub record SameBefore (old new : Tables) : Type 0 where
+  pub names : new.names.before ≡ old.names.before
+  pub by_port : new.by_port.before ≡ old.by_port.before
+  pub gaps : new.gaps.before ≡ old.gaps.before
+  pub low : new.low_before ≡ old.low_before
+
+pub record IsPut (old new : Tables) (name : ℕ) (entry : Entry) : Type 0 where
+  pub names : new.names.current ≡ map.insert old.names.current name entry
+  pub by_port : new.by_port.current ≡ with_port (without_port old.by_port.current (option_and_then port_held (map.get old.names.current name)) name) (port_held entry) name
+  pub gaps : new.gaps.current ≡ map.remove old.gaps.current name
+  pub low : GoesOn new.names.current new.gaps.current old.low new.low
+
+-- a name that goes is a gap, where it is below
+abbrev pub LeavesGap : Tables → Tables → ℕ → Type 0
+LeavesGap old new name =
+    ((FIRST_NAME ≤ name) × (name < old.low) × (new.gaps.current ≡ map.insert old.gaps.current name tt))
+    ⊎ (((FIRST_NAME ≤ name) → (name < old.low) → ⊥) × (new.gaps.current ≡ old.gaps.current))
+
+pub record IsRemoved (old new : Tables) (name : ℕ) : Type 0 where
+  pub names : new.names.current ≡ map.remove old.names.current name
+  pub by_port : new.by_port.current ≡ without_port old.by_port.current (option_and_then port_held (map.get old.names.current name)) name
+  pub gaps : LeavesGap old new name
+  pub low : new.low ≡ old.low
+
+-- the tables of no names
+pub record AreNew (new : Tables) : Type 0 where
+  pub names : new.names ≡ at_rest map.empty
+  pub by_port : new.by_port ≡ at_rest map.empty
+  pub gaps : new.gaps ≡ at_rest map.empty
+  pub low : new.low ≡ FIRST_NAME
+  pub low_before : new.low_before ≡ FIRST_NAME
+
+-- the changes are kept
+pub record AreKept (old new : Tables) : Type 0 where
+  pub names : new.names ≡ at_rest old.names.current
+  pub by_port : new.by_port ≡ at_rest old.by_port.current
+  pub gaps : new.gaps ≡ at_rest old.gaps.current
+  pub low : new.low ≡ old.low
+  pub low_before : new.low_before ≡ old.low
+
+-- the changes are given up
+pub record AreGivenUp (old new : Tables) : Type 0 where
+  pub names : new.names ≡ at_rest old.names.before
+  pub by_port : new.by_port ≡ at_rest old.by_port.before
+  pub gaps : new.gaps ≡ at_rest old.gaps.before
+  pub low : new.low ≡ old.low_before
+  pub low_before : new.low_before ≡ old.low_before

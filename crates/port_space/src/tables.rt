@@ -1,0 +1,183 @@
+//! The names of a space with what stands beside them, as plain tables.
+ghost use Rattle.std.specs.Prelude.{◌≡◌, ◌≤◌, ◌<◌, ◌^◌, ℕ, true, false, None, Some, IfOk, OnOk, MatchOption, is_some, option_and_then, option_copied};
+ghost use Rattle.std.specs.FinMap as map;
+ghost use Rattle.ipc_model.specs.state.State.{port_held};
+ghost use Rattle.port_space.specs.Beside.{holds, with_port, without_port, port_key, AreByPort, GoesOn};
+ghost use Rattle.port_space.specs.Tables.{IsPut, IsRemoved, SameBefore, AreGivenUp, AreKept, AreNew, AreSmall};
+
+use codes::FIRST_NAME;
+use ipc_model::Entry;
+use std::alloc::{AllocError, Global};
+use tracked_map::TrackedMap;
+
+/// What stands under each name; the names by the ports that they hold send or receive rights of; and the unused names:
+/// the gaps below `low`, and `low` itself where there is none.
+#[derive(Drop)]
+pub(crate) struct Tables {
+    pub(crate) names: TrackedMap<Entry>,
+    pub(crate) by_port: TrackedMap<()>,
+    pub(crate) gaps: TrackedMap<()>,
+    pub(crate) low: u128,
+    pub(crate) low_before: u128,
+}
+
+impl Tables {
+    /// The tables of no names. They take no memory.
+    pub(crate) fn new(alloc: Global) -> Self
+        ensures { AreNew result }
+    {
+        Tables {
+            names: TrackedMap::new(alloc),
+            by_port: TrackedMap::new(alloc),
+            gaps: TrackedMap::new(alloc),
+            low: u128::from(FIRST_NAME),
+            low_before: u128::from(FIRST_NAME),
+        }
+    }
+
+    /// The port that a name holds a send or receive right of, if it does.
+    fn port_under(&self, name: u32) -> Option<u64>
+        ensures { result ≡ option_and_then port_held (map.get self.now.names.current name) }
+    {
+        match self.names.get(u128::from(name)) {
+            Some(entry) => port_held(entry),
+            None => None,
+        }
+    }
+
+    /// The least name from one on that holds a send or receive right of a port.
+    pub(crate) fn next_name(&self, port: u64, from: u32) -> Option<u32>
+        requires ports { AreByPort self.now.names.current self.now.by_port.current }
+        ensures { MatchOption result ((name : ℕ) → from ≤ name → name < 2 ^ 32 → holds self.now.names.current port name ≡ false)
+            (λ found. (from ≤ found) × (holds self.now.names.current port found ≡ true)
+            × ((name : ℕ) → from ≤ name → name < found → holds self.now.names.current port name ≡ false)) }
+    {
+        let Some((key, _)) = self.by_port.next_from(port_key(port, from)) else {
+            return None;
+        };
+        let name = key - port_key(port, 0);
+        if name <= u128::from(u32::MAX) {
+            Some(name as u32)
+        } else {
+            None
+        }
+    }
+
+    /// Has a name stand for this. Where memory is wanted the changes are to be given up.
+    pub(crate) fn put(&mut self, name: u32, entry: Entry) -> Result<(), AllocError>
+        requires small { AreSmall self.old.names.current }
+        ensures ok { OnOk result (IsPut self.old self.new name entry) }
+        ensures before { SameBefore self.old self.new }
+    {
+        let former = self.port_under(name);
+        leave_port(&mut self.by_port, former, name)?;
+        join_port(&mut self.by_port, port_held(&entry), name)?;
+        self.names.set(u128::from(name), entry)?;
+        self.gaps.remove(u128::from(name))?;
+        self.low = next_unused(&self.names, &self.gaps, self.low);
+        Ok(())
+    }
+
+    /// Takes a name out of use. Where memory is wanted the changes are to be given up.
+    pub(crate) fn remove(&mut self, name: u32) -> Result<(), AllocError>
+        ensures ok { OnOk result (IsRemoved self.old self.new name) }
+        ensures before { SameBefore self.old self.new }
+    {
+        let former = self.port_under(name);
+        leave_port(&mut self.by_port, former, name)?;
+        self.names.remove(u128::from(name))?;
+        if FIRST_NAME <= name && u128::from(name) < self.low {
+            self.gaps.set(u128::from(name), ())?;
+        }
+        Ok(())
+    }
+
+    /// The same tables again, with the changes to keep or to give up.
+    pub(crate) fn copy(&self) -> Result<Tables, AllocError>
+        ensures { IfOk result (λ copy. copy ≡ self.now) }
+    {
+        let names = self.names.copy()?;
+        let by_port = self.by_port.copy()?;
+        let gaps = self.gaps.copy()?;
+        Ok(Tables {
+            names,
+            by_port,
+            gaps,
+            low: self.low,
+            low_before: self.low_before,
+        })
+    }
+
+    /// Keeps the changes. It takes no memory.
+    pub(crate) fn keep(&mut self)
+        ensures { AreKept self.old self.new }
+    {
+        self.names.keep();
+        self.by_port.keep();
+        self.gaps.keep();
+        self.low_before = self.low;
+    }
+
+    /// Gives the changes up. It takes no memory.
+    pub(crate) fn give_up(&mut self)
+        ensures { AreGivenUp self.old self.new }
+    {
+        self.names.give_up();
+        self.by_port.give_up();
+        self.gaps.give_up();
+        self.low = self.low_before;
+    }
+}
+
+/// The port that an entry holds a send or receive right of, if it does.
+pub(crate) fn port_held(entry: &Entry) -> Option<u64>
+    ensures { result ≡ port_held entry.now }
+{
+    match entry {
+        Entry::Port(rights) => Some(rights.port),
+        _ => None,
+    }
+}
+
+/// The number of a name by its port.
+pub(crate) fn port_key(port: u64, name: u32) -> u128
+    ensures key { result ≡ port_key port name }
+    ensures fits { result < 2 ^ 128 }
+{
+    u128::from(port) * (1 << 32) + u128::from(name)
+}
+
+fn leave_port(by_port: &mut TrackedMap<()>, port: Option<u64>, name: u32) -> Result<(), AllocError>
+    ensures ok { OnOk result (by_port.new.current ≡ without_port by_port.old.current port name) }
+    ensures before { by_port.new.before ≡ by_port.old.before }
+{
+    match port {
+        Some(port) => by_port.remove(port_key(port, name)),
+        None => Ok(()),
+    }
+}
+
+fn join_port(by_port: &mut TrackedMap<()>, port: Option<u64>, name: u32) -> Result<(), AllocError>
+    ensures ok { OnOk result (by_port.new.current ≡ with_port by_port.old.current port name) }
+    ensures before { by_port.new.before ≡ by_port.old.before }
+{
+    match port {
+        Some(port) => by_port.set(port_key(port, name), ()),
+        None => Ok(()),
+    }
+}
+
+/// The first unused name from one on, where there is no gap.
+fn next_unused(names: &TrackedMap<Entry>, gaps: &TrackedMap<()>, low: u128) -> u128
+    requires small { AreSmall names.now.current }
+    ensures { GoesOn names.now.current gaps.now.current low result }
+{
+    if gaps.len() != 0 {
+        return low;
+    }
+    let mut next = low;
+    while names.contains_key(next) {
+        next += 1;
+    }
+    next
+}

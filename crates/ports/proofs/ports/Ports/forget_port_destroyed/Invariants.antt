@@ -1,0 +1,15 @@
+use Rattle.std.proofs.Common.{◌≡◌}
+use Rattle.ipc_model.specs.effects.Effects.{map_values}
+use Rattle.ports.specs.Indexes.{destroyed_of}
+use Rattle.ports.specs.Requests.{destroyed_forgotten, requests}
+use Rattle.ports.proofs.ports.Ports.forget_port_destroyed.Given as goal
+
+abbrev pub invariant-loop-other : goal.invariant-loop-other
+invariant-loop-other l = record {
+  settles : map_values (destroyed_forgotten l.target) l.self.current.ports ≡ map_values (destroyed_forgotten l.target) l.initial.self.current.ports;
+  before : l.self.before ≡ l.initial.self.before;
+  next : l.self.current.next ≡ l.initial.self.current.next;
+}
+
+abbrev pub decreases-loop-other : goal.decreases-loop-other
+decreases-loop-other l = requests destroyed_of l.target l.self.current.ports

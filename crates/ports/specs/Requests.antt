@@ -1,0 +1,237 @@
+-- Requests that have a port for their target, worked off one after another.
+use Rattle.std.proofs.Common.{◌≡◌, ℕ, ◌^◌, ◌<◌, ◌==◌, Bool, true, false, cond, Option, None, Some, MatchOption, is_some, option_map, option_and_then, refl, sym, ◌∙◌, ap, arith}
+use Rattle.std.specs.Cmp.{nat_cmp_total}
+use Rattle.std.specs.Ordering.{nat_cmp, eq_by_cmp}
+use Rattle.std.specs.FinMap.{get, insert, remove, get-remove, same_map, nat_cmp-IsAntisymmetric}
+use Rattle.ipc_laws.specs.ListLaws.{some_same}
+use Rattle.ipc_laws.specs.MapLaws.{get-map_values}
+use Rattle.ipc_laws.specs.MapSums.{key_is, same_key, weight, total, total-insert}
+use Rattle.ipc_model.specs.declared.port.PortState.{PortState}
+use Rattle.ipc_model.specs.effects.Effects.{map_values, port_after_death, without_target}
+use Rattle.ipc_model.specs.state.State.{is_number}
+use Rattle.live_ports.specs.Changed.{changed, numbers_of, with_numbers}
+use Rattle.live_ports.specs.declared.port.PortNumbers.{PortNumbers}
+use Rattle.live_ports.specs.PortTable.{PortTable, TrackedPorts}
+use Rattle.live_ports.specs.Seen.{Ports, queue_after_death}
+use Rattle.live_ports.specs.SeenLaws.{get_changed}
+use Rattle.place_index.specs.Places.{Numbers, IsNext}
+use Rattle.place_index.specs.Indexed.{IsIndexed}
+use Rattle.ports.specs.Indexes.{AreSmall, no_senders_of, destroyed_of, target_at}
+
+-- a port without its requests
+abbrev pub no_senders_cleared : PortState → PortState
+no_senders_cleared port = record port { no_senders_target = None }
+
+abbrev pub destroyed_cleared : PortState → PortState
+destroyed_cleared port = record port { port_destroyed_target = None }
+
+abbrev pub requests_cleared : PortState → PortState
+requests_cleared port = record port { no_senders_target = None; port_destroyed_target = None }
+
+-- a port without a request that has this target
+abbrev pub no_senders_forgotten : ℕ → PortState → PortState
+no_senders_forgotten target port = record port { no_senders_target = without_target target port.no_senders_target }
+
+abbrev pub destroyed_forgotten : ℕ → PortState → PortState
+destroyed_forgotten target port = record port { port_destroyed_target = without_target target port.port_destroyed_target }
+
+-- a port whose request has this target, if there is one
+abbrev pub IsRequester : (PortState → Option ℕ) → Ports → ℕ → Option ℕ → Type 0
+IsRequester look ports target found = MatchOption found ((q : ℕ) → is_number (target_at look ports q) target ≡ false) (λ q. is_number (target_at look ports q) target ≡ true)
+
+-- no request has the port for its target, and it has none
+pub record IsUntargeted (serial : ℕ) (ports : Ports) : Type 0 where
+  pub no_senders : (q : ℕ) → is_number (target_at no_senders_of ports q) serial ≡ false
+  pub destroyed : (q : ℕ) → is_number (target_at destroyed_of ports q) serial ≡ false
+  pub none_asked : target_at no_senders_of ports serial ≡ None
+  pub none_told : target_at destroyed_of ports serial ≡ None
+
+same : (m n : Ports) → ((q : ℕ) → get m q ≡ get n q) → m ≡ n
+same m n alike = same_map nat_cmp_total nat_cmp-IsAntisymmetric m n alike
+
+-- what the index finds
+pub requester_is : (look : PortState → Option ℕ) (table : PortTable) (places : Numbers) (target : ℕ) (found : Option ℕ) → AreSmall table → IsIndexed (target_at look table.ports) places → IsNext places target 0 found → IsRequester look table.ports target found
+requester_is look table places target None small indexed none = λ q. by q (get table.ports q) refl
+  where
+    by : (q : ℕ) (o : Option PortState) → get table.ports q ≡ o → is_number (option_and_then look o) target ≡ false
+    by q None absent = refl
+    by q (Some port) there =
+        let fits : q < 2 ^ 64 = omega (arith, small.below q (ap is_some there), small.fits) in
+        ap (λ (o : Option PortState). is_number (option_and_then look o) target) (sym there) ∙ sym (indexed target q fits) ∙ none q (omega arith) fits
+requester_is look table places target (Some first) small indexed is = sym (indexed target first is.1) ∙ is.2
+
+-- other numbers of a port that has these
+pub numbers_changed : (ports : Ports) (serial : ℕ) (numbers : PortNumbers) (f : PortNumbers → PortNumbers) (g : PortState → PortState) → ((port : PortState) → with_numbers (f (numbers_of port)) port ≡ g port)
+    → Some numbers ≡ option_map numbers_of (get ports serial) → changed ports serial (with_numbers (f numbers)) ≡ changed ports serial g
+numbers_changed ports serial numbers f g alike has = by (get ports serial) has
+  where
+    by : (o : Option PortState) → Some numbers ≡ option_map numbers_of o → ◌≡◌ {A = Ports} (elim o as (λ _. Ports) [ None ↦ ports | Some port ↦ insert ports serial (with_numbers (f numbers) port) ]) (elim o as (λ _. Ports) [ None ↦ ports | Some port ↦ insert ports serial (g port) ])
+    by None is = absurd (cc is)
+    by (Some port) is = ap (insert ports serial) (ap (λ (n : PortNumbers). with_numbers (f n) port) (some_same numbers (numbers_of port) is) ∙ alike port)
+
+pub nothing_changed : (ports : Ports) (serial : ℕ) (g : PortState → PortState) → None ≡ option_map numbers_of (get ports serial) → ports ≡ changed ports serial g
+nothing_changed ports serial g none = by (get ports serial) none
+  where
+    by : (o : Option PortState) → None ≡ option_map numbers_of o → ports ≡ elim o as (λ _. Ports) [ None ↦ ports | Some port ↦ insert ports serial (g port) ]
+    by None is = refl
+    by (Some port) is = absurd (cc is)
+
+-- what is forgotten of a request that has the target is that it is there
+pub record IsForgetting (look : PortState → Option ℕ) (clear forget : PortState → PortState) (target : ℕ) : Type 0 where
+  pub cleared : (port : PortState) → look (clear port) ≡ None
+  pub settles : (port : PortState) → is_number (look port) target ≡ true → forget (clear port) ≡ forget port
+  pub stays : (port : PortState) → is_number (look port) target ≡ false → forget port ≡ port
+
+forgot : (target : ℕ) (o : Option ℕ) → is_number o target ≡ true → None ≡ without_target target o
+forgot target None is = absurd (cc is)
+forgot target (Some t) is = sym (ap (λ (b : Bool). cond b None (Some t)) is)
+
+kept : (target : ℕ) (o : Option ℕ) → is_number o target ≡ false → without_target target o ≡ o
+kept target None is = refl
+kept target (Some t) is = ap (λ (b : Bool). cond b None (Some t)) is
+
+pub forgets_no_senders : (target : ℕ) → IsForgetting no_senders_of no_senders_cleared (no_senders_forgotten target) target
+forgets_no_senders target = record {
+  cleared = λ port. refl;
+  settles = λ port is. ap (λ (o : Option ℕ). record port { no_senders_target = o }) (forgot target port.no_senders_target is);
+  stays = λ port is. ap (λ (o : Option ℕ). record port { no_senders_target = o }) (kept target port.no_senders_target is);
+}
+
+pub forgets_destroyed : (target : ℕ) → IsForgetting destroyed_of destroyed_cleared (destroyed_forgotten target) target
+forgets_destroyed target = record {
+  cleared = λ port. refl;
+  settles = λ port is. ap (λ (o : Option ℕ). record port { port_destroyed_target = o }) (forgot target port.port_destroyed_target is);
+  stays = λ port is. ap (λ (o : Option ℕ). record port { port_destroyed_target = o }) (kept target port.port_destroyed_target is);
+}
+
+-- how many requests have the target
+abbrev pub requests : (PortState → Option ℕ) → ℕ → Ports → ℕ
+requests look target ports = total (λ _ port. cond (is_number (look port) target) 1 0) ports
+
+module _ (look : PortState → Option ℕ) (clear forget : PortState → PortState) (target : ℕ) (forgets : IsForgetting look clear forget target) where
+  -- one is cleared: all that is to be forgotten is as before
+  pub cleared_settles : (ports : Ports) (serial : ℕ) → is_number (target_at look ports serial) target ≡ true → map_values forget (changed ports serial clear) ≡ map_values forget ports
+  cleared_settles ports serial is = same _ _ (λ q.
+      get-map_values forget (changed ports serial clear) q ∙ ap (option_map forget) (get_changed ports serial clear q) ∙ at q (eq_by_cmp nat_cmp q serial) refl ∙ sym (get-map_values forget ports q))
+    where
+      here : (o : Option PortState) → is_number (option_and_then look o) target ≡ true → option_map forget (option_map clear o) ≡ option_map forget o
+      here None e = absurd (cc e)
+      here (Some port) e = ap Some (forgets.settles port e)
+
+      at : (q : ℕ) (b : Bool) → eq_by_cmp nat_cmp q serial ≡ b → option_map forget (cond b (option_map clear (get ports serial)) (get ports q)) ≡ option_map forget (get ports q)
+      at q true e = here (get ports serial) is ∙ ap (λ (k : ℕ). option_map forget (get ports k)) (sym (key_is q serial e))
+      at q false e = refl
+
+  -- one fewer is left
+  pub cleared_fewer : (ports : Ports) (serial : ℕ) → is_number (target_at look ports serial) target ≡ true → requests look target (changed ports serial clear) < requests look target ports
+  cleared_fewer ports serial is = by (get ports serial) refl is
+    where
+      by : (o : Option PortState) → get ports serial ≡ o → is_number (option_and_then look o) target ≡ true
+          → requests look target (elim o as (λ _. Ports) [ None ↦ ports | Some port ↦ insert ports serial (clear port) ]) < requests look target ports
+      by None none e = absurd (cc e)
+      by (Some port) there e = omega (
+        arith,
+        total-insert (λ _ port. cond {A = ℕ} (is_number (look port) target) 1 0) ports serial (clear port),
+        ap (weight (λ _ port. cond {A = ℕ} (is_number (look port) target) 1 0) serial) there,
+        ap (λ (b : Bool). cond {A = ℕ} b 1 0) e,
+        ap (λ (o : Option ℕ). cond {A = ℕ} (is_number o target) 1 0) (forgets.cleared port),
+      )
+
+  -- none is left
+  pub all_forgotten : (ports : Ports) → ((q : ℕ) → is_number (target_at look ports q) target ≡ false) → map_values forget ports ≡ ports
+  all_forgotten ports none = same _ _ (λ q. get-map_values forget ports q ∙ each (get ports q) (none q))
+    where
+      each : (o : Option PortState) → is_number (option_and_then look o) target ≡ false → option_map forget o ≡ o
+      each None e = refl
+      each (Some port) e = ap Some (forgets.stays port e)
+
+-- after all that no request has the port for its target
+without_is : (serial : ℕ) (o : Option ℕ) → is_number (without_target serial o) serial ≡ false
+without_is serial None = refl
+without_is serial (Some t) = elim (t == serial) as (λ (b : Bool). (t == serial) ≡ b → is_number (cond b None (Some t)) serial ≡ false) [ true ↦ λ (e : _). refl | false ↦ λ (e : _). e ] refl
+
+-- the ports without requests to one of them, and without its own
+abbrev pub disconnected : ℕ → Ports → Ports
+disconnected serial ports = changed (map_values (destroyed_forgotten serial) (map_values (no_senders_forgotten serial) ports)) serial requests_cleared
+
+get_forgotten : (serial : ℕ) (ports : Ports) (q : ℕ) → get (map_values (destroyed_forgotten serial) (map_values (no_senders_forgotten serial) ports)) q ≡ option_map (λ port. destroyed_forgotten serial (no_senders_forgotten serial port)) (get ports q)
+get_forgotten serial ports q =
+    get-map_values (destroyed_forgotten serial) (map_values (no_senders_forgotten serial) ports) q ∙ ap (option_map (destroyed_forgotten serial)) (get-map_values (no_senders_forgotten serial) ports q) ∙ twice (get ports q)
+  where
+    twice : (o : Option PortState) → option_map (destroyed_forgotten serial) (option_map (no_senders_forgotten serial) o) ≡ option_map (λ port. destroyed_forgotten serial (no_senders_forgotten serial port)) o
+    twice None = refl
+    twice (Some port) = refl
+
+get_disconnected : (serial : ℕ) (ports : Ports) (q : ℕ)
+    → get (disconnected serial ports) q ≡ cond (eq_by_cmp nat_cmp q serial) (option_map requests_cleared (get ports serial)) (option_map (λ port. destroyed_forgotten serial (no_senders_forgotten serial port)) (get ports q))
+get_disconnected serial ports q =
+    get_changed (map_values (destroyed_forgotten serial) (map_values (no_senders_forgotten serial) ports)) serial requests_cleared q
+    ∙ (λ i. cond (eq_by_cmp nat_cmp q serial) (option_map requests_cleared (get_forgotten serial ports serial i)) (get_forgotten serial ports q i))
+    ∙ ap (λ (o : Option PortState). cond (eq_by_cmp nat_cmp q serial) o (option_map (λ port. destroyed_forgotten serial (no_senders_forgotten serial port)) (get ports q))) (over (get ports serial))
+  where
+    over : (o : Option PortState) → option_map requests_cleared (option_map (λ port. destroyed_forgotten serial (no_senders_forgotten serial port)) o) ≡ option_map requests_cleared o
+    over None = refl
+    over (Some port) = refl
+
+pub disconnected_untargeted : (serial : ℕ) (ports : Ports) → IsUntargeted serial (disconnected serial ports)
+disconnected_untargeted serial ports = record {
+  no_senders = λ q. ap (λ (o : Option PortState). is_number (option_and_then no_senders_of o) serial) (get_disconnected serial ports q) ∙ asked q (eq_by_cmp nat_cmp q serial);
+  destroyed = λ q. ap (λ (o : Option PortState). is_number (option_and_then destroyed_of o) serial) (get_disconnected serial ports q) ∙ told q (eq_by_cmp nat_cmp q serial);
+  none_asked = ap (option_and_then no_senders_of) (get_disconnected serial ports serial) ∙ ap (λ (b : Bool). option_and_then no_senders_of (cond b (option_map requests_cleared (get ports serial)) (option_map (λ port. destroyed_forgotten serial (no_senders_forgotten serial port)) (get ports serial)))) (same_key serial) ∙ nothing no_senders_of (λ _. refl) (get ports serial);
+  none_told = ap (option_and_then destroyed_of) (get_disconnected serial ports serial) ∙ ap (λ (b : Bool). option_and_then destroyed_of (cond b (option_map requests_cleared (get ports serial)) (option_map (λ port. destroyed_forgotten serial (no_senders_forgotten serial port)) (get ports serial)))) (same_key serial) ∙ nothing destroyed_of (λ _. refl) (get ports serial);
+}
+  where
+    nothing : (look : PortState → Option ℕ) → ((p : PortState) → look (requests_cleared p) ≡ None) → (o : Option PortState) → option_and_then look (option_map requests_cleared o) ≡ None
+    nothing look none None = refl
+    nothing look none (Some port) = none port
+
+    asked : (q : ℕ) (b : Bool) → is_number (option_and_then no_senders_of (cond b (option_map requests_cleared (get ports serial)) (option_map (λ port. destroyed_forgotten serial (no_senders_forgotten serial port)) (get ports q)))) serial ≡ false
+    asked q true = ap (λ (o : Option ℕ). is_number o serial) (nothing no_senders_of (λ _. refl) (get ports serial))
+    asked q false = each (get ports q)
+      where
+        each : (o : Option PortState) → is_number (option_and_then no_senders_of (option_map (λ port. destroyed_forgotten serial (no_senders_forgotten serial port)) o)) serial ≡ false
+        each None = refl
+        each (Some port) = without_is serial port.no_senders_target
+
+    told : (q : ℕ) (b : Bool) → is_number (option_and_then destroyed_of (cond b (option_map requests_cleared (get ports serial)) (option_map (λ port. destroyed_forgotten serial (no_senders_forgotten serial port)) (get ports q)))) serial ≡ false
+    told q true = ap (λ (o : Option ℕ). is_number o serial) (nothing destroyed_of (λ _. refl) (get ports serial))
+    told q false = each (get ports q)
+      where
+        each : (o : Option PortState) → is_number (option_and_then destroyed_of (option_map (λ port. destroyed_forgotten serial (no_senders_forgotten serial port)) o)) serial ≡ false
+        each None = refl
+        each (Some port) = without_is serial port.port_destroyed_target
+
+-- and then its queue goes
+pub disconnected_dies : (serial : ℕ) (ports : Ports) → map_values (queue_after_death serial) (remove (disconnected serial ports) serial) ≡ map_values (port_after_death serial) (remove ports serial)
+disconnected_dies serial ports = same _ _ (λ q.
+    get-map_values (queue_after_death serial) (remove (disconnected serial ports) serial) q
+    ∙ ap (option_map (queue_after_death serial)) (get-remove nat_cmp_total (disconnected serial ports) serial q ∙ ap (cond (eq_by_cmp nat_cmp q serial) None) (get_disconnected serial ports q))
+    ∙ at q (eq_by_cmp nat_cmp q serial)
+    ∙ sym (get-map_values (port_after_death serial) (remove ports serial) q ∙ ap (option_map (port_after_death serial)) (get-remove nat_cmp_total ports serial q)))
+  where
+    each : (o : Option PortState) → option_map (queue_after_death serial) (option_map (λ port. destroyed_forgotten serial (no_senders_forgotten serial port)) o) ≡ option_map (port_after_death serial) o
+    each None = refl
+    each (Some port) = refl
+
+    at : (q : ℕ) (b : Bool)
+        → option_map (queue_after_death serial) (cond b None (cond b (option_map requests_cleared (get ports serial)) (option_map (λ port. destroyed_forgotten serial (no_senders_forgotten serial port)) (get ports q)))) ≡ option_map (port_after_death serial) (cond b None (get ports q))
+    at q true = refl
+    at q false = each (get ports q)
+
+-- all is as before, but for the ports
+pub table_is : (old new : TrackedPorts) (ports : Ports) → new.before ≡ old.before → new.current.next ≡ old.current.next → new.current.ports ≡ ports → new ≡ record old { current = record old.current { ports = ports } }
+table_is old new ports before next at = λ i. record { before = before i; current = record { ports = at i; next = next i } }
+
+-- the ports once requests are worked off, and once the port has died
+pub disconnected_is : (old first second third : TrackedPorts) (serial : ℕ) → first ≡ record old { current = record old.current { ports = map_values (no_senders_forgotten serial) old.current.ports } }
+    → second ≡ record first { current = record first.current { ports = map_values (destroyed_forgotten serial) first.current.ports } } → third ≡ record second { current = record second.current { ports = changed second.current.ports serial requests_cleared } }
+    → third ≡ record old { current = record old.current { ports = disconnected serial old.current.ports } }
+disconnected_is old first second third serial a b c =
+    c ∙ ap (λ (t : TrackedPorts). record t { current = record t.current { ports = changed t.current.ports serial requests_cleared } })
+    (b ∙ ap (λ (t : TrackedPorts). record t { current = record t.current { ports = map_values (destroyed_forgotten serial) t.current.ports } }) a)
+
+pub buried_is : (old third new : TrackedPorts) (serial : ℕ) → third ≡ record old { current = record old.current { ports = disconnected serial old.current.ports } }
+    → new ≡ record third { current = record third.current { ports = map_values (queue_after_death serial) (remove third.current.ports serial) } } → new ≡ record old { current = record old.current { ports = map_values (port_after_death serial) (remove old.current.ports serial) } }
+buried_is old third new serial a b =
+    b ∙ ap (λ (t : TrackedPorts). record t { current = record t.current { ports = map_values (queue_after_death serial) (remove t.current.ports serial) } }) a
+    ∙ ap (λ (m : Ports). record old { current = record old.current { ports = m } }) (disconnected_dies serial old.current.ports)

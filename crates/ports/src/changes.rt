@@ -1,0 +1,126 @@
+// What is done to the ports.
+ghost use Rattle.std.specs.Prelude.{◌≡◌, ◌<◌, ◌+◌, ◌-◌, ◌^◌, OnOk, OnErr};
+ghost use Rattle.std.specs.FinMap as map;
+ghost use Rattle.codes.specs.declared.limits.TheConstants.{MAX_PORTS};
+ghost use Rattle.ipc_model.specs.state.State.{new_port};
+ghost use Rattle.live_ports.specs.Changed.{changed, with_message, with_numbers};
+ghost use Rattle.live_ports.specs.PortTable.{ports_at_rest};
+ghost use Rattle.live_ports.specs.Seen.{AreLive};
+ghost use Rattle.ports.specs.Indexes.{AreOfMore, AreRetargeted, SameBefore};
+
+use crate::Ports;
+use crate::indexes::{PortIndexes, targets_fit};
+use ipc_model::Message;
+use live_ports::{LivePorts, PortNumbers};
+use std::alloc::AllocError;
+
+impl Ports {
+    /// Replaces what a port keeps beside its queue, if it lives. Where memory is wanted the changes are given up.
+    pub fn set_numbers(&mut self, serial: u64, numbers: PortNumbers) -> Result<(), AllocError>
+        ensures ok { OnOk result (self.new ≡ record self.old {
+          current = record self.old.current {
+            ports = changed self.old.current.ports serial (with_numbers numbers);
+          };
+        }) }
+        ensures err { OnErr result (self.new ≡ ports_at_rest self.old.before) }
+    {
+        let Some(former) = self.ports.numbers(serial) else {
+            return Ok(());
+        };
+        targets_fit(former);
+        targets_fit(numbers);
+        match set_in_both(&mut self.ports, &mut self.indexes, serial, former, numbers) {
+            Ok(()) => Ok(()),
+            Err(error) => {
+                self.ports.give_up();
+                self.indexes.give_up();
+                Err(error)
+            }
+        }
+    }
+
+    /// Puts a message at the end of a port's queue, whatever the limit, if the port lives. Where memory is wanted, as by a
+    /// queue of `u32::MAX` messages, the changes are given up.
+    pub fn push(&mut self, serial: u64, message: Message) -> Result<(), AllocError>
+        requires { AreLive self.old.current.ports message }
+        ensures ok { OnOk result (self.new ≡ record self.old {
+          current = record self.old.current {
+            ports = changed self.old.current.ports serial (with_message message);
+          };
+        }) }
+        ensures err { OnErr result (self.new ≡ ports_at_rest self.old.before) }
+    {
+        if !self.ports.contains(serial) {
+            return Ok(());
+        }
+        match push_in_both(&mut self.ports, &mut self.indexes, serial, message) {
+            Ok(()) => Ok(()),
+            Err(error) => {
+                self.ports.give_up();
+                self.indexes.give_up();
+                Err(error)
+            }
+        }
+    }
+
+    /// Makes a port, which gets the next serial. Where memory is wanted the changes are given up.
+    pub fn add(&mut self) -> Result<(), AllocError>
+        requires room { map.len self.old.current.ports < MAX_PORTS }
+        requires serials { self.old.current.next < 2 ^ 64 - 1 }
+        ensures ok { OnOk result (self.new ≡ record self.old {
+          current = record {
+            ports = map.insert self.old.current.ports self.old.current.next new_port;
+            next = self.old.current.next + 1;
+          };
+        }) }
+        ensures err { OnErr result (self.new ≡ ports_at_rest self.old.before) }
+    {
+        match self.ports.add() {
+            Ok(()) => Ok(()),
+            Err(error) => {
+                self.indexes.give_up();
+                Err(error)
+            }
+        }
+    }
+}
+
+fn set_in_both(
+    ports: &mut LivePorts,
+    indexes: &mut PortIndexes,
+    serial: u64,
+    former: PortNumbers,
+    numbers: PortNumbers,
+) -> Result<(), AllocError>
+    ensures ports { OnOk result (ports.new ≡ record ports.old {
+      current = record ports.old.current {
+        ports = changed ports.old.current.ports serial (with_numbers numbers);
+      };
+    }) }
+    ensures indexes { OnOk result (AreRetargeted indexes.old indexes.new serial former numbers) }
+    ensures before { ports.new.before ≡ ports.old.before }
+    ensures indexes_before { SameBefore indexes.old indexes.new }
+{
+    indexes.change_targets(serial, former, numbers)?;
+    ports.set_numbers(serial, numbers)
+}
+
+fn push_in_both(
+    ports: &mut LivePorts,
+    indexes: &mut PortIndexes,
+    serial: u64,
+    message: Message,
+) -> Result<(), AllocError>
+    requires { AreLive ports.old.current.ports message }
+    ensures ports { OnOk result (ports.new ≡ record ports.old {
+      current = record ports.old.current {
+        ports = changed ports.old.current.ports serial (with_message message);
+      };
+    }) }
+    ensures indexes { OnOk result (AreOfMore indexes.old indexes.new serial message) }
+    ensures before { ports.new.before ≡ ports.old.before }
+    ensures indexes_before { SameBefore indexes.old indexes.new }
+{
+    indexes.add_message(serial, &message)?;
+    ports.push(serial, message)
+}

@@ -1,0 +1,177 @@
+// What becomes of the ports as one dies.
+ghost use Rattle.std.specs.Prelude.{◌≡◌, OnOk, OnErr};
+ghost use Rattle.std.specs.FinMap as map;
+ghost use Rattle.ipc_model.specs.effects.Effects.{map_values, port_after_death};
+ghost use Rattle.live_ports.specs.Changed.{changed, messages_at};
+ghost use Rattle.live_ports.specs.PortTable.{ports_at_rest};
+ghost use Rattle.live_ports.specs.Seen.{queue_after_death};
+ghost use Rattle.ports.specs.Indexes.{destroyed_of, no_senders_of, SameBefore};
+ghost use Rattle.ports.specs.Requests.{destroyed_cleared, destroyed_forgotten, no_senders_cleared, no_senders_forgotten, requests_cleared, IsRequester, IsUntargeted};
+ghost use Rattle.ports.specs.Burials.{AreWithout};
+
+use crate::Ports;
+use crate::indexes::PortIndexes;
+use live_ports::{LivePorts, PortNumbers};
+use std::alloc::AllocError;
+
+impl Ports {
+    /// A port dies: it goes, rights to it in other queues become `MACH_PORT_DEAD`, and requests of ports that were to tell
+    /// it go. Nothing changes where it is dead. Where memory is wanted the changes are given up.
+    pub fn bury(&mut self, serial: u64) -> Result<(), AllocError>
+        ensures ok { OnOk result (self.new ≡ record self.old {
+          current = record self.old.current {
+            ports = map_values (port_after_death serial) (map.remove self.old.current.ports serial);
+          };
+        }) }
+        ensures err { OnErr result (self.new ≡ ports_at_rest self.old.before) }
+    {
+        self.forget_no_senders(serial)?;
+        self.forget_port_destroyed(serial)?;
+        self.clear_requests(serial)?;
+        self.bury_queue(serial)?;
+        Ok(())
+    }
+
+    /// No-senders requests that have a port for their target go. Where memory is wanted the changes are given up.
+    fn forget_no_senders(&mut self, target: u64) -> Result<(), AllocError>
+        ensures ok { OnOk result (self.new ≡ record self.old {
+          current = record self.old.current {
+            ports = map_values (no_senders_forgotten target) self.old.current.ports;
+          };
+        }) }
+        ensures err { OnErr result (self.new ≡ ports_at_rest self.old.before) }
+    {
+        while let Some(other) = self.no_senders_requester(target) {
+            self.clear_no_senders(other)?;
+        }
+        Ok(())
+    }
+
+    /// Port-destroyed requests that have a port for their target go. Where memory is wanted the changes are given up.
+    fn forget_port_destroyed(&mut self, target: u64) -> Result<(), AllocError>
+        ensures ok { OnOk result (self.new ≡ record self.old {
+          current = record self.old.current {
+            ports = map_values (destroyed_forgotten target) self.old.current.ports;
+          };
+        }) }
+        ensures err { OnErr result (self.new ≡ ports_at_rest self.old.before) }
+    {
+        while let Some(other) = self.port_destroyed_requester(target) {
+            self.clear_port_destroyed(other)?;
+        }
+        Ok(())
+    }
+
+    /// A port whose no-senders request has this target, if there is one.
+    fn no_senders_requester(&self, target: u64) -> Option<u64>
+        ensures { IsRequester no_senders_of self.now.current.ports target result }
+    {
+        self.indexes.no_senders.next(target, 0)
+    }
+
+    /// A port whose port-destroyed request has this target, if there is one.
+    fn port_destroyed_requester(&self, target: u64) -> Option<u64>
+        ensures { IsRequester destroyed_of self.now.current.ports target result }
+    {
+        self.indexes.port_destroyed.next(target, 0)
+    }
+
+    /// The no-senders request of a port goes.
+    fn clear_no_senders(&mut self, serial: u64) -> Result<(), AllocError>
+        ensures ok { OnOk result (self.new ≡ record self.old {
+          current = record self.old.current {
+            ports = changed self.old.current.ports serial no_senders_cleared;
+          };
+        }) }
+        ensures err { OnErr result (self.new ≡ ports_at_rest self.old.before) }
+    {
+        let Some(numbers) = self.numbers(serial) else {
+            return Ok(());
+        };
+        let fewer = PortNumbers {
+            no_senders_target: None,
+            ..numbers
+        };
+        self.set_numbers(serial, fewer)?;
+        Ok(())
+    }
+
+    /// The port-destroyed request of a port goes.
+    fn clear_port_destroyed(&mut self, serial: u64) -> Result<(), AllocError>
+        ensures ok { OnOk result (self.new ≡ record self.old {
+          current = record self.old.current {
+            ports = changed self.old.current.ports serial destroyed_cleared;
+          };
+        }) }
+        ensures err { OnErr result (self.new ≡ ports_at_rest self.old.before) }
+    {
+        let Some(numbers) = self.numbers(serial) else {
+            return Ok(());
+        };
+        let fewer = PortNumbers {
+            port_destroyed_target: None,
+            ..numbers
+        };
+        self.set_numbers(serial, fewer)?;
+        Ok(())
+    }
+
+    /// Both requests of a port go.
+    fn clear_requests(&mut self, serial: u64) -> Result<(), AllocError>
+        ensures ok { OnOk result (self.new ≡ record self.old {
+          current = record self.old.current {
+            ports = changed self.old.current.ports serial requests_cleared;
+          };
+        }) }
+        ensures err { OnErr result (self.new ≡ ports_at_rest self.old.before) }
+    {
+        let Some(numbers) = self.numbers(serial) else {
+            return Ok(());
+        };
+        let fewer = PortNumbers {
+            no_senders_target: None,
+            port_destroyed_target: None,
+            ..numbers
+        };
+        self.set_numbers(serial, fewer)?;
+        Ok(())
+    }
+
+    /// A port that no request has for its target, and that has none, dies.
+    fn bury_queue(&mut self, serial: u64) -> Result<(), AllocError>
+        requires { IsUntargeted serial self.old.current.ports }
+        ensures ok { OnOk result (self.new ≡ record self.old {
+          current = record self.old.current {
+            ports = map_values (queue_after_death serial) (map.remove self.old.current.ports serial);
+          };
+        }) }
+        ensures err { OnErr result (self.new ≡ ports_at_rest self.old.before) }
+    {
+        match bury_in_both(&mut self.ports, &mut self.indexes, serial) {
+            Ok(()) => Ok(()),
+            Err(error) => {
+                self.ports.give_up();
+                self.indexes.give_up();
+                Err(error)
+            }
+        }
+    }
+}
+
+fn bury_in_both(
+    ports: &mut LivePorts,
+    indexes: &mut PortIndexes,
+    serial: u64,
+) -> Result<(), AllocError>
+    ensures ports { OnOk result (ports.new ≡ record ports.old {
+      current = record ports.old.current {
+        ports = map_values (queue_after_death serial) (map.remove ports.old.current.ports serial);
+      };
+    }) }
+    ensures indexes { OnOk result (AreWithout indexes.old indexes.new serial (messages_at ports.old.current.ports serial)) }
+    ensures before { ports.new.before ≡ ports.old.before }
+    ensures indexes_before { SameBefore indexes.old indexes.new }
+{
+    indexes.bury(ports, serial)?;
+    ports.bury(serial)
+}

@@ -1,0 +1,157 @@
+//! The rights in queues and requests by the ports that they are to, as plain tables.
+ghost use Rattle.std.specs.Prelude.{◌≡◌, IfOk, OnOk};
+ghost use Rattle.std.specs.FinMap as map;
+ghost use Rattle.live_ports.specs.Changed.{messages_at};
+ghost use Rattle.ports.specs.Burials.{AreWithout};
+ghost use Rattle.ports.specs.Counting.{target_fewer, target_more};
+ghost use Rattle.ports.specs.Indexes.{former_parts, present_parts, AreAtRest, AreOfMore, AreRetargeted, SameBefore, TargetsFit};
+
+use crate::burials::{clear_carriers, subtract_queue};
+use crate::rights::{add_body, add_reply};
+use ipc_model::{Message, RightKind};
+use live_ports::{LivePorts, PortNumbers};
+use pair_counts::PairCounts;
+use place_index::PlaceIndex;
+use std::alloc::{AllocError, Global};
+
+/// The rights that messages in queues are and carry, and that requests have as targets, counted by the ports that they are
+/// to; the receive rights in queues, by their ports and the queues' ports; and the ports that have a request, by its target.
+#[derive(Drop)]
+pub(crate) struct PortIndexes {
+    pub(crate) counts: PairCounts,
+    pub(crate) carriers: PairCounts,
+    pub(crate) no_senders: PlaceIndex,
+    pub(crate) port_destroyed: PlaceIndex,
+}
+
+impl PortIndexes {
+    /// Indexes of nothing. They take no memory.
+    pub(crate) fn new(alloc: Global) -> Self
+        ensures { AreAtRest result (record { counts = map.empty; carriers = map.empty; no_senders = map.empty; destroyed = map.empty }) }
+    {
+        PortIndexes {
+            counts: PairCounts::new(alloc),
+            carriers: PairCounts::new(alloc),
+            no_senders: PlaceIndex::new(alloc),
+            port_destroyed: PlaceIndex::new(alloc),
+        }
+    }
+
+    /// What a port keeps is replaced. Where memory is wanted the changes are to be given up.
+    pub(crate) fn change_targets(
+        &mut self,
+        serial: u64,
+        former: PortNumbers,
+        numbers: PortNumbers,
+    ) -> Result<(), AllocError>
+        ensures ok { OnOk result (AreRetargeted self.old self.new serial former numbers) }
+        ensures before { SameBefore self.old self.new }
+    {
+        let was = former.no_senders_target;
+        let is = numbers.no_senders_target;
+        replace_target(&mut self.counts, was, is)?;
+        self.no_senders.change(serial, was, is)?;
+        let was = former.port_destroyed_target;
+        let is = numbers.port_destroyed_target;
+        replace_target(&mut self.counts, was, is)?;
+        self.port_destroyed.change(serial, was, is)
+    }
+
+    /// A message comes into a port's queue. Where memory is wanted the changes are to be given up.
+    pub(crate) fn add_message(&mut self, serial: u64, message: &Message) -> Result<(), AllocError>
+        ensures ok { OnOk result (AreOfMore self.old self.new serial message.now) }
+        ensures before { SameBefore self.old self.new }
+    {
+        self.counts.add_right(message.destination, serial)?;
+        add_reply(&mut self.counts, message.reply)?;
+        let rights = message.rights.as_slice();
+        add_body(&mut self.counts, &mut self.carriers, serial, rights)
+    }
+
+    /// A port that no request has for its target, and that has none, dies: its queue goes, and rights to it are none any
+    /// more. Where memory is wanted the changes are to be given up.
+    pub(crate) fn bury(&mut self, ports: &LivePorts, serial: u64) -> Result<(), AllocError>
+        ensures ok { OnOk result (AreWithout self.old self.new serial (messages_at ports.now.current.ports serial)) }
+        ensures before { SameBefore self.old self.new }
+    {
+        subtract_queue(&mut self.counts, &mut self.carriers, ports, serial)?;
+        self.counts.clear(0, serial)?;
+        self.counts.clear(1, serial)?;
+        clear_carriers(&mut self.carriers, serial)
+    }
+
+    /// The same indexes again, with the changes to keep or to give up.
+    pub(crate) fn copy(&self) -> Result<PortIndexes, AllocError>
+        ensures { IfOk result (λ copy. copy ≡ self.now) }
+    {
+        let counts = self.counts.copy()?;
+        let carriers = self.carriers.copy()?;
+        let no_senders = self.no_senders.copy()?;
+        let port_destroyed = self.port_destroyed.copy()?;
+        Ok(PortIndexes {
+            counts,
+            carriers,
+            no_senders,
+            port_destroyed,
+        })
+    }
+
+    /// Keeps the changes. It takes no memory.
+    pub(crate) fn keep(&mut self)
+        ensures { AreAtRest self.new (present_parts self.old) }
+    {
+        self.counts.keep();
+        self.carriers.keep();
+        self.no_senders.keep();
+        self.port_destroyed.keep();
+    }
+
+    /// Gives the changes up. It takes no memory.
+    pub(crate) fn give_up(&mut self)
+        ensures { AreAtRest self.new (former_parts self.old) }
+    {
+        self.counts.give_up();
+        self.carriers.give_up();
+        self.no_senders.give_up();
+        self.port_destroyed.give_up();
+    }
+}
+
+/// The targets of requests are serials. It does nothing but show it.
+pub(crate) fn targets_fit(numbers: PortNumbers)
+    ensures { TargetsFit numbers }
+{
+    let _ = numbers;
+}
+
+fn replace_target(
+    counts: &mut PairCounts,
+    former: Option<u64>,
+    target: Option<u64>,
+) -> Result<(), AllocError>
+    ensures ok { OnOk result (counts.new.current ≡ target_more (target_fewer counts.old.current former) target) }
+    ensures before { counts.new.before ≡ counts.old.before }
+{
+    subtract_target(counts, former)?;
+    add_target(counts, target)
+}
+
+fn add_target(counts: &mut PairCounts, target: Option<u64>) -> Result<(), AllocError>
+    ensures ok { OnOk result (counts.new.current ≡ target_more counts.old.current target) }
+    ensures before { counts.new.before ≡ counts.old.before }
+{
+    match target {
+        Some(target) => counts.add_right(RightKind::SendOnce, target),
+        None => Ok(()),
+    }
+}
+
+fn subtract_target(counts: &mut PairCounts, target: Option<u64>) -> Result<(), AllocError>
+    ensures ok { OnOk result (counts.new.current ≡ target_fewer counts.old.current target) }
+    ensures before { counts.new.before ≡ counts.old.before }
+{
+    match target {
+        Some(target) => counts.subtract_right(RightKind::SendOnce, target),
+        None => Ok(()),
+    }
+}

@@ -1,0 +1,116 @@
+// What is asked of the ports.
+ghost use Rattle.std.specs.Prelude.{◌≡◌, ◌<◌, ◌≤◌, ◌^◌, find, IfOk, MatchOption, is_some, length, nat_le, option_map, slice_index_or};
+ghost use Rattle.std.specs.FinMap as map;
+ghost use Rattle.codes.specs.declared.limits.TheConstants.{MAX_PORTS};
+ghost use Rattle.ipc_laws.specs.MapSums.{total};
+ghost use Rattle.ipc_laws.specs.Weights.{port_weigh};
+ghost use Rattle.ipc_model.specs.declared.message.RightKind.TheVariants as kind;
+ghost use Rattle.ipc_model.specs.state.Circular.{carries};
+ghost use Rattle.ipc_model.specs.state.Lawful.{AreShort};
+ghost use Rattle.live_ports.specs.Changed.{messages_at, numbers_of};
+ghost use Rattle.live_ports.specs.Seen.{seen_message, seen_right, lives_in};
+ghost use Rattle.pair_counts.specs.Rights.{right_weight};
+
+use crate::Ports;
+use ipc_model::{CarriedRight, Message};
+use live_ports::PortNumbers;
+use std::alloc::AllocError;
+
+impl Ports {
+    /// How many ports live.
+    pub fn len(&self) -> usize
+        ensures { result ≡ map.len self.now.current.ports }
+    {
+        self.ports.len()
+    }
+
+    /// Whether as many ports live as may.
+    pub fn is_full(&self) -> bool
+        ensures { result ≡ nat_le MAX_PORTS (map.len self.now.current.ports) }
+    {
+        self.ports.is_full()
+    }
+
+    /// The serial that the next port gets.
+    pub fn next_serial(&self) -> u64
+        ensures { result ≡ self.now.current.next }
+    {
+        self.ports.next_serial()
+    }
+
+    /// Whether a port lives.
+    pub fn contains(&self, serial: u64) -> bool
+        ensures { result ≡ is_some (map.get self.now.current.ports serial) }
+    {
+        self.ports.contains(serial)
+    }
+
+    /// What a port keeps beside its queue, if it lives.
+    pub fn numbers(&self, serial: u64) -> Option<PortNumbers>
+        ensures { result ≡ option_map numbers_of (map.get self.now.current.ports serial) }
+    {
+        self.ports.numbers(serial)
+    }
+
+    /// How many messages are in a port's queue: none where it is dead.
+    pub fn message_count(&self, serial: u64) -> u32
+        ensures { result ≡ length (messages_at self.now.current.ports serial) }
+    {
+        self.ports.message_count(serial)
+    }
+
+    /// The message of an index in a port's queue as it was sent, counted from the oldest, if there is one: what has become of
+    /// its rights `seen` tells.
+    pub fn message_as_sent(&self, serial: u64, index: u32) -> Option<&Message>
+        ensures { MatchOption result (length (messages_at self.now.current.ports serial) ≤ index)
+            (λ message. (index < length (messages_at self.now.current.ports serial)) × (seen_message (lives_in self.now.current.ports) message.now ≡ slice_index_or (messages_at self.now.current.ports serial) index (seen_message (lives_in self.now.current.ports) message.now))) }
+    {
+        self.ports.message_as_sent(serial, index)
+    }
+
+    /// What a right of a message as it was sent is now: where its port has died, `MACH_PORT_DEAD`.
+    pub fn seen(&self, carried: CarriedRight) -> CarriedRight
+        ensures { result ≡ seen_right (lives_in self.now.current.ports) carried }
+    {
+        self.ports.seen(carried)
+    }
+
+    /// No queue holds more messages than a word counts. It does nothing but show it.
+    pub fn are_short(&self)
+        ensures { AreShort self.now.current.ports }
+    {
+        self.ports.are_short();
+    }
+
+    /// How many send rights to a port the messages in queues carry.
+    pub fn sends(&self, serial: u64) -> u64
+        ensures value { result ≡ total (port_weigh (right_weight kind.Send serial)) self.now.current.ports }
+        ensures few { result < 2 ^ 63 }
+    {
+        self.indexes.counts.sends(serial)
+    }
+
+    /// How many send-once rights to a port the messages in queues carry, and requests of ports have as targets.
+    pub fn send_onces(&self, serial: u64) -> u64
+        ensures value { result ≡ total (port_weigh (right_weight kind.SendOnce serial)) self.now.current.ports }
+        ensures few { result < 2 ^ 63 }
+    {
+        self.indexes.counts.send_onces(serial)
+    }
+
+    /// The port in whose queue the receive right of a port travels, if it does.
+    pub fn carrier(&self, serial: u64) -> Option<u64>
+        ensures { result ≡ option_map (λ e. e.0) (find (λ e. carries serial e.1) (map.entries self.now.current.ports)) }
+    {
+        self.indexes.carriers.least(serial)
+    }
+
+    /// The same ports again, with the changes to keep or to give up.
+    pub fn copy(&self) -> Result<Ports, AllocError>
+        ensures { IfOk result (λ copy. copy ≡ self.now) }
+    {
+        let ports = self.ports.copy()?;
+        let indexes = self.indexes.copy()?;
+        Ok(Ports { ports, indexes })
+    }
+}

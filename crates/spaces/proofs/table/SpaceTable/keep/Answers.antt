@@ -1,0 +1,20 @@
+use Rattle.std.proofs.Common.{ap, sym, subst, ◌∙◌}
+use Rattle.std.specs.FinMap.{len}
+use Rattle.tracked_map.specs.Touched.{AreTouched}
+use Rattle.spaces.specs.Slots.{TrackedSpaces, was, is}
+use Rattle.spaces.specs.Laws as laws
+use Rattle.spaces.proofs.table.SpaceTable.keep.Goals as goal
+
+pub keep_slots-requires : goal.keep_slots-requires
+keep_slots-requires c = subst (AreTouched was is c.self.inside.slots) (sym c.as_slice.ensures.value) c.self.invariant.0
+
+pub invariant_of-self : goal.invariant_of-self
+invariant_of-self c =
+    let rest = laws.kept_rest c.keep_slots.new.slots c.clear.new.self.items _ c.clear.ensures.items c.keep_slots.ensures.rest c.keep_slots.ensures.shown in
+    (rest.touched_none, c.self.invariant.1 ∙ ap len (sym rest.seen_is), c.self.invariant.1 ∙ ap len (sym rest.seen_was))
+
+pub returns : goal.returns
+returns c =
+    let rest = laws.kept_rest c.keep_slots.new.slots c.clear.new.self.items _ c.clear.ensures.items c.keep_slots.ensures.rest c.keep_slots.ensures.shown in
+    let now = ap (λ (t : TrackedSpaces). t.current) c.self.view_is in
+    laws.both _ _ _ _ (rest.seen_was ∙ now) (rest.seen_is ∙ now)

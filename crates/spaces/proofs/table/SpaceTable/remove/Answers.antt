@@ -1,0 +1,49 @@
+use Rattle.std.proofs.Common.{ℕ, [], ◌∷◌, ◌++◌, option_map, refl, ap, sym, subst, ◌∙◌}
+use Rattle.std.specs.FinMap.{remove, len}
+use Rattle.ipc_model.specs.state.State.{Names}
+use Rattle.tracked_map.specs.Slots.{picked}
+use Rattle.tracked_map.specs.Touched.{AreTouched, exchanged}
+use Rattle.spaces.specs.Slots.{SpaceSlot, SpaceSlots, TrackedSpaces, was, is, given_slot, names_changed}
+use Rattle.spaces.specs.Laws as laws
+use Rattle.spaces.proofs.table.SpaceTable.remove.Goals as goal
+
+pub invariant_of-self : goal.invariant_of-self
+invariant_of-self c = (subst (AreTouched was is c.self.inside.slots) (sym c.reserve.ensures.items) c.self.invariant.0, c.self.invariant.1, c.self.invariant.2)
+
+pub invariant_of-self-in-Ok : goal.invariant_of-self-in-Ok
+invariant_of-self-in-Ok c =
+    let done = c.in-Ok.ensures.ok in
+    let put : Names → Names = λ names. remove names c.args.name in
+    let change : SpaceSlot → SpaceSlot = λ slot. record slot { current = option_map put slot.current } in (
+      subst (λ (s : SpaceSlots). AreTouched was is s c.push_reserved.new.self.items) (sym done)
+          (laws.changed_touched c.self.inside.slots c.reserve.new.self.items c.push_reserved.new.self.items c.args.space change (c.push_reserved.ensures.items ∙ ap (λ (k : ℕ). c.reserve.new.self.items ++ k ∷ []) c.from.ensures) (subst (AreTouched was is c.self.inside.slots) (sym c.reserve.ensures.items) c.self.invariant.0)),
+      c.self.invariant.1 ∙ sym (ap (λ (s : SpaceSlots). len (picked is s)) done ∙ ap len (laws.looks_changed c.self.inside.slots c.args.space change is put (λ (s : SpaceSlot). refl)) ∙ laws.as_many (picked is c.self.inside.slots) c.args.space put),
+      c.self.invariant.2 ∙ sym (ap (λ (s : SpaceSlots). len (picked was s)) done ∙ ap len (laws.looks_same c.self.inside.slots c.args.space change was (λ (s : SpaceSlot). refl))),
+    )
+
+pub give_slots_up-requires : goal.give_slots_up-requires
+give_slots_up-requires c =
+    exchanged was is c.remove_at.new.slots c.as_slice.result.now
+    (subst (λ (s : SpaceSlots). AreTouched was is s c.as_slice.result.now) (sym c.in-Err.ensures.err)
+    (laws.given_touched c.self.inside.slots c.as_slice.result.now c.args.space (subst (AreTouched was is c.self.inside.slots) (sym (c.as_slice.ensures.value ∙ c.reserve.ensures.items)) c.self.invariant.0)))
+
+pub invariant_of-self-in-Err : goal.invariant_of-self-in-Err
+invariant_of-self-in-Err c =
+    let rest = laws.given_rest c.give_slots_up.new.slots c.clear.new.self.items _ c.clear.ensures.items c.give_slots_up.ensures.rest c.give_slots_up.ensures.shown in
+    let former = ap (picked was) c.in-Err.ensures.err ∙ laws.looks_same c.self.inside.slots c.args.space given_slot was (λ (s : SpaceSlot). refl) in
+    (rest.touched_none, c.self.invariant.2 ∙ ap len (sym (rest.seen_is ∙ former)), c.self.invariant.2 ∙ ap len (sym (rest.seen_was ∙ former)))
+
+pub returns-in-Ok-clause-ok : goal.returns-in-Ok-clause-ok
+returns-in-Ok-clause-ok c =
+    let done = c.in-Ok.ensures.ok in
+    let put : Names → Names = λ names. remove names c.args.name in
+    let change : SpaceSlot → SpaceSlot = λ slot. record slot { current = option_map put slot.current } in
+    laws.both _ _ _ _
+    (ap (picked was) done ∙ laws.looks_same c.self.inside.slots c.args.space change was (λ (s : SpaceSlot). refl) ∙ ap (λ (t : TrackedSpaces). t.before) c.self.view_is)
+    (ap (picked is) done ∙ laws.looks_changed c.self.inside.slots c.args.space change is put (λ (s : SpaceSlot). refl) ∙ ap (λ (t : TrackedSpaces). names_changed t.current c.args.space put) c.self.view_is)
+
+pub returns-in-Err-clause-err : goal.returns-in-Err-clause-err
+returns-in-Err-clause-err c =
+    let rest = laws.given_rest c.give_slots_up.new.slots c.clear.new.self.items _ c.clear.ensures.items c.give_slots_up.ensures.rest c.give_slots_up.ensures.shown in
+    let former = ap (picked was) c.in-Err.ensures.err ∙ laws.looks_same c.self.inside.slots c.args.space given_slot was (λ (s : SpaceSlot). refl) ∙ ap (λ (t : TrackedSpaces). t.before) c.self.view_is in
+    laws.both _ _ _ _ (rest.seen_was ∙ former) (rest.seen_is ∙ former)

@@ -1,0 +1,9 @@
+pub mod Burying
+pub mod Counting
+pub mod Indexes
+pub mod Laws
+pub mod Looking
+pub mod Reading
+pub mod Renamed
+pub mod Slots
+pub mod Walks

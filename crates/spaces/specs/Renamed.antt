@@ -1,0 +1,55 @@
+-- What stands under one name of a space, put under another.
+use Rattle.std.proofs.Common.{◌≡◌, ℕ, ◌-◌, ◌<◌, ◌≤◌, cond, Option, None, Some, is_some, option_and_then, refl, sym, ◌∙◌, ap, subst, arith}
+use Rattle.std.specs.Cmp.{nat_cmp_total}
+use Rattle.std.specs.FinMap.{empty, get, insert, remove, len, len-remove}
+use Rattle.codes.specs.declared.limits.TheConstants.{MAX_NAMES}
+use Rattle.ipc_laws.specs.ListLaws.{some_same}
+use Rattle.ipc_laws.specs.MapLaws.{get-here}
+use Rattle.ipc_laws.specs.MapSums.{insert-insert, insert-same}
+use Rattle.ipc_model.specs.declared.entry.Entry.{Entry}
+use Rattle.ipc_model.specs.state.State.{Names}
+use Rattle.port_space.specs.Renaming.{under_other_name}
+use Rattle.spaces.specs.Laws.{changed_absent, changed_there}
+use Rattle.spaces.specs.Looking.{entry_in}
+use Rattle.spaces.specs.Reading.{names_of}
+use Rattle.spaces.specs.Slots.{SpaceMap, names_changed}
+
+-- A name is taken out of use, and another stands for what it stood for.
+pub renamed : (spaces : SpaceMap) (space from to : ℕ) (entry : Entry) → entry_in spaces space from ≡ Some entry
+    → names_changed (names_changed spaces space (λ names. remove names from)) space (λ names. insert names to entry) ≡ names_changed spaces space (λ names. under_other_name names from to)
+renamed spaces space from to entry stands = go (get spaces space) refl
+  where
+    go : (o : Option Names) → get spaces space ≡ o
+        → names_changed (names_changed spaces space (λ names. remove names from)) space (λ names. insert names to entry) ≡ names_changed spaces space (λ names. under_other_name names from to)
+    go None at = absurd (cc (sym stands ∙ ap (option_and_then (λ (n : Names). get n from)) at))
+    go (Some names) at =
+        let here : get names from ≡ Some entry = sym (ap (option_and_then (λ (n : Names). get n from)) at) ∙ stands in
+        let other : Names = insert (remove names from) to entry in
+        ap (λ (s : SpaceMap). names_changed s space (λ names. insert names to entry)) (changed_there spaces space (λ names. remove names from) names at)
+        ∙ changed_there (insert spaces space (remove names from)) space (λ names. insert names to entry) (remove names from) (get-here spaces space (remove names from))
+        ∙ insert-insert spaces space (remove names from) other
+        ∙ sym (changed_there spaces space (λ names. under_other_name names from to) names at ∙ ap (λ (o : Option Entry). insert spaces space (elim o as (λ _. Names) [ None ↦ names | Some e ↦ insert (remove names from) to e ])) here)
+
+pub not_renamed : (spaces : SpaceMap) (space from to : ℕ) → entry_in spaces space from ≡ None → spaces ≡ names_changed spaces space (λ names. under_other_name names from to)
+not_renamed spaces space from to nothing = go (get spaces space) refl
+  where
+    go : (o : Option Names) → get spaces space ≡ o → spaces ≡ names_changed spaces space (λ names. under_other_name names from to)
+    go None at = sym (changed_absent spaces space (λ names. under_other_name names from to) at)
+    go (Some names) at =
+        let here : get names from ≡ None = sym (ap (option_and_then (λ (n : Names). get n from)) at) ∙ nothing in
+        sym (changed_there spaces space (λ names. under_other_name names from to) names at ∙ ap (λ (o : Option Entry). insert spaces space (elim o as (λ _. Names) [ None ↦ names | Some e ↦ insert (remove names from) to e ])) here ∙ insert-same spaces space names at)
+
+-- Where a name is taken out of use, there is room for another.
+pub room_left : (spaces : SpaceMap) (space from : ℕ) (entry : Entry) (names : Names) → entry_in spaces space from ≡ Some entry → get (names_changed spaces space (λ ns. remove ns from)) space ≡ Some names
+    → len (names_of spaces space) ≤ MAX_NAMES → len names < MAX_NAMES
+room_left spaces space from entry names stood there few = go (get spaces space) refl
+  where
+    go : (o : Option Names) → get spaces space ≡ o → len names < MAX_NAMES
+    go None at = absurd (cc (sym stood ∙ ap (option_and_then (λ (n : Names). get n from)) at))
+    go (Some former) at =
+        let same : names ≡ remove former from = some_same names (remove former from) (sym there ∙ ap (λ (s : SpaceMap). get s space) (changed_there spaces space (λ ns. remove ns from) former at) ∙ get-here spaces space (remove former from)) in
+        let had : get former from ≡ Some entry = sym (ap (option_and_then (λ (n : Names). get n from)) at) ∙ stood in
+        let less : len (remove former from) ≡ len former - 1 = len-remove nat_cmp_total former from ∙ ap (λ (e : Option Entry). cond (is_some e) (len former - 1) (len former)) had in
+        let many : len (names_of spaces space) ≡ len former = ap (λ (o : Option Names). len (elim o as (λ _. Names) [ None ↦ empty | Some n ↦ n ])) at in
+        let fewer : len (remove former from) < MAX_NAMES = omega (arith, less, many, few) in
+        subst (λ (n : Names). len n < MAX_NAMES) (sym same) fewer

@@ -1,0 +1,125 @@
+// What becomes of names as a port dies.
+ghost use Rattle.std.specs.Prelude.{◌≡◌, ◌<◌, ◌-◌, ◌+◌, ◌^◌, ◌%◌, ◌/◌, Some, None, OnOk, OnErr, MatchOption};
+ghost use Rattle.std.specs.FinMap as map;
+ghost use Rattle.ipc_model.specs.effects.Effects.{entry_after_death, map_values, one_more_if, without_target};
+ghost use Rattle.ipc_model.specs.declared.entry.Entry.TheVariants.{Dead};
+ghost use Rattle.port_space.specs.References.{AreFewReferences};
+ghost use Rattle.spaces.specs.Burying.{IsNextMention};
+ghost use Rattle.spaces.specs.Indexes.{AreSmall};
+ghost use Rattle.spaces.specs.Looking.{entry_in};
+ghost use Rattle.spaces.specs.Slots.{spaces_at_rest, names_changed};
+
+use crate::Spaces;
+use ipc_model::{Entry, PortRights};
+use std::alloc::AllocError;
+
+impl Spaces {
+    /// A port dies: names that stand for rights to it become dead names, and dead-name requests that were to tell it go.
+    /// Where memory is wanted the changes are given up.
+    pub fn bury(&mut self, port: u64) -> Result<(), AllocError>
+        ensures ok { OnOk result (self.new ≡ record self.old { current = map_values (map_values (entry_after_death port)) self.old.current }) }
+        ensures err { OnErr result (self.new ≡ spaces_at_rest self.old.before) }
+    {
+        self.are_small();
+        let mut at: u64 = 0;
+        while let Some(place) = self.next_mention(port, at) {
+            self.bury_at(port, place)?;
+            let Some(next) = place.checked_add(1) else {
+                self.are_small();
+                return Ok(());
+            };
+            at = next;
+        }
+        self.are_small();
+        Ok(())
+    }
+
+    /// Names and the numbers of spaces are words. It does nothing but show it.
+    pub fn are_small(&self)
+        ensures { AreSmall self.now.current }
+    {
+        let _ = &self.table;
+    }
+
+    /// The first place from one on that has to do with a port.
+    fn next_mention(&self, port: u64, from: u64) -> Option<u64>
+        ensures { IsNextMention port self.now.current from result }
+    {
+        match (
+            self.next_holder(port, from),
+            self.next_requester(port, from),
+        ) {
+            (Some(holder), Some(requester)) => Some(holder.min(requester)),
+            (Some(holder), None) => Some(holder),
+            (None, requester) => requester,
+        }
+    }
+
+    /// The name of a place becomes what it is after the death of a port.
+    fn bury_at(&mut self, port: u64, number: u64) -> Result<(), AllocError>
+        ensures ok { OnOk result (MatchOption (entry_in self.old.current (number / 2 ^ 32) (number % 2 ^ 32)) (self.new ≡ self.old)
+            (λ entry. self.new ≡ record self.old { current = names_changed self.old.current (number / 2 ^ 32) (λ names. map.insert names (number % 2 ^ 32) (entry_after_death port entry)) })) }
+        ensures err { OnErr result (self.new ≡ spaces_at_rest self.old.before) }
+    {
+        let space = (number / (1 << 32)) as u32;
+        let name = (number % (1 << 32)) as u32;
+        let Some(entry) = self.entry(space, name) else {
+            return Ok(());
+        };
+        self.put_name(space, name, after_death(entry, port))
+    }
+}
+
+/// What a name becomes as a port dies.
+#[tactic(auto, using(crate::specs::Burying::few_after_death))]
+fn after_death(entry: Entry, port: u64) -> Entry
+    requires few { AreFewReferences entry }
+    ensures value { result ≡ entry_after_death port entry }
+    ensures few { AreFewReferences result }
+{
+    match entry {
+        Entry::Port(rights) if rights.port == port => {
+            dead_name(rights.send, rights.dead_name_target)
+        }
+        Entry::Port(rights) => Entry::Port(PortRights {
+            dead_name_target: without_target(port, rights.dead_name_target),
+            ..rights
+        }),
+        Entry::SendOnce {
+            port: other,
+            dead_name_target,
+        } if other == port => dead_name(1, dead_name_target),
+        Entry::SendOnce {
+            port: other,
+            dead_name_target,
+        } => Entry::SendOnce {
+            port: other,
+            dead_name_target: without_target(port, dead_name_target),
+        },
+        Entry::Set | Entry::Dead { .. } => entry,
+    }
+}
+
+/// A dead name with these references, and one more for a dead-name request.
+fn dead_name(references: u32, target: Option<u64>) -> Entry
+    requires { references < 2 ^ 32 - 1 }
+    ensures { result ≡ Dead (references + one_more_if target) }
+{
+    let more = match target {
+        Some(_) => 1,
+        None => 0,
+    };
+    Entry::Dead {
+        references: references + more,
+    }
+}
+
+/// The target of a request, unless it is this port.
+fn without_target(port: u64, target: Option<u64>) -> Option<u64>
+    ensures { result ≡ without_target port target }
+{
+    match target {
+        Some(other) if other != port => Some(other),
+        _ => None,
+    }
+}

@@ -1,0 +1,135 @@
+//! The names by the ports that they have to do with, as plain tables.
+ghost use Rattle.std.specs.Prelude.{◌≡◌, IfOk, OnOk, option_and_then};
+ghost use Rattle.std.specs.FinMap as map;
+ghost use Rattle.ipc_model.specs.state.State.{received_port, request_of};
+ghost use Rattle.spaces.specs.Indexes.{IsMoved, SameBefore, AreGivenUp, AreKept};
+ghost use Rattle.spaces.specs.Looking.{port_named};
+ghost use Rattle.tracked_map.specs.Tracked.{at_rest};
+
+use crate::counting::{are_words, count_anew};
+use ipc_model::Entry;
+use pair_counts::PairCounts;
+use place_index::PlaceIndex;
+use std::alloc::{AllocError, Global};
+
+/// The places of names, each a space's number and the name as one number: by the port that a name stands for a right to,
+/// by the target of its dead-name request, and by the port whose receive right it holds; and how many send and send-once
+/// rights names stand for.
+#[derive(Drop)]
+pub(crate) struct NameIndexes {
+    pub(crate) holders: PlaceIndex,
+    pub(crate) requesters: PlaceIndex,
+    pub(crate) receivers: PlaceIndex,
+    pub(crate) counts: PairCounts,
+}
+
+impl NameIndexes {
+    /// Indexes of nothing. They take no memory.
+    pub(crate) fn new(alloc: Global) -> Self
+        ensures held { result.holders ≡ at_rest map.empty }
+        ensures requested { result.requesters ≡ at_rest map.empty }
+        ensures received { result.receivers ≡ at_rest map.empty }
+        ensures counted { result.counts ≡ at_rest map.empty }
+    {
+        NameIndexes {
+            holders: PlaceIndex::new(alloc),
+            requesters: PlaceIndex::new(alloc),
+            receivers: PlaceIndex::new(alloc),
+            counts: PairCounts::new(alloc),
+        }
+    }
+
+    /// What stands at a place is replaced. Where memory is wanted the changes are to be given up.
+    pub(crate) fn change(
+        &mut self,
+        place: u64,
+        former: Option<Entry>,
+        entry: Option<Entry>,
+    ) -> Result<(), AllocError>
+        ensures ok { OnOk result (IsMoved self.old self.new place former entry) }
+        ensures before { SameBefore self.old self.new }
+    {
+        self.holders.change(place, port_of(former), port_of(entry))?;
+        self.requesters
+            .change(place, target_of(former), target_of(entry))?;
+        self.receivers
+            .change(place, received_of(former), received_of(entry))?;
+        count_anew(&mut self.counts, former, entry)?;
+        are_words(former);
+        are_words(entry);
+        Ok(())
+    }
+
+    /// The same indexes again, with the changes to keep or to give up.
+    pub(crate) fn copy(&self) -> Result<NameIndexes, AllocError>
+        ensures { IfOk result (λ copy. copy ≡ self.now) }
+    {
+        let holders = self.holders.copy()?;
+        let requesters = self.requesters.copy()?;
+        let receivers = self.receivers.copy()?;
+        let counts = self.counts.copy()?;
+        Ok(NameIndexes {
+            holders,
+            requesters,
+            receivers,
+            counts,
+        })
+    }
+
+    /// Keeps the changes. It takes no memory.
+    pub(crate) fn keep(&mut self)
+        ensures { AreKept self.old self.new }
+    {
+        self.holders.keep();
+        self.requesters.keep();
+        self.receivers.keep();
+        self.counts.keep();
+    }
+
+    /// Gives the changes up. It takes no memory.
+    pub(crate) fn give_up(&mut self)
+        ensures { AreGivenUp self.old self.new }
+    {
+        self.holders.give_up();
+        self.requesters.give_up();
+        self.receivers.give_up();
+        self.counts.give_up();
+    }
+}
+
+/// The port that a name stands for a right to.
+fn port_of(entry: Option<Entry>) -> Option<u64>
+    ensures { result ≡ option_and_then port_named entry }
+{
+    match entry {
+        Some(Entry::Port(rights)) => Some(rights.port),
+        Some(Entry::SendOnce { port, .. }) => Some(port),
+        _ => None,
+    }
+}
+
+/// The target of a name's dead-name request.
+pub(crate) fn target_of(entry: Option<Entry>) -> Option<u64>
+    ensures { result ≡ option_and_then request_of entry }
+{
+    match entry {
+        Some(Entry::Port(rights)) => rights.dead_name_target,
+        Some(
+            Entry::SendOnce {
+                dead_name_target,
+                ..
+            },
+        ) => dead_name_target,
+        _ => None,
+    }
+}
+
+/// The port whose receive right a name holds.
+fn received_of(entry: Option<Entry>) -> Option<u64>
+    ensures { result ≡ option_and_then received_port entry }
+{
+    match entry {
+        Some(Entry::Port(rights)) if rights.receive => Some(rights.port),
+        _ => None,
+    }
+}

@@ -1,0 +1,16 @@
+//! The spaces with their names, whose changes are kept or given up.
+#![tactic(auto)]
+
+mod counting;
+mod deaths;
+mod indexes;
+mod moves;
+mod reads;
+mod slot;
+mod slots;
+mod spaces;
+mod table;
+mod walks;
+
+pub use spaces::Spaces;
+pub use table::SpaceTable;

@@ -1,0 +1,51 @@
+// Changes of a space made of several changes of its names.
+ghost use Rattle.std.specs.Prelude.{◌≡◌, ◌≤◌, None, OnOk, OnErr};
+ghost use Rattle.std.specs.FinMap as map;
+ghost use Rattle.codes.specs.declared.limits.TheConstants.{MAX_NAMES};
+ghost use Rattle.port_space.specs.Renaming.{under_other_name};
+ghost use Rattle.spaces.specs.Looking.{entry_in};
+ghost use Rattle.spaces.specs.Reading.{names_of};
+ghost use Rattle.spaces.specs.Slots.{names_changed, spaces_at_rest};
+
+use crate::Spaces;
+use std::alloc::AllocError;
+
+impl Spaces {
+    /// Has what stands under one name of a space, if anything does, stand under another. Where memory is wanted the changes
+    /// are given up.
+    pub fn rename(&mut self, space: u32, from: u32, to: u32) -> Result<(), AllocError>
+        requires unused { entry_in self.old.current space to ≡ None }
+        ensures ok { OnOk result (self.new ≡ record self.old { current = names_changed self.old.current space (λ names. under_other_name names from to) }) }
+        ensures err { OnErr result (self.new ≡ spaces_at_rest self.old.before) }
+    {
+        self.are_few(space);
+        let Some(entry) = self.entry(space, from) else {
+            return Ok(());
+        };
+        self.remove_name(space, from)?;
+        self.put_name(space, to, entry)?;
+        Ok(())
+    }
+
+    /// A space has at most `MAX_NAMES` names. It does nothing but show it.
+    fn are_few(&self, space: u32)
+        ensures { map.len (names_of self.now.current space) ≤ MAX_NAMES }
+    {
+        if let Some(names) = self.table.names(space) {
+            names.are_few();
+        }
+    }
+
+    /// Takes a space out with all its names, if it is there. Where memory is wanted the changes are given up.
+    pub fn remove(&mut self, space: u32) -> Result<(), AllocError>
+        ensures ok { OnOk result (self.new ≡ record self.old { current = map.remove self.old.current space }) }
+        ensures err { OnErr result (self.new ≡ spaces_at_rest self.old.before) }
+    {
+        let mut at: u64 = 0;
+        while let Some((name, _)) = self.next_entry(space, at) {
+            self.remove_name(space, name)?;
+            at = u64::from(name) + 1;
+        }
+        self.close(space)
+    }
+}

@@ -1,0 +1,151 @@
+ghost use Rattle.std.specs.Prelude.{◌≡◌, ◌<◌, None, Some, IfOk, OnOk, OnErr, IsSome, is_some, option_map, option_copied};
+ghost use Rattle.std.specs.FinMap as map;
+ghost use Rattle.codes.specs.declared.limits.TheConstants.{MAX_NAMES};
+ghost use Rattle.ipc_model.specs.state.State.{Names};
+ghost use Rattle.port_space.specs.References.{AreFewReferences};
+ghost use Rattle.spaces.specs.Slots.{slot_at_rest};
+
+use ipc_model::Entry;
+use port_space::PortSpace;
+use std::alloc::{AllocError, Global};
+use std::marker::Model;
+
+/// A slot for a space, which may be there or not, whose changes are kept or given up.
+#[derive(Drop)]
+pub(crate) struct Space {
+    names: PortSpace,
+    is_there: bool,
+    was_there: bool,
+}
+
+impl Model for Space {
+    ghost use Rattle.std.specs.Prelude.{◌≡◌, false, None, Some, if◌then◌else◌};
+    ghost use Rattle.std.specs.FinMap as map;
+    ghost use Rattle.spaces.specs.Slots.{SpaceSlot, slot_code};
+
+    ghost Value = { SpaceSlot };
+
+    ghost coded = { slot_code };
+
+    ghost view = { λ s. record {
+      before = if s.was_there then Some s.names.before else None;
+      current = if s.is_there then Some s.names.current else None;
+    } };
+
+    // A space that isn't there has no names.
+    ghost invariant = { λ s. (s.was_there ≡ false → s.names.before ≡ map.empty) × (s.is_there ≡ false → s.names.current ≡ map.empty) };
+}
+
+impl Space {
+    /// A slot without a space. It takes no memory.
+    pub(crate) fn new(alloc: Global) -> Self
+        ensures { result ≡ slot_at_rest None }
+    {
+        Space {
+            names: PortSpace::new(alloc),
+            is_there: false,
+            was_there: false,
+        }
+    }
+
+    /// The names of the space, if it is there.
+    pub(crate) fn names(&self) -> Option<&PortSpace>
+        ensures { option_map (λ names. names.current) (option_copied result) ≡ self.now.current }
+    {
+        self.is_there.then_some(&self.names)
+    }
+
+    /// Whether the space is there.
+    pub(crate) fn is_there(&self) -> bool
+        ensures { result ≡ is_some self.now.current }
+    {
+        self.is_there
+    }
+
+    /// Whether the space was there.
+    pub(crate) fn was_there(&self) -> bool
+        ensures { result ≡ is_some self.now.before }
+    {
+        self.was_there
+    }
+
+    /// Makes a space without names, where none is there.
+    pub(crate) fn open(&mut self)
+        requires { self.old.current ≡ None }
+        ensures { self.new ≡ record self.old { current = Some map.empty } }
+    {
+        self.is_there = true;
+    }
+
+    /// The space, which has no names, goes.
+    pub(crate) fn close(&mut self)
+        requires { (names : Names) → self.old.current ≡ Some names → names ≡ map.empty }
+        ensures { self.new ≡ record self.old { current = None } }
+    {
+        self.is_there = false;
+    }
+
+    /// Has a name stand for this, where the space is there. Where memory is wanted the changes are given up.
+    pub(crate) fn put(&mut self, name: u32, entry: Entry) -> Result<(), AllocError>
+        requires room { (names : Names) → self.old.current ≡ Some names → map.get names name ≡ None → map.len names < MAX_NAMES }
+        requires few { AreFewReferences entry }
+        ensures ok { OnOk result (self.new ≡ record self.old { current = option_map (λ names. map.insert names name entry) self.old.current }) }
+        ensures err { OnErr result (self.new ≡ slot_at_rest self.old.before) }
+    {
+        if !self.is_there {
+            return Ok(());
+        }
+        match self.names.put(name, entry) {
+            Ok(()) => Ok(()),
+            Err(error) => {
+                self.is_there = self.was_there;
+                Err(error)
+            }
+        }
+    }
+
+    /// Takes a name out of use. Where memory is wanted the changes are given up.
+    pub(crate) fn remove(&mut self, name: u32) -> Result<(), AllocError>
+        ensures ok { OnOk result (self.new ≡ record self.old { current = option_map (λ names. map.remove names name) self.old.current }) }
+        ensures err { OnErr result (self.new ≡ slot_at_rest self.old.before) }
+    {
+        if !self.is_there {
+            return Ok(());
+        }
+        match self.names.remove(name) {
+            Ok(()) => Ok(()),
+            Err(error) => {
+                self.is_there = self.was_there;
+                Err(error)
+            }
+        }
+    }
+
+    /// The same slot again, with the changes to keep or to give up.
+    pub(crate) fn copy(&self) -> Result<Space, AllocError>
+        ensures { IfOk result (λ copy. copy ≡ self.now) }
+    {
+        let names = self.names.copy()?;
+        Ok(Space {
+            names,
+            is_there: self.is_there,
+            was_there: self.was_there,
+        })
+    }
+
+    /// Keeps the changes. It takes no memory.
+    pub(crate) fn keep(&mut self)
+        ensures { self.new ≡ slot_at_rest self.old.current }
+    {
+        self.names.keep();
+        self.was_there = self.is_there;
+    }
+
+    /// Gives the changes up. It takes no memory.
+    pub(crate) fn give_up(&mut self)
+        ensures { self.new ≡ slot_at_rest self.old.before }
+    {
+        self.names.give_up();
+        self.is_there = self.was_there;
+    }
+}

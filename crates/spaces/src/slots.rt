@@ -1,0 +1,133 @@
+// What is done to one slot, or to those that were touched.
+ghost use Rattle.std.specs.Prelude.{◌≡◌, ◌<◌, [], None, Some, OnOk, OnErr, option_map};
+ghost use Rattle.std.specs.FinMap as map;
+ghost use Rattle.codes.specs.declared.limits.TheConstants.{MAX_NAMES};
+ghost use Rattle.ipc_model.specs.state.State.{Names};
+ghost use Rattle.port_space.specs.References.{AreFewReferences};
+ghost use Rattle.spaces.specs.Slots.{SpaceSlot, slot_at_rest, was, is, kept_slot, given_slot, slot_changed, slot_opened};
+ghost use Rattle.tracked_map.specs.Slots.{picked};
+ghost use Rattle.tracked_map.specs.Touched.{AreTouched, turned};
+
+use crate::slot::Space;
+use ipc_model::Entry;
+use number_map::NumberMap;
+use std::alloc::{AllocError, Global};
+
+/// Makes a space without names where none is there.
+pub(crate) fn open_at(
+    alloc: Global,
+    slots: &mut NumberMap<Space>,
+    space: u32,
+) -> Result<(), AllocError>
+    requires absent { (slot : SpaceSlot) → map.get slots.old space ≡ Some slot → slot.current ≡ None }
+    ensures ok { OnOk result (slots.new ≡ slot_opened slots.old space) }
+    ensures err { OnErr result (slots.new ≡ slots.old) }
+{
+    if let Some(slot) = slots.get_mut(u128::from(space)) {
+        slot.open();
+        return Ok(());
+    }
+    let mut slot = Space::new(alloc);
+    slot.open();
+    slots.insert(u128::from(space), slot)?;
+    Ok(())
+}
+
+/// A space without names goes.
+pub(crate) fn close_at(slots: &mut NumberMap<Space>, space: u32)
+    requires empty { (slot : SpaceSlot) → map.get slots.old space ≡ Some slot → (names : Names) → slot.current ≡ Some names → names ≡ map.empty }
+    ensures { slots.new ≡ slot_changed slots.old space (λ slot. record slot { current = None }) }
+{
+    if let Some(slot) = slots.get_mut(u128::from(space)) {
+        slot.close();
+    }
+}
+
+/// Has a name of a space stand for this. Where memory is wanted the changes of the space are given up.
+pub(crate) fn put_at(
+    slots: &mut NumberMap<Space>,
+    space: u32,
+    name: u32,
+    entry: Entry,
+) -> Result<(), AllocError>
+    requires room { (slot : SpaceSlot) → map.get slots.old space ≡ Some slot → (names : Names) → slot.current ≡ Some names → map.get names name ≡ None → map.len names < MAX_NAMES }
+    requires few { AreFewReferences entry }
+    ensures ok { OnOk result (slots.new ≡ slot_changed slots.old space (λ slot. record slot { current = option_map (λ names. map.insert names name entry) slot.current })) }
+    ensures err { OnErr result (slots.new ≡ slot_changed slots.old space (λ slot. slot_at_rest slot.before)) }
+{
+    match slots.get_mut(u128::from(space)) {
+        Some(slot) => slot.put(name, entry),
+        None => Ok(()),
+    }
+}
+
+/// Takes a name of a space out of use. Where memory is wanted the changes of the space are given up.
+pub(crate) fn remove_at(
+    slots: &mut NumberMap<Space>,
+    space: u32,
+    name: u32,
+) -> Result<(), AllocError>
+    ensures ok { OnOk result (slots.new ≡ slot_changed slots.old space (λ slot. record slot { current = option_map (λ names. map.remove names name) slot.current })) }
+    ensures err { OnErr result (slots.new ≡ slot_changed slots.old space (λ slot. slot_at_rest slot.before)) }
+{
+    match slots.get_mut(u128::from(space)) {
+        Some(slot) => slot.remove(name),
+        None => Ok(()),
+    }
+}
+
+/// Keeps the changes of the slots of these keys.
+pub(crate) fn keep_slots(slots: &mut NumberMap<Space>, touched: &[u128])
+    requires { AreTouched was is slots.old touched.now }
+    ensures shown { picked is slots.new ≡ picked is slots.old }
+    ensures rest { AreTouched was is slots.new [] }
+{
+    let mut rest = touched;
+    while let Some((key, before)) = rest.split_last() {
+        keep_slot(slots, *key);
+        rest = before;
+    }
+}
+
+fn keep_slot(slots: &mut NumberMap<Space>, key: u128)
+    ensures { slots.new ≡ turned is kept_slot slots.old key }
+{
+    let Some(slot) = slots.get(key) else {
+        return;
+    };
+    if slot.is_there() {
+        if let Some(slot) = slots.get_mut(key) {
+            slot.keep();
+        }
+    } else {
+        slots.remove(key);
+    }
+}
+
+/// Gives the changes of the slots of these keys up.
+pub(crate) fn give_slots_up(slots: &mut NumberMap<Space>, touched: &[u128])
+    requires { AreTouched is was slots.old touched.now }
+    ensures shown { picked was slots.new ≡ picked was slots.old }
+    ensures rest { AreTouched is was slots.new [] }
+{
+    let mut rest = touched;
+    while let Some((key, before)) = rest.split_last() {
+        give_slot_up(slots, *key);
+        rest = before;
+    }
+}
+
+fn give_slot_up(slots: &mut NumberMap<Space>, key: u128)
+    ensures { slots.new ≡ turned was given_slot slots.old key }
+{
+    let Some(slot) = slots.get(key) else {
+        return;
+    };
+    if slot.was_there() {
+        if let Some(slot) = slots.get_mut(key) {
+            slot.give_up();
+        }
+    } else {
+        slots.remove(key);
+    }
+}

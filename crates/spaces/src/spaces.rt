@@ -1,0 +1,260 @@
+ghost use Rattle.std.specs.Prelude.{◌≡◌, ◌<◌, ◌^◌, None, Some, IfOk, OnOk, OnErr, IfSome, is_some};
+ghost use Rattle.std.specs.FinMap as map;
+ghost use Rattle.codes.specs.declared.limits.TheConstants.{MAX_NAMES};
+ghost use Rattle.ipc_laws.specs.MapSums.{total};
+ghost use Rattle.ipc_laws.specs.Weights.{names_weigh};
+ghost use Rattle.ipc_model.specs.declared.message.RightKind.TheVariants as kind;
+ghost use Rattle.ipc_model.specs.state.State.{Names, received_port, request_of};
+ghost use Rattle.pair_counts.specs.Rights.{right_weight};
+ghost use Rattle.port_space.specs.References.{AreFewReferences};
+ghost use Rattle.spaces.specs.Indexes.{IsMoved, IsNextAt, SameBefore};
+ghost use Rattle.spaces.specs.Looking.{entry_in, place, port_named};
+ghost use Rattle.spaces.specs.Slots.{spaces_at_rest, names_changed};
+
+use crate::indexes::NameIndexes;
+use crate::table::SpaceTable;
+use ipc_model::Entry;
+use std::alloc::{AllocError, Global};
+use std::marker::Model;
+
+/// The spaces with their names, whose changes are kept or given up, and for each port the names that have to do with it.
+/// Contracts see the spaces as they were when they last were, and as they are. A change for which memory is wanted gives
+/// all changes up.
+#[derive(Drop)]
+pub struct Spaces {
+    pub(crate) table: SpaceTable,
+    indexes: NameIndexes,
+}
+
+impl Model for Spaces {
+    ghost use Rattle.spaces.specs.Indexes.{AreIndexed};
+    ghost use Rattle.spaces.specs.Slots.{TrackedSpaces, spaces_code};
+
+    ghost Value = { TrackedSpaces };
+
+    ghost coded = { spaces_code };
+
+    ghost view = { λ s. s.table };
+
+    ghost invariant = { λ s.
+        AreIndexed s.table.before s.indexes.holders.before s.indexes.requesters.before s.indexes.receivers.before s.indexes.counts.before
+        × AreIndexed s.table.current s.indexes.holders.current s.indexes.requesters.current s.indexes.receivers.current s.indexes.counts.current };
+}
+
+impl Spaces {
+    /// No spaces. It takes no memory.
+    pub fn new(alloc: Global) -> Self
+        ensures { result ≡ spaces_at_rest map.empty }
+    {
+        Spaces {
+            table: SpaceTable::new(alloc),
+            indexes: NameIndexes::new(alloc),
+        }
+    }
+
+    /// How many spaces there are.
+    pub fn len(&self) -> usize
+        ensures { result ≡ map.len self.now.current }
+    {
+        self.table.len()
+    }
+
+    /// Whether a space is there.
+    pub fn contains(&self, space: u32) -> bool
+        ensures { result ≡ is_some (map.get self.now.current space) }
+    {
+        self.table.contains(space)
+    }
+
+    /// What a name of a space stands for, if it is in use.
+    pub fn entry(&self, space: u32, name: u32) -> Option<Entry>
+        ensures value { result ≡ entry_in self.now.current space name }
+        ensures few { IfSome result AreFewReferences }
+    {
+        entry_of(&self.table, space, name)
+    }
+
+    /// Has a name of a space stand for this, where the space is there. Where memory is wanted the changes are given up.
+    pub fn put_name(&mut self, space: u32, name: u32, entry: Entry) -> Result<(), AllocError>
+        requires room { (names : Names) → map.get self.old.current space ≡ Some names → map.get names name ≡ None → map.len names < MAX_NAMES }
+        requires few { AreFewReferences entry }
+        ensures ok { OnOk result (self.new ≡ record self.old { current = names_changed self.old.current space (λ names. map.insert names name entry) }) }
+        ensures err { OnErr result (self.new ≡ spaces_at_rest self.old.before) }
+    {
+        if !self.table.contains(space) {
+            return Ok(());
+        }
+        match put_in_both(&mut self.table, &mut self.indexes, space, name, entry) {
+            Ok(()) => Ok(()),
+            Err(error) => {
+                self.table.give_up();
+                self.indexes.give_up();
+                Err(error)
+            }
+        }
+    }
+
+    /// Takes a name of a space out of use. Where memory is wanted the changes are given up.
+    pub fn remove_name(&mut self, space: u32, name: u32) -> Result<(), AllocError>
+        ensures ok { OnOk result (self.new ≡ record self.old { current = names_changed self.old.current space (λ names. map.remove names name) }) }
+        ensures err { OnErr result (self.new ≡ spaces_at_rest self.old.before) }
+    {
+        if !self.table.contains(space) {
+            return Ok(());
+        }
+        match remove_from_both(&mut self.table, &mut self.indexes, space, name) {
+            Ok(()) => Ok(()),
+            Err(error) => {
+                self.table.give_up();
+                self.indexes.give_up();
+                Err(error)
+            }
+        }
+    }
+
+    /// Makes a space without names under a number that no space has. Where memory is wanted the changes are given up.
+    pub fn add(&mut self, space: u32) -> Result<(), AllocError>
+        requires absent { map.get self.old.current space ≡ None }
+        requires room { map.len self.old.current < 2 ^ 32 }
+        ensures ok { OnOk result (self.new ≡ record self.old { current = map.insert self.old.current space map.empty }) }
+        ensures err { OnErr result (self.new ≡ spaces_at_rest self.old.before) }
+    {
+        match self.table.add(space) {
+            Ok(()) => Ok(()),
+            Err(error) => {
+                self.indexes.give_up();
+                Err(error)
+            }
+        }
+    }
+
+    /// A space without names goes, if it is there. Where memory is wanted the changes are given up.
+    pub fn close(&mut self, space: u32) -> Result<(), AllocError>
+        requires empty { (names : Names) → map.get self.old.current space ≡ Some names → names ≡ map.empty }
+        ensures ok { OnOk result (self.new ≡ record self.old { current = map.remove self.old.current space }) }
+        ensures err { OnErr result (self.new ≡ spaces_at_rest self.old.before) }
+    {
+        match self.table.close(space) {
+            Ok(()) => Ok(()),
+            Err(error) => {
+                self.indexes.give_up();
+                Err(error)
+            }
+        }
+    }
+
+    /// The first place from one on whose name stands for a right to a port.
+    pub fn next_holder(&self, port: u64, from: u64) -> Option<u64>
+        ensures { IsNextAt port_named self.now.current port from result }
+    {
+        self.indexes.holders.next(port, from)
+    }
+
+    /// The first place from one on whose name's dead-name request has a port for its target.
+    pub fn next_requester(&self, port: u64, from: u64) -> Option<u64>
+        ensures { IsNextAt request_of self.now.current port from result }
+    {
+        self.indexes.requesters.next(port, from)
+    }
+
+    /// The first place from one on whose name holds the receive right of a port.
+    pub fn next_receiver(&self, port: u64, from: u64) -> Option<u64>
+        ensures { IsNextAt received_port self.now.current port from result }
+    {
+        self.indexes.receivers.next(port, from)
+    }
+
+    /// The same spaces again, with the changes to keep or to give up.
+    pub fn copy(&self) -> Result<Spaces, AllocError>
+        ensures { IfOk result (λ copy. copy ≡ self.now) }
+    {
+        let table = self.table.copy()?;
+        let indexes = self.indexes.copy()?;
+        Ok(Spaces { table, indexes })
+    }
+
+    /// How many send rights to a port names hold.
+    pub fn sends(&self, port: u64) -> u64
+        ensures value { result ≡ total (λ space names. names_weigh (right_weight kind.Send port) names) self.now.current }
+        ensures few { result < 2 ^ 63 }
+    {
+        self.indexes.counts.sends(port)
+    }
+
+    /// How many send-once rights to a port names hold, and dead-name requests have as targets.
+    pub fn send_onces(&self, port: u64) -> u64
+        ensures value { result ≡ total (λ space names. names_weigh (right_weight kind.SendOnce port) names) self.now.current }
+        ensures few { result < 2 ^ 63 }
+    {
+        self.indexes.counts.send_onces(port)
+    }
+
+    /// Keeps the changes. It takes no memory.
+    pub fn keep(&mut self)
+        ensures { self.new ≡ spaces_at_rest self.old.current }
+    {
+        self.table.keep();
+        self.indexes.keep();
+    }
+
+    /// Gives the changes up. It takes no memory.
+    pub fn give_up(&mut self)
+        ensures { self.new ≡ spaces_at_rest self.old.before }
+    {
+        self.table.give_up();
+        self.indexes.give_up();
+    }
+}
+
+/// The number of a name in a space.
+fn place(space: u32, name: u32) -> u64
+    ensures { result ≡ place space name }
+{
+    u64::from(space) * (1 << 32) + u64::from(name)
+}
+
+/// What a name of a space stands for, if it is in use.
+fn entry_of(table: &SpaceTable, space: u32, name: u32) -> Option<Entry>
+    ensures value { result ≡ entry_in table.now.current space name }
+    ensures few { IfSome result AreFewReferences }
+{
+    match table.names(space) {
+        Some(names) => names.get(name),
+        None => None,
+    }
+}
+
+fn put_in_both(
+    table: &mut SpaceTable,
+    indexes: &mut NameIndexes,
+    space: u32,
+    name: u32,
+    entry: Entry,
+) -> Result<(), AllocError>
+    requires room { (names : Names) → map.get table.old.current space ≡ Some names → map.get names name ≡ None → map.len names < MAX_NAMES }
+    requires few { AreFewReferences entry }
+    ensures table { OnOk result (table.new ≡ record table.old { current = names_changed table.old.current space (λ names. map.insert names name entry) }) }
+    ensures indexes { OnOk result (IsMoved indexes.old indexes.new (place space name) (entry_in table.old.current space name) (Some entry)) }
+    ensures before { table.new.before ≡ table.old.before }
+    ensures indexes_before { SameBefore indexes.old indexes.new }
+{
+    let former = entry_of(table, space, name);
+    indexes.change(place(space, name), former, Some(entry))?;
+    table.put(space, name, entry)
+}
+
+fn remove_from_both(
+    table: &mut SpaceTable,
+    indexes: &mut NameIndexes,
+    space: u32,
+    name: u32,
+) -> Result<(), AllocError>
+    ensures table { OnOk result (table.new ≡ record table.old { current = names_changed table.old.current space (λ names. map.remove names name) }) }
+    ensures indexes { OnOk result (IsMoved indexes.old indexes.new (place space name) (entry_in table.old.current space name) None) }
+    ensures before { table.new.before ≡ table.old.before }
+    ensures indexes_before { SameBefore indexes.old indexes.new }
+{
+    let former = entry_of(table, space, name);
+    indexes.change(place(space, name), former, None)?;
+    table.remove(space, name)
+}

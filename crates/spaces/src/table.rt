@@ -1,0 +1,214 @@
+ghost use Rattle.std.specs.Prelude.{◌≡◌, ◌<◌, ◌^◌, None, Some, IfOk, OnOk, OnErr, is_some, option_map, option_copied};
+ghost use Rattle.std.specs.FinMap as map;
+ghost use Rattle.codes.specs.declared.limits.TheConstants.{MAX_NAMES};
+ghost use Rattle.ipc_model.specs.state.State.{Names};
+ghost use Rattle.port_space.specs.References.{AreFewReferences};
+ghost use Rattle.spaces.specs.Slots.{spaces_at_rest, names_changed};
+
+use crate::slot::Space;
+use crate::slots::{close_at, give_slots_up, keep_slots, open_at, put_at, remove_at};
+use ipc_model::Entry;
+use number_map::{Copier, NumberMap};
+use port_space::PortSpace;
+use std::alloc::{AllocError, Global};
+use std::marker::Model;
+
+/// The spaces with their names, whose changes are kept or given up. Contracts see the spaces as they were when they last
+/// were, and as they are. A change for which memory is wanted gives all changes up.
+#[derive(Drop)]
+pub struct SpaceTable {
+    alloc: Global,
+    slots: NumberMap<Space>,
+    /// The slots that may have changed.
+    touched: Vec<u128>,
+    count: usize,
+    count_before: usize,
+}
+
+impl Model for SpaceTable {
+    ghost use Rattle.std.specs.Prelude.{◌≡◌};
+    ghost use Rattle.std.specs.FinMap as map;
+    ghost use Rattle.spaces.specs.Slots.{TrackedSpaces, spaces_code, was, is};
+    ghost use Rattle.tracked_map.specs.Slots.{picked};
+    ghost use Rattle.tracked_map.specs.Touched.{AreTouched};
+
+    ghost Value = { TrackedSpaces };
+
+    ghost coded = { spaces_code };
+
+    ghost view = { λ t. record { before = picked was t.slots; current = picked is t.slots } };
+
+    ghost invariant = { λ t. AreTouched was is t.slots t.touched.items × (t.count ≡ map.len (picked is t.slots)) × (t.count_before ≡ map.len (picked was t.slots)) };
+}
+
+/// Copies a slot.
+#[derive(Drop)]
+struct SpaceCopier;
+
+impl Copier<Space> for SpaceCopier {
+    fn copy(&self, value: &Space) -> Result<Space, AllocError> {
+        value.copy()
+    }
+}
+
+impl SpaceTable {
+    /// No spaces. It takes no memory.
+    pub fn new(alloc: Global) -> Self
+        ensures { result ≡ spaces_at_rest map.empty }
+    {
+        SpaceTable {
+            alloc,
+            slots: NumberMap::new(alloc),
+            touched: Vec::new(alloc),
+            count: 0,
+            count_before: 0,
+        }
+    }
+
+    /// How many spaces there are.
+    pub fn len(&self) -> usize
+        ensures { result ≡ map.len self.now.current }
+    {
+        self.count
+    }
+
+    /// Whether a space is there.
+    pub fn contains(&self, space: u32) -> bool
+        ensures { result ≡ is_some (map.get self.now.current space) }
+    {
+        self.names(space).is_some()
+    }
+
+    /// The names of a space, if it is there.
+    pub fn names(&self, space: u32) -> Option<&PortSpace>
+        ensures { option_map (λ names. names.current) (option_copied result) ≡ map.get self.now.current space }
+    {
+        match self.slots.get(u128::from(space)) {
+            Some(slot) => slot.names(),
+            None => None,
+        }
+    }
+
+    /// Makes a space without names under a number that no space has. Where memory is wanted the changes are given up.
+    pub fn add(&mut self, space: u32) -> Result<(), AllocError>
+        requires absent { map.get self.old.current space ≡ None }
+        requires room { map.len self.old.current < 2 ^ 32 }
+        ensures ok { OnOk result (self.new ≡ record self.old { current = map.insert self.old.current space map.empty }) }
+        ensures err { OnErr result (self.new ≡ spaces_at_rest self.old.before) }
+    {
+        if self.touched.reserve(1).is_err() {
+            self.give_up();
+            return Err(AllocError);
+        }
+        match open_at(self.alloc, &mut self.slots, space) {
+            Ok(()) => {
+                self.touched.push_reserved(u128::from(space));
+                self.count += 1;
+                Ok(())
+            }
+            Err(error) => {
+                self.give_up();
+                Err(error)
+            }
+        }
+    }
+
+    /// Has a name of a space stand for this, where the space is there. Where memory is wanted the changes are given up.
+    pub fn put(&mut self, space: u32, name: u32, entry: Entry) -> Result<(), AllocError>
+        requires room { (names : Names) → map.get self.old.current space ≡ Some names → map.get names name ≡ None → map.len names < MAX_NAMES }
+        requires few { AreFewReferences entry }
+        ensures ok { OnOk result (self.new ≡ record self.old { current = names_changed self.old.current space (λ names. map.insert names name entry) }) }
+        ensures err { OnErr result (self.new ≡ spaces_at_rest self.old.before) }
+    {
+        if self.touched.reserve(1).is_err() {
+            self.give_up();
+            return Err(AllocError);
+        }
+        match put_at(&mut self.slots, space, name, entry) {
+            Ok(()) => {
+                self.touched.push_reserved(u128::from(space));
+                Ok(())
+            }
+            Err(error) => {
+                give_slots_up(&mut self.slots, self.touched.as_slice());
+                self.touched.clear();
+                self.count = self.count_before;
+                Err(error)
+            }
+        }
+    }
+
+    /// Takes a name of a space out of use. Where memory is wanted the changes are given up.
+    pub fn remove(&mut self, space: u32, name: u32) -> Result<(), AllocError>
+        ensures ok { OnOk result (self.new ≡ record self.old { current = names_changed self.old.current space (λ names. map.remove names name) }) }
+        ensures err { OnErr result (self.new ≡ spaces_at_rest self.old.before) }
+    {
+        if self.touched.reserve(1).is_err() {
+            self.give_up();
+            return Err(AllocError);
+        }
+        match remove_at(&mut self.slots, space, name) {
+            Ok(()) => {
+                self.touched.push_reserved(u128::from(space));
+                Ok(())
+            }
+            Err(error) => {
+                give_slots_up(&mut self.slots, self.touched.as_slice());
+                self.touched.clear();
+                self.count = self.count_before;
+                Err(error)
+            }
+        }
+    }
+
+    /// A space without names goes, if it is there. Where memory is wanted the changes are given up.
+    pub fn close(&mut self, space: u32) -> Result<(), AllocError>
+        requires empty { (names : Names) → map.get self.old.current space ≡ Some names → names ≡ map.empty }
+        ensures ok { OnOk result (self.new ≡ record self.old { current = map.remove self.old.current space }) }
+        ensures err { OnErr result (self.new ≡ spaces_at_rest self.old.before) }
+    {
+        if self.touched.reserve(1).is_err() {
+            self.give_up();
+            return Err(AllocError);
+        }
+        if self.contains(space) {
+            close_at(&mut self.slots, space);
+            self.touched.push_reserved(u128::from(space));
+            self.count -= 1;
+        }
+        Ok(())
+    }
+
+    /// The same spaces again, with the changes to keep or to give up.
+    pub fn copy(&self) -> Result<SpaceTable, AllocError>
+        ensures { IfOk result (λ copy. copy ≡ self.now) }
+    {
+        let slots = self.slots.copy(&SpaceCopier)?;
+        let touched = Vec::from_slice(self.alloc, self.touched.as_slice())?;
+        Ok(SpaceTable {
+            alloc: self.alloc,
+            slots,
+            touched,
+            count: self.count,
+            count_before: self.count_before,
+        })
+    }
+
+    /// Keeps the changes. It takes no memory.
+    pub fn keep(&mut self)
+        ensures { self.new ≡ spaces_at_rest self.old.current }
+    {
+        keep_slots(&mut self.slots, self.touched.as_slice());
+        self.touched.clear();
+        self.count_before = self.count;
+    }
+
+    /// Gives the changes up. It takes no memory.
+    pub fn give_up(&mut self)
+        ensures { self.new ≡ spaces_at_rest self.old.before }
+    {
+        give_slots_up(&mut self.slots, self.touched.as_slice());
+        self.touched.clear();
+        self.count = self.count_before;
+    }
+}

@@ -1,0 +1,230 @@
+//! A map from numbers to values whose changes are kept or given up. Neither takes memory.
+#![tactic(auto)]
+
+ghost use Rattle.std.specs.Prelude.{◌≡◌, ℕ, ◌≤◌, ◌<◌, [], true, Some, None, OnOk, OnErr, MatchOption, is_some, option_copied, IfOk, ◌^◌};
+ghost use Rattle.std.specs.FinMap as map;
+ghost use Rattle.tracked_map.specs.Tracked.{at_rest, len_after, over, put, shown, unmarked, AreMarked, HasSlots};
+
+use number_map::{Copier, NumberMap};
+use std::alloc::{AllocError, Global};
+use std::marker::Model;
+
+/// A map from numbers to values that remembers what it was when its changes were last kept or given up. Contracts see
+/// the map as it was then (`before`) and as it is (`current`).
+///
+/// A value that is replaced or removed goes to the list of what was; its slot stays until then, so that giving a change up
+/// is a write in place.
+#[derive(Drop)]
+pub struct TrackedMap<V> {
+    alloc: Global,
+    slots: NumberMap<Option<V>>,
+    former: Vec<(u128, Option<V>)>,
+    len: usize,
+    len_before: usize,
+}
+
+impl<V> Model for TrackedMap<V> {
+    ghost use Rattle.tracked_map.specs.Tracked.{Tracked, tracked_code, over, shown, IsSound};
+
+    ghost Value = { Tracked V };
+
+    ghost coded = { tracked_code V.code };
+
+    ghost view = { λ t. record { before = over (shown t.slots) t.former.items; current = shown t.slots } };
+
+    ghost invariant = { λ t. IsSound t.slots t.former.items t.len t.len_before };
+}
+
+/// Copies what stands in a slot.
+#[derive(Drop)]
+struct SlotCopier;
+
+impl<V: Copy> Copier<Option<V>> for SlotCopier {
+    fn copy(&self, value: &Option<V>) -> Result<Option<V>, AllocError> {
+        Ok(*value)
+    }
+}
+
+impl<V> TrackedMap<V> {
+    /// A map of nothing. It takes no memory.
+    pub fn new(alloc: Global) -> Self
+        ensures { result ≡ at_rest map.empty }
+    {
+        TrackedMap {
+            alloc,
+            slots: NumberMap::new(alloc),
+            former: Vec::new(alloc),
+            len: 0,
+            len_before: 0,
+        }
+    }
+
+    /// How many keys have a value.
+    pub fn len(&self) -> usize
+        ensures { result ≡ map.len self.now.current }
+    {
+        self.len
+    }
+
+    /// The value of a key.
+    pub fn get(&self, key: u128) -> Option<&V>
+        ensures { option_copied result ≡ map.get self.now.current key }
+    {
+        let Some(slot) = self.slots.get(key) else {
+            return None;
+        };
+        slot.as_ref()
+    }
+
+    /// Whether a key has a value.
+    pub fn contains_key(&self, key: u128) -> bool
+        ensures { result ≡ is_some (map.get self.now.current key) }
+    {
+        self.get(key).is_some()
+    }
+
+    /// The least key from this one on that has a value, with its value.
+    pub fn next_from(&self, from: u128) -> Option<(u128, &V)>
+        ensures { MatchOption result ((key : ℕ) → from ≤ key → key < 2 ^ 128 → map.get self.now.current key ≡ None)
+            (λ e. (from ≤ e.0) × (map.get self.now.current e.0 ≡ Some e.1.now) × ((key : ℕ) → from ≤ key → key < e.0 → map.get self.now.current key ≡ None)) }
+    {
+        let mut at = from;
+        while let Some((key, slot)) = self.slots.next_from(at) {
+            if let Some(value) = slot {
+                return Some((key, value));
+            }
+            let Some(next) = key.checked_add(1) else {
+                return None;
+            };
+            at = next;
+        }
+        None
+    }
+}
+
+impl<V: Copy + Drop> TrackedMap<V> {
+    /// Sets the value of a key. Where memory is wanted nothing changed.
+    pub fn set(&mut self, key: u128, value: V) -> Result<(), AllocError>
+        ensures ok { OnOk result (self.new ≡ record self.old { current = map.insert self.old.current key value }) }
+        ensures err { OnErr result (self.new ≡ self.old) }
+    {
+        self.put(key, Some(value))
+    }
+
+    /// Removes the value of a key, if it has one. Where memory is wanted nothing changed.
+    pub fn remove(&mut self, key: u128) -> Result<(), AllocError>
+        ensures ok { OnOk result (self.new ≡ record self.old { current = map.remove self.old.current key }) }
+        ensures err { OnErr result (self.new ≡ self.old) }
+    {
+        self.put(key, None)
+    }
+
+    fn put(&mut self, key: u128, value: Option<V>) -> Result<(), AllocError>
+        ensures ok { OnOk result (self.new ≡ record self.old { current = put self.old.current key value }) }
+        ensures err { OnErr result (self.new ≡ self.old) }
+    {
+        self.former.reserve(1)?;
+        let before = self.slots.insert(key, value)?.flatten();
+        self.len = len_after(
+            self.len,
+            before.is_some(),
+            value.is_some(),
+            self.slots.len(),
+        );
+        self.former.push_reserved((key, before));
+        Ok(())
+    }
+
+    /// The same map again, with the changes to keep or to give up.
+    pub fn copy(&self) -> Result<TrackedMap<V>, AllocError>
+        ensures { IfOk result (λ copy. copy ≡ self.now) }
+    {
+        let slots = self.slots.copy(&SlotCopier)?;
+        let former = Vec::from_slice(self.alloc, self.former.as_slice())?;
+        Ok(TrackedMap {
+            alloc: self.alloc,
+            slots,
+            former,
+            len: self.len,
+            len_before: self.len_before,
+        })
+    }
+
+    /// Keeps the changes. It takes no memory.
+    pub fn keep(&mut self)
+        ensures { self.new ≡ at_rest self.old.current }
+    {
+        forget_marks(&mut self.slots, &self.former);
+        self.former.clear();
+        self.len_before = self.len;
+    }
+
+    /// Gives the changes up. It takes no memory.
+    pub fn give_up(&mut self)
+        ensures { self.new ≡ at_rest self.old.before }
+    {
+        put_back(&mut self.slots, &self.former);
+        forget_marks(&mut self.slots, &self.former);
+        self.former.clear();
+        self.len = self.len_before;
+    }
+}
+
+/// How many values there are once one comes, goes or is replaced, where there are no more than so many.
+fn len_after(len: usize, had: bool, has: bool, most: usize) -> usize
+    requires few { len_after len had has ≤ most }
+    requires there { had ≡ true → 0 < len }
+    ensures { result ≡ len_after len had has }
+{
+    match (had, has) {
+        (false, true) => len + 1,
+        (true, false) => len - 1,
+        _ => len,
+    }
+}
+
+/// Writes what was replaced back into its slots, the last first.
+fn put_back<V: Copy + Drop>(slots: &mut NumberMap<Option<V>>, former: &[(u128, Option<V>)])
+    requires kept { HasSlots slots.old former.now }
+    requires marked { AreMarked slots.old former.now }
+    ensures shown { shown slots.new ≡ over (shown slots.old) former.now }
+    ensures marked { AreMarked slots.new former.now }
+{
+    let mut rest = former;
+    while let Some(((key, value), before)) = rest.split_last() {
+        write(slots, *key, *value);
+        rest = before;
+    }
+}
+
+/// Sets the value of a slot that is there.
+fn write<V: Drop>(slots: &mut NumberMap<Option<V>>, key: u128, value: Option<V>)
+    requires { is_some (map.get slots.old key) ≡ true }
+    ensures { slots.new ≡ map.insert slots.old key value }
+{
+    if let Some(slot) = slots.get_mut(key) {
+        *slot = value;
+    }
+}
+
+/// Removes the slots without a value, which are among those of these keys.
+fn forget_marks<V: Drop>(slots: &mut NumberMap<Option<V>>, former: &[(u128, Option<V>)])
+    requires { AreMarked slots.old former.now }
+    ensures shown { shown slots.new ≡ shown slots.old }
+    ensures none { AreMarked slots.new [] }
+{
+    let mut rest = former;
+    while let Some(((key, _), before)) = rest.split_last() {
+        forget_mark(slots, *key);
+        rest = before;
+    }
+}
+
+/// Removes a slot, if it has no value.
+fn forget_mark<V: Drop>(slots: &mut NumberMap<Option<V>>, key: u128)
+    ensures { slots.new ≡ unmarked slots.old key }
+{
+    if matches!(slots.get(key), Some(None)) {
+        slots.remove(key);
+    }
+}
