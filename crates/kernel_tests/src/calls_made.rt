@@ -1,7 +1,7 @@
 use codes::KernReturn;
 use ipc_model::{Call, Record, Reply, RightKind};
 use kernel::{Kernel, ReplayFault};
-use std::alloc::Global;
+use std::alloc::{AllocError, Global};
 use std::test::Fail;
 
 /// The first words of a reply's frame, of those that come here: the call's number, the code, and two results, of a port's
@@ -31,31 +31,55 @@ fn allocated(right: u32, name: u32) -> Record {
     }
 }
 
-#[test]
-fn replays_a_record_once(rt: HostRuntime) -> Result<(), Fail> {
-    let record = allocated(1, 0x100);
-    let kernel = Kernel::opening(rt.alloc())?.replay(&record)?;
-    assert_eq!(rt; kernel.replay(&record).err(), Some(ReplayFault::Mismatch));
-    for (right, name) in [(2, 0x100), (1, 0)] {
-        let kernel = Kernel::opening(rt.alloc())?;
-        assert_eq!(rt;
-            kernel.replay(&allocated(right, name)).err(),
-            Some(ReplayFault::Mismatch),
-            "{right} as {name}"
-        );
-    }
-    Ok(())
+/// A new kernel with a record's step made.
+fn kernel_after(alloc: Global, first: &Record) -> Result<Kernel, Fail> {
+    let kernel = Kernel::opening(alloc)?;
+    Ok(kernel.replay(first)?)
+}
+
+/// The fault of a record's replay, if there is one.
+fn fault_of(kernel: Kernel, record: &Record) -> Option<ReplayFault> {
+    kernel.replay(record).err()
+}
+
+/// The fault where one record follows another in a new store.
+fn fault_after(alloc: Global, first: &Record, then: &Record) -> Result<Option<ReplayFault>, Fail> {
+    let kernel = kernel_after(alloc, first)?;
+    Ok(fault_of(kernel, then))
+}
+
+/// The fault where a record is the first of a new store.
+fn fault_at_first(alloc: Global, record: &Record) -> Result<Option<ReplayFault>, Fail> {
+    let kernel = Kernel::opening(alloc)?;
+    Ok(fault_of(kernel, record))
 }
 
 #[test]
-fn reads_without_memory(rt: HostRuntime) -> Result<(), Fail> {
-    let kernel = Kernel::opening(rt.alloc())?.replay(&allocated(1, 0x100))?;
-    let answered = [
+fn replays_a_record_once(rt: HostRuntime) -> Result<(), Fail> {
+    let record = allocated(1, 0x100);
+    let found = [
+        fault_after(rt.alloc(), &record, &record)?,
+        fault_at_first(rt.alloc(), &allocated(2, 0x100))?,
+        fault_at_first(rt.alloc(), &allocated(1, 0))?,
+    ];
+    assert_eq!(rt; found, [Some(ReplayFault::Mismatch); 3]);
+    Ok(())
+}
+
+/// What the calls that take no memory answer, in words.
+fn read(kernel: &Kernel) -> [[u32; 4]; 4] {
+    [
         words_of(&kernel.port_type(1, 0x100)),
         words_of(&kernel.port_type(2, 0x100)),
         words_of(&kernel.get_refs(1, 0x100, 1)),
         words_of(&kernel.receive_status(1, 0x100)),
-    ];
+    ]
+}
+
+#[test]
+fn reads_without_memory(rt: HostRuntime) -> Result<(), Fail> {
+    let kernel = kernel_after(rt.alloc(), &allocated(1, 0x100))?;
+    let answered = read(&kernel);
     assert_eq!(rt;
         answered,
         [
@@ -77,29 +101,42 @@ const UNRECORDED: [Row; 3] = [
     (2, Call::Type { name: 0x100 }, [2, 16, 0, 0]),
 ];
 
-#[test]
-fn answers_what_has_no_record(rt: HostRuntime) -> Result<(), Fail> {
-    let kernel = Kernel::opening(rt.alloc())?.replay(&allocated(1, 0x100))?;
+/// Whether each of these calls is answered so.
+fn answers_so(kernel: &Kernel) -> Result<bool, AllocError> {
     for (space, call, words) in &UNRECORDED {
         let answer = kernel.answer(*space, call)?;
-        assert_eq!(rt; answer.as_ref().map(words_of), Some(*words));
+        if answer.as_ref().map(words_of) != Some(*words) {
+            return Ok(false);
+        }
     }
-    let answer = kernel.answer(1, &allocate(1))?;
-    assert!(rt; answer.is_none());
+    Ok(kernel.answer(1, &allocate(1))?.is_none())
+}
+
+/// The same in place.
+fn answers_so_in_place(kernel: &mut Kernel) -> Result<bool, AllocError> {
+    for (space, call, words) in &UNRECORDED {
+        let answer = kernel.answer_in_place(*space, call)?;
+        if answer.as_ref().map(words_of) != Some(*words) {
+            return Ok(false);
+        }
+    }
+    Ok(kernel.answer_in_place(1, &allocate(1))?.is_none())
+}
+
+#[test]
+fn answers_what_has_no_record(rt: HostRuntime) -> Result<(), Fail> {
+    let mut kernel = kernel_after(rt.alloc(), &allocated(1, 0x100))?;
+    let answered = (answers_so(&kernel), answers_so_in_place(&mut kernel));
+    assert!(rt; matches!(answered, (Ok(true), Ok(true))));
     Ok(())
 }
 
-/// The kernel after ports were allocated under the names from 0x101 to 0x10ff. They are replayed, since each `apply`
-/// looks for its name from the first on.
-fn nearly_full(mut kernel: Kernel, space: u32) -> Result<Kernel, ReplayFault> {
-    for name in 0x101..0x1100 {
-        kernel = kernel.replay(&Record {
-            space,
-            call: allocate(1),
-            reply: Reply::Allocate { name },
-        })?;
+/// Allocates ports under the names from 0x101 to 0x10ff.
+fn nearly_fill(kernel: &mut Kernel, space: u32) -> Result<(), AllocError> {
+    for _ in 0x101..0x1100 {
+        kernel.apply(space, &allocate(1))?;
     }
-    Ok(kernel)
+    Ok(())
 }
 
 const FULL_OF_PORTS: [Row; 10] = [
@@ -125,22 +162,42 @@ const SPACE_CREATE: Call = Call::SpaceCreate {
     disposition: 20,
 };
 
-// Four spaces hold 16,381 ports. They are made of a kernel alone: a disk in memory copies a slot at each write.
+/// Makes spaces 2 to 5, each with a port under 0x100 as space 1 has; whether they are made so.
+fn makes_spaces(kernel: &mut Kernel) -> Result<bool, AllocError> {
+    kernel.apply(1, &allocate(1))?;
+    for space in [2, 3, 4, 5] {
+        if words_of(&kernel.apply(1, &SPACE_CREATE)?) != [20, 0, space, 0x100] {
+            return Ok(false);
+        }
+    }
+    Ok(true)
+}
+
+/// Whether each of these calls is answered so.
+fn is_full_of_ports(kernel: &mut Kernel) -> Result<bool, AllocError> {
+    for (space, call, words) in &FULL_OF_PORTS {
+        if words_of(&kernel.apply(*space, call)?) != *words {
+            return Ok(false);
+        }
+    }
+    Ok(true)
+}
+
+/// Four spaces hold 16,381 ports, and then there are three more and no other.
+fn fills_up(kernel: &mut Kernel) -> Result<bool, AllocError> {
+    let made = makes_spaces(kernel)?;
+    for space in 1..5 {
+        nearly_fill(kernel, space)?;
+    }
+    Ok(made && is_full_of_ports(kernel)?)
+}
+
+// They are made of a kernel alone: a disk in memory copies a slot at each write.
 #[test]
 fn there_are_16384_ports(rt: HostRuntime) -> Result<(), Fail> {
     let mut kernel = Kernel::opening(rt.alloc())?;
-    kernel.apply(1, &allocate(1))?;
-    for space in [2, 3, 4, 5] {
-        let created = kernel.apply(1, &SPACE_CREATE)?;
-        assert_eq!(rt; words_of(&created), [20, 0, space, 0x100]);
-    }
-    for space in 1..5 {
-        kernel = nearly_full(kernel, space)?;
-    }
-    for (space, call, words) in &FULL_OF_PORTS {
-        let reply = kernel.apply(*space, call)?;
-        assert_eq!(rt; words_of(&reply), *words);
-    }
+    let filled = fills_up(&mut kernel);
+    assert!(rt; matches!(filled, Ok(true)));
     Ok(())
 }
 
@@ -150,14 +207,12 @@ fn fault_after_a_port(
     call: Call,
     reply: Reply,
 ) -> Result<Option<ReplayFault>, Fail> {
-    let kernel = Kernel::opening(alloc)?.replay(&allocated(1, 0x1ff))?;
     let record = Record {
         space: 1,
         call,
         reply,
     };
-    let replayed = kernel.replay(&record);
-    Ok(replayed.err())
+    fault_after(alloc, &allocated(1, 0x1ff), &record)
 }
 
 fn extract() -> Call {
