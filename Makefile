@@ -15,7 +15,7 @@ bin:
 	@empty=$$(mktemp -d) && (cd crates/machipcd && rt run -- "$$empty" < /dev/null > /dev/null) && rm -r "$$empty"
 	cp crates/machipcd/out/machipcd bin/
 
-# Acknowledged calls a second on a new store in files, beside pairs of syncs in the same folder; and port calls a second
-# in memory.
+# Acknowledged calls a second on a new store in files, beside pairs of syncs in the same folder; and calls and
+# messages in memory.
 bench:
 	@folder=$$(mktemp -d) && mkdir "$$folder/store" && (cd crates/bench && rt run -- "$$folder") && rm -r "$$folder"

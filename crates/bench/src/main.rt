@@ -4,14 +4,17 @@
 #![tactic(auto)]
 
 mod costs;
+mod deaths;
 mod memory;
+mod messages;
 
-use crate::costs::print_costs;
-use crate::memory::{Before, HERE, Pair, time_in_memory};
+use crate::costs::{hundredths, print_costs};
+use crate::deaths::print_deaths;
+use crate::memory::{Before, Cycle, HERE, call_of, time_in_memory};
+use crate::messages::print_messages;
 use disk::{Disk, FileDisk};
 use ipc_model::{Call, Reply};
-use recover::open;
-use server::{Alone, Caller};
+use server::{Alone, Caller, open};
 use std::alloc::Global;
 use std::fs::File;
 use std::io::{self, Write};
@@ -22,6 +25,20 @@ use std::{env, fmt};
 /// How many calls are stored, and how many pairs of syncs are made.
 const ROUNDS: u64 = 500;
 
+/// How many requests are stored, each with its receipt, the reply and its receipt.
+const TRIPS: u64 = 100;
+
+/// What is made before them: the port to which requests go, and that of the replies.
+static BEFORE_TRIPS: [&str; 2] = ["allocate receive", "allocate receive"];
+
+/// The calls of a request and its reply.
+static TRIP: [&str; 4] = [
+    "send make_send 0x100 local make_send_once 0x101 id 1",
+    "receive 0x100 limit 100",
+    "send move_send_once 0x102 id 2",
+    "receive 0x101 limit 100",
+];
+
 /// What is measured in memory: what is made before and how often, a pair of calls, and how often the pair is made. These
 /// are a new receive right and its end, a send right made from a receive right and given up, and the names of a space that
 /// has 1,000.
@@ -30,19 +47,19 @@ static IN_MEMORY: [(&str, (&str, u32), (&str, &str), u64); 3] = [
         "allocate and destroy:       ",
         ("names", 0),
         ("allocate receive", "destroy 0x100"),
-        20_000,
+        4_000,
     ),
     (
         "insert_right and deallocate:",
         ("allocate receive", 1),
         ("insert_right 0x100 0x100 make_send", "deallocate 0x100"),
-        20_000,
+        4_000,
     ),
     (
         "names of 1,000 names:       ",
         ("allocate dead_name", 1_000),
         ("names", "names"),
-        500,
+        100,
     ),
 ];
 
@@ -98,14 +115,41 @@ fn time_allocations<D: Disk>(rt: &HostRuntime, caller: &mut Alone<D>) -> Result<
     Ok(start.elapsed(rt)?)
 }
 
-/// How long they take on a disk that has no store yet.
-fn time_disk<D: Disk + Drop>(rt: &HostRuntime, disk: D) -> Result<Duration, Fault> {
+/// Makes the calls of lines, each of which has to be acknowledged.
+fn make_stored<D: Disk>(
+    alloc: Global,
+    caller: &mut Alone<D>,
+    lines: &[&'static str],
+) -> Result<(), Fault> {
+    for line in lines {
+        match caller.call(call_of(alloc, line)?) {
+            Ok(reply) if reply.is_success() => {}
+            _ => return Err(Fault::Call),
+        }
+    }
+    Ok(())
+}
+
+/// How long so many requests take with their replies, each call acknowledged.
+fn time_trips<D: Disk>(rt: &HostRuntime, caller: &mut Alone<D>) -> Result<Duration, Fault> {
+    make_stored(rt.alloc(), caller, &BEFORE_TRIPS)?;
+    let start = Instant::now(rt)?;
+    for _ in 0..TRIPS {
+        make_stored(rt.alloc(), caller, &TRIP)?;
+    }
+    Ok(start.elapsed(rt)?)
+}
+
+/// How long allocations and requests take on a disk that has no store yet.
+fn time_disk<D: Disk + Drop>(rt: &HostRuntime, disk: D) -> Result<(Duration, Duration), Fault> {
     let mut caller = open_caller(rt.alloc(), disk)?;
-    time_allocations(rt, &mut caller)
+    let trips = time_trips(rt, &mut caller)?;
+    let allocations = time_allocations(rt, &mut caller)?;
+    Ok((allocations, trips))
 }
 
 /// How long they take in a folder.
-fn time_calls(rt: &HostRuntime, folder: &str) -> Result<Duration, Fault> {
+fn time_calls(rt: &HostRuntime, folder: &str) -> Result<(Duration, Duration), Fault> {
     let Ok(store) = format!(in rt.alloc(); "{folder}/store") else {
         return Err(Fault::Device);
     };
@@ -163,14 +207,22 @@ fn print_figure(rt: &HostRuntime, label: &str, figure: u64) {
     let _ = println!(rt; "{label} {figure}");
 }
 
-/// Prints how many calls a second are stored, and how many pairs of syncs are made.
+/// Prints how many calls a second are stored, how many requests with their replies, which are four calls, and how many
+/// pairs of syncs are made.
 fn print_stored(rt: &HostRuntime, folder: &str) -> Result<(), Fault> {
-    let stored = per_second(ROUNDS, time_calls(rt, folder)?);
+    let (allocations, trips) = time_calls(rt, folder)?;
+    let stored = per_second(ROUNDS, allocations);
+    let trips = per_second(TRIPS, trips);
     let syncs = per_second(ROUNDS, time_syncs(rt, folder)?);
-    let ratio = stored.saturating_mul(100).checked_div(syncs).unwrap_or(0);
     print_figure(rt, "acknowledged calls a second:", stored);
+    print_figure(rt, "round trips a second:       ", trips);
     print_figure(rt, "pairs of syncs a second:    ", syncs);
-    print_figure(rt, "calls for 100 pairs:        ", ratio);
+    print_figure(
+        rt,
+        "calls for 100 pairs:        ",
+        hundredths(stored, syncs),
+    );
+    print_figure(rt, "round trips for 100 pairs:  ", hundredths(trips, syncs));
     Ok(())
 }
 
@@ -185,13 +237,11 @@ fn in_memory(
         lines: &[(HERE, before.0, before.1)],
         names: 0,
     };
-    let pair = Pair {
-        first: calls.0,
-        space: HERE,
-        second: calls.1,
+    let cycle = Cycle {
+        steps: &[(HERE, calls.0), (HERE, calls.1)],
         is_done: true,
     };
-    let duration = time_in_memory(rt, before, pair, rounds)?;
+    let duration = time_in_memory(rt, before, cycle, rounds)?;
     Ok(per_second(rounds.saturating_mul(2), duration))
 }
 
@@ -209,7 +259,9 @@ fn print_in_memory(rt: &HostRuntime) -> Result<(), Fault> {
 fn run(rt: &HostRuntime, folder: &str) -> Result<(), Fault> {
     print_stored(rt, folder)?;
     print_in_memory(rt)?;
-    print_costs(rt)
+    print_costs(rt)?;
+    print_messages(rt)?;
+    print_deaths(rt)
 }
 
 /// The first word behind the program's name.

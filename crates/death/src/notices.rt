@@ -5,8 +5,8 @@ ghost use Rattle.ipc_model.specs.state.State.{lives};
 ghost use Rattle.effects.specs.Meaning.{notice_meant};
 
 use effects::Notice;
-use ipc_state::IpcState;
 use std::alloc::{AllocError, Global};
+use transit::IpcState;
 
 /// Queues a notice at its target's port, whatever the queue's limit. Where the port is dead it is dropped. Where memory is
 /// wanted the changes are to be given up.

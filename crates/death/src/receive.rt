@@ -8,10 +8,8 @@ ghost use Rattle.live_ports.specs.Changed.{numbers_of};
 use crate::notices::notify_port_destroyed;
 use effects::Effects;
 use ipc_model::RightKind;
-use ipc_state::IpcState;
-use ports::PortNumbers;
 use std::alloc::{AllocError, Global};
-use transit::would_circle;
+use transit::{IpcState, PortNumbers, would_circle};
 
 /// A receive right was released: a port-destroyed request takes it along, unless it would come back to its own
 /// queue; else the port dies.

@@ -5,9 +5,8 @@ ghost use Rattle.ipc_model.specs.effects.Effects.{released_if_live};
 use crate::notices::notify;
 use effects::Notice;
 use ipc_model::RightKind;
-use ipc_state::IpcState;
-use ports::PortNumbers;
 use std::alloc::{AllocError, Global};
+use transit::{IpcState, PortNumbers};
 
 /// A send right was released: where none is left, a no-senders request is taken, and its notice goes out.
 pub fn release_send(alloc: Global, state: &mut IpcState, serial: u64) -> Result<(), AllocError>

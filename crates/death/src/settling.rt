@@ -8,8 +8,8 @@ use crate::receive::release_receive;
 use crate::release::{release_send, release_send_once};
 use effects::{Effect, Effects};
 use ipc_model::RightKind;
-use ipc_state::IpcState;
 use std::alloc::{AllocError, Global};
+use transit::IpcState;
 
 /// Works the effects of a call off, each in its turn, until none is left; deaths add to them. Where memory is wanted the
 /// changes are to be given up.

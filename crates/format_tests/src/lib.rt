@@ -1,4 +1,4 @@
-//! Tests of the formats: words, codes, frames, calls and records.
+//! Tests of the formats: words, codes, frames, calls, messages and records.
 #![tactic(auto)]
 
 #[cfg(test)]
@@ -10,9 +10,13 @@ mod expect;
 #[cfg(test)]
 mod ipc_model_tests;
 #[cfg(test)]
+mod msg_header_tests;
+#[cfg(test)]
 mod record_tests;
 #[cfg(test)]
 mod script_tests;
+#[cfg(test)]
+mod type_desc_tests;
 #[cfg(test)]
 mod wire_tests;
 #[cfg(test)]

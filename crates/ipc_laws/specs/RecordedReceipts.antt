@@ -65,7 +65,7 @@ ports_long message names lawful holds many =
     ap (λ (items : Result (List Item) KernReturn). length (body_filled items message.body names)) holds.tiled
     ∙ filled_long holds.items names read.fit (many ∙ counted) ∙ read.long
 
-body_long : (message : Message) (names : List ℕ) → LawfulMessage message → length names ≡ length message.rights → length (received_body message names) ≡ length message.body
+pub body_long : (message : Message) (names : List ℕ) → LawfulMessage message → length names ≡ length message.rights → length (received_body message names) ≡ length message.body
 body_long message names lawful many =
     elim message.complex as (λ (b : Bool). MatchBool b (HoldsPorts message.body message.rights) (message.rights ≡ [])
     → length (if b then body_filled (items_of message.body) message.body names else message.body) ≡ length message.body) [
@@ -73,11 +73,11 @@ body_long message names lawful many =
       | false ↦ λ (_ : _). refl
     ] lawful.ports
 
-names_left : (reply : Option CarriedRight) (rights : List CarriedRight) (given : List ℕ) → length given ≡ length (reply_right reply ++ rights) → length (body_names reply given) ≡ length rights
+pub names_left : (reply : Option CarriedRight) (rights : List CarriedRight) (given : List ℕ) → length given ≡ length (reply_right reply ++ rights) → length (body_names reply given) ≡ length rights
 names_left None rights given many = many
 names_left (Some right) rights given many = omega (arith, many, length-drop 1 given)
 
-text_long : (bits remote local seqno id : ℕ) (body : List ℕ) → length (message_text bits remote local seqno id body) ≡ header_length + length body
+pub text_long : (bits remote local seqno id : ℕ) (body : List ℕ) → length (message_text bits remote local seqno id body) ≡ header_length + length body
 text_long bits remote local seqno id body =
     let size : ℕ = header_length + length body in
     let behind_seqno : List ℕ = word id ++ body in

@@ -1,3 +1,4 @@
 mod Kept
 mod Releasing
 mod Alive
+mod Taking

@@ -6,3 +6,4 @@ pub mod Members
 pub mod Running
 pub mod There
 pub mod SetNames
+pub mod Oldest

@@ -1,16 +1,19 @@
 //! What is asked of the messages in queues, and done to them.
-ghost use Rattle.std.specs.Prelude.{◌≡◌, ◌++◌, true, length, flat_map, option_map, OnOk, OnErr};
+ghost use Rattle.std.specs.Prelude.{◌≡◌, ◌++◌, true, length, flat_map, option_map, take, OnOk, OnErr};
 ghost use Rattle.ipc_model.specs.effects.Effects.{queued, releases_of, release_of, release_of_reply};
+ghost use Rattle.ipc_model.specs.messages.Receiving.{without_oldest};
 ghost use Rattle.ipc_model.specs.state.Circular.{carrier_of};
+ghost use Rattle.ipc_model.specs.state.State.{next_count};
 ghost use Rattle.ipc_state.specs.Live.{carries_live};
+ghost use Rattle.ipc_state.specs.Oldest.{counted_on, oldest_gone, IsOldest};
 ghost use Rattle.ipc_state.specs.Running.{at_rest};
-ghost use Rattle.live_ports.specs.Changed.{messages_at};
+ghost use Rattle.live_ports.specs.Changed.{changed, messages_at};
 ghost use Rattle.live_ports.specs.Seen.{lives_in, seen_message, seen_right};
 
 use crate::IpcState;
 use effects::Effects;
 use ipc_model::{CarriedRight, Message};
-use ports::Ports;
+use ports::{PortNumbers, Ports};
 use std::alloc::AllocError;
 
 impl IpcState {
@@ -56,6 +59,92 @@ impl IpcState {
         }
         Ok(())
     }
+
+    /// The oldest message of a port as it was sent, if it has one: what has become of its rights `seen` tells.
+    pub fn oldest(&self, serial: u64) -> Option<&Message>
+        ensures { IsOldest (lives_in self.now.current.ports) (messages_at self.now.current.ports serial) result }
+    {
+        oldest_in(&self.ports, serial)
+    }
+
+    /// What a right of a message as it was sent is now: where its port has died, `MACH_PORT_DEAD`.
+    pub fn seen(&self, carried: CarriedRight) -> CarriedRight
+        ensures { result ≡ seen_right (lives_in self.now.current.ports) carried }
+    {
+        self.ports.seen(carried)
+    }
+
+    /// Adds the releases of the reply right and the body rights of a port's oldest message, if it has one, in this order.
+    pub fn release_oldest(&self, serial: u64, effects: &mut Effects) -> Result<(), AllocError>
+        ensures { OnOk result (effects.new ≡ effects.old ++ flat_map releases_of (take 1 (messages_at self.now.current.ports serial))) }
+    {
+        release_oldest_in(&self.ports, serial, effects)
+    }
+
+    /// Takes the oldest message of a port out of its queue, if the port lives, and counts its sequence number on. Where
+    /// memory is wanted the changes are given up.
+    pub fn take_message(&mut self, serial: u64) -> Result<(), AllocError>
+        ensures ok { OnOk result (self.new ≡ record self.old { current = without_oldest self.old.current serial }) }
+        ensures err { OnErr result (self.new ≡ at_rest self.old.before) }
+    {
+        match take_and_count(&mut self.ports, serial) {
+            Ok(()) => Ok(()),
+            Err(error) => {
+                self.spaces.give_up();
+                self.ports.give_up();
+                self.members.give_up();
+                Err(error)
+            }
+        }
+    }
+}
+
+/// The oldest message of a port as it was sent, if it has one.
+fn oldest_in(ports: &Ports, serial: u64) -> Option<&Message>
+    ensures { IsOldest (lives_in ports.now.current.ports) (messages_at ports.now.current.ports serial) result }
+{
+    ports.message_as_sent(serial, 0)
+}
+
+/// Adds the releases of a port's oldest message, if it has one.
+fn release_oldest_in(ports: &Ports, serial: u64, effects: &mut Effects) -> Result<(), AllocError>
+    ensures { OnOk result (effects.new ≡ effects.old ++ flat_map releases_of (take 1 (messages_at ports.now.current.ports serial))) }
+{
+    let Some(message) = oldest_in(ports, serial) else {
+        return Ok(());
+    };
+    release(ports, message, effects)?;
+    Ok(())
+}
+
+/// The oldest message of a live port goes, and its sequence number is counted on.
+fn take_and_count(ports: &mut Ports, serial: u64) -> Result<(), AllocError>
+    ensures ok { OnOk result (ports.new ≡ record ports.old { current = record ports.old.current { ports = changed ports.old.current.ports serial oldest_gone } }) }
+    ensures before { ports.new.before ≡ ports.old.before }
+{
+    let Some(numbers) = ports.numbers(serial) else {
+        return Ok(());
+    };
+    let counted = count_on(numbers);
+    ports.take(serial)?;
+    ports.set_numbers(serial, counted)?;
+    Ok(())
+}
+
+fn count_on(numbers: PortNumbers) -> PortNumbers
+    ensures { result ≡ counted_on numbers }
+{
+    PortNumbers {
+        sequence_number: next_number(numbers.sequence_number),
+        ..numbers
+    }
+}
+
+/// The number behind a sequence number. After the last one comes 0.
+fn next_number(number: u32) -> u32
+    ensures { result ≡ next_count number }
+{
+    number.wrapping_add(1)
 }
 
 /// Adds the releases of a message's reply right and body rights, where their ports live still.

@@ -12,4 +12,5 @@ mod space_table;
 mod state;
 
 pub use names::request_of;
+pub use ports::PortNumbers;
 pub use state::IpcState;

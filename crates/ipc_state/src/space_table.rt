@@ -30,13 +30,7 @@ impl IpcState {
         ensures unused { IsUnusedSpace self.now.current result }
         ensures least { (k : ℕ) → 0 < k → k < result → IsSome (map.get self.now.current.spaces k) }
     {
-        // There are more numbers than spaces.
-        for number in 1..=MAX_SPACES as u32 {
-            if !self.has_space(number) {
-                return number;
-            }
-        }
-        unreachable!()
+        self.spaces.free_number()
     }
 
     /// Makes a space without names under a number that no space has. Where memory is wanted the changes are given up.

@@ -1,7 +1,9 @@
 -- What a call leaves open, and how its reply shows what was chosen.
-use Rattle.std.specs.Prelude.{◌≡◌, ℕ, Bool, true, false, List, Option, None, Some}
+use Rattle.std.specs.Prelude.{◌≡◌, ℕ, Bool, true, false, List, Option, None, Some, Result, Ok, Err, MatchResult}
 use Rattle.std.proofs.Common.{refl, sym, ap, subst, ◌∙◌}
 use Rattle.codes.specs.declared.kern_return.KernReturn.{KernReturn}
+use Rattle.codes.specs.declared.kern_return.KernReturn.TheVariants.{Success}
+use Rattle.codes.specs.declared.name.TheConstants.{MACH_PORT_NULL}
 use Rattle.ipc_model.specs.declared.call.Call.{Call}
 use Rattle.ipc_model.specs.declared.call.Call.TheVariants as call
 use Rattle.ipc_model.specs.declared.call.Reply.{Reply}
@@ -14,20 +16,32 @@ use Rattle.ipc_model.specs.rights.CopyIn.{Taken}
 use Rattle.ipc_model.specs.effects.Effects.{Effect}
 use Rattle.ipc_model.specs.calls.PortCalls.{names_in, tests_of}
 use Rattle.ipc_model.specs.state.State.{State, Names}
-use Rattle.ipc_model.specs.calls.Step.{ActsIn}
+use Rattle.ipc_model.specs.calls.Step.{ActsIn, IsRefusedWith}
 use Rattle.ipc_laws.specs.StepLaws.{Called}
 use Rattle.ipc_model.specs.calls.Tests.{first_failing}
+use Rattle.ipc_model.specs.messages.Receiving.{without_message}
+use Rattle.ipc_model.specs.messages.Sending.{Ready, ready_to_send, sent}
 use Rattle.kernel.specs.declared.choices.Shown.{Shown}
-use Rattle.ipc_laws.specs.PortCallLaws.{as_called}
-use Rattle.kernel.specs.Served.{is_served}
+use Rattle.ipc_laws.specs.PortCallLaws.{is_port_call}
+use Rattle.receiving.specs.ShownNames.{names_shown}
+use Rattle.receiving.specs.Shows.{preferred_by, text_in}
+use Rattle.receiving.specs.declared.asked.Preference.{Preference}
+
+-- a name that was chosen
+abbrev pub name_shown : Reply → Option ℕ
+name_shown (reply.Allocate name) = Some name
+name_shown (reply.PreviousTarget name) = Some name
+name_shown (reply.Extracted name kind) = Some name
+name_shown _ = None
+
+-- the number of a new space, and its name
+abbrev pub space_shown : Reply → Option (ℕ × ℕ)
+space_shown (reply.SpaceCreated space name) = Some (space, name)
+space_shown _ = None
 
 -- what a reply shows
 abbrev pub shown_by : Reply → Shown
-shown_by (reply.Allocate name) = record { name = Some name; space = None }
-shown_by (reply.PreviousTarget name) = record { name = Some name; space = None }
-shown_by (reply.Extracted name kind) = record { name = Some name; space = None }
-shown_by (reply.SpaceCreated space name) = record { name = None; space = Some (space, name) }
-shown_by _ = record { name = None; space = None }
+shown_by answer = record { name = name_shown answer; space = space_shown answer; preference = preferred_by answer; names = names_shown (text_in answer) }
 
 -- Where the call may be answered by a reply that shows this, it is.
 pub record Prefers (old : State) (space : ℕ) (c : Call) (shown : Shown) (answer : Reply) : Type 0 where
@@ -38,6 +52,7 @@ abbrev pub is_open : Call → Bool
 is_open (call.Allocate kind) = true
 is_open (call.RequestNotification name variant sync notify_name disposition) = true
 is_open (call.ExtractRight name disposition) = true
+is_open (call.Receive limit large name waited) = true
 is_open (call.SpaceCreate name disposition) = true
 is_open c = false
 
@@ -79,12 +94,26 @@ called_alike : (refusal : Option KernReturn) (old : State) (space : ℕ) (names 
 called_alike (Some code) old space names c one other new last effects others closed a b = a.0 ∙ sym b.0
 called_alike None old space names c one other new last effects others closed a b = done_alike old space names c one other new last effects others closed a b
 
-pub prefers_told : (old : State) (space : ℕ) (c : Call) (shown : Shown) (answer : Reply) (new : State) (effects : List Effect) → is_served c ≡ true → is_open c ≡ false
+-- a send, done or refused
+abbrev pub SentAs : Result Ready KernReturn → State → Reply → State → List Effect → Type 0
+SentAs ready old answer new effects =
+    MatchResult ready (λ (ready : Ready). (answer ≡ without_message Success 0 MACH_PORT_NULL) × (new ≡ (sent ready).0) × (effects ≡ (sent ready).1))
+    (λ code. IsRefusedWith (without_message code 0 MACH_PORT_NULL) old answer new effects)
+
+sent_alike : (ready : Result Ready KernReturn) (old : State) (one other : Reply) (new last : State) (effects others : List Effect) → SentAs ready old one new effects → SentAs ready old other last others → one ≡ other
+sent_alike (Ok ready) old one other new last effects others a b = a.0 ∙ sym b.0
+sent_alike (Err code) old one other new last effects others a b = a.0 ∙ sym b.0
+
+acts_alike : (c : Call) (old : State) (space : ℕ) (names : Names) (one other : Reply) (new last : State) (effects others : List Effect) → is_open c ≡ false
+    → ActsIn old space names c one new effects → ActsIn old space names c other last others → one ≡ other
+acts_alike (call.Send message) old space names one other new last effects others closed a b = sent_alike (ready_to_send old space message) old one other new last effects others a b
+acts_alike (call.Receive limit large name waited) old space names one other new last effects others closed a b = absurd (cc closed)
+acts_alike c old space names one other new last effects others closed a b = called_alike (first_failing (tests_of old space names c)) old space names c one other new last effects others closed a b
+
+pub prefers_told : (old : State) (space : ℕ) (c : Call) (shown : Shown) (answer : Reply) (new : State) (effects : List Effect) → is_open c ≡ false
     → ActsIn old space (names_in old space) c answer new effects → Prefers old space c shown answer
-prefers_told old space c shown answer new effects served closed acts = record {
-  takes = λ other last others _ may. called_alike (first_failing (tests_of old space (names_in old space) c)) old space (names_in old space) c answer other new last effects others closed
-      (as_called c old space (names_in old space) answer new effects served acts) (as_called c old space (names_in old space) other last others served may);
-}
+prefers_told old space c shown answer new effects closed acts =
+    record { takes = λ other last others _ may. acts_alike c old space (names_in old space) answer other new last effects others closed acts may }
 
 -- Open calls.
 
@@ -190,6 +219,20 @@ prefers_create old space name disposition shown answer new effects acts wanted =
         let numbered : shown.space ≡ Some (told.0, told.1) = ap space_of is ∙ ap (λ (r : Reply). space_of (shown_by r)) told.2 in
         wanted told.0 told.1 numbered last others (subst (λ (r : Reply). Done old space (names_in old space) (call.SpaceCreate name disposition) r last others) told.2 b) ∙ sym told.2
 
+-- a receipt takes the message that a reply shows, and its rights get the names shown
+preference_of : Shown → Preference
+preference_of shown = shown.preference
+
+names_of : Shown → List ℕ
+names_of shown = shown.names
+
+pub prefers_receive : (old : State) (space limit : ℕ) (large : Bool) (name : ℕ) (waited : Bool) (shown : Shown) (answer : Reply)
+    → ((other : Reply) → (last : State) → (others : List Effect) → shown.preference ≡ preferred_by other → shown.names ≡ names_shown (text_in other)
+    → ActsIn old space (names_in old space) (call.Receive limit large name waited) other last others → answer ≡ other)
+    → Prefers old space (call.Receive limit large name waited) shown answer
+unfolding preference_of names_of
+prefers_receive old space limit large name waited shown answer wanted = record { takes = λ other last others is may. wanted other last others (ap preference_of is) (ap names_of is) may }
+
 -- Which calls only read, which change the state and set nothing off, which give rights up, and which copy one in.
 abbrev pub only_reads : Call → Bool
 only_reads (call.Attach space) = true
@@ -224,11 +267,18 @@ hands_over (call.ExtractRight name disposition) = true
 hands_over (call.SpaceCreate name disposition) = true
 hands_over c = false
 
+-- Sends and receipts are the rest.
+pub others_are_messages : (c : Call) → is_port_call c ≡ true → only_reads c ≡ false → sets_nothing_off c ≡ false → gives_up c ≡ false → hands_over c ≡ false → ⊥
+others_are_messages (call.Send message) port a b d e = cc port
+others_are_messages (call.Receive limit large name waited) port a b d e = cc port
+others_are_messages c port a b d e = cc (a, b, d, e)
+
 -- what gives rights up leaves nothing open
 pub giving_told : (c : Call) → gives_up c ≡ true → is_open c ≡ false
 giving_told (call.Allocate kind) is = absurd (cc is)
 giving_told (call.RequestNotification name variant sync notify_name disposition) is = absurd (cc is)
 giving_told (call.ExtractRight name disposition) is = absurd (cc is)
+giving_told (call.Receive limit large name waited) is = absurd (cc is)
 giving_told (call.SpaceCreate name disposition) is = absurd (cc is)
 giving_told c is = refl
 
@@ -237,5 +287,6 @@ pub reading_told : (c : Call) → only_reads c ≡ true → is_open c ≡ false
 reading_told (call.Allocate kind) is = absurd (cc is)
 reading_told (call.RequestNotification name variant sync notify_name disposition) is = absurd (cc is)
 reading_told (call.ExtractRight name disposition) is = absurd (cc is)
+reading_told (call.Receive limit large name waited) is = absurd (cc is)
 reading_told (call.SpaceCreate name disposition) is = absurd (cc is)
 reading_told c is = refl

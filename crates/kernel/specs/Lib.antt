@@ -1,7 +1,5 @@
 pub mod Choosing
-pub mod Served
-pub mod ServedLaws
 pub mod Trials
 pub mod Stepping
+pub mod Unrecorded
 pub mod Fitting
-pub mod Keeping

@@ -12,8 +12,7 @@ use Rattle.ipc_model.specs.state.State.{State}
 use Rattle.ipc_model.specs.calls.Step.{ActsIn, succeeded}
 use Rattle.ipc_laws.specs.StepLaws.{Called}
 use Rattle.ipc_model.specs.calls.Tests.{first_failing}
-use Rattle.ipc_laws.specs.PortCallLaws.{as_called, answers_done}
-use Rattle.kernel.specs.Served.{is_served}
+use Rattle.ipc_laws.specs.PortCallLaws.{as_called, answers_done, is_port_call}
 use Rattle.port_calls.specs.Trying.{Tries, is_refusal}
 
 abbrev Tried : Bool → State → ℕ → Call → Reply → State → List Effect → Type 0
@@ -33,9 +32,9 @@ not_refused (reply.Refused number code) success = absurd (cc (success call.Names
 not_refused answer success = refl
 
 -- A call that acts so changes nothing where it is refused.
-pub tries_acting : (old : State) (space : ℕ) (c : Call) (answer : Reply) (new : State) (effects : List Effect) → is_served c ≡ true → ActsIn old space (names_in old space) c answer new effects → Tries old space c answer new effects
-tries_acting old space c answer new effects served acts =
-    by_refusal (first_failing (tests_of old space (names_in old space) c)) (as_called c old space (names_in old space) answer new effects served acts)
+pub tries_acting : (old : State) (space : ℕ) (c : Call) (answer : Reply) (new : State) (effects : List Effect) → is_port_call c ≡ true → ActsIn old space (names_in old space) c answer new effects → Tries old space c answer new effects
+tries_acting old space c answer new effects port acts =
+    by_refusal (first_failing (tests_of old space (names_in old space) c)) (as_called c old space (names_in old space) answer new effects port acts)
   where
     both : (refused : Bool) → ActsIn old space (names_in old space) c answer old [] → ActsIn old space (names_in old space) c answer new effects → Tried refused old space c answer new effects
     both true was is = was

@@ -1,42 +1,92 @@
-ghost use Rattle.std.specs.Prelude.{◌≡◌, ◌↔◌, IsTrue, None};
-ghost use Rattle.kernel.specs.Choosing.{shown_by};
+ghost use Rattle.std.specs.Prelude.{◌≡◌, IfOk};
+ghost use Rattle.ipc_model.specs.declared.call.Reply.{Reply};
+ghost use Rattle.kernel.specs.Choosing as choosing;
+ghost use Rattle.receiving.specs.Shows as shows;
 
-use ipc_model::Reply;
+use codes::KernReturn;
+use ipc_model::{Reply, Sequence};
+use receiving::{Preference, names_shown};
+use std::alloc::{AllocError, Global};
 
-/// What a reply shows of that which its call leaves open: a name, or the number of a new space and its name.
-#[derive(Clone, Copy, Debug, PartialEq, Eq)]
+/// What a reply shows of that which its call leaves open.
+#[derive(Debug, Drop)]
 pub struct Shown {
+    /// A name that a right got.
     pub name: Option<u32>,
+    /// The number of a new space, and its name.
     pub space: Option<(u32, u32)>,
+    /// Which message was received.
+    pub preference: Preference,
+    /// The names that the rights of a received message got.
+    pub names: Sequence<u32>,
 }
 
 impl Shown {
-    /// Nothing is shown: the least unused names and numbers are chosen.
-    pub fn nothing() -> Shown
-        ensures { result ≡ record { name = None; space = None } }
-    {
+    /// Nothing is shown: the least unused names and numbers are chosen. It takes no memory.
+    pub fn nothing(alloc: Global) -> Shown {
         Shown {
             name: None,
             space: None,
+            preference: Preference::Least,
+            names: Sequence::new(Vec::new(alloc)),
         }
     }
 
     /// What a reply shows.
-    pub fn of(reply: &Reply) -> Shown
-        ensures { result ≡ shown_by reply.now }
+    pub fn of(alloc: Global, reply: &Reply) -> Result<Shown, AllocError>
+        ensures { IfOk result (λ shown. shown ≡ choosing.shown_by reply.now) }
     {
-        match reply {
-            Reply::Allocate { name }
-            | Reply::PreviousTarget { name }
-            | Reply::Extracted { name, .. } => Shown {
-                name: Some(*name),
-                space: None,
-            },
-            Reply::SpaceCreated { space, name } => Shown {
-                name: None,
-                space: Some((*space, *name)),
-            },
-            _ => Shown::nothing(),
-        }
+        let names = names_shown(alloc, text_in(reply))?;
+        Ok(Shown {
+            name: name_shown(reply),
+            space: space_shown(reply),
+            preference: preferred_by(reply),
+            names: Sequence::new(names),
+        })
+    }
+}
+
+/// The name that was chosen, if the reply shows one.
+fn name_shown(reply: &Reply) -> Option<u32>
+    ensures { result ≡ choosing.name_shown reply.now }
+{
+    match reply {
+        Reply::Allocate { name } | Reply::PreviousTarget { name } | Reply::Extracted { name, .. } =>
+            Some(*name),
+        _ => None,
+    }
+}
+
+/// The number of a new space and its name, if the reply shows them.
+fn space_shown(reply: &Reply) -> Option<(u32, u32)>
+    ensures { result ≡ choosing.space_shown reply.now }
+{
+    match reply {
+        Reply::SpaceCreated { space, name } => Some((*space, *name)),
+        _ => None,
+    }
+}
+
+/// Which message was received: the reply names its port, except where the space lacked names.
+fn preferred_by(reply: &Reply) -> Preference
+    ensures { result ≡ shows.preferred_by reply.now }
+{
+    match reply {
+        Reply::Message {
+            code: KernReturn::RcvHeaderErrorSpace,
+            ..
+        } => Preference::Lacking,
+        Reply::Message { member, .. } => Preference::Member(*member),
+        _ => Preference::Least,
+    }
+}
+
+/// The bytes of the message that was received.
+fn text_in(reply: &Reply) -> &[u8]
+    ensures { result.now ≡ shows.text_in reply.now }
+{
+    match reply {
+        Reply::Message { message, .. } => message.as_slice(),
+        _ => &[],
     }
 }

@@ -2,14 +2,18 @@ ghost use Rattle.std.specs.Prelude.{◌≡◌, [], false, true, None, IfOk, IfSo
 ghost use Rattle.std.specs.FinMap as map;
 ghost use Rattle.ipc_model.specs.calls.PortCalls.{names_in};
 ghost use Rattle.ipc_model.specs.calls.Step.{ActsIn};
+ghost use Rattle.ipc_model.specs.state.Circular.{Grounded};
+ghost use Rattle.ipc_model.specs.state.Lawful.{Lawful};
+ghost use Rattle.ipc_laws.specs.PortCallLaws.{is_port_call};
 ghost use Rattle.kernel.specs.Choosing.{Prefers, gives_up, hands_over, only_reads, sets_nothing_off};
 ghost use Rattle.port_calls.specs.Trying.{Tries};
 
 use crate::choices::Shown;
+use crate::messages::send;
 use effects::Effects;
 use ipc_model::{Call, Reply};
-use ipc_state::IpcState;
-use port_calls::NoticeRequest;
+use port_calls::{IpcState, NoticeRequest};
+use receiving::{Asked, receive};
 use std::alloc::{AllocError, Global};
 
 /// The reply to a call that only reads; `None` for other calls.
@@ -51,13 +55,13 @@ pub fn change(
     state: &mut IpcState,
     space: u32,
     call: &Call,
-    shown: Shown,
+    shown: &Shown,
 ) -> Result<Option<Reply>, AllocError>
     requires there { IsSome (map.get state.old.current.spaces space) }
     requires fresh { map.get state.old.current.ports state.old.current.next ≡ None }
     ensures acts { IfOk result (λ done. IfSome done (λ reply. ActsIn state.old.current space (names_in state.old.current space) call.now reply state.new.current [])) }
     ensures changes { IfOk result (λ done. IfSome done (λ reply. sets_nothing_off call.now ≡ true)) }
-    ensures shown { IfOk result (λ done. IfSome done (λ reply. Prefers state.old.current space call.now shown reply)) }
+    ensures shown { IfOk result (λ done. IfSome done (λ reply. Prefers state.old.current space call.now shown.now reply)) }
     ensures none { IfOk result (λ done. IfNone done (sets_nothing_off call.now ≡ false)) }
     ensures same { IfOk result (λ done. IfNone done (state.new ≡ state.old)) }
     ensures before { state.new.before ≡ state.old.before }
@@ -139,14 +143,14 @@ pub fn hand_over(
     state: &mut IpcState,
     space: u32,
     call: &Call,
-    shown: Shown,
+    shown: &Shown,
     effects: &mut Effects,
 ) -> Result<Option<Reply>, AllocError>
     requires none { effects.old ≡ [] }
     requires there { IsSome (map.get state.old.current.spaces space) }
     ensures tries { IfOk result (λ done. IfSome done (λ reply. Tries state.old.current space call.now reply state.new.current effects.new)) }
     ensures hands { IfOk result (λ done. IfSome done (λ reply. hands_over call.now ≡ true)) }
-    ensures shown { IfOk result (λ done. IfSome done (λ reply. Prefers state.old.current space call.now shown reply)) }
+    ensures shown { IfOk result (λ done. IfSome done (λ reply. Prefers state.old.current space call.now shown.now reply)) }
     ensures none { IfOk result (λ done. IfNone done ((hands_over call.now ≡ false) × (state.new ≡ state.old))) }
     ensures before { state.new.before ≡ state.old.before }
 {
@@ -204,6 +208,50 @@ pub fn hand_over(
                 shown.space,
                 effects,
             )?;
+            Ok(Some(reply))
+        }
+        _ => Ok(None),
+    }
+}
+
+/// Makes a send or a receipt; `None` for other calls. Where memory is wanted the changes are to be given up.
+pub fn exchange(
+    alloc: Global,
+    state: &mut IpcState,
+    space: u32,
+    call: &Call,
+    shown: &Shown,
+    effects: &mut Effects,
+) -> Result<Option<Reply>, AllocError>
+    requires none { effects.old ≡ [] }
+    requires there { IsSome (map.get state.old.current.spaces space) }
+    requires rest { state.old.before ≡ state.old.current }
+    requires lawful { Lawful state.old.current }
+    requires grounded { Grounded state.old.current }
+    ensures acts { IfOk result (λ done. IfSome done (λ reply. ActsIn state.old.current space (names_in state.old.current space) call.now reply state.new.current effects.new)) }
+    ensures shown { IfOk result (λ done. IfSome done (λ reply. Prefers state.old.current space call.now shown.now reply)) }
+    ensures none { IfOk result (λ done. IfNone done ((is_port_call call.now ≡ true) × (state.new ≡ state.old) × (effects.new ≡ effects.old))) }
+    ensures before { state.new.before ≡ state.old.before }
+{
+    match call {
+        Call::Send { message } => {
+            let reply = send(alloc, state, space, message.as_slice(), effects)?;
+            Ok(Some(reply))
+        }
+        Call::Receive {
+            limit,
+            large,
+            name,
+            waited,
+        } => {
+            let asked = Asked {
+                limit: *limit,
+                large: *large,
+                name: *name,
+                waited: *waited,
+            };
+            let names = shown.names.as_slice();
+            let reply = receive(alloc, state, space, asked, shown.preference, names, effects)?;
             Ok(Some(reply))
         }
         _ => Ok(None),

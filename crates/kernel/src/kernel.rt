@@ -1,18 +1,20 @@
-ghost use Rattle.std.specs.Prelude.{◌≡◌, ◌≤◌, true, false, length, IfOk, OnErr, IsErrOf, IfSome, IfNone};
+ghost use Rattle.std.specs.Prelude.{◌≡◌, ◌≤◌, true, false, length, IfOk, OnOk, OnErr, IsErrOf, IfSome, IfNone, None};
+ghost use Rattle.std.specs.FinMap as map;
 ghost use Rattle.codes.specs.declared.limits.TheConstants.{MAX_FRAME_CONTENT};
 ghost use Rattle.ipc_model.specs.state.State.{State, opening_state};
 ghost use Rattle.ipc_model.specs.calls.Step.{Step, has_record, number_of_call};
 ghost use Rattle.ipc_model.specs.texts.Texts.{number_of_reply, reply_text};
 ghost use Rattle.ipc_laws.specs.ImageLaws.{Spellable};
 ghost use Rattle.ipc_laws.specs.RecordedSteps.{IsAnsweredWhole};
-ghost use Rattle.kernel.specs.Served.{ServedStep};
+ghost use Rattle.ipc_model.specs.state.Circular.{Grounded};
+ghost use Rattle.ipc_model.specs.state.Lawful.{Lawful};
 
 use crate::choices::Shown;
 use crate::reply::is_same_reply;
 use crate::stepping::step;
 use codes::{KernReturn, MACH_PORT_GET_RECEIVE_STATUS, MACH_PORT_GET_REFS, MACH_PORT_TYPE};
 use ipc_model::{Call, Record, Reply, call_in_range};
-use ipc_state::IpcState;
+use port_calls::IpcState;
 use std::alloc::{AllocError, Global};
 use std::marker::Model;
 
@@ -78,10 +80,9 @@ impl Kernel {
         let _ = &self.state;
     }
 
-    /// Makes one step of the machine: the call of a task of this space. A call that isn't served yet is refused
-    /// with `InvalidArgument`. Where memory is wanted nothing changed.
+    /// Makes one step of the machine: the call of a task of this space. Where memory is wanted nothing changed.
     pub fn apply(&mut self, space: u32, call: &Call) -> Result<Reply, AllocError>
-        ensures step { IfOk result (λ reply. ServedStep self.old space call.now reply self.new) }
+        ensures step { IfOk result (λ reply. Step self.old space call.now reply self.new) }
         // The reply has the call's number, and fits in a frame; where the call has a record, this can be one.
         ensures number { IfOk result (λ reply. number_of_reply reply ≡ number_of_call call.now) }
         ensures recorded { IfOk result (λ reply. has_record call.now reply ≡ true → IsAnsweredWhole call.now reply) }
@@ -89,7 +90,8 @@ impl Kernel {
         ensures err { OnErr result (self.new ≡ self.old) }
     {
         call_in_range(call);
-        match step(self.alloc, &mut self.state, space, call, Shown::nothing()) {
+        let shown = Shown::nothing(self.alloc);
+        match step(self.alloc, &mut self.state, space, call, &shown) {
             Ok(reply) => {
                 self.state.keep();
                 self.state.queues_are_short();
@@ -106,13 +108,14 @@ impl Kernel {
     /// nothing.
     pub fn answer(&self, space: u32, call: &Call) -> Result<Option<Reply>, AllocError>
         ensures answered { IfOk result (λ answer. IfSome answer
-            (λ reply. ServedStep self.now space call.now reply self.now × (has_record call.now reply ≡ false))) }
+            (λ reply. Step self.now space call.now reply self.now × (has_record call.now reply ≡ false))) }
         ensures none { IfOk result (λ answer. IfNone answer ((reply : Reply) × (new : State)
-            × ServedStep self.now space call.now reply new × (has_record call.now reply ≡ true))) }
+            × Step self.now space call.now reply new × (has_record call.now reply ≡ true))) }
         ensures fits { IfOk result (λ answer. IfSome answer (λ reply. length (reply_text reply) ≤ MAX_FRAME_CONTENT)) }
     {
         let mut state = self.state.copy()?;
-        let reply = step(self.alloc, &mut state, space, call, Shown::nothing())?;
+        let shown = Shown::nothing(self.alloc);
+        let reply = step(self.alloc, &mut state, space, call, &shown)?;
         if call.has_record(&reply) {
             return Ok(None);
         }
@@ -122,13 +125,14 @@ impl Kernel {
     /// What `answer` answers, without a copy of the state: the call is made and given up.
     pub fn answer_in_place(&mut self, space: u32, call: &Call) -> Result<Option<Reply>, AllocError>
         ensures answered { IfOk result (λ answer. IfSome answer
-            (λ reply. ServedStep self.old space call.now reply self.old × (has_record call.now reply ≡ false))) }
+            (λ reply. Step self.old space call.now reply self.old × (has_record call.now reply ≡ false))) }
         ensures none { IfOk result (λ answer. IfNone answer ((reply : Reply) × (new : State)
-            × ServedStep self.old space call.now reply new × (has_record call.now reply ≡ true))) }
+            × Step self.old space call.now reply new × (has_record call.now reply ≡ true))) }
         ensures fits { IfOk result (λ answer. IfSome answer (λ reply. length (reply_text reply) ≤ MAX_FRAME_CONTENT)) }
         ensures same { self.new ≡ self.old }
     {
-        let answered = step(self.alloc, &mut self.state, space, call, Shown::nothing());
+        let shown = Shown::nothing(self.alloc);
+        let answered = step(self.alloc, &mut self.state, space, call, &shown);
         self.state.give_up();
         let reply = answered?;
         if call.has_record(&reply) {
@@ -171,21 +175,36 @@ impl Kernel {
     /// Makes the step that a record tells of: the machine's new state, or `Mismatch` where it has no such
     /// step. The kernel is given up with a fault.
     pub fn replay(self, record: &Record) -> Result<Kernel, ReplayFault>
-        ensures step { IfOk result (λ new. ServedStep self record.now.space record.now.call record.now.reply new) }
+        ensures step { IfOk result (λ new. Step self record.now.space record.now.call record.now.reply new) }
+        ensures only { IfOk result (λ new. (other : State) → Step self record.now.space record.now.call record.now.reply other → other ≡ new) }
         ensures mismatch { IsErrOf result ReplayFault.Mismatch → (new : State)
-            → ServedStep self record.now.space record.now.call record.now.reply new → ⊥ }
+            → Step self record.now.space record.now.call record.now.reply new → ⊥ }
     {
         let Kernel { alloc, mut state } = self;
         call_in_range(&record.call);
-        let shown = Shown::of(&record.reply);
-        let reply = step(alloc, &mut state, record.space, &record.call, shown)?;
-        if !is_same_reply(&reply, &record.reply) {
-            return Err(ReplayFault::Mismatch);
-        }
+        step_again(alloc, &mut state, record)?;
         state.keep();
         state.queues_are_short();
         Ok(Kernel { alloc, state })
     }
+}
+
+/// Makes the step that a record tells of. With a fault the changes are to be given up.
+fn step_again(alloc: Global, state: &mut IpcState, record: &Record) -> Result<(), ReplayFault>
+    requires fresh { map.get state.old.current.ports state.old.current.next ≡ None }
+    requires rest { state.old.before ≡ state.old.current }
+    requires lawful { Lawful state.old.current }
+    requires grounded { Grounded state.old.current }
+    ensures step { OnOk result (Step state.old.current record.now.space record.now.call record.now.reply state.new.current) }
+    ensures mismatch { IsErrOf result ReplayFault.Mismatch → (new : State)
+        → Step state.old.current record.now.space record.now.call record.now.reply new → ⊥ }
+{
+    let shown = Shown::of(alloc, &record.reply)?;
+    let reply = step(alloc, state, record.space, &record.call, &shown)?;
+    if !is_same_reply(&reply, &record.reply) {
+        return Err(ReplayFault::Mismatch);
+    }
+    Ok(())
 }
 
 /// The refusal of a caller whose space is gone.

@@ -5,8 +5,9 @@ mod choices;
 mod dispatch;
 mod kernel;
 mod laws;
+mod messages;
 mod reply;
 mod stepping;
 
 pub use kernel::{Kernel, ReplayFault};
-pub use laws::{one_served_state, recorded_steps_are_steps, unrecorded_steps_change_nothing};
+pub use laws::unrecorded_steps_change_nothing;

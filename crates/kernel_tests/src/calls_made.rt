@@ -1,11 +1,11 @@
 use codes::KernReturn;
-use ipc_model::{Call, Record, Reply, RightKind};
+use ipc_model::{Call, Record, Reply, RightKind, Sequence};
 use kernel::{Kernel, ReplayFault};
 use std::alloc::{AllocError, Global};
 use std::test::Fail;
 
 /// The first words of a reply's frame, of those that come here: the call's number, the code, and two results, of a port's
-/// status the messages and the make-send count.
+/// status the messages and the make-send count; of a message its code, size and member, and the call's number.
 fn words_of(reply: &Reply) -> [u32; 4] {
     match reply {
         Reply::Refused { number, code } => [*number, code.number(), 0, 0],
@@ -14,6 +14,12 @@ fn words_of(reply: &Reply) -> [u32; 4] {
         Reply::Allocate { name } => [5, 0, *name, 0],
         Reply::References { count } => [8, 0, *count, 0],
         Reply::ReceiveStatus { status } => [13, 0, status.messages, status.make_send_count],
+        Reply::Message {
+            code,
+            size,
+            member,
+            ..
+        } => [code.number(), *size, *member, 19],
         Reply::SpaceCreated { space, name } => [20, 0, *space, *name],
         _ => [u32::MAX; 4],
     }
@@ -266,5 +272,117 @@ fn replays_no_invented_refusal(rt: HostRuntime) -> Result<(), Fail> {
     };
     let found = fault_after_a_port(rt.alloc(), extract(), refused)?;
     assert_eq!(rt; found, Some(ReplayFault::Mismatch));
+    Ok(())
+}
+
+/// Two ports, 0x100 and 0x101, in a set, 0x102.
+const PORTS_IN_A_SET: [Call; 5] = [
+    Call::Allocate { right: 1 },
+    Call::Allocate { right: 1 },
+    Call::Allocate { right: 3 },
+    Call::MoveMember {
+        member: 0x100,
+        after: 0x102,
+    },
+    Call::MoveMember {
+        member: 0x101,
+        after: 0x102,
+    },
+];
+
+/// A kernel after these.
+fn kernel_with_a_set(alloc: Global) -> Result<Kernel, AllocError> {
+    let mut kernel = Kernel::opening(alloc)?;
+    for call in &PORTS_IN_A_SET {
+        kernel.apply(1, call)?;
+    }
+    Ok(kernel)
+}
+
+fn receive(name: u32, waited: bool) -> Call {
+    Call::Receive {
+        limit: 24,
+        large: false,
+        name,
+        waited,
+    }
+}
+
+/// Receipts that find no port of their own, at first and after a wait: one that is in a set, and one that isn't there.
+fn receipts_without_a_port(kernel: &mut Kernel) -> Result<[u32; 4], AllocError> {
+    let mut codes = [0; 4];
+    let asked = [(0x100, false), (0x100, true), (0x1ff, false), (0x1ff, true)];
+    for (index, (name, waited)) in asked.iter().enumerate() {
+        let [code, ..] = words_of(&kernel.apply(1, &receive(*name, *waited))?);
+        codes[index] = code;
+    }
+    Ok(codes)
+}
+
+#[test]
+fn a_wait_changes_the_code(rt: HostRuntime) -> Result<(), Fail> {
+    let mut kernel = kernel_with_a_set(rt.alloc())?;
+    let codes = receipts_without_a_port(&mut kernel)?;
+    // IN_SET and PORT_CHANGED, INVALID_NAME and PORT_DIED.
+    assert_eq!(rt; codes, [0x1000_400a, 0x1000_4006, 0x1000_4002, 0x1000_4009]);
+    Ok(())
+}
+
+fn bytes_of(alloc: Global, bytes: &[u8]) -> Result<Sequence<u8>, AllocError> {
+    let mut items = Vec::with_capacity(alloc, bytes.len())?;
+    items.extend_from_slice(bytes)?;
+    Ok(Sequence::new(items))
+}
+
+/// A send to a port of the set, 0x100 or the one behind it, by a send right made for it, with id 7.
+fn send(alloc: Global, port: u8) -> Result<Call, AllocError> {
+    let text = [
+        0x14, 0, 0, 0, 0, 0, 0, 0, port, 1, 0, 0, 0, 0, 0, 0, 0, 0, 0, 0, 7, 0, 0, 0,
+    ];
+    Ok(Call::Send {
+        message: bytes_of(alloc, &text)?,
+    })
+}
+
+/// The record of a receipt from the set that took that port's message.
+fn received(alloc: Global, port: u8) -> Result<Record, AllocError> {
+    let text = [
+        0, 0x11, 0, 0, 24, 0, 0, 0, 0, 0, 0, 0, port, 1, 0, 0, 0, 0, 0, 0, 7, 0, 0, 0,
+    ];
+    Ok(Record {
+        space: 1,
+        call: receive(0x102, false),
+        reply: Reply::Message {
+            code: KernReturn::Success,
+            size: 24,
+            member: 0x100 + u32::from(port),
+            message: bytes_of(alloc, &text)?,
+        },
+    })
+}
+
+/// A kernel in which each port of the set has a message.
+fn kernel_with_messages(alloc: Global) -> Result<Kernel, AllocError> {
+    let mut kernel = kernel_with_a_set(alloc)?;
+    for port in [0, 1] {
+        kernel.apply(1, &send(alloc, port)?)?;
+    }
+    Ok(kernel)
+}
+
+/// The fault where the record of a receipt from that port is replayed.
+fn fault_of_receipt(alloc: Global, port: u8) -> Result<Option<ReplayFault>, Fail> {
+    let kernel = kernel_with_messages(alloc)?;
+    Ok(fault_of(kernel, &received(alloc, port)?))
+}
+
+#[test]
+fn a_receipt_is_replayed_from_its_member(rt: HostRuntime) -> Result<(), Fail> {
+    let found = [
+        fault_of_receipt(rt.alloc(), 0)?,
+        fault_of_receipt(rt.alloc(), 1)?,
+        fault_of_receipt(rt.alloc(), 2)?,
+    ];
+    assert_eq!(rt; found, [None, None, Some(ReplayFault::Mismatch)]);
     Ok(())
 }

@@ -1,2 +1,3 @@
+pub mod Slabbed
 pub mod Slotted
 pub mod Standing

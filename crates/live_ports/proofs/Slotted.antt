@@ -49,7 +49,7 @@ pub none_left : (slots : Slots) (rest : List ℕ) → length rest ≡ 0 → AreM
 none_left slots [] none still = still
 none_left slots (k ∷ rest) none still = absurd (omega (arith, none))
 
-get_slot : (slots : Slots) (k : ℕ) (f : PortSlot → PortSlot) (q : ℕ) → get (slot_changed slots k f) q ≡ cond (eq_by_cmp nat_cmp q k) (option_map f (get slots k)) (get slots q)
+pub get_slot : (slots : Slots) (k : ℕ) (f : PortSlot → PortSlot) (q : ℕ) → get (slot_changed slots k f) q ≡ cond (eq_by_cmp nat_cmp q k) (option_map f (get slots k)) (get slots q)
 get_slot slots k f q = by (get slots k) refl
   where
     at : (b : Bool) → eq_by_cmp nat_cmp q k ≡ b → get slots k ≡ None → get slots q ≡ cond b None (get slots q)

@@ -1,5 +1,5 @@
 -- The table of ports stands through each change.
-use Rattle.std.proofs.Common.{IfSome, ◌||◌, length-append, ◌≡◌, ℕ, zero, suc, ◌+◌, ◌-◌, ◌<◌, ◌≤◌, ◌^◌, cond, true, false, Bool, List, [], ◌∷◌, ◌++◌, length, Option, None, Some, is_some, option_map, refl, sym, ◌∙◌, ap, subst, arith}
+use Rattle.std.proofs.Common.{IfSome, ◌||◌, drop, length-append, ◌≡◌, ℕ, zero, suc, ◌+◌, ◌-◌, ◌<◌, ◌≤◌, ◌^◌, cond, true, false, Bool, List, [], ◌∷◌, ◌++◌, length, Option, None, Some, is_some, option_map, refl, sym, ◌∙◌, ap, subst, arith}
 use Rattle.std.specs.List.{list_any}
 use Rattle.std.specs.Cmp.{nat_cmp_total}
 use Rattle.std.specs.Ordering.{nat_cmp, eq_by_cmp}
@@ -11,7 +11,7 @@ use Rattle.ipc_model.specs.state.State.{new_port}
 use Rattle.ipc_laws.specs.ListLaws.{some_same}
 use Rattle.ipc_laws.specs.MapSums.{key_is}
 use Rattle.ipc_model.specs.state.Lawful.{AreShort}
-use Rattle.live_ports.specs.Changed.{changed, with_message, with_numbers}
+use Rattle.live_ports.specs.Changed.{changed, with_message, with_numbers, without_first}
 use Rattle.live_ports.specs.PortTable.{TrackedPorts, ports_at_rest}
 use Rattle.live_ports.specs.Seen.{Ports, lives_in, seen, seen_message, as_seen, mentions, AreLive, IsBelow}
 use Rattle.live_ports.specs.SeenLaws.{get_changed, get_seen, length_mapped, lives_seen}
@@ -168,6 +168,26 @@ pushed_sound ports count next k message live room sound = changed_sound ports co
           mentioned = λ s to. small port below s to (list_any (mentions s) port.messages) refl;
           short = omega (arith, shorter, length-append port.messages (message ∷ []));
         }
+
+front_holds : (a b : Bool) → b ≡ true → (a || b) ≡ true
+front_holds true b e = refl
+front_holds false b e = e
+
+behind_holds : {A : Type 0} (p : A → Bool) (xs : List A) → list_any p (drop 1 xs) ≡ true → list_any p xs ≡ true
+behind_holds p [] some = some
+behind_holds p (x ∷ xs) some = front_holds (p x) (list_any p xs) some
+
+behind_shorter : {A : Type 0} (xs : List A) → length (drop 1 xs) ≤ length xs
+behind_shorter [] = omega arith
+behind_shorter (x ∷ xs) = omega arith
+
+-- a message is taken out of a queue
+pub taken_sound : (ports : Ports) (count next k : ℕ) → AreSound ports count next → AreSound (changed ports k without_first) count next
+taken_sound ports count next k = changed_sound ports count next k without_first (λ port is below. record {
+  within = below.within;
+  mentioned = λ s to. below.mentioned s (behind_holds (mentions s) port.messages to);
+  short = omega (arith, below.short, behind_shorter port.messages);
+})
 
 short_option : (o p : Option PortState) (f : PortState → PortState) (port : PortState) → p ≡ option_map f o → p ≡ Some port → (from : PortState) → o ≡ Some from → port ≡ f from
 short_option o p f port at is from was = some_same port (f from) (sym is ∙ at ∙ ap (option_map f) was)

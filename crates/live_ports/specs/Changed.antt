@@ -1,5 +1,5 @@
 -- What a port keeps beside its queue, and a change of one port among all.
-use Rattle.std.specs.Prelude.{◌≡◌, ℕ, ◌<◌, ◌≤◌, List, [], ◌∷◌, ◌++◌, Option, None, Some, MatchOption, length, slice_index_or}
+use Rattle.std.specs.Prelude.{◌≡◌, ℕ, ◌<◌, ◌≤◌, List, [], ◌∷◌, ◌++◌, Option, None, Some, MatchOption, drop, length, slice_index_or}
 use Rattle.std.specs.Borrow.{Bor}
 use Rattle.std.specs.Ordering.{nat_cmp}
 use Rattle.std.specs.FinMap as finmap
@@ -36,6 +36,10 @@ with_numbers numbers port = port_of numbers port.messages
 -- the port with a message more at its queue's end
 abbrev pub with_message : Message → PortState → PortState
 with_message message port = record port { messages = port.messages ++ message ∷ [] }
+
+-- the port without its queue's oldest message
+abbrev pub without_first : PortState → PortState
+without_first port = record port { messages = drop 1 port.messages }
 
 -- the messages of a port, none where it is dead
 abbrev pub messages_in : Option PortState → List Message

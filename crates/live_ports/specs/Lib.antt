@@ -5,3 +5,4 @@ pub mod SeenLaws
 pub mod Touched
 pub mod Tables
 pub mod PortTable
+pub mod Slabbed

@@ -1,5 +1,5 @@
 -- What a change of the ports does to them as they are seen.
-use Rattle.std.proofs.Common.{suc, ◌≡◌, ℕ, ◌<◌, ◌≤◌, ◌==◌, cond, true, false, Bool, ◌||◌, List, [], ◌∷◌, ◌++◌, map, length, Option, None, Some, is_some, option_map, MatchOption, Bor, slice_index_or, refl, sym, ◌∙◌, ap, subst, arith}
+use Rattle.std.proofs.Common.{suc, ◌≡◌, ℕ, ◌<◌, ◌≤◌, ◌==◌, cond, true, false, Bool, ◌||◌, List, [], ◌∷◌, ◌++◌, map, drop, length, Option, None, Some, is_some, option_map, MatchOption, Bor, slice_index_or, refl, sym, ◌∙◌, ap, subst, arith}
 use Rattle.std.proofs.Math.ListN.{get_or-map}
 use Rattle.std.proofs.lemmas.Bool.{eqb-true, eq-eqb}
 use Rattle.std.specs.List.{list_any}
@@ -16,7 +16,7 @@ use Rattle.ipc_model.specs.state.Circular.{is_port}
 use Rattle.ipc_model.specs.state.State.{new_port}
 use Rattle.ipc_laws.specs.MapLaws.{get-map_values, len-map_values}
 use Rattle.ipc_laws.specs.MapSums.{key_is, same_key}
-use Rattle.live_ports.specs.Changed.{IsMessageAt, changed, messages_in, numbers_of, with_message}
+use Rattle.live_ports.specs.Changed.{IsMessageAt, changed, messages_in, numbers_of, with_message, without_first}
 use Rattle.live_ports.specs.Seen.{Ports, lives_in, seen_port, seen_right, seen_message, seen, as_seen, is_to, reply_is_to, mentions, AreLive, queue_after_death, AreBelow}
 
 map_alike : {A B : Type 0} (f g : A → B) (xs : List A) → ((x : A) → f x ≡ g x) → map f xs ≡ map g xs
@@ -154,6 +154,14 @@ pub seen_pushed : (raw : Ports) (s : ℕ) (message : Message) → AreLive (as_se
 seen_pushed raw s message live = seen_changed raw s (with_message message) (with_message message) (λ port.
     ap (λ (ms : List Message). record port { messages = ms }) (map_append (seen_message (lives_in raw)) port.messages (message ∷ [])
     ∙ ap (λ (m : Message). map (seen_message (lives_in raw)) port.messages ++ m ∷ []) (live_message raw message (λ k to. sym (lives_seen raw k) ∙ live k to))))
+
+-- a message that is taken out of a queue
+map_behind : {A B : Type 0} (f : A → B) (xs : List A) → map f (drop 1 xs) ≡ drop 1 (map f xs)
+map_behind f [] = refl
+map_behind f (x ∷ xs) = refl
+
+pub seen_taken : (raw : Ports) (s : ℕ) → as_seen (changed raw s without_first) ≡ changed (as_seen raw) s without_first
+seen_taken raw s = seen_changed raw s without_first without_first (λ port. ap (λ (ms : List Message). record port { messages = ms }) (map_behind (seen_message (lives_in raw)) port.messages))
 
 -- a port that dies
 lives_removed : (raw : Ports) (s k : ℕ) → lives_in (remove raw s) k ≡ cond (eq_by_cmp nat_cmp k s) false (lives_in raw k)

@@ -3,6 +3,7 @@
 
 mod port;
 mod ports;
+mod slots;
 mod tables;
 
 pub use port::PortNumbers;

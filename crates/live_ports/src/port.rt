@@ -1,6 +1,6 @@
 ghost use Rattle.std.specs.Prelude.{◌≡◌, ◌<◌, ◌-◌, ◌^◌, None, Some, length, is_some, option_map, slice_index_or, IfOk, IfSome, OnOk, OnErr};
 ghost use Rattle.ipc_model.specs.state.State.{new_port};
-ghost use Rattle.live_ports.specs.Changed.{IsMessageAt, messages_in, numbers_of, with_message, with_numbers};
+ghost use Rattle.live_ports.specs.Changed.{IsMessageAt, messages_in, numbers_of, with_message, with_numbers, without_first};
 ghost use Rattle.live_ports.specs.PortSlot.{slot_at_rest};
 
 use codes::DEFAULT_QUEUE_LIMIT;
@@ -141,6 +141,13 @@ impl Port {
             return Err(AllocError);
         }
         self.queue.push_forced(message)
+    }
+
+    /// Takes the queue's oldest message out, if the port lives and has one.
+    pub(crate) fn take(&mut self)
+        ensures { self.new ≡ record self.old { current = option_map without_first self.old.current } }
+    {
+        self.queue.take();
     }
 
     /// The port dies.

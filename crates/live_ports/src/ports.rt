@@ -4,7 +4,7 @@ ghost use Rattle.codes.specs.declared.limits.TheConstants.{MAX_PORTS};
 ghost use Rattle.ipc_model.specs.effects.Effects.{map_values};
 ghost use Rattle.ipc_model.specs.state.Lawful.{AreShort};
 ghost use Rattle.ipc_model.specs.state.State.{new_port};
-ghost use Rattle.live_ports.specs.Changed.{changed, messages_at, numbers_of, with_message, with_numbers};
+ghost use Rattle.live_ports.specs.Changed.{changed, messages_at, numbers_of, with_message, with_numbers, without_first};
 ghost use Rattle.live_ports.specs.PortTable.{ports_at_rest};
 ghost use Rattle.live_ports.specs.Seen.{lives_in, queue_after_death, seen_message, seen_port, seen_right, AreLive};
 
@@ -160,6 +160,24 @@ impl LivePorts {
         ensures err { OnErr result (self.new ≡ ports_at_rest self.old.before) }
     {
         match self.tables.push(serial, message) {
+            Ok(()) => Ok(()),
+            Err(error) => {
+                self.tables.give_up();
+                Err(error)
+            }
+        }
+    }
+
+    /// Takes the oldest message of a port out of its queue, if there is one. Where memory is wanted the changes are given up.
+    pub fn take(&mut self, serial: u64) -> Result<(), AllocError>
+        ensures ok { OnOk result (self.new ≡ record self.old {
+          current = record self.old.current {
+            ports = changed self.old.current.ports serial without_first;
+          };
+        }) }
+        ensures err { OnErr result (self.new ≡ ports_at_rest self.old.before) }
+    {
+        match self.tables.take(serial) {
             Ok(()) => Ok(()),
             Err(error) => {
                 self.tables.give_up();

@@ -3,13 +3,13 @@ ghost use Rattle.std.specs.Prelude.{◌≡◌, ◌<◌, ◌≤◌, ◌+◌, ◌-
 ghost use Rattle.std.specs.FinMap as map;
 ghost use Rattle.codes.specs.declared.limits.TheConstants.{MAX_PORTS};
 ghost use Rattle.ipc_model.specs.state.State.{new_port};
-ghost use Rattle.live_ports.specs.Changed.{IsMessageAt, changed, messages_at, messages_in, numbers_of, with_message, with_numbers};
+ghost use Rattle.live_ports.specs.Changed.{IsMessageAt, changed, messages_at, messages_in, numbers_of, with_message, with_numbers, without_first};
 ghost use Rattle.live_ports.specs.Tables.{before_of, current_of, former_ports, present_ports, slot_changed, present_changed, buried, kept_slot, given_up_slot, AreMarked, SameBefore, AreNow, AreAtRest, AreSame};
 ghost use Rattle.live_ports.specs.Touched.{worked_off};
 
 use crate::port::{Port, PortNumbers};
+use crate::slots::PortSlots;
 use ipc_model::Message;
-use number_map::{Copier, NumberMap};
 use std::alloc::{AllocError, Global};
 
 /// The ports by their serials, the serials of those that were changed, how many live and lived, and the serials that the
@@ -17,22 +17,12 @@ use std::alloc::{AllocError, Global};
 #[derive(Drop)]
 pub(crate) struct Tables {
     pub(crate) alloc: Global,
-    pub(crate) slots: NumberMap<Port>,
+    pub(crate) slots: PortSlots,
     pub(crate) touched: Vec<u128>,
     pub(crate) count: usize,
     pub(crate) count_before: usize,
     pub(crate) next: u64,
     pub(crate) next_before: u64,
-}
-
-/// Copies ports.
-#[derive(Drop)]
-struct PortCopier;
-
-impl Copier<Port> for PortCopier {
-    fn copy(&self, value: &Port) -> Result<Port, AllocError> {
-        value.copy()
-    }
 }
 
 impl Tables {
@@ -42,7 +32,7 @@ impl Tables {
     {
         Tables {
             alloc,
-            slots: NumberMap::new(alloc),
+            slots: PortSlots::new(alloc),
             touched: Vec::new(alloc),
             count: 0,
             count_before: 0,
@@ -102,7 +92,7 @@ impl Tables {
         ensures before { SameBefore self.old self.new }
     {
         touch(&mut self.touched, serial)?;
-        put_numbers(&mut self.slots, serial, numbers);
+        self.slots.set_numbers(u128::from(serial), numbers);
         Ok(())
     }
 
@@ -115,7 +105,19 @@ impl Tables {
         ensures before { SameBefore self.old self.new }
     {
         touch(&mut self.touched, serial)?;
-        push_message(&mut self.slots, serial, message)
+        self.slots.push(u128::from(serial), message)
+    }
+
+    /// Takes the oldest message out of a port's queue, if it lives and has one. Where memory is wanted the changes are to be
+    /// given up.
+    pub(crate) fn take(&mut self, serial: u64) -> Result<(), AllocError>
+        requires { AreMarked self.old.slots self.old.touched.items }
+        ensures ok { OnOk result (AreNow self.new (changed (present_ports self.old.slots) serial without_first) self.old.count self.old.next) }
+        ensures before { SameBefore self.old self.new }
+    {
+        touch(&mut self.touched, serial)?;
+        self.slots.take(u128::from(serial));
+        Ok(())
     }
 
     /// Makes a port. Where memory is wanted the changes are to be given up.
@@ -143,7 +145,7 @@ impl Tables {
         ensures before { SameBefore self.old self.new }
     {
         touch(&mut self.touched, serial)?;
-        bury_port(&mut self.slots, serial);
+        self.slots.bury(u128::from(serial));
         self.count -= 1;
         Ok(())
     }
@@ -152,7 +154,7 @@ impl Tables {
     pub(crate) fn copy(&self) -> Result<Tables, AllocError>
         ensures { IfOk result (λ copy. AreSame self.now copy) }
     {
-        let slots = self.slots.copy(&PortCopier)?;
+        let slots = self.slots.copy()?;
         let touched = Vec::from_slice(self.alloc, self.touched.as_slice())?;
         Ok(Tables {
             alloc: self.alloc,
@@ -198,40 +200,8 @@ fn touch(touched: &mut Vec<u128>, serial: u64) -> Result<(), AllocError>
     Ok(())
 }
 
-fn put_numbers(slots: &mut NumberMap<Port>, serial: u64, numbers: PortNumbers)
-    ensures { slots.new ≡ slot_changed slots.old serial (present_changed (with_numbers numbers)) }
-{
-    if let Some(port) = slots.get_mut(u128::from(serial)) {
-        port.set_numbers(numbers);
-    }
-}
-
-fn push_message(
-    slots: &mut NumberMap<Port>,
-    serial: u64,
-    message: Message,
-) -> Result<(), AllocError>
-    ensures ok { OnOk result (slots.new ≡ slot_changed slots.old serial (present_changed (with_message message))) }
-    ensures room { OnOk result (IfSome (option_and_then current_of (map.get slots.old serial)) (λ port. length port.messages < 2 ^ 32 - 1)) }
-    ensures err { OnErr result (slots.new ≡ slots.old) }
-{
-    let Some(port) = slots.get_mut(u128::from(serial)) else {
-        return Ok(());
-    };
-    port.push_forced(message)?;
-    Ok(())
-}
-
-fn bury_port(slots: &mut NumberMap<Port>, serial: u64)
-    ensures { slots.new ≡ slot_changed slots.old serial buried }
-{
-    if let Some(port) = slots.get_mut(u128::from(serial)) {
-        port.bury();
-    }
-}
-
 /// Keeps the changes of these slots, which are among all that were changed.
-fn keep_touched(slots: &mut NumberMap<Port>, touched: &[u128])
+fn keep_touched(slots: &mut PortSlots, touched: &[u128])
     requires { AreMarked slots.old touched.now }
     ensures seen { present_ports slots.new ≡ present_ports slots.old }
     ensures touched { AreMarked slots.new [] }
@@ -244,7 +214,7 @@ fn keep_touched(slots: &mut NumberMap<Port>, touched: &[u128])
 }
 
 /// Gives the changes of these slots up, which are among all that were changed.
-fn give_up_touched(slots: &mut NumberMap<Port>, touched: &[u128])
+fn give_up_touched(slots: &mut PortSlots, touched: &[u128])
     requires { AreMarked slots.old touched.now }
     ensures seen { former_ports slots.new ≡ former_ports slots.old }
     ensures touched { AreMarked slots.new [] }
@@ -257,28 +227,28 @@ fn give_up_touched(slots: &mut NumberMap<Port>, touched: &[u128])
 }
 
 /// Keeps the changes of a slot, which goes where its port is dead.
-fn keep_slot(slots: &mut NumberMap<Port>, serial: u128)
+fn keep_slot(slots: &mut PortSlots, serial: u128)
     ensures { slots.new ≡ worked_off current_of kept_slot slots.old serial }
 {
-    let Some(port) = slots.get_mut(serial) else {
+    let Some(port) = slots.get(serial) else {
         return;
     };
     if port.is_there() {
-        port.keep();
+        slots.keep(serial);
     } else {
         slots.remove(serial);
     }
 }
 
 /// Gives the changes of a slot up, which goes where its port didn't live.
-fn give_up_slot(slots: &mut NumberMap<Port>, serial: u128)
+fn give_up_slot(slots: &mut PortSlots, serial: u128)
     ensures { slots.new ≡ worked_off before_of given_up_slot slots.old serial }
 {
-    let Some(port) = slots.get_mut(serial) else {
+    let Some(port) = slots.get(serial) else {
         return;
     };
     if port.was_there() {
-        port.give_up();
+        slots.give_up(serial);
     } else {
         slots.remove(serial);
     }

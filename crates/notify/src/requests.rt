@@ -5,8 +5,7 @@ ghost use Rattle.port_space.specs.References.{AreFewReferences};
 ghost use Rattle.notify.specs.Requests.{with_request};
 
 use ipc_model::{Entry, PortRights};
-use ipc_state::IpcState;
-use ports::PortNumbers;
+use ipc_state::{IpcState, PortNumbers};
 use std::alloc::AllocError;
 
 /// The target of a port's no-senders request becomes this one, or the request is taken or cancelled where it is

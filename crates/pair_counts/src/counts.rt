@@ -59,15 +59,12 @@ impl PairCounts {
     pub fn least(&self, first: u64) -> Option<u64>
         ensures { IsLeast self.now.current first result }
     {
-        let Some((found, _)) = self.counts.next_from(key(first, 0)) else {
+        // No farther than the pairs with this first number: those of others may have left many marks.
+        let last = key(first, u64::MAX);
+        let Some((found, _)) = self.counts.next_within(key(first, 0), last) else {
             return None;
         };
-        let second = found - key(first, 0);
-        if second <= u128::from(u64::MAX) {
-            Some(second as u64)
-        } else {
-            None
-        }
+        Some((found - key(first, 0)) as u64)
     }
 
     /// One more of a pair. Where memory is wanted, as by a count of 2^63 - 1, the changes are given up.

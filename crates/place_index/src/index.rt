@@ -58,15 +58,12 @@ impl PlaceIndex {
     pub fn next(&self, number: u64, from: u64) -> Option<u64>
         ensures { IsNext self.now.current number from result }
     {
-        let Some((found, _)) = self.places.next_from(key(number, from)) else {
+        // No farther than the places of this number: those of others may have left many marks.
+        let last = key(number, u64::MAX);
+        let Some((found, _)) = self.places.next_within(key(number, from), last) else {
             return None;
         };
-        let place = found - key(number, 0);
-        if place <= u128::from(u64::MAX) {
-            Some(place as u64)
-        } else {
-            None
-        }
+        Some((found - key(number, 0)) as u64)
     }
 
     /// The same index again, with the changes to keep or to give up.

@@ -27,8 +27,8 @@ use Rattle.ipc_laws.specs.Others.{with_port_spaces}
 use Rattle.ipc_model.specs.calls.PortCalls.{names_are_used_up, is_no_name, is_variant, names_in, notify_disposition, target_under, tests_of, tests_of_copy_in, tests_of_request, tests_of_taken, tests_of_variant}
 use Rattle.ipc_model.specs.state.State.{State, Names, entry_at, received_port, with_entry, with_names}
 use Rattle.ipc_model.specs.calls.Tests.{Tests, first_failing}
-use Rattle.ipc_state.specs.Added.{names_added}
-use Rattle.ipc_state.specs.There.{or_empty}
+use Rattle.rights.specs.Passed.{names_added}
+use Rattle.rights.specs.Passed.{or_empty}
 
 -- tests after others
 

@@ -13,7 +13,7 @@ use crate::name_lookup::is_null_or_dead;
 use crate::reply::refused;
 use codes::{KernReturn, MACH_PORT_ALLOCATE, MACH_PORT_ALLOCATE_NAME, MAX_NAMES, Right};
 use ipc_model::Reply;
-use ipc_state::IpcState;
+use rights::IpcState;
 use std::alloc::AllocError;
 
 /// `mach_port_allocate`: a new name with a new right: the wanted name where it is unused, else the least unused one

@@ -26,4 +26,5 @@ pub use removal::destroy;
 pub use renaming::rename;
 pub use requests::{NoticeRequest, request_notification};
 pub use right_transfer::{extract_right, insert_right};
+pub use rights::IpcState;
 pub use space_calls::{attach, space_create, space_destroy};

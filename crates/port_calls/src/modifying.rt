@@ -16,8 +16,7 @@ use crate::reply::refused;
 use codes::{KernReturn, MACH_PORT_MOD_REFS, MAX_DEAD_REFERENCES, MAX_SEND_REFERENCES, Right};
 use effects::Effects;
 use ipc_model::{Entry, PortRights, Reply, RightKind};
-use ipc_state::IpcState;
-use rights::{announce_left, set_left};
+use rights::{IpcState, announce_left, set_left};
 use std::alloc::{AllocError, Global};
 
 /// Minus one, as a delta in two's complement.

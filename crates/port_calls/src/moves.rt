@@ -7,8 +7,8 @@ use crate::name_lookup::named;
 use crate::reply::refused;
 use codes::{KernReturn, MACH_PORT_MOVE_MEMBER, MACH_PORT_NULL};
 use ipc_model::{Entry, Reply};
-use ipc_state::IpcState;
 use port_set::received_port;
+use rights::IpcState;
 use std::alloc::AllocError;
 
 /// `mach_port_move_member`: a port becomes a member of the set `after`, or of none where that is

@@ -6,7 +6,7 @@ ghost use Rattle.port_space.specs.References.{AreFewReferences};
 
 use codes::{MACH_PORT_DEAD, MACH_PORT_NULL};
 use ipc_model::Entry;
-use ipc_state::IpcState;
+use rights::IpcState;
 
 /// What a name stands for, unless it is `MACH_PORT_NULL` or `MACH_PORT_DEAD`, or isn't in use.
 pub fn named(state: &IpcState, space: u32, name: u32) -> Option<Entry>

@@ -9,9 +9,8 @@ use codes::{
     KernReturn, MACH_PORT_SET_MSCOUNT, MACH_PORT_SET_QLIMIT, MACH_PORT_SET_SEQNO, MAX_QUEUE_LIMIT,
 };
 use ipc_model::Reply;
-use ipc_state::IpcState;
 use port_set::received_port;
-use ports::PortNumbers;
+use rights::{IpcState, PortNumbers};
 use std::alloc::AllocError;
 
 /// `mach_port_set_qlimit`: how many messages the queue of a port holds at most. Where memory is wanted the

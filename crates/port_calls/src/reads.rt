@@ -16,8 +16,8 @@ use codes::{
     MACH_PORT_NULL, MACH_PORT_TYPE, Right,
 };
 use ipc_model::{Entry, NamedType, ReceiveStatus, Reply, Sequence};
-use ipc_state::IpcState;
 use port_set::received_port;
+use rights::IpcState;
 use std::alloc::{AllocError, Global};
 
 /// `mach_port_type`: the type bits of a name.

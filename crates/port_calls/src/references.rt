@@ -13,8 +13,7 @@ use crate::reply::refused;
 use codes::{KernReturn, MACH_PORT_DEALLOCATE};
 use effects::{Effect, Effects};
 use ipc_model::{Entry, PortRights, Reply, RightKind};
-use ipc_state::IpcState;
-use rights::{announce_left, set_left};
+use rights::{IpcState, announce_left, set_left};
 use std::alloc::AllocError;
 
 /// `mach_port_deallocate`: one reference less of a send right, a send-once right or a dead name.

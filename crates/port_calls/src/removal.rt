@@ -10,8 +10,8 @@ use crate::reply::refused;
 use codes::{KernReturn, MACH_PORT_DESTROY};
 use effects::Effects;
 use ipc_model::{Entry, Reply};
-use ipc_state::IpcState;
 use port_set::{member_ports, move_ports};
+use rights::IpcState;
 use std::alloc::{AllocError, Global};
 
 /// `mach_port_destroy`: a name goes with all that it stands for.

@@ -10,8 +10,8 @@ use crate::name_lookup::{is_null_or_dead, named};
 use crate::reply::refused;
 use codes::{KernReturn, MACH_PORT_RENAME};
 use ipc_model::{Entry, Reply};
-use ipc_state::IpcState;
 use port_set::{member_ports, move_ports};
+use rights::IpcState;
 use std::alloc::{AllocError, Global};
 
 /// `mach_port_rename`: what a name stands for comes to stand under another one. The space is there. Where memory is

@@ -20,10 +20,9 @@ use codes::{
 };
 use effects::{Effect, Effects, Notice};
 use ipc_model::{Entry, PortInMessage, Reply};
-use ipc_state::{IpcState, request_of};
 use notify::{replace_no_senders, replace_port_destroyed, with_request};
 use port_set::received_port;
-use rights::take_right;
+use rights::{IpcState, request_of, take_right};
 use std::alloc::AllocError;
 
 /// What `mach_port_request_notification` asks for.

@@ -19,8 +19,7 @@ use codes::{
 };
 use effects::Effects;
 use ipc_model::{CarriedRight, Entry, PortInMessage, Reply, RightKind};
-use ipc_state::IpcState;
-use rights::{arrival_name, may_arrive, names_wanted, put_right, take_right};
+use rights::{IpcState, arrival_wanted, names_wanted, put_right, take_right};
 use std::alloc::AllocError;
 
 /// `mach_port_insert_right`: a right that a name hands over comes to stand under a name that the task chooses. The
@@ -216,21 +215,4 @@ fn take_extracted(
         return Ok(Err(KernReturn::NoSpace));
     }
     Ok(Ok(right))
-}
-
-/// The name under which a right arrives: the wanted one where it may arrive under it, or else the one that it gets by
-/// itself.
-pub(crate) fn arrival_wanted(
-    state: &IpcState,
-    space: u32,
-    right: CarriedRight,
-    wanted: Option<u32>,
-) -> u32
-    ensures may { MayArrive (names_in state.now.current space) right.kind right.port result }
-    ensures wanted { (shown : ℕ) → wanted ≡ Some shown → MayArrive (names_in state.now.current space) right.kind right.port shown → result ≡ shown }
-{
-    match wanted {
-        Some(name) if may_arrive(state, space, right, name) => name,
-        _ => arrival_name(state, space, right),
-    }
 }

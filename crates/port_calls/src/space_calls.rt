@@ -14,15 +14,13 @@ ghost use Rattle.rights.specs.Taking.{Takes};
 use crate::name_lookup::named;
 use crate::references::release_name;
 use crate::reply::refused;
-use crate::right_transfer::arrival_wanted;
 use codes::{
     ATTACH, Disposition, FIRST_SPACE, KernReturn, MAX_SPACES, SPACE_CREATE, SPACE_DESTROY,
 };
 use effects::Effects;
 use ipc_model::{CarriedRight, PortInMessage, Reply};
-use ipc_state::IpcState;
 use port_set::{move_ports, received_ports};
-use rights::{put_right, take_right};
+use rights::{IpcState, arrival_wanted, put_right, take_right};
 use std::alloc::{AllocError, Global};
 
 /// Attaches a task to another space, which has to be there.

@@ -5,8 +5,7 @@ ghost use Rattle.ipc_model.specs.state.State.{with_port};
 use crate::member::received_port;
 use codes::MACH_PORT_NULL;
 use ipc_model::Entry;
-use ipc_state::IpcState;
-use ports::PortNumbers;
+use ipc_state::{IpcState, PortNumbers};
 use std::alloc::AllocError;
 
 /// The port whose receive right a name holds becomes a member of the set of a name, or of none where the name is

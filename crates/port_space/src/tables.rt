@@ -52,15 +52,12 @@ impl Tables {
             (λ found. (from ≤ found) × (holds self.now.names.current port found ≡ true)
             × ((name : ℕ) → from ≤ name → name < found → holds self.now.names.current port name ≡ false)) }
     {
-        let Some((key, _)) = self.by_port.next_from(port_key(port, from)) else {
+        // No farther than the names of this port: those of others may have left many marks.
+        let last = port_key(port, u32::MAX);
+        let Some((key, _)) = self.by_port.next_within(port_key(port, from), last) else {
             return None;
         };
-        let name = key - port_key(port, 0);
-        if name <= u128::from(u32::MAX) {
-            Some(name as u32)
-        } else {
-            None
-        }
+        Some((key - port_key(port, 0)) as u32)
     }
 
     /// Has a name stand for this. Where memory is wanted the changes are to be given up.

@@ -25,7 +25,7 @@ use Rattle.ports.specs.Indexes.{Parts, TargetsFit, AreSmall, AreIndexed, SameBef
 use Rattle.ports.specs.declared.indexes.PortIndexes.{PortIndexes}
 
 -- the ports with one changed that is there
-changed_there : (ports : Ports) (serial : ℕ) (f : PortState → PortState) (port : PortState) → get ports serial ≡ Some port → changed ports serial f ≡ insert ports serial (f port)
+pub changed_there : (ports : Ports) (serial : ℕ) (f : PortState → PortState) (port : PortState) → get ports serial ≡ Some port → changed ports serial f ≡ insert ports serial (f port)
 changed_there ports serial f port there = ap (λ (o : Option PortState). elim o as (λ _. Ports) [ None ↦ ports | Some p ↦ insert ports serial (f p) ]) there
 
 -- what was
@@ -64,7 +64,7 @@ none_indexed next fits = record {
     nothing w = ap (weigh (λ (e : ℕ × PortState). port_weigh w e.0 e.1)) entries_none
 
 -- the target of a request once a port that is there has changed
-target_changed : (look : PortState → Option ℕ) (ports : Ports) (serial : ℕ) (f : PortState → PortState) (port : PortState) (q : ℕ) → get ports serial ≡ Some port → target_at look (changed ports serial f) q ≡ cond (eq_by_cmp nat_cmp q serial) (look (f port)) (target_at look ports q)
+pub target_changed : (look : PortState → Option ℕ) (ports : Ports) (serial : ℕ) (f : PortState → PortState) (port : PortState) (q : ℕ) → get ports serial ≡ Some port → target_at look (changed ports serial f) q ≡ cond (eq_by_cmp nat_cmp q serial) (look (f port)) (target_at look ports q)
 target_changed look ports serial f port q there =
     ap (option_and_then look) (get_changed ports serial f q ∙ ap (λ (o : Option PortState). cond (eq_by_cmp nat_cmp q serial) (option_map f o) (get ports q)) there) ∙ go (eq_by_cmp nat_cmp q serial)
   where
@@ -72,11 +72,11 @@ target_changed look ports serial f port q there =
     go true = refl
     go false = refl
 
-target_there : (look : PortState → Option ℕ) (ports : Ports) (serial : ℕ) (port : PortState) → get ports serial ≡ Some port → target_at look ports serial ≡ look port
+pub target_there : (look : PortState → Option ℕ) (ports : Ports) (serial : ℕ) (port : PortState) → get ports serial ≡ Some port → target_at look ports serial ≡ look port
 target_there look ports serial port there = ap (option_and_then look) there
 
 -- what a queue carries once a port that is there has changed
-carried_changed : (ports : Ports) (serial : ℕ) (f : PortState → PortState) (port : PortState) (inner outer : ℕ) → get ports serial ≡ Some port → carried_at (changed ports serial f) inner outer ≡ cond (eq_by_cmp nat_cmp outer serial) (carried_by inner (f port)) (carried_at ports inner outer)
+pub carried_changed : (ports : Ports) (serial : ℕ) (f : PortState → PortState) (port : PortState) (inner outer : ℕ) → get ports serial ≡ Some port → carried_at (changed ports serial f) inner outer ≡ cond (eq_by_cmp nat_cmp outer serial) (carried_by inner (f port)) (carried_at ports inner outer)
 carried_changed ports serial f port inner outer there =
     ap (weight (λ _ p. carried_by inner p) outer) (get_changed ports serial f outer ∙ ap (λ (o : Option PortState). cond (eq_by_cmp nat_cmp outer serial) (option_map f o) (get ports outer)) there) ∙ go (eq_by_cmp nat_cmp outer serial)
   where
@@ -84,7 +84,7 @@ carried_changed ports serial f port inner outer there =
     go true = refl
     go false = refl
 
-carried_there : (ports : Ports) (serial : ℕ) (port : PortState) (inner outer : ℕ) → get ports serial ≡ Some port → eq_by_cmp nat_cmp outer serial ≡ true → carried_at ports inner outer ≡ carried_by inner port
+pub carried_there : (ports : Ports) (serial : ℕ) (port : PortState) (inner outer : ℕ) → get ports serial ≡ Some port → eq_by_cmp nat_cmp outer serial ≡ true → carried_at ports inner outer ≡ carried_by inner port
 carried_there ports serial port inner outer there same = ap (weight (λ _ p. carried_by inner p) outer) (ap (get ports) (key_is outer serial same) ∙ there)
 
 pub small_changed : (table : PortTable) (serial : ℕ) (f : PortState → PortState) (port : PortState) → get table.ports serial ≡ Some port → Fit (λ s. list_any (mentions s) (f port).messages) → AreSmall table → AreSmall (record table { ports = changed table.ports serial f })

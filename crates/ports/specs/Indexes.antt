@@ -1,5 +1,5 @@
 -- The rights of the ports counted, and found by the ports that they are to.
-use Rattle.std.proofs.Common.{◌≡◌, ℕ, ◌^◌, ◌<◌, true, Option, Some, is_some, option_and_then}
+use Rattle.std.proofs.Common.{◌≡◌, ℕ, ◌^◌, ◌<◌, true, List, Option, Some, is_some, option_and_then}
 use Rattle.std.specs.List.{list_any}
 use Rattle.std.specs.FinMap.{get}
 use Rattle.ipc_laws.specs.MapSums.{weight, total}
@@ -13,7 +13,7 @@ use Rattle.pair_counts.specs.Counts.{Counts}
 use Rattle.pair_counts.specs.Rights.{AreCounted}
 use Rattle.place_index.specs.Places.{Numbers, moved}
 use Rattle.place_index.specs.Indexed.{IsIndexed}
-use Rattle.ports.specs.Counting.{Fit, TargetFits, AreCarried, carried_in, carriers_more, message_more, target_fewer, target_more}
+use Rattle.ports.specs.Counting.{Fit, TargetFits, AreCarried, carried_in, carriers_more, message_more, messages_fewer, queue_fewer, target_fewer, target_more}
 use Rattle.ports.specs.declared.indexes.PortIndexes.{PortIndexes}
 use Rattle.tracked_map.specs.Tracked.{at_rest}
 
@@ -89,6 +89,13 @@ pub record AreRetargeted (old new : PortIndexes) (serial : ℕ) (former numbers 
 pub record AreOfMore (old new : PortIndexes) (queue : ℕ) (message : Message) : Type 0 where
   pub counts : new.counts.current ≡ message_more old.counts.current queue message
   pub carriers : new.carriers.current ≡ carriers_more old.carriers.current queue message.rights
+  pub no_senders : new.no_senders.current ≡ old.no_senders.current
+  pub destroyed : new.port_destroyed.current ≡ old.port_destroyed.current
+
+-- messages are gone from a queue
+pub record AreOfFewer (old new : PortIndexes) (queue : ℕ) (messages : List Message) : Type 0 where
+  pub counts : new.counts.current ≡ messages_fewer old.counts.current queue messages
+  pub carriers : new.carriers.current ≡ queue_fewer old.carriers.current queue messages
   pub no_senders : new.no_senders.current ≡ old.no_senders.current
   pub destroyed : new.port_destroyed.current ≡ old.port_destroyed.current
 

@@ -4,3 +4,4 @@ pub mod Counting
 pub mod IndexLaws
 pub mod Indexes
 pub mod Requests
+pub mod Taken

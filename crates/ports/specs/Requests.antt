@@ -1,5 +1,6 @@
 -- Requests that have a port for their target, worked off one after another.
-use Rattle.std.proofs.Common.{◌≡◌, ℕ, ◌^◌, ◌<◌, ◌==◌, Bool, true, false, cond, Option, None, Some, MatchOption, is_some, option_map, option_and_then, refl, sym, ◌∙◌, ap, arith}
+use Rattle.std.proofs.Common.{◌≡◌, ℕ, ◌+◌, ◌-◌, ◌^◌, ◌<◌, ◌≤◌, ◌==◌, Bool, true, false, cond, nat_lt, Option, None, Some, MatchOption, is_some, option_map, option_and_then, refl, sym, ◌∙◌, ap, arith}
+use Rattle.std.proofs.lemmas.Bool.{ltb-false, ltb-true}
 use Rattle.std.specs.Cmp.{nat_cmp_total}
 use Rattle.std.specs.Ordering.{nat_cmp, eq_by_cmp}
 use Rattle.std.specs.FinMap.{get, insert, remove, get-remove, same_map, nat_cmp-IsAntisymmetric}
@@ -35,9 +36,10 @@ no_senders_forgotten target port = record port { no_senders_target = without_tar
 abbrev pub destroyed_forgotten : ℕ → PortState → PortState
 destroyed_forgotten target port = record port { port_destroyed_target = without_target target port.port_destroyed_target }
 
--- a port whose request has this target, if there is one
-abbrev pub IsRequester : (PortState → Option ℕ) → Ports → ℕ → Option ℕ → Type 0
-IsRequester look ports target found = MatchOption found ((q : ℕ) → is_number (target_at look ports q) target ≡ false) (λ q. is_number (target_at look ports q) target ≡ true)
+-- the first port from one on whose request has this target, if there is one
+abbrev pub IsNextRequester : (PortState → Option ℕ) → Ports → ℕ → ℕ → Option ℕ → Type 0
+IsNextRequester look ports target from found = MatchOption found ((q : ℕ) → from ≤ q → is_number (target_at look ports q) target ≡ false)
+    (λ first. (is_number (target_at look ports first) target ≡ true) × ((q : ℕ) → from ≤ q → q < first → is_number (target_at look ports q) target ≡ false))
 
 -- no request has the port for its target, and it has none
 pub record IsUntargeted (serial : ℕ) (ports : Ports) : Type 0 where
@@ -50,15 +52,25 @@ same : (m n : Ports) → ((q : ℕ) → get m q ≡ get n q) → m ≡ n
 same m n alike = same_map nat_cmp_total nat_cmp-IsAntisymmetric m n alike
 
 -- what the index finds
-pub requester_is : (look : PortState → Option ℕ) (table : PortTable) (places : Numbers) (target : ℕ) (found : Option ℕ) → AreSmall table → IsIndexed (target_at look table.ports) places → IsNext places target 0 found → IsRequester look table.ports target found
-requester_is look table places target None small indexed none = λ q. by q (get table.ports q) refl
+pub requester_is : (look : PortState → Option ℕ) (table : PortTable) (places : Numbers) (target from : ℕ) (found : Option ℕ) → AreSmall table → IsIndexed (target_at look table.ports) places → IsNext places target from found
+    → IsNextRequester look table.ports target from found
+requester_is look table places target from None small indexed none = λ q more. by q more (get table.ports q) refl
   where
-    by : (q : ℕ) (o : Option PortState) → get table.ports q ≡ o → is_number (option_and_then look o) target ≡ false
-    by q None absent = refl
-    by q (Some port) there =
+    by : (q : ℕ) → from ≤ q → (o : Option PortState) → get table.ports q ≡ o → is_number (option_and_then look o) target ≡ false
+    by q more None absent = refl
+    by q more (Some port) there =
         let fits : q < 2 ^ 64 = omega (arith, small.below q (ap is_some there), small.fits) in
-        ap (λ (o : Option PortState). is_number (option_and_then look o) target) (sym there) ∙ sym (indexed target q fits) ∙ none q (omega arith) fits
-requester_is look table places target (Some first) small indexed is = sym (indexed target first is.1) ∙ is.2
+        ap (λ (o : Option PortState). is_number (option_and_then look o) target) (sym there) ∙ sym (indexed target q fits) ∙ none q more fits
+requester_is look table places target from (Some first) small indexed is =
+    (sym (indexed target first is.1) ∙ is.2, λ q more less. sym (indexed target q (omega (arith, less, is.1))) ∙ is.3 q more less)
+
+-- its serial isn't the last that there may be
+pub requester_fits : (look : PortState → Option ℕ) (table : PortTable) (places : Numbers) (target from first : ℕ) → AreSmall table → IsIndexed (target_at look table.ports) places → IsNext places target from (Some first) → first < 2 ^ 64 - 1
+requester_fits look table places target from first small indexed is = by (get table.ports first) refl (sym (indexed target first is.1) ∙ is.2)
+  where
+    by : (o : Option PortState) → get table.ports first ≡ o → is_number (option_and_then look o) target ≡ true → first < 2 ^ 64 - 1
+    by None absent e = absurd (cc e)
+    by (Some port) there e = omega (arith, small.below first (ap is_some there), small.fits)
 
 -- other numbers of a port that has these
 pub numbers_changed : (ports : Ports) (serial : ℕ) (numbers : PortNumbers) (f : PortNumbers → PortNumbers) (g : PortState → PortState) → ((port : PortState) → with_numbers (f (numbers_of port)) port ≡ g port)
@@ -136,6 +148,38 @@ module _ (look : PortState → Option ℕ) (clear forget : PortState → PortSta
         ap (λ (b : Bool). cond {A = ℕ} b 1 0) e,
         ap (λ (o : Option ℕ). cond {A = ℕ} (is_number o target) 1 0) (forgets.cleared port),
       )
+
+  -- no request up to it has the target
+  pub cleared_passed : (ports : Ports) (at serial : ℕ) → ((q : ℕ) → q < at → is_number (target_at look ports q) target ≡ false) → ((q : ℕ) → at ≤ q → q < serial → is_number (target_at look ports q) target ≡ false)
+      → (q : ℕ) → q < serial + 1 → is_number (target_at look (changed ports serial clear) q) target ≡ false
+  cleared_passed ports at serial before between q less = ap (λ (o : Option PortState). is_number (option_and_then look o) target) (get_changed ports serial clear q) ∙ by (eq_by_cmp nat_cmp q serial) refl
+    where
+      none : (o : Option PortState) → is_number (option_and_then look (option_map clear o)) target ≡ false
+      none None = refl
+      none (Some port) = ap (λ (o : Option ℕ). is_number o target) (forgets.cleared port)
+
+      other : eq_by_cmp nat_cmp q serial ≡ false → q < serial
+      other e = elim (nat_lt q serial) as (λ (b : Bool). nat_lt q serial ≡ b → q < serial) [
+        | true ↦ λ (lt : _). ltb-true q serial lt
+        | false ↦ λ (more : _). absurd (cc (sym e ∙ ap (λ (n : ℕ). eq_by_cmp nat_cmp n serial) (omega (arith, less, ltb-false q serial more)) ∙ same_key serial))
+      ] refl
+
+      passed : q < serial → is_number (target_at look ports q) target ≡ false
+      passed lt = elim (nat_lt q at) as (λ (b : Bool). nat_lt q at ≡ b → is_number (target_at look ports q) target ≡ false) [
+        | true ↦ λ (e : _). before q (ltb-true q at e)
+        | false ↦ λ (e : _). between q (ltb-false q at e) lt
+      ] refl
+
+      by : (b : Bool) → eq_by_cmp nat_cmp q serial ≡ b → is_number (option_and_then look (cond b (option_map clear (get ports serial)) (get ports q))) target ≡ false
+      by true e = none (get ports serial)
+      by false e = passed (other e)
+
+  -- none is left, below and from there on
+  pub none_requests : (ports : Ports) (at : ℕ) → ((q : ℕ) → q < at → is_number (target_at look ports q) target ≡ false) → ((q : ℕ) → at ≤ q → is_number (target_at look ports q) target ≡ false) → (q : ℕ) → is_number (target_at look ports q) target ≡ false
+  none_requests ports at before behind q = elim (nat_lt q at) as (λ (b : Bool). nat_lt q at ≡ b → is_number (target_at look ports q) target ≡ false) [
+    | true ↦ λ (e : _). before q (ltb-true q at e)
+    | false ↦ λ (e : _). behind q (ltb-false q at e)
+  ] refl
 
   -- none is left
   pub all_forgotten : (ports : Ports) → ((q : ℕ) → is_number (target_at look ports q) target ≡ false) → map_values forget ports ≡ ports

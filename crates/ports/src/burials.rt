@@ -1,5 +1,5 @@
-//! The rights of a queue that goes, and the counts of rights to a port that dies.
-ghost use Rattle.std.specs.Prelude.{◌≡◌, ◌+◌, OnOk, drop, map, option_map};
+//! The rights of a queue or a message that goes, and the counts of rights to a port that dies.
+ghost use Rattle.std.specs.Prelude.{◌≡◌, ◌+◌, OnOk, drop, map, option_map, take};
 ghost use Rattle.live_ports.specs.Changed.{messages_at};
 ghost use Rattle.live_ports.specs.Seen.{lives_in, seen_message, seen_right};
 ghost use Rattle.ports.specs.Burials.{IsCleared};
@@ -25,6 +25,25 @@ pub(crate) fn subtract_queue(
     for index in 0..ports.message_count(queue) {
         subtract_message_at(counts, carriers, ports, queue, index)?;
     }
+    Ok(())
+}
+
+/// The rights of the oldest message in a port's queue less, if there is one.
+pub(crate) fn subtract_oldest(
+    counts: &mut PairCounts,
+    carriers: &mut PairCounts,
+    ports: &LivePorts,
+    queue: u64,
+) -> Result<(), AllocError>
+    ensures counts { OnOk result (counts.new.current ≡ messages_fewer counts.old.current queue (take 1 (messages_at ports.now.current.ports queue))) }
+    ensures carriers { OnOk result (carriers.new.current ≡ queue_fewer carriers.old.current queue (take 1 (messages_at ports.now.current.ports queue))) }
+    ensures before { counts.new.before ≡ counts.old.before }
+    ensures carriers_before { carriers.new.before ≡ carriers.old.before }
+{
+    let Some(message) = ports.message_as_sent(queue, 0) else {
+        return Ok(());
+    };
+    subtract_message(counts, carriers, ports, queue, message)?;
     Ok(())
 }
 

@@ -1,12 +1,12 @@
 // What is done to the ports.
-ghost use Rattle.std.specs.Prelude.{◌≡◌, ◌<◌, ◌+◌, ◌-◌, ◌^◌, OnOk, OnErr};
+ghost use Rattle.std.specs.Prelude.{◌≡◌, ◌<◌, ◌+◌, ◌-◌, ◌^◌, OnOk, OnErr, take};
 ghost use Rattle.std.specs.FinMap as map;
 ghost use Rattle.codes.specs.declared.limits.TheConstants.{MAX_PORTS};
 ghost use Rattle.ipc_model.specs.state.State.{new_port};
-ghost use Rattle.live_ports.specs.Changed.{changed, with_message, with_numbers};
+ghost use Rattle.live_ports.specs.Changed.{changed, messages_at, with_message, with_numbers, without_first};
 ghost use Rattle.live_ports.specs.PortTable.{ports_at_rest};
 ghost use Rattle.live_ports.specs.Seen.{AreLive};
-ghost use Rattle.ports.specs.Indexes.{AreOfMore, AreRetargeted, SameBefore};
+ghost use Rattle.ports.specs.Indexes.{AreOfFewer, AreOfMore, AreRetargeted, SameBefore};
 
 use crate::Ports;
 use crate::indexes::{PortIndexes, targets_fit};
@@ -54,6 +54,28 @@ impl Ports {
             return Ok(());
         }
         match push_in_both(&mut self.ports, &mut self.indexes, serial, message) {
+            Ok(()) => Ok(()),
+            Err(error) => {
+                self.ports.give_up();
+                self.indexes.give_up();
+                Err(error)
+            }
+        }
+    }
+
+    /// Takes the oldest message of a port out of its queue, if there is one. Where memory is wanted the changes are given up.
+    pub fn take(&mut self, serial: u64) -> Result<(), AllocError>
+        ensures ok { OnOk result (self.new ≡ record self.old {
+          current = record self.old.current {
+            ports = changed self.old.current.ports serial without_first;
+          };
+        }) }
+        ensures err { OnErr result (self.new ≡ ports_at_rest self.old.before) }
+    {
+        if !self.ports.contains(serial) {
+            return Ok(());
+        }
+        match take_in_both(&mut self.ports, &mut self.indexes, serial) {
             Ok(()) => Ok(()),
             Err(error) => {
                 self.ports.give_up();
@@ -123,4 +145,22 @@ fn push_in_both(
 {
     indexes.add_message(serial, &message)?;
     ports.push(serial, message)
+}
+
+fn take_in_both(
+    ports: &mut LivePorts,
+    indexes: &mut PortIndexes,
+    serial: u64,
+) -> Result<(), AllocError>
+    ensures ports { OnOk result (ports.new ≡ record ports.old {
+      current = record ports.old.current {
+        ports = changed ports.old.current.ports serial without_first;
+      };
+    }) }
+    ensures indexes { OnOk result (AreOfFewer indexes.old indexes.new serial (take 1 (messages_at ports.old.current.ports serial))) }
+    ensures before { ports.new.before ≡ ports.old.before }
+    ensures indexes_before { SameBefore indexes.old indexes.new }
+{
+    indexes.remove_oldest(ports, serial)?;
+    ports.take(serial)
 }

@@ -1,12 +1,12 @@
 // What becomes of the ports as one dies.
-ghost use Rattle.std.specs.Prelude.{◌≡◌, OnOk, OnErr};
+ghost use Rattle.std.specs.Prelude.{◌≡◌, ◌<◌, ◌-◌, ◌^◌, OnOk, OnErr, IfSome};
 ghost use Rattle.std.specs.FinMap as map;
 ghost use Rattle.ipc_model.specs.effects.Effects.{map_values, port_after_death};
 ghost use Rattle.live_ports.specs.Changed.{changed, messages_at};
 ghost use Rattle.live_ports.specs.PortTable.{ports_at_rest};
 ghost use Rattle.live_ports.specs.Seen.{queue_after_death};
 ghost use Rattle.ports.specs.Indexes.{destroyed_of, no_senders_of, SameBefore};
-ghost use Rattle.ports.specs.Requests.{destroyed_cleared, destroyed_forgotten, no_senders_cleared, no_senders_forgotten, requests_cleared, IsRequester, IsUntargeted};
+ghost use Rattle.ports.specs.Requests.{destroyed_cleared, destroyed_forgotten, no_senders_cleared, no_senders_forgotten, requests_cleared, IsNextRequester, IsUntargeted};
 ghost use Rattle.ports.specs.Burials.{AreWithout};
 
 use crate::Ports;
@@ -41,8 +41,11 @@ impl Ports {
         }) }
         ensures err { OnErr result (self.new ≡ ports_at_rest self.old.before) }
     {
-        while let Some(other) = self.no_senders_requester(target) {
+        // Upward: a request that is gone leaves a mark, which a walk from the first one would pass over again.
+        let mut at: u64 = 0;
+        while let Some(other) = self.no_senders_requester(target, at) {
             self.clear_no_senders(other)?;
+            at = other + 1;
         }
         Ok(())
     }
@@ -56,24 +59,29 @@ impl Ports {
         }) }
         ensures err { OnErr result (self.new ≡ ports_at_rest self.old.before) }
     {
-        while let Some(other) = self.port_destroyed_requester(target) {
+        // Upward, as the other requests.
+        let mut at: u64 = 0;
+        while let Some(other) = self.port_destroyed_requester(target, at) {
             self.clear_port_destroyed(other)?;
+            at = other + 1;
         }
         Ok(())
     }
 
-    /// A port whose no-senders request has this target, if there is one.
-    fn no_senders_requester(&self, target: u64) -> Option<u64>
-        ensures { IsRequester no_senders_of self.now.current.ports target result }
+    /// The first port from one on whose no-senders request has this target, if there is one.
+    fn no_senders_requester(&self, target: u64, from: u64) -> Option<u64>
+        ensures next { IsNextRequester no_senders_of self.now.current.ports target from result }
+        ensures fits { IfSome result (λ serial. serial < 2 ^ 64 - 1) }
     {
-        self.indexes.no_senders.next(target, 0)
+        self.indexes.no_senders.next(target, from)
     }
 
-    /// A port whose port-destroyed request has this target, if there is one.
-    fn port_destroyed_requester(&self, target: u64) -> Option<u64>
-        ensures { IsRequester destroyed_of self.now.current.ports target result }
+    /// The first port from one on whose port-destroyed request has this target, if there is one.
+    fn port_destroyed_requester(&self, target: u64, from: u64) -> Option<u64>
+        ensures next { IsNextRequester destroyed_of self.now.current.ports target from result }
+        ensures fits { IfSome result (λ serial. serial < 2 ^ 64 - 1) }
     {
-        self.indexes.port_destroyed.next(target, 0)
+        self.indexes.port_destroyed.next(target, from)
     }
 
     /// The no-senders request of a port goes.

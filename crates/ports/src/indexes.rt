@@ -1,12 +1,12 @@
 //! The rights in queues and requests by the ports that they are to, as plain tables.
-ghost use Rattle.std.specs.Prelude.{◌≡◌, IfOk, OnOk};
+ghost use Rattle.std.specs.Prelude.{◌≡◌, IfOk, OnOk, take};
 ghost use Rattle.std.specs.FinMap as map;
 ghost use Rattle.live_ports.specs.Changed.{messages_at};
 ghost use Rattle.ports.specs.Burials.{AreWithout};
 ghost use Rattle.ports.specs.Counting.{target_fewer, target_more};
-ghost use Rattle.ports.specs.Indexes.{former_parts, present_parts, AreAtRest, AreOfMore, AreRetargeted, SameBefore, TargetsFit};
+ghost use Rattle.ports.specs.Indexes.{former_parts, present_parts, AreAtRest, AreOfFewer, AreOfMore, AreRetargeted, SameBefore, TargetsFit};
 
-use crate::burials::{clear_carriers, subtract_queue};
+use crate::burials::{clear_carriers, subtract_oldest, subtract_queue};
 use crate::rights::{add_body, add_reply};
 use ipc_model::{Message, RightKind};
 use live_ports::{LivePorts, PortNumbers};
@@ -66,6 +66,14 @@ impl PortIndexes {
         add_reply(&mut self.counts, message.reply)?;
         let rights = message.rights.as_slice();
         add_body(&mut self.counts, &mut self.carriers, serial, rights)
+    }
+
+    /// The oldest message goes from a port's queue, if there is one. Where memory is wanted the changes are to be given up.
+    pub(crate) fn remove_oldest(&mut self, ports: &LivePorts, serial: u64) -> Result<(), AllocError>
+        ensures ok { OnOk result (AreOfFewer self.old self.new serial (take 1 (messages_at ports.now.current.ports serial))) }
+        ensures before { SameBefore self.old self.new }
+    {
+        subtract_oldest(&mut self.counts, &mut self.carriers, ports, serial)
     }
 
     /// A port that no request has for its target, and that has none, dies: its queue goes, and rights to it are none any

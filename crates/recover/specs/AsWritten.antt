@@ -9,10 +9,7 @@ use Rattle.ipc_model.specs.declared.port.PortState.{PortState}
 use Rattle.ipc_model.specs.store.Recovery as written
 use Rattle.ipc_laws.specs.RecoveryLaws.{one_epoch}
 use Rattle.ipc_model.specs.state.State.{State, opening_state}
-use Rattle.ipc_model.specs.calls.Step.{Run}
-use Rattle.ipc_model.specs.store.Store.{SpellsBatches, SpellsSegment, AreRecords, NoneEmpty, IsClosed, all_records, batches_text, open_gate, image_content}
-use Rattle.kernel.specs.Served.{ServedRun}
-use Rattle.kernel.specs.ServedLaws.{recorded_step}
+use Rattle.ipc_model.specs.store.Store.{SpellsBatches, SpellsSegment, NoneEmpty, IsClosed, all_records, batches_text, open_gate, image_content}
 use Rattle.recover.specs.Recovered.{Recovers, IsStored, IsNew, HoldsOpeningImage, IsOpen, opening_text}
 use Rattle.words.specs.Words.{long_word}
 
@@ -22,12 +19,6 @@ slots_of slots = record {
   image = λ n. if n == 0 then slots.image0 else slots.image1;
   segment = λ n. if n == 0 then slots.segment0 else slots.segment1;
 }
-
--- records that a segment holds are steps of the machine
-run_written : (old new : State) (records : List Record) → AreRecords records → ServedRun old records new → Run old records new
-run_written old new [] are run = run
-run_written old new (first ∷ records) are run =
-    (run.0, (recorded_step old first.space first.call first.reply run.0 run.1 are.0.reply.recorded).1, run_written run.0 new records are.1 run.2)
 
 each_number : (P : ℕ → Type 0) → P 0 → P 1 → (number : ℕ) → number < 2 → P number
 each_number P first second zero small = first
@@ -80,7 +71,7 @@ stored_written slots state count no_image no_segment stored =
           joined = sym (append-nil stored.follows.records);
         });
       };
-      run = run_written opening_state state stored.follows.records stored.follows.spelled.spelled.canonical stored.follows.run;
+      run = stored.follows.run;
     }
 
 -- a new store

@@ -5,3 +5,4 @@ pub mod Kept
 pub mod Opened
 pub mod Recovered
 pub mod RecoveredLaws
+pub mod Steps

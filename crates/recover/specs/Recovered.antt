@@ -2,7 +2,7 @@
 use Rattle.std.specs.Prelude.{◌≡◌, ◌≢◌, ◌⊎◌, ℕ, ◌≤◌, ◌∷◌, [], ◌++◌, List, length, take, slice_index}
 use Rattle.ipc_model.specs.declared.record.Record.{Record}
 use Rattle.ipc_model.specs.state.State.{State, opening_state}
-use Rattle.kernel.specs.Served.{ServedRun}
+use Rattle.ipc_model.specs.calls.Step.{Run}
 use Rattle.ipc_model.specs.store.Store.{SpellsSegment, IsInUse, open_gate, image_content}
 use Rattle.words.specs.Words.{word, long_word}
 use Rattle.disk.specs.Slots.{Slots}
@@ -34,7 +34,7 @@ pub record HoldsOpeningImage (slot : List ℕ) : Type 0 where
 pub record Follows (segment : List ℕ) (state : State) (count : ℕ) : Type 0 where
   pub records : List Record
   pub spelled : SpellsSegment 0 segment records
-  pub run : ServedRun opening_state records state
+  pub run : Run opening_state records state
   pub counted : count ≡ length records
 
 -- a store in use, and the state after its records
@@ -66,4 +66,4 @@ IsDamaged slots = (IsOtherVersion slots → ⊥) × ((state : State) → (count 
 -- Segment 0 is in use, with nothing behind its last gate, and the state is the one after its records.
 abbrev pub IsReady : Slots → State → ℕ → Type 0
 IsReady slots state count =
-    (records : List Record) × IsInUse 0 slots.segment0 records × ServedRun opening_state records state × (count ≡ length records)
+    (records : List Record) × IsInUse 0 slots.segment0 records × Run opening_state records state × (count ≡ length records)

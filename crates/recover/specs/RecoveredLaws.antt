@@ -1,12 +1,13 @@
 -- A store stands for one state, and no slot of it is of another version.
-use Rattle.std.specs.Prelude.{◌≡◌, ℕ, ◌++◌, List, length, drop, slice_index}
+use Rattle.std.specs.Prelude.{◌≡◌, ℕ, ◌++◌, List, [], ◌∷◌, length, drop, slice_index}
 use Rattle.std.proofs.Common.{inl, inr, sym, ap, subst, ◌∙◌, refl, arith}
 use Rattle.ipc_model.specs.declared.record.Record.{Record}
 use Rattle.ipc_laws.specs.BatchLaws.{one_reading}
 use Rattle.ipc_model.specs.state.State.{State, opening_state}
-use Rattle.kernel.specs.Served.{ServedRun}
-use Rattle.kernel.specs.ServedLaws.{one_run}
-use Rattle.ipc_model.specs.store.Store.{SpellsBatches, SpellsSegment, open_gate, segment_header}
+use Rattle.ipc_model.specs.calls.Step.{Run}
+use Rattle.ipc_laws.specs.OpeningLaws.{opening_is_lawful}
+use Rattle.ipc_laws.specs.StepsKeep.{FitCalls, one_run}
+use Rattle.ipc_model.specs.store.Store.{AreRecords, SpellsBatches, SpellsSegment, open_gate, segment_header}
 use Rattle.disk.specs.Slots.{Slots}
 use Rattle.recover.specs.Recovered.{IsOpen, HasOtherVersion, IsOtherVersion, HoldsOpeningImage, Follows, Recovers}
 
@@ -16,10 +17,15 @@ one_list segment one two a b =
     let same : a.content ≡ b.content = ap (drop 16) (sym a.text ∙ b.text) in
     one_reading b.content one two (subst (λ (l : List ℕ). SpellsBatches l one) same a.spelled) b.spelled
 
+-- records that a segment holds have arguments in range
+records_fit : (records : List Record) → AreRecords records → FitCalls records
+records_fit [] are = tt
+records_fit (first ∷ records) are = (are.0.call.fits, records_fit records are.1)
+
 one_end : (segment : List ℕ) (state other : State) (count number : ℕ) → Follows segment state count → Follows segment other number → (state ≡ other) × (count ≡ number)
 one_end segment state other count number a b =
     let same : a.records ≡ b.records = one_list segment a.records b.records a.spelled b.spelled in (
-      one_run opening_state state other b.records (subst (λ (l : List Record). ServedRun opening_state l state) same a.run) b.run,
+      one_run opening_state b.records state other (records_fit b.records b.spelled.spelled.canonical) opening_is_lawful.0 opening_is_lawful.1 (subst (λ (l : List Record). Run opening_state l state) same a.run) b.run,
       a.counted ∙ ap length same ∙ sym b.counted,
     )
 

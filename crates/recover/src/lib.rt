@@ -6,5 +6,6 @@ mod making;
 mod opening;
 mod reading;
 
+pub use kernel::Kernel;
 pub use laws::stands_as_written;
 pub use opening::{Opened, open};

@@ -3,7 +3,7 @@ ghost use Rattle.disk.specs.Slots.{Slots, slot_of, with_slot};
 ghost use Rattle.disk.specs.Moments.{one_more, MayLeave};
 ghost use Rattle.ipc_model.specs.declared.record.Record.{Record};
 ghost use Rattle.ipc_model.specs.state.State.{State, opening_state};
-ghost use Rattle.kernel.specs.Served.{ServedRun};
+ghost use Rattle.ipc_model.specs.calls.Step.{Run};
 ghost use Rattle.ipc_laws.specs.Counted.{SpellsCounted};
 ghost use Rattle.ipc_model.specs.store.Store.{segment_header, open_gate, SpellsBatches, IsInUse};
 ghost use Rattle.recover.specs.AtRest.{IsAtRest};
@@ -108,9 +108,9 @@ fn read_fronts<D: Disk>(alloc: Global, disk: &mut D) -> Result<Fronts, StoreFaul
 /// The state after the records of these batches, how many records they are, and how many bytes they have.
 fn replay_batches(alloc: Global, batches: &[u8]) -> Result<(Kernel, u64, usize), StoreFault>
     ensures state { IfOk result (λ r. (records : List Record) × SpellsCounted batches.now records r.2
-        × ServedRun opening_state records r.0 × (r.1 ≡ length records)) }
+        × Run opening_state records r.0 × (r.1 ≡ length records)) }
     ensures damaged { IsErrOf result StoreFault.Damaged → (records : List Record) → (state : State)
-        → SpellsBatches batches.now records → ServedRun opening_state records state → ⊥ }
+        → SpellsBatches batches.now records → Run opening_state records state → ⊥ }
     ensures faults { OnErr result ((result ≡ Err StoreFault.Damaged) ⊎ (result ≡ Err StoreFault.NoMemory)) }
 {
     let (records, size) = read_batches(alloc, batches)?;

@@ -1,7 +1,7 @@
 ghost use Rattle.std.specs.Prelude.{◌≡◌, ◌≢◌, ◌↔◌, ◌⊎◌, ℕ, ◌++◌, List, IsTrue, IfOk, IfSome, IfNone, OnOk, OnErr, IsErrOf};
 ghost use Rattle.ipc_model.specs.state.State.{State};
 ghost use Rattle.ipc_model.specs.store.Store.{segment_header, open_gate};
-ghost use Rattle.kernel.specs.Served.{ServedRun};
+ghost use Rattle.ipc_model.specs.calls.Step.{Run};
 ghost use Rattle.recover.specs.Recovered.{IsOpen, HasOtherVersion, IsOtherVersion, HoldsOpeningImage, WasNeverUsed, IsDamaged};
 ghost use Rattle.recover.specs.Fronts.{four_slots};
 
@@ -143,8 +143,8 @@ pub fn survey<'a>(
 ///
 /// `Damaged`: a record is no step of the machine. `NoMemory`: no memory.
 pub fn replay_all(kernel: Kernel, records: &[Record]) -> Result<Kernel, StoreFault>
-    ensures run { IfOk result (λ state. ServedRun kernel records.now state) }
-    ensures damaged { IsErrOf result StoreFault.Damaged → (state : State) → ServedRun kernel records.now state → ⊥ }
+    ensures run { IfOk result (λ state. Run kernel records.now state) }
+    ensures damaged { IsErrOf result StoreFault.Damaged → (state : State) → Run kernel records.now state → ⊥ }
     ensures faults { OnErr result ((result ≡ Err StoreFault.Damaged) ⊎ (result ≡ Err StoreFault.NoMemory)) }
 {
     let mut state = kernel;

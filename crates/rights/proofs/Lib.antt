@@ -1,2 +1,3 @@
 mod Arriving
 mod Naming
+mod OnTheWay

@@ -8,8 +8,7 @@ use crate::left::{announce_left, set_left};
 use codes::Disposition;
 use effects::Effects;
 use ipc_model::{CarriedRight, Entry, PortInMessage, PortRights, RightKind};
-use ipc_state::IpcState;
-use ports::PortNumbers;
+use ipc_state::{IpcState, PortNumbers};
 use std::alloc::AllocError;
 
 /// Copy in: takes a right from a name of a space by a disposition, or nothing where that is refused, and then

@@ -1,8 +1,7 @@
 use crate::failure::{Difference, Failure, Place, Unanswered};
 use crate::row::code_of;
 use disk::{Disk, MemDisk, Slot};
-use recover::open;
-use server::{Alone, serve};
+use server::{Alone, open, serve};
 use std::alloc::{AllocError, Global};
 use std::mem;
 use words::take_word;

@@ -1,5 +1,5 @@
 -- What is answered fits in a frame.
-use Rattle.std.specs.Prelude.{◌≡◌, ℕ, ◌^◌, ◌<◌, ◌≤◌, Bool, true, false, cond, ◌==◌, List, [], ◌++◌, length, MatchBool, Result, Ok, Err, IfOk}
+use Rattle.std.specs.Prelude.{◌≡◌, ℕ, ◌≤◌, Bool, true, false, cond, ◌==◌, List, [], ◌++◌, length, MatchBool, Result, Ok, Err, IfOk}
 use Rattle.std.proofs.Common.{sym, subst, arith, length-append}
 use Rattle.codes.specs.KernReturn.{number_of}
 use Rattle.codes.specs.declared.kern_return.KernReturn.{KernReturn}
@@ -10,9 +10,8 @@ use Rattle.ipc_model.specs.declared.call.Reply.{Reply}
 use Rattle.ipc_model.specs.declared.call.Reply.TheVariants as reply
 use Rattle.ipc_model.specs.messages.Receiving.{without_message}
 use Rattle.ipc_model.specs.calls.Refusals.{refused_of}
-use Rattle.ipc_model.specs.state.State.{State}
-use Rattle.ipc_model.specs.calls.Step.{number_of_call, has_record}
-use Rattle.ipc_model.specs.texts.Texts.{call_text, reply_text}
+use Rattle.ipc_model.specs.calls.Step.{number_of_call}
+use Rattle.ipc_model.specs.texts.Texts.{reply_text}
 use Rattle.server.specs.Serving.{shortage_of}
 use Rattle.words.specs.WordLaws.{length-word}
 use Rattle.words.specs.Words.{word}

@@ -6,17 +6,16 @@ use Rattle.disk.specs.Moments.{View, LeftSince, MayLeave, Passes, Follows, IsSyn
 use Rattle.disk.specs.Slots.{Slots, with_slot}
 use Rattle.disk.specs.declared.slot.Slot.TheVariants.{Segment0}
 use Rattle.ipc_model.specs.declared.call.Call.{Call}
-use Rattle.ipc_model.specs.declared.call.Call.TheVariants as call
 use Rattle.ipc_model.specs.declared.call.Reply.{Reply}
 use Rattle.ipc_model.specs.declared.record.Record.{Record}
-use Rattle.kernel.specs.ServedLaws.{run-push}
 use Rattle.ipc_model.specs.state.State.{State, opening_state}
-use Rattle.ipc_model.specs.calls.Step.{has_record}
-use Rattle.kernel.specs.Served.{ServedStep, ServedRun}
+use Rattle.ipc_model.specs.calls.Step.{Step, Run, has_record}
 use Rattle.ipc_model.specs.store.Store.{IsInUse, IsMidAppend, SpellsSegment, batch_text, with_batch}
 use Rattle.ipc_laws.specs.StoreLaws.{appended_in_use, in_use_spells, mid_append_spells}
 use Rattle.ipc_laws.specs.BatchLaws.{kept_batch}
-use Rattle.ipc_model.specs.texts.Texts.{kept_call, kept_record, IsRecord}
+use Rattle.ipc_laws.specs.KeptLaws.{made_as_kept}
+use Rattle.ipc_laws.specs.RunLaws.{run-push}
+use Rattle.ipc_model.specs.texts.Texts.{FitsCall, kept_record, IsRecord}
 use Rattle.recover.specs.Kept.{IsKept}
 use Rattle.recover.specs.Recovered.{IsOpen, HoldsOpeningImage, Recovers}
 use Rattle.server.specs.Keeping.{IsBeforeOrAfter}
@@ -26,7 +25,7 @@ abbrev pub entry_of : ℕ → Call → Reply → Record
 entry_of space c answer = record { space = space; call = c; reply = answer }
 
 -- slots as those of a kept store but for segment 0, which spells other records
-recovers_from : (disk : View) (before state : State) (count number : ℕ) → IsKept disk before count → (c : Slots) (bytes : List ℕ) → c ≡ with_slot disk.seen Segment0 bytes → (records : List Record) → SpellsSegment 0 bytes records → ServedRun opening_state records state
+recovers_from : (disk : View) (before state : State) (count number : ℕ) → IsKept disk before count → (c : Slots) (bytes : List ℕ) → c ≡ with_slot disk.seen Segment0 bytes → (records : List Record) → SpellsSegment 0 bytes records → Run opening_state records state
     → number ≡ length records → Recovers c state number
 recovers_from disk before state count number kept c bytes is records spelled run counted =
     subst (λ (s : Slots). Recovers s state number) (sym is) (record {
@@ -41,19 +40,14 @@ kept_recovers disk state count kept c left =
     let ready = kept.ready in
     recovers_from disk state state count count kept c disk.seen.segment0 (kept.at_rest c left) ready.0 (in_use_spells 0 disk.seen.segment0 ready.0 ready.1) ready.2 ready.3
 
--- what is kept of a served call is served alike
-kept_served : (old : State) (space : ℕ) (c : Call) (answer : Reply) (new : State) → ServedStep old space c answer new → ServedStep old space (kept_call c) answer new
-kept_served old space (call.Send message) answer new step = step
-kept_served old space c answer new step = step
-
 -- the records of a kept store, and one more
 counted_more : (records : List Record) (next : Record) (count : ℕ) → count ≡ length records → count + 1 ≡ length (records ++ next ∷ [])
 counted_more records next count is = omega (arith, is, length-append records (next ∷ []))
 
 -- A stop at a moment of an append.
-pub mid_append_stands : (old : View) (before after : State) (count space : ℕ) (c : Call) (answer : Reply) → IsKept old before count → ServedStep before space c answer after → IsRecord (kept_record (entry_of space c answer)) → has_record c answer ≡ true → count < MAX_RECORDS → (left : Slots)
+pub mid_append_stands : (old : View) (before after : State) (count space : ℕ) (c : Call) (answer : Reply) → IsKept old before count → FitsCall c → Step before space c answer after → IsRecord (kept_record (entry_of space c answer)) → has_record c answer ≡ true → count < MAX_RECORDS → (left : Slots)
     → Follows old Segment0 (λ was is. IsMidAppend was (batch_text count (entry_of space c answer ∷ [])) is) left → IsBeforeOrAfter before count space c after left
-mid_append_stands old before after count space c answer kept step fits recorded room left mid =
+mid_append_stands old before after count space c answer kept in_range step fits recorded room left mid =
     let ready = kept.ready in
     let records = ready.0 in
     let entry = entry_of space c answer in
@@ -70,7 +64,7 @@ mid_append_stands old before after count space c answer kept step fits recorded 
         step,
         recorded,
         recovers_from old before after count (count + 1) kept left left.segment0 is (records ++ next ∷ []) spelled
-            (run-push opening_state before after records next ready.2 (kept_served before space c answer after step)) (counted_more records next count ready.3),
+            (run-push opening_state before after records next ready.2 ((made_as_kept before space c answer after in_range).1 step)) (counted_more records next count ready.3),
       )
     ]
 
@@ -92,10 +86,10 @@ others_rest old new before count step kept time c left = elim (left_now old new 
 ]
 
 -- After an append the store is kept, with one record more.
-pub appended_kept : (old new : View) (before after : State) (count space : ℕ) (c : Call) (answer : Reply) → IsKept old before count → ServedStep before space c answer after → IsRecord (kept_record (entry_of space c answer)) → count < MAX_RECORDS
+pub appended_kept : (old new : View) (before after : State) (count space : ℕ) (c : Call) (answer : Reply) → IsKept old before count → FitsCall c → Step before space c answer after → IsRecord (kept_record (entry_of space c answer)) → count < MAX_RECORDS
     → new.seen ≡ with_slot old.seen Segment0 (with_batch old.seen.segment0 (batch_text count (entry_of space c answer ∷ []))) → IsSynced new Segment0
     → Passes old new (Follows old Segment0 (λ was is. IsMidAppend was (batch_text count (entry_of space c answer ∷ [])) is)) → IsKept new after (count + 1)
-appended_kept old new before after count space c answer kept made fits room stored synced time =
+appended_kept old new before after count space c answer kept in_range made fits room stored synced time =
     let ready = kept.ready in
     let records = ready.0 in
     let entry = entry_of space c answer in
@@ -114,7 +108,7 @@ appended_kept old new before after count space c answer kept made fits room stor
       ready = (
         records ++ next ∷ [],
         subst (λ (bytes : List ℕ). IsInUse 0 bytes (records ++ next ∷ [])) (sym (ap (λ (s : Slots). s.segment0) stored)) in_use,
-        run-push opening_state before after records next ready.2 (kept_served before space c answer after made),
+        run-push opening_state before after records next ready.2 ((made_as_kept before space c answer after in_range).1 made),
         counted_more records next count ready.3,
       );
     }

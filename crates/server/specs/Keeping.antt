@@ -7,8 +7,7 @@ use Rattle.ipc_model.specs.declared.call.Call.TheVariants as call
 use Rattle.ipc_model.specs.declared.call.Reply.{Reply}
 use Rattle.ipc_model.specs.state.State.{State}
 use Rattle.ipc_model.specs.state.StateCode.{state_code}
-use Rattle.ipc_model.specs.calls.Step.{has_record, succeeded}
-use Rattle.kernel.specs.Served.{ServedStep}
+use Rattle.ipc_model.specs.calls.Step.{Step, has_record, succeeded}
 use Rattle.recover.specs.Recovered.{Recovers}
 use Rattle.server.specs.Serving.{StepOrShortage}
 
@@ -47,7 +46,7 @@ IsMoved old new = new ≡ record { kernel = old.kernel; disk = old.disk; records
 -- a step of the call that has a record leaves, with one record more.
 abbrev pub IsBeforeOrAfter : State → ℕ → ℕ → Call → State → Slots → Type 0
 IsBeforeOrAfter before count space call after c =
-    Recovers c before count ⊎ ((reply : Reply) × ServedStep before space call reply after × (has_record call reply ≡ true) × Recovers c after (count + 1))
+    Recovers c before count ⊎ ((reply : Reply) × Step before space call reply after × (has_record call reply ≡ true) × Recovers c after (count + 1))
 
 -- What a lone caller may answer: what the machine does in the space that the caller is attached to, with as many records
 -- more as the call has. Attached to another space, the caller is so from now on. It didn't fail.

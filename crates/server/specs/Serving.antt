@@ -13,9 +13,8 @@ use Rattle.ipc_model.specs.declared.call.Reply.TheVariants as reply
 use Rattle.ipc_model.specs.messages.Receiving.{without_message}
 use Rattle.ipc_model.specs.calls.Refusals.{refused_of}
 use Rattle.ipc_model.specs.state.State.{State}
-use Rattle.ipc_model.specs.calls.Step.{number_of_call, succeeded}
+use Rattle.ipc_model.specs.calls.Step.{Step, number_of_call, succeeded}
 use Rattle.ipc_model.specs.texts.Texts.{reply_text}
-use Rattle.kernel.specs.Served.{ServedStep}
 use Rattle.words.specs.Words.{word, frame_text}
 
 -- how a call is refused where memory or room for its record is wanted
@@ -24,10 +23,10 @@ shortage_of (call.Send message) = without_message SendNoBuffer 0 MACH_PORT_NULL
 shortage_of (call.Receive limit large name waited) = without_message RcvHeaderErrorKernel 0 MACH_PORT_NULL
 shortage_of c = reply.Refused (number_of_call c) ResourceShortage
 
--- a step that is served, or, where memory or room for a record is wanted, nothing but that refusal
+-- a step of the machine, or, where memory or room for a record is wanted, nothing but that refusal
 abbrev pub StepOrShortage : State → ℕ → Call → Reply → State → Type 0
 StepOrShortage old space c answer new =
-    ServedStep old space c answer new ⊎ ((answer ≡ shortage_of c) × (new ≡ old))
+    Step old space c answer new ⊎ ((answer ≡ shortage_of c) × (new ≡ old))
 
 -- A send, and where its code is 0 a receipt: two calls, of which the last that was made is answered.
 abbrev pub AnswersBoth : {C : Type 0} → (C → Call → Reply → C → Type 0) → C → Call → Call → Reply → C → Type 0

@@ -12,10 +12,9 @@ ghost use Rattle.ipc_model.specs.declared.call.Reply.{Reply};
 
 use codes::{FIRST_SPACE, KernReturn, MACH_PORT_NULL, MAX_FRAME_CONTENT, MAX_RECORDS};
 use disk::Disk;
-use ipc_model::{Call, Record, Reply};
+use ipc_model::{Call, Record, Reply, call_in_range};
 use journal::{Journal, StoreFault};
-use kernel::Kernel;
-use recover::Opened;
+use recover::{Kernel, Opened};
 use std::alloc::Global;
 use std::marker::Model;
 
@@ -111,8 +110,8 @@ impl<D: Disk> Caller for Alone<D> {
             (IsBeforeOrAfter self.old.kernel self.old.records self.old.space call self.new.kernel) }
         // A stop after the reply leaves the state after the call, so nothing that was answered is lost.
         ensures stored { D.honest → OnOk result ((c : Slots) → MayLeave (D.view self.new.disk) c → Recovers c self.new.kernel self.new.records) }
-        // A call that is refused or only reads changes neither the state nor the disk, and what attaches to no other
-        // space changes nothing at all.
+        // A call without a record, refused or a read, changes neither the state nor the disk, and what attaches to no
+        // other space changes nothing at all.
         ensures unrecorded { IfOk result (λ reply. has_record call reply ≡ false → IsMoved self.old self.new) }
         ensures err { OnErr result (self.new.failed ≡ true) }
         ensures failed { self.old.failed ≡ true → (IsErrOf result StoreFault.Failed) × (self.new ≡ self.old) }
@@ -175,7 +174,8 @@ fn make_call<D: Disk>(
     ensures unrecorded { IfOk result (λ reply. has_record call reply ≡ false → (kernel.new ≡ kernel.old) × (journal.new ≡ journal.old)) }
 {
     if journal.records() >= MAX_RECORDS {
-        return Ok(call_without_room(alloc, kernel, space, &call));
+        let reply = call_without_room(alloc, kernel, space, &call);
+        return Ok(reply);
     }
     let reply = call_with_room(alloc, kernel, journal, space, call)?;
     Ok(reply)
@@ -199,6 +199,7 @@ fn call_with_room<D: Disk>(
     ensures counted { IfOk result (λ reply. journal.new.records ≡ journal.old.records + records_of call reply) }
     ensures unrecorded { IfOk result (λ reply. has_record call reply ≡ false → (kernel.new ≡ kernel.old) × (journal.new ≡ journal.old)) }
 {
+    call_in_range(&call);
     let Ok(reply) = kernel.apply(space, &call) else {
         return Ok(shortage(alloc, &call));
     };
@@ -210,13 +211,15 @@ fn call_with_room<D: Disk>(
     Ok(stored.reply)
 }
 
-/// The answer to a call while the segment has no room for a record: one that would have a record is refused.
-fn call_without_room(alloc: Global, kernel: &Kernel, space: u32, call: &Call) -> Reply
-    ensures answers { StepOrShortage kernel.now space call.now result kernel.now }
+/// The answer to a call while the segment has no room for a record: one that would have a record is refused. Nothing
+/// changes, and the state isn't copied.
+fn call_without_room(alloc: Global, kernel: &mut Kernel, space: u32, call: &Call) -> Reply
+    ensures answers { StepOrShortage kernel.old space call.now result kernel.old }
     ensures frame { length (reply_text result) ≤ MAX_FRAME_CONTENT }
     ensures unrecorded { has_record call.now result ≡ false }
+    ensures same { kernel.new ≡ kernel.old }
 {
-    match kernel.answer(space, call) {
+    match kernel.answer_in_place(space, call) {
         Ok(Some(reply)) => reply,
         Ok(None) | Err(_) => shortage(alloc, call),
     }

@@ -7,4 +7,5 @@ mod service;
 
 pub use alone::{Alone, Caller};
 pub use program::lone;
+pub use recover::{Opened, open};
 pub use service::{ServeFault, serve};

@@ -1,8 +1,7 @@
 use disk::{Disk, MemDisk, Slot, Torn};
 use ipc_model::Reply;
 use journal::StoreFault;
-use recover::open;
-use server::{Alone, ServeFault, lone, serve};
+use server::{Alone, ServeFault, lone, open, serve};
 use std::alloc::Global;
 use std::test::Fail;
 use std::{env, fs};

@@ -147,6 +147,18 @@ as_many spaces space change = go (get spaces space) refl
     go None at = refl
     go (Some names) at = len-insert nat_cmp_total spaces space (change names) ∙ ap (λ (o : Option Names). cond (is_some o) (len spaces) (len spaces + 1)) at
 
+-- the same spaces are there once the names of one have changed
+pub same_numbers : (spaces : SpaceMap) (space : ℕ) (change : Names → Names) (q : ℕ) → is_some (get (names_changed spaces space change) q) ≡ is_some (get spaces q)
+same_numbers spaces space change q = ap is_some (get_names_changed spaces space change q (get spaces space) refl) ∙ go (eq_by_cmp nat_cmp q space) refl
+  where
+    mapped : (o : Option Names) → is_some (option_map change o) ≡ is_some o
+    mapped None = refl
+    mapped (Some names) = refl
+
+    go : (b : Bool) → eq_by_cmp nat_cmp q space ≡ b → is_some (cond b (option_map change (get spaces space)) (get spaces q)) ≡ is_some (get spaces q)
+    go true same = mapped (get spaces space) ∙ ap (λ (k : ℕ). is_some (get spaces k)) (sym (key_is q space same))
+    go false _ = refl
+
 pub both : (a b c d : SpaceMap) → a ≡ c → b ≡ d → ◌≡◌ {A = TrackedSpaces} (record { before = a; current = b }) (record { before = c; current = d })
 both a b c d first second = ap (λ (m : SpaceMap). record { before = m; current = b }) first ∙ ap (λ (m : SpaceMap). record { before = c; current = m }) second
 

@@ -3,6 +3,7 @@ pub mod Counting
 pub mod Indexes
 pub mod Laws
 pub mod Looking
+pub mod Numbers
 pub mod Reading
 pub mod Renamed
 pub mod Slots

@@ -1,6 +1,6 @@
 ghost use Rattle.std.specs.Prelude.{◌≡◌, ◌<◌, ◌^◌, None, Some, IfOk, OnOk, OnErr, IfSome, is_some};
 ghost use Rattle.std.specs.FinMap as map;
-ghost use Rattle.codes.specs.declared.limits.TheConstants.{MAX_NAMES};
+ghost use Rattle.codes.specs.declared.limits.TheConstants.{MAX_NAMES, MAX_SPACES};
 ghost use Rattle.ipc_laws.specs.MapSums.{total};
 ghost use Rattle.ipc_laws.specs.Weights.{names_weigh};
 ghost use Rattle.ipc_model.specs.declared.message.RightKind.TheVariants as kind;
@@ -9,6 +9,7 @@ ghost use Rattle.pair_counts.specs.Rights.{right_weight};
 ghost use Rattle.port_space.specs.References.{AreFewReferences};
 ghost use Rattle.spaces.specs.Indexes.{IsMoved, IsNextAt, SameBefore};
 ghost use Rattle.spaces.specs.Looking.{entry_in, place, port_named};
+ghost use Rattle.spaces.specs.Numbers.{IsFreeNumber};
 ghost use Rattle.spaces.specs.Slots.{spaces_at_rest, names_changed};
 
 use crate::indexes::NameIndexes;
@@ -64,6 +65,14 @@ impl Spaces {
         ensures { result ≡ is_some (map.get self.now.current space) }
     {
         self.table.contains(space)
+    }
+
+    /// The least number that no space has. There is one while there are fewer spaces than may be.
+    pub fn free_number(&self) -> u32
+        requires room { map.len self.now.current < MAX_SPACES }
+        ensures { IsFreeNumber self.now.current result }
+    {
+        self.table.free_number()
     }
 
     /// What a name of a space stands for, if it is in use.

@@ -1,10 +1,12 @@
 ghost use Rattle.std.specs.Prelude.{◌≡◌, ◌<◌, ◌^◌, None, Some, IfOk, OnOk, OnErr, is_some, option_map, option_copied};
 ghost use Rattle.std.specs.FinMap as map;
-ghost use Rattle.codes.specs.declared.limits.TheConstants.{MAX_NAMES};
+ghost use Rattle.codes.specs.declared.limits.TheConstants.{MAX_NAMES, MAX_SPACES};
 ghost use Rattle.ipc_model.specs.state.State.{Names};
 ghost use Rattle.port_space.specs.References.{AreFewReferences};
+ghost use Rattle.spaces.specs.Numbers.{IsFreeNumber};
 ghost use Rattle.spaces.specs.Slots.{spaces_at_rest, names_changed};
 
+use crate::numbers::Numbers;
 use crate::slot::Space;
 use crate::slots::{close_at, give_slots_up, keep_slots, open_at, put_at, remove_at};
 use ipc_model::Entry;
@@ -23,11 +25,14 @@ pub struct SpaceTable {
     touched: Vec<u128>,
     count: usize,
     count_before: usize,
+    numbers: Numbers,
+    numbers_before: Numbers,
 }
 
 impl Model for SpaceTable {
     ghost use Rattle.std.specs.Prelude.{◌≡◌};
     ghost use Rattle.std.specs.FinMap as map;
+    ghost use Rattle.spaces.specs.Numbers.{AreTaken};
     ghost use Rattle.spaces.specs.Slots.{TrackedSpaces, spaces_code, was, is};
     ghost use Rattle.tracked_map.specs.Slots.{picked};
     ghost use Rattle.tracked_map.specs.Touched.{AreTouched};
@@ -38,7 +43,9 @@ impl Model for SpaceTable {
 
     ghost view = { λ t. record { before = picked was t.slots; current = picked is t.slots } };
 
-    ghost invariant = { λ t. AreTouched was is t.slots t.touched.items × (t.count ≡ map.len (picked is t.slots)) × (t.count_before ≡ map.len (picked was t.slots)) };
+    ghost invariant = { λ t.
+        AreTouched was is t.slots t.touched.items × (t.count ≡ map.len (picked is t.slots)) × (t.count_before ≡ map.len (picked was t.slots))
+        × AreTaken t.numbers (picked is t.slots) × AreTaken t.numbers_before (picked was t.slots) };
 }
 
 /// Copies a slot.
@@ -62,6 +69,8 @@ impl SpaceTable {
             touched: Vec::new(alloc),
             count: 0,
             count_before: 0,
+            numbers: Numbers::new(),
+            numbers_before: Numbers::new(),
         }
     }
 
@@ -89,6 +98,14 @@ impl SpaceTable {
         }
     }
 
+    /// The least number that no space has. There is one while there are fewer spaces than may be.
+    pub fn free_number(&self) -> u32
+        requires room { map.len self.now.current < MAX_SPACES }
+        ensures { IsFreeNumber self.now.current result }
+    {
+        self.numbers.first_free() + 1
+    }
+
     /// Makes a space without names under a number that no space has. Where memory is wanted the changes are given up.
     pub fn add(&mut self, space: u32) -> Result<(), AllocError>
         requires absent { map.get self.old.current space ≡ None }
@@ -104,6 +121,7 @@ impl SpaceTable {
             Ok(()) => {
                 self.touched.push_reserved(u128::from(space));
                 self.count += 1;
+                self.numbers.add(space);
                 Ok(())
             }
             Err(error) => {
@@ -133,6 +151,7 @@ impl SpaceTable {
                 give_slots_up(&mut self.slots, self.touched.as_slice());
                 self.touched.clear();
                 self.count = self.count_before;
+                self.numbers = self.numbers_before;
                 Err(error)
             }
         }
@@ -156,6 +175,7 @@ impl SpaceTable {
                 give_slots_up(&mut self.slots, self.touched.as_slice());
                 self.touched.clear();
                 self.count = self.count_before;
+                self.numbers = self.numbers_before;
                 Err(error)
             }
         }
@@ -175,6 +195,7 @@ impl SpaceTable {
             close_at(&mut self.slots, space);
             self.touched.push_reserved(u128::from(space));
             self.count -= 1;
+            self.numbers.remove(space);
         }
         Ok(())
     }
@@ -191,6 +212,8 @@ impl SpaceTable {
             touched,
             count: self.count,
             count_before: self.count_before,
+            numbers: self.numbers,
+            numbers_before: self.numbers_before,
         })
     }
 
@@ -201,6 +224,7 @@ impl SpaceTable {
         keep_slots(&mut self.slots, self.touched.as_slice());
         self.touched.clear();
         self.count_before = self.count;
+        self.numbers_before = self.numbers;
     }
 
     /// Gives the changes up. It takes no memory.
@@ -210,5 +234,6 @@ impl SpaceTable {
         give_slots_up(&mut self.slots, self.touched.as_slice());
         self.touched.clear();
         self.count = self.count_before;
+        self.numbers = self.numbers_before;
     }
 }

@@ -177,3 +177,50 @@ fn ports_die_and_live_again(rt: HostRuntime) -> Result<(), Fail> {
     same(&rt, seen, wanted);
     Ok(())
 }
+
+/// What is seen: once the oldest message of port 2 is taken, of a copy that keeps this, once the other one is taken too,
+/// and once all is given up.
+fn taken(alloc: Global, ports: &mut Ports) -> Result<[Picture; 4], Fail> {
+    fill(alloc, ports)?;
+    ports.take(2)?;
+    let without_first = seen(ports);
+    let kept = kept(ports)?;
+    ports.take(2)?;
+    let without_both = seen(ports);
+    ports.give_up();
+    Ok([without_first, kept, without_both, seen(ports)])
+}
+
+fn taken_from_none(alloc: Global) -> Result<[Picture; 4], Fail> {
+    let mut ports = Ports::new(alloc);
+    let seen = taken(alloc, &mut ports);
+    seen
+}
+
+fn without_first() -> Picture {
+    Picture {
+        counts: [0, 1, 1, 1],
+        carrier: Some(2),
+        messages: 1,
+        oldest: [Some(PortInMessage::Live(3)); 2],
+        target: Some(1),
+    }
+}
+
+fn without_both() -> Picture {
+    Picture {
+        counts: [0, 1, 0, 0],
+        carrier: None,
+        messages: 0,
+        oldest: [None; 2],
+        target: Some(1),
+    }
+}
+
+#[test]
+fn messages_are_taken_and_put_back(rt: HostRuntime) -> Result<(), Fail> {
+    let seen = taken_from_none(rt.alloc())?;
+    let wanted = [without_first(), without_first(), without_both(), at_first()];
+    same(&rt, seen, wanted);
+    Ok(())
+}

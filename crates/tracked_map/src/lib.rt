@@ -88,8 +88,19 @@ impl<V> TrackedMap<V> {
         ensures { MatchOption result ((key : ℕ) → from ≤ key → key < 2 ^ 128 → map.get self.now.current key ≡ None)
             (λ e. (from ≤ e.0) × (map.get self.now.current e.0 ≡ Some e.1.now) × ((key : ℕ) → from ≤ key → key < e.0 → map.get self.now.current key ≡ None)) }
     {
+        self.next_within(from, u128::MAX)
+    }
+
+    /// The least key from one to another that has a value, with its value. What went is passed over between the two alone.
+    pub fn next_within(&self, from: u128, last: u128) -> Option<(u128, &V)>
+        ensures { MatchOption result ((key : ℕ) → from ≤ key → key ≤ last → map.get self.now.current key ≡ None)
+            (λ e. (from ≤ e.0) × (e.0 ≤ last) × (map.get self.now.current e.0 ≡ Some e.1.now) × ((key : ℕ) → from ≤ key → key < e.0 → map.get self.now.current key ≡ None)) }
+    {
         let mut at = from;
         while let Some((key, slot)) = self.slots.next_from(at) {
+            if last < key {
+                return None;
+            }
             if let Some(value) = slot {
                 return Some((key, value));
             }

@@ -5,7 +5,7 @@ ghost use Rattle.std.specs.Prelude.{◌≡◌};
 ghost use Rattle.std.specs.FinMap as map;
 ghost use Rattle.ipc_model.specs.state.Circular.{is_circular, meets};
 
-use ipc_state::IpcState;
+pub use ipc_state::{IpcState, PortNumbers};
 
 /// Whether the receive right of a port, put into this queue, would travel to the port's own queue, directly or
 /// through other ports. It takes no memory.

@@ -1,5 +1,5 @@
-use Rattle.std.proofs.Common.{◌≡◌, length, refl, ap, sym, ◌∙◌}
-use Rattle.tracked_map.specs.Tracked.{is_among, over, shown}
+use Rattle.std.proofs.Common.{sym, ◌∙◌}
+use Rattle.tracked_map.specs.Tracked.{shown}
 use Rattle.tracked_map.proofs.Laws.{is_written, last_among, rest_among, over_none}
 use Rattle.tracked_map.proofs.put_back.Goals as goal
 

@@ -1,4 +1,4 @@
-use Rattle.std.proofs.Common.{◌≡◌, ℕ, true, ◌≤◌, length}
+use Rattle.std.proofs.Common.{◌≡◌, ℕ, true, length}
 use Rattle.tracked_map.specs.Tracked.{over, shown, is_among, AreMarked, HasSlots}
 use Rattle.tracked_map.proofs.put_back.Given as goal
 

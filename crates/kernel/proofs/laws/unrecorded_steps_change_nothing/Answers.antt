@@ -1,4 +1,4 @@
-use Rattle.kernel.specs.ServedLaws.{unrecorded_step}
+use Rattle.kernel.specs.Unrecorded.{unrecorded_step}
 use Rattle.kernel.proofs.laws.unrecorded_steps_change_nothing.Goals as goal
 
 pub returns : goal.returns

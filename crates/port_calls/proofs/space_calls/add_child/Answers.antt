@@ -6,8 +6,8 @@ use Rattle.ipc_model.specs.declared.entry.Entry.{Entry}
 use Rattle.ipc_model.specs.rights.CopyOut.{MayArrive, names_after}
 use Rattle.ipc_model.specs.calls.PortCalls.{names_in}
 use Rattle.ipc_model.specs.state.State.{State, Names, with_names}
-use Rattle.ipc_state.specs.Running.{Running}
-use Rattle.ipc_state.specs.Added.{added_there, names_added, added_again}
+use Rattle.rights.specs.Passed.{Running}
+use Rattle.rights.specs.Passed.{added_there, names_added, added_again}
 use Rattle.port_calls.proofs.space_calls.add_child.Goals as goal
 
 abbrev without : Names

@@ -3,7 +3,7 @@ use Rattle.disk.specs.Slots.{Slots}
 use Rattle.ipc_model.specs.state.State.{State}
 use Rattle.ipc_model.specs.calls.Step.{has_record}
 use Rattle.recover.specs.Kept.{IsKept}
-use Rattle.kernel.specs.ServedLaws.{unrecorded_step}
+use Rattle.recover.specs.Steps.{unrecorded_step}
 use Rattle.server.proofs.Answered.{shortage_fits}
 use Rattle.server.proofs.Keeping.{mid_append_stands, appended_kept, passes_so}
 use Rattle.server.proofs.alone.call_with_room.Goals as goal
@@ -34,7 +34,7 @@ returns-in_err-append-clause-passes g c = λ honest kept.
     let whole = c.in-Ok.ensures.recorded recorded in
     let fits = c.append.ensures.fits whole.whole whole.number_is whole.results recorded whole.call_frame whole.reply_frame in
     passes_so old (g.D.Disk.view c.append.new.self.disk) _ _ (c.append.ensures.any_moment honest (λ left may. ap (λ (s : Slots). s.segment0) (kept.at_rest left may)))
-    (mid_append_stands old c.args.kernel.now c.apply.new.self c.args.journal.now.records c.args.space c.args.call c.in-Ok.reply kept c.in-Ok.ensures.step fits recorded c.requires.room)
+    (mid_append_stands old c.args.kernel.now c.apply.new.self c.args.journal.now.records c.args.space c.args.call c.in-Ok.reply kept c.call_in_range.ensures c.in-Ok.ensures.step fits recorded c.requires.room)
 
 pub returns-clause-passes : goal.returns-clause-passes
 returns-clause-passes g c = λ honest kept.
@@ -43,7 +43,7 @@ returns-clause-passes g c = λ honest kept.
     let whole = c.in-Ok.ensures.recorded recorded in
     let fits = c.append.ensures.fits whole.whole whole.number_is whole.results recorded whole.call_frame whole.reply_frame in
     passes_so old (g.D.Disk.view c.append.new.self.disk) _ _ (c.append.ensures.any_moment honest (λ left may. ap (λ (s : Slots). s.segment0) (kept.at_rest left may)))
-    (mid_append_stands old c.args.kernel.now c.apply.new.self c.args.journal.now.records c.args.space c.args.call c.in-Ok.reply kept c.in-Ok.ensures.step fits recorded c.requires.room)
+    (mid_append_stands old c.args.kernel.now c.apply.new.self c.args.journal.now.records c.args.space c.args.call c.in-Ok.reply kept c.call_in_range.ensures c.in-Ok.ensures.step fits recorded c.requires.room)
 
 pub returns-clause-kept : goal.returns-clause-kept
 returns-clause-kept g c = λ honest kept.
@@ -53,7 +53,7 @@ returns-clause-kept g c = λ honest kept.
     let whole = c.in-Ok.ensures.recorded recorded in
     let fits = c.append.ensures.fits whole.whole whole.number_is whole.results recorded whole.call_frame whole.reply_frame in
     subst (λ (n : ℕ). IsKept new c.apply.new.self n) (sym c.in_ok-append.ensures.counted.0)
-    (appended_kept old new c.args.kernel.now c.apply.new.self c.args.journal.now.records c.args.space c.args.call c.in-Ok.reply kept c.in-Ok.ensures.step fits c.requires.room
+    (appended_kept old new c.args.kernel.now c.apply.new.self c.args.journal.now.records c.args.space c.args.call c.in-Ok.reply kept c.call_in_range.ensures c.in-Ok.ensures.step fits c.requires.room
     (c.in_ok-append.ensures.stored honest) (c.in_ok-append.ensures.synced honest) (c.append.ensures.any_moment honest (λ left may. ap (λ (s : Slots). s.segment0) (kept.at_rest left may))))
 
 pub returns-in_default-clause-frame : goal.returns-in_default-clause-frame

@@ -1,4 +1,4 @@
-use Rattle.std.proofs.Common.{◌≡◌, ◌≤◌, List, ◌++◌, ◌∷◌, [], refl, ap, sym, subst, ◌∙◌}
+use Rattle.std.proofs.Common.{◌≤◌, List, ◌++◌, ◌∷◌, [], refl, ap, sym, subst, ◌∙◌}
 use Rattle.std.specs.Option.{option_flatten}
 use Rattle.tracked_map.specs.Tracked.{Tracked, IsSound, len_after, put}
 use Rattle.tracked_map.proofs.Laws.{both, is_put, put_sound}

@@ -1,15 +1,15 @@
-use Rattle.std.proofs.Common.{sym, subst, ◌∙◌, arith}
+use Rattle.std.proofs.Common.{sym, subst, ◌∙◌}
 use Rattle.ipc_model.specs.state.State.{State}
-use Rattle.kernel.specs.Fitting.{step_within}
-use Rattle.kernel.specs.Served.{ServedStep}
-use Rattle.kernel.specs.ServedLaws.{unrecorded_step}
+use Rattle.kernel.specs.Fitting.{step_fitting}
+use Rattle.ipc_model.specs.calls.Step.{Step}
+use Rattle.kernel.specs.Unrecorded.{unrecorded_step}
 use Rattle.kernel.proofs.kernel.Kernel.answer_in_place.Goals as goal
 
 pub returns-then-has_record-clause-none : goal.returns-then-has_record-clause-none
 returns-then-has_record-clause-none c = (
   c.in_ok-reply.reply,
   c.step-answered.new.state.current,
-  subst (λ (s : State). ServedStep s c.args.space c.args.call.now c.in_ok-reply.reply c.step-answered.new.state.current) c.self.view_is c.in_ok-reply.ensures.step,
+  subst (λ (s : State). Step s c.args.space c.args.call.now c.in_ok-reply.reply c.step-answered.new.state.current) c.self.view_is c.in_ok-reply.ensures.step,
   sym c.has_record.ensures ∙ c.if-has_record.true,
 )
 
@@ -18,8 +18,8 @@ returns-clause-answered c =
     let old = c.self.inside.state.current in
     let none = sym c.has_record.ensures ∙ c.if-has_record.false in
     let same = unrecorded_step old c.args.space c.args.call.now c.in_ok-reply.reply c.step-answered.new.state.current c.in_ok-reply.ensures.step none in
-    let stays = subst (λ (s : State). ServedStep old c.args.space c.args.call.now c.in_ok-reply.reply s) same c.in_ok-reply.ensures.step in
-    (subst (λ (s : State). ServedStep s c.args.space c.args.call.now c.in_ok-reply.reply s) c.self.view_is stays, none)
+    let stays = subst (λ (s : State). Step old c.args.space c.args.call.now c.in_ok-reply.reply s) same c.in_ok-reply.ensures.step in
+    (subst (λ (s : State). Step s c.args.space c.args.call.now c.in_ok-reply.reply s) c.self.view_is stays, none)
 
 pub returns-clause-fits : goal.returns-clause-fits
-returns-clause-fits c = omega (arith, (step_within c.self.inside.state.current c.args.space c.args.call.now c.in_ok-reply.reply c.step-answered.new.state.current c.self.invariant.0 c.in_ok-reply.ensures.step).bytes)
+returns-clause-fits c = (step_fitting c.self.inside.state.current c.args.space c.args.call.now c.in_ok-reply.reply c.step-answered.new.state.current c.self.invariant.0 c.in_ok-reply.ensures.step).bytes

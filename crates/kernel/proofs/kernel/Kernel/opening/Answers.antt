@@ -3,7 +3,7 @@ use Rattle.ipc_model.specs.state.Circular.{Grounded}
 use Rattle.ipc_model.specs.state.Lawful.{Lawful}
 use Rattle.ipc_laws.specs.OpeningLaws.{opening_is_lawful}
 use Rattle.ipc_model.specs.state.State.{State}
-use Rattle.ipc_state.specs.Running.{Running}
+use Rattle.port_calls.specs.Passed.{Running}
 use Rattle.kernel.proofs.kernel.Kernel.opening.Goals as goal
 
 pub invariant_of-result : goal.invariant_of-result

@@ -1,16 +1,16 @@
-use Rattle.std.proofs.Common.{refl, sym, subst, ◌∙◌}
+use Rattle.std.proofs.Common.{sym, subst, ◌∙◌}
 use Rattle.ipc_model.specs.declared.call.Call.TheVariants as call
 use Rattle.ipc_model.specs.state.State.{State}
 use Rattle.ipc_model.specs.calls.Step.{Step}
-use Rattle.kernel.specs.Keeping.{read_step, gone_step}
+use Rattle.kernel.specs.Stepping.{step_alone, step_gone}
 use Rattle.kernel.proofs.kernel.Kernel.port_type.Goals as goal
 
 pub returns-then-not-has_space : goal.returns-then-not-has_space
 returns-then-not-has_space c =
     subst (λ (s : State). Step s c.args.space (call.Type c.args.name) c.gone.result s) c.self.view_is
-    (gone_step c.self.inside.state.current c.args.space (call.Type c.args.name) c.gone.result refl (sym c.has_space.ensures ∙ c.if-not-has_space.true) c.gone.ensures)
+    (step_gone c.self.inside.state.current c.args.space (call.Type c.args.name) c.gone.result (sym c.has_space.ensures ∙ c.if-not-has_space.true) c.gone.ensures)
 
 pub returns : goal.returns
 returns c =
     subst (λ (s : State). Step s c.args.space (call.Type c.args.name) c.port_type.result s) c.self.view_is
-    (read_step c.self.inside.state.current c.args.space (call.Type c.args.name) c.port_type.result refl (sym c.has_space.ensures ∙ c.if-not-has_space.false) c.port_type.ensures)
+    (step_alone c.self.inside.state.current c.args.space (call.Type c.args.name) c.port_type.result c.self.inside.state.current (sym c.has_space.ensures ∙ c.if-not-has_space.false) c.port_type.ensures)

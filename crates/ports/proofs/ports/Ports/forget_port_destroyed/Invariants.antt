@@ -1,6 +1,7 @@
-use Rattle.std.proofs.Common.{◌≡◌}
+use Rattle.std.proofs.Common.{◌≡◌, ℕ, ◌<◌, false}
 use Rattle.ipc_model.specs.effects.Effects.{map_values}
-use Rattle.ports.specs.Indexes.{destroyed_of}
+use Rattle.ipc_model.specs.state.State.{is_number}
+use Rattle.ports.specs.Indexes.{destroyed_of, target_at}
 use Rattle.ports.specs.Requests.{destroyed_forgotten, requests}
 use Rattle.ports.proofs.ports.Ports.forget_port_destroyed.Given as goal
 
@@ -9,6 +10,7 @@ invariant-loop-other l = record {
   settles : map_values (destroyed_forgotten l.target) l.self.current.ports ≡ map_values (destroyed_forgotten l.target) l.initial.self.current.ports;
   before : l.self.before ≡ l.initial.self.before;
   next : l.self.current.next ≡ l.initial.self.current.next;
+  passed : (q : ℕ) → q < l.at → is_number (target_at destroyed_of l.self.current.ports q) l.target ≡ false;
 }
 
 abbrev pub decreases-loop-other : goal.decreases-loop-other

@@ -2,6 +2,7 @@ use Rattle.std.proofs.Common.{ap, sym, subst, ◌∙◌}
 use Rattle.std.specs.FinMap.{len}
 use Rattle.tracked_map.specs.Touched.{AreTouched, exchanged}
 use Rattle.spaces.specs.Slots.{TrackedSpaces, was, is}
+use Rattle.spaces.specs.Numbers.{AreTaken}
 use Rattle.spaces.specs.Laws as laws
 use Rattle.spaces.proofs.table.SpaceTable.give_up.Goals as goal
 
@@ -11,7 +12,7 @@ give_slots_up-requires c = exchanged was is c.self.inside.slots c.as_slice.resul
 pub invariant_of-self : goal.invariant_of-self
 invariant_of-self c =
     let rest = laws.given_rest c.give_slots_up.new.slots c.clear.new.self.items _ c.clear.ensures.items c.give_slots_up.ensures.rest c.give_slots_up.ensures.shown in
-    (rest.touched_none, c.self.invariant.2 ∙ ap len (sym rest.seen_is), c.self.invariant.2 ∙ ap len (sym rest.seen_was))
+    (rest.touched_none, c.self.invariant.2 ∙ ap len (sym rest.seen_is), c.self.invariant.2 ∙ ap len (sym rest.seen_was), subst (AreTaken c.self.inside.numbers_before) (sym rest.seen_is) c.self.invariant.4, subst (AreTaken c.self.inside.numbers_before) (sym rest.seen_was) c.self.invariant.4)
 
 pub returns : goal.returns
 returns c =

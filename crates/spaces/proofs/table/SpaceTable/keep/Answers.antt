@@ -2,6 +2,7 @@ use Rattle.std.proofs.Common.{ap, sym, subst, ◌∙◌}
 use Rattle.std.specs.FinMap.{len}
 use Rattle.tracked_map.specs.Touched.{AreTouched}
 use Rattle.spaces.specs.Slots.{TrackedSpaces, was, is}
+use Rattle.spaces.specs.Numbers.{AreTaken}
 use Rattle.spaces.specs.Laws as laws
 use Rattle.spaces.proofs.table.SpaceTable.keep.Goals as goal
 
@@ -11,7 +12,7 @@ keep_slots-requires c = subst (AreTouched was is c.self.inside.slots) (sym c.as_
 pub invariant_of-self : goal.invariant_of-self
 invariant_of-self c =
     let rest = laws.kept_rest c.keep_slots.new.slots c.clear.new.self.items _ c.clear.ensures.items c.keep_slots.ensures.rest c.keep_slots.ensures.shown in
-    (rest.touched_none, c.self.invariant.1 ∙ ap len (sym rest.seen_is), c.self.invariant.1 ∙ ap len (sym rest.seen_was))
+    (rest.touched_none, c.self.invariant.1 ∙ ap len (sym rest.seen_is), c.self.invariant.1 ∙ ap len (sym rest.seen_was), subst (AreTaken c.self.inside.numbers) (sym rest.seen_is) c.self.invariant.3, subst (AreTaken c.self.inside.numbers) (sym rest.seen_was) c.self.invariant.3)
 
 pub returns : goal.returns
 returns c =

@@ -4,11 +4,12 @@ use Rattle.ipc_model.specs.state.State.{Names}
 use Rattle.tracked_map.specs.Slots.{picked}
 use Rattle.tracked_map.specs.Touched.{AreTouched, exchanged}
 use Rattle.spaces.specs.Slots.{SpaceSlot, SpaceSlots, TrackedSpaces, was, is, given_slot, names_changed}
+use Rattle.spaces.specs.Numbers.{AreTaken, same_taken}
 use Rattle.spaces.specs.Laws as laws
 use Rattle.spaces.proofs.table.SpaceTable.remove.Goals as goal
 
 pub invariant_of-self : goal.invariant_of-self
-invariant_of-self c = (subst (AreTouched was is c.self.inside.slots) (sym c.reserve.ensures.items) c.self.invariant.0, c.self.invariant.1, c.self.invariant.2)
+invariant_of-self c = (subst (AreTouched was is c.self.inside.slots) (sym c.reserve.ensures.items) c.self.invariant.0, c.self.invariant.1, c.self.invariant.2, c.self.invariant.3, c.self.invariant.4)
 
 pub invariant_of-self-in-Ok : goal.invariant_of-self-in-Ok
 invariant_of-self-in-Ok c =
@@ -19,6 +20,9 @@ invariant_of-self-in-Ok c =
           (laws.changed_touched c.self.inside.slots c.reserve.new.self.items c.push_reserved.new.self.items c.args.space change (c.push_reserved.ensures.items ∙ ap (λ (k : ℕ). c.reserve.new.self.items ++ k ∷ []) c.from.ensures) (subst (AreTouched was is c.self.inside.slots) (sym c.reserve.ensures.items) c.self.invariant.0)),
       c.self.invariant.1 ∙ sym (ap (λ (s : SpaceSlots). len (picked is s)) done ∙ ap len (laws.looks_changed c.self.inside.slots c.args.space change is put (λ (s : SpaceSlot). refl)) ∙ laws.as_many (picked is c.self.inside.slots) c.args.space put),
       c.self.invariant.2 ∙ sym (ap (λ (s : SpaceSlots). len (picked was s)) done ∙ ap len (laws.looks_same c.self.inside.slots c.args.space change was (λ (s : SpaceSlot). refl))),
+      subst (λ (s : SpaceSlots). AreTaken c.self.inside.numbers (picked is s)) (sym done)
+          (subst (AreTaken c.self.inside.numbers) (sym (laws.looks_changed c.self.inside.slots c.args.space change is put (λ (s : SpaceSlot). refl))) (same_taken c.self.inside.numbers (picked is c.self.inside.slots) _ (laws.same_numbers (picked is c.self.inside.slots) c.args.space put) c.self.invariant.3)),
+      subst (λ (s : SpaceSlots). AreTaken c.self.inside.numbers_before (picked was s)) (sym done) (subst (AreTaken c.self.inside.numbers_before) (sym (laws.looks_same c.self.inside.slots c.args.space change was (λ (s : SpaceSlot). refl))) c.self.invariant.4),
     )
 
 pub give_slots_up-requires : goal.give_slots_up-requires
@@ -31,7 +35,7 @@ pub invariant_of-self-in-Err : goal.invariant_of-self-in-Err
 invariant_of-self-in-Err c =
     let rest = laws.given_rest c.give_slots_up.new.slots c.clear.new.self.items _ c.clear.ensures.items c.give_slots_up.ensures.rest c.give_slots_up.ensures.shown in
     let former = ap (picked was) c.in-Err.ensures.err ∙ laws.looks_same c.self.inside.slots c.args.space given_slot was (λ (s : SpaceSlot). refl) in
-    (rest.touched_none, c.self.invariant.2 ∙ ap len (sym (rest.seen_is ∙ former)), c.self.invariant.2 ∙ ap len (sym (rest.seen_was ∙ former)))
+    (rest.touched_none, c.self.invariant.2 ∙ ap len (sym (rest.seen_is ∙ former)), c.self.invariant.2 ∙ ap len (sym (rest.seen_was ∙ former)), subst (AreTaken c.self.inside.numbers_before) (sym (rest.seen_is ∙ former)) c.self.invariant.4, subst (AreTaken c.self.inside.numbers_before) (sym (rest.seen_was ∙ former)) c.self.invariant.4)
 
 pub returns-in-Ok-clause-ok : goal.returns-in-Ok-clause-ok
 returns-in-Ok-clause-ok c =

@@ -1,0 +1,34 @@
+use crate::expect::{same, same_bytes};
+use codes::KernReturn;
+use msg_header::{Header, parse};
+use std::test::Fail;
+
+/// A complex message of a header alone: the destination 0x102 by MACH_MSG_TYPE_COPY_SEND, the reply right 0x103 by
+/// MACH_MSG_TYPE_MAKE_SEND_ONCE, sequence number 7 and id 0x864.
+const MESSAGE: &[u8; 24] =
+    b"\x13\x15\x00\x80\x18\x00\x00\x00\x02\x01\x00\x00\x03\x01\x00\x00\x07\x00\x00\x00\x64\x08\x00\x00";
+
+/// What its header says.
+const HEADER: Header = Header {
+    size: 24,
+    remote_disposition: 19,
+    local_disposition: 21,
+    complex: true,
+    remote: 0x102,
+    local: 0x103,
+    id: 0x864,
+};
+
+#[test]
+fn headers_are_read(rt: HostRuntime) {
+    same(&rt, parse(MESSAGE), Ok(HEADER));
+    same(&rt, parse(&MESSAGE[..23]), Err(KernReturn::SendMsgTooSmall));
+}
+
+#[test]
+fn headers_are_written(rt: HostRuntime) -> Result<(), Fail> {
+    let mut out = Vec::new(rt.alloc());
+    HEADER.write_into(7, &mut out)?;
+    same_bytes(&rt, &out, MESSAGE);
+    Ok(())
+}

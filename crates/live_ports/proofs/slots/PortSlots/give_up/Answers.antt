@@ -1,0 +1,14 @@
+use Rattle.std.proofs.Common.{sym, ap, ◌∙◌}
+use Rattle.live_ports.specs.Tables.{Slots, slot_changed, given_up_slot}
+use Rattle.live_ports.proofs.Slabbed.{absent_changed, slot_is_changed}
+use Rattle.live_ports.proofs.slots.PortSlots.give_up.Goals as goal
+
+pub returns-in-Some : goal.returns-in-Some
+returns-in-Some c =
+    let inside = c.self.inside in
+    slot_is_changed (given_up_slot) inside.ports c.give_up_at.new.ports inside.keys c.args.serial c.in-Some.key.now c.self.invariant (sym c.in-Some.ensures) c.give_up_at.ensures ∙ ap (λ (m : Slots). slot_changed m c.args.serial (given_up_slot)) c.self.view_is
+
+pub returns-in_default : goal.returns-in_default
+returns-in_default c =
+    let inside = c.self.inside in
+    sym c.self.view_is ∙ absent_changed (given_up_slot) inside.ports inside.keys c.args.serial (sym c.in_default.ensures) ∙ ap (λ (m : Slots). slot_changed m c.args.serial (given_up_slot)) c.self.view_is

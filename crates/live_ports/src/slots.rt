@@ -1,0 +1,255 @@
+//! The slots of ports, in a slab.
+ghost use Rattle.std.specs.Prelude.{◌≡◌, ◌<◌, ◌-◌, ◌^◌, None, IfOk, IfSome, MatchOption, OnOk, OnErr, length, option_copied, option_and_then};
+ghost use Rattle.std.specs.FinMap as map;
+ghost use Rattle.live_ports.specs.Changed.{with_message, with_numbers, without_first};
+ghost use Rattle.live_ports.specs.PortSlot.{PortSlot};
+ghost use Rattle.live_ports.specs.Slabbed.{by_serial, AreKeyed, IsChangedAt};
+ghost use Rattle.live_ports.specs.Tables.{current_of, slot_changed, present_changed, buried, kept_slot, given_up_slot};
+ghost use Rattle.slab.specs.Slab as slab;
+ghost use Rattle.slab.specs.Slab.{Updates};
+
+use crate::port::{Port, PortNumbers};
+use ipc_model::Message;
+use number_map::NumberMap;
+use slab::Slab;
+use std::alloc::{AllocError, Global};
+use std::marker::Model;
+
+/// Ports by their serials. They stand in a slab, whose keys are used again as serials never are; an ordered map has the
+/// key of each serial. Contracts see the finite map from serials to ports.
+#[derive(Drop)]
+pub(crate) struct PortSlots {
+    alloc: Global,
+    ports: Slab<Port>,
+    keys: NumberMap<usize>,
+}
+
+impl Model for PortSlots {
+    ghost use Rattle.std.specs.Coded.{coded_ℕ};
+    ghost use Rattle.std.specs.FinMap as map;
+    ghost use Rattle.std.specs.Ordering.{nat_cmp};
+    ghost use Rattle.ipc_model.specs.contracts.port.PortState as state;
+    ghost use Rattle.live_ports.specs.PortSlot.{PortSlot, slot_code};
+    ghost use Rattle.live_ports.specs.Slabbed.{by_serial, AreKeyed};
+
+    ghost Value = { map.FinMap nat_cmp PortSlot };
+
+    ghost coded = { map.code coded_ℕ (slot_code state.the_row.coded) };
+
+    ghost view = { λ s. by_serial s.ports s.keys };
+
+    ghost invariant = { λ s. AreKeyed s.ports s.keys };
+}
+
+impl PortSlots {
+    /// No ports. It takes no memory.
+    pub(crate) fn new(alloc: Global) -> Self
+        ensures { result ≡ map.empty }
+    {
+        PortSlots {
+            alloc,
+            ports: Slab::new(alloc),
+            keys: NumberMap::new(alloc),
+        }
+    }
+
+    /// The port of a serial.
+    pub(crate) fn get(&self, serial: u128) -> Option<&Port>
+        ensures { option_copied result ≡ map.get self.now serial }
+    {
+        match self.keys.get(serial) {
+            Some(key) => self.ports.get(*key),
+            None => None,
+        }
+    }
+
+    /// Sets the port of a serial. Where memory is wanted nothing changed.
+    pub(crate) fn insert(&mut self, serial: u128, port: Port) -> Result<(), AllocError>
+        ensures ok { OnOk result (self.new ≡ map.insert self.old serial port) }
+        ensures err { OnErr result (self.new ≡ self.old) }
+    {
+        if let Some(key) = self.keys.get(serial) {
+            replace_at(&mut self.ports, *key, port);
+            return Ok(());
+        }
+        add_to_both(&mut self.ports, &mut self.keys, serial, port)
+    }
+
+    /// The port of a serial goes, if it is there.
+    pub(crate) fn remove(&mut self, serial: u128)
+        ensures { self.new ≡ map.remove self.old serial }
+    {
+        if let Some(key) = self.keys.remove(serial) {
+            remove_at(&mut self.ports, key);
+        }
+    }
+
+    /// Replaces what a port keeps beside its queue, if it lives.
+    pub(crate) fn set_numbers(&mut self, serial: u128, numbers: PortNumbers)
+        ensures { self.new ≡ slot_changed self.old serial (present_changed (with_numbers numbers)) }
+    {
+        if let Some(key) = self.keys.get(serial) {
+            set_numbers_at(&mut self.ports, *key, numbers);
+        }
+    }
+
+    /// Puts a message at the end of a port's queue, if it lives. Where memory is wanted nothing changed.
+    pub(crate) fn push(&mut self, serial: u128, message: Message) -> Result<(), AllocError>
+        ensures ok { OnOk result (self.new ≡ slot_changed self.old serial (present_changed (with_message message))) }
+        ensures room { OnOk result (IfSome (option_and_then current_of (map.get self.old serial)) (λ port. length port.messages < 2 ^ 32 - 1)) }
+        ensures err { OnErr result (self.new ≡ self.old) }
+    {
+        match self.keys.get(serial) {
+            Some(key) => push_at(&mut self.ports, *key, message),
+            None => Ok(()),
+        }
+    }
+
+    /// Takes the oldest message out of a port's queue, if it lives and has one.
+    pub(crate) fn take(&mut self, serial: u128)
+        ensures { self.new ≡ slot_changed self.old serial (present_changed without_first) }
+    {
+        if let Some(key) = self.keys.get(serial) {
+            take_at(&mut self.ports, *key);
+        }
+    }
+
+    /// A port dies.
+    pub(crate) fn bury(&mut self, serial: u128)
+        ensures { self.new ≡ slot_changed self.old serial buried }
+    {
+        if let Some(key) = self.keys.get(serial) {
+            bury_at(&mut self.ports, *key);
+        }
+    }
+
+    /// Keeps the changes of a port.
+    pub(crate) fn keep(&mut self, serial: u128)
+        ensures { self.new ≡ slot_changed self.old serial kept_slot }
+    {
+        if let Some(key) = self.keys.get(serial) {
+            keep_at(&mut self.ports, *key);
+        }
+    }
+
+    /// Gives the changes of a port up.
+    pub(crate) fn give_up(&mut self, serial: u128)
+        ensures { self.new ≡ slot_changed self.old serial given_up_slot }
+    {
+        if let Some(key) = self.keys.get(serial) {
+            give_up_at(&mut self.ports, *key);
+        }
+    }
+
+    /// The same ports again.
+    pub(crate) fn copy(&self) -> Result<PortSlots, AllocError>
+        ensures { IfOk result (λ copy. copy ≡ self.now) }
+    {
+        let mut copy = PortSlots::new(self.alloc);
+        let mut at: u128 = 0;
+        while let Some((serial, _)) = self.keys.next_from(at) {
+            self.copy_port(serial, &mut copy)?;
+            // No serial is the last number that there may be.
+            let Some(next) = serial.checked_add(1) else {
+                return Err(AllocError);
+            };
+            at = next;
+        }
+        Ok(copy)
+    }
+
+    /// A port comes into a copy, if it is there.
+    fn copy_port(&self, serial: u128, copy: &mut PortSlots) -> Result<(), AllocError>
+        ensures { OnOk result (MatchOption (map.get self.now serial) (copy.new ≡ copy.old) (λ port. copy.new ≡ map.insert copy.old serial port)) }
+    {
+        let Some(port) = self.get(serial) else {
+            return Ok(());
+        };
+        copy.insert(serial, port.copy()?)
+    }
+}
+
+/// A port comes under a serial that has none. Where memory is wanted nothing changed.
+fn add_to_both(
+    ports: &mut Slab<Port>,
+    keys: &mut NumberMap<usize>,
+    serial: u128,
+    port: Port,
+) -> Result<(), AllocError>
+    requires absent { map.get keys.old serial ≡ None }
+    requires keyed { AreKeyed ports.old keys.old }
+    ensures ok { OnOk result (by_serial ports.new keys.new ≡ map.insert (by_serial ports.old keys.old) serial port) }
+    ensures err { OnErr result (by_serial ports.new keys.new ≡ by_serial ports.old keys.old) }
+    ensures keyed { AreKeyed ports.new keys.new }
+{
+    ports.reserve(1)?;
+    keys.insert(serial, ports.vacant_key())?;
+    ports.insert_reserved(port);
+    Ok(())
+}
+
+fn remove_at(ports: &mut Slab<Port>, key: usize)
+    ensures { Updates ports.old ports.new key None }
+{
+    ports.try_remove(key);
+}
+
+fn replace_at(ports: &mut Slab<Port>, key: usize, new: Port)
+    ensures { IsChangedAt (λ (old : PortSlot). new) ports.old ports.new key }
+{
+    if let Some(port) = ports.get_mut(key) {
+        *port = new;
+    }
+}
+
+fn set_numbers_at(ports: &mut Slab<Port>, key: usize, numbers: PortNumbers)
+    ensures { IsChangedAt (present_changed (with_numbers numbers)) ports.old ports.new key }
+{
+    if let Some(port) = ports.get_mut(key) {
+        port.set_numbers(numbers);
+    }
+}
+
+fn push_at(ports: &mut Slab<Port>, key: usize, message: Message) -> Result<(), AllocError>
+    ensures ok { OnOk result (IsChangedAt (present_changed (with_message message)) ports.old ports.new key) }
+    ensures room { OnOk result (IfSome (option_and_then current_of (slab.get ports.old key)) (λ port. length port.messages < 2 ^ 32 - 1)) }
+    ensures err { OnErr result (IsChangedAt (λ (port : PortSlot). port) ports.old ports.new key) }
+{
+    let Some(port) = ports.get_mut(key) else {
+        return Ok(());
+    };
+    port.push_forced(message)?;
+    Ok(())
+}
+
+fn take_at(ports: &mut Slab<Port>, key: usize)
+    ensures { IsChangedAt (present_changed without_first) ports.old ports.new key }
+{
+    if let Some(port) = ports.get_mut(key) {
+        port.take();
+    }
+}
+
+fn bury_at(ports: &mut Slab<Port>, key: usize)
+    ensures { IsChangedAt buried ports.old ports.new key }
+{
+    if let Some(port) = ports.get_mut(key) {
+        port.bury();
+    }
+}
+
+fn keep_at(ports: &mut Slab<Port>, key: usize)
+    ensures { IsChangedAt kept_slot ports.old ports.new key }
+{
+    if let Some(port) = ports.get_mut(key) {
+        port.keep();
+    }
+}
+
+fn give_up_at(ports: &mut Slab<Port>, key: usize)
+    ensures { IsChangedAt given_up_slot ports.old ports.new key }
+{
+    if let Some(port) = ports.get_mut(key) {
+        port.give_up();
+    }
+}

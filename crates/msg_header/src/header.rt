@@ -1,0 +1,92 @@
+ghost use Rattle.std.specs.Prelude.{◌≡◌, ◌<◌, ◌^◌, ◌++◌, ◌+◌, length, IfOk, IfErr, OnOk, OnErr};
+ghost use Rattle.std.specs.Vec.{vec_len, vec_capacity};
+ghost use Rattle.ipc_model.specs.messages.Messages.{IsMessage, body_of, header_length};
+ghost use Rattle.msg_header.specs.Headers.{parts_by, header_bits, header_text};
+
+use byteorder::{ByteOrder, LittleEndian};
+use codes::{HEADER_LENGTH, KernReturn};
+use std::alloc::AllocError;
+
+/// MACH_MSGH_BITS_COMPLEX: the body has items that hold ports.
+const COMPLEX_BIT: u32 = 0x8000_0000;
+
+/// What a message's header says (`mach_msg_header_t`).
+#[derive(Clone, Copy, Debug, PartialEq, Eq)]
+pub struct Header {
+    /// How many bytes the whole message has, header and body.
+    pub size: usize,
+    /// MACH_MSGH_BITS_REMOTE: how the right to the destination is handed over.
+    pub remote_disposition: u8,
+    /// MACH_MSGH_BITS_LOCAL: how the reply right is handed over.
+    pub local_disposition: u8,
+    /// MACH_MSGH_BITS_COMPLEX: whether the body holds ports.
+    pub complex: bool,
+    /// `msgh_remote_port`: the name of the destination.
+    pub remote: u32,
+    /// `msgh_local_port`: the name of the reply right.
+    pub local: u32,
+    /// `msgh_id`: the sender's number for the message.
+    pub id: u32,
+}
+
+/// The header that a message's bytes begin with. Its size is the count of the bytes: the words of size and sequence
+/// number that stand in them are ignored, and so are the bits of other meaning.
+///
+/// `SendMsgTooSmall`: they are fewer than 24. No memory is taken.
+pub fn parse(bytes: &[u8]) -> Result<Header, KernReturn>
+    ensures found { IfOk result (λ header. IsMessage bytes.now (parts_by header (body_of bytes.now))) }
+    ensures refused { IfErr result (λ code. code ≡ KernReturn.SendMsgTooSmall) }
+    ensures short { OnErr result (length bytes.now < header_length) }
+{
+    if bytes.len() < HEADER_LENGTH {
+        return Err(KernReturn::SendMsgTooSmall);
+    }
+    let bits = LittleEndian::read_u32(bytes);
+    Ok(Header {
+        size: bytes.len(),
+        remote_disposition: (bits % 0x100) as u8,
+        local_disposition: (bits / 0x100 % 0x100) as u8,
+        complex: bits / COMPLEX_BIT % 2 == 1,
+        remote: LittleEndian::read_u32(&bytes[8..]),
+        local: LittleEndian::read_u32(&bytes[12..]),
+        id: LittleEndian::read_u32(&bytes[20..]),
+    })
+}
+
+impl Header {
+    // The word of bits (`msgh_bits`).
+    fn bits(&self) -> u32
+        ensures { result ≡ header_bits self.now }
+    {
+        let dispositions = u32::from(self.remote_disposition)
+            + u32::from(self.local_disposition) * 0x100;
+        if self.complex {
+            dispositions + COMPLEX_BIT
+        } else {
+            dispositions
+        }
+    }
+
+    #[tactic(auto, unfolding(crate::specs::Headers::header_text))]
+    /// Adds the header's 24 bytes, with this sequence number (`msgh_seqno`). The size fits four bytes.
+    ///
+    /// Where memory is wanted nothing changed. None is taken where there is room for 24 bytes.
+    pub fn write_into(&self, sequence_number: u32, out: &mut Vec<u8>) -> Result<(), AllocError>
+        requires { self.now.size < 2 ^ 32 }
+        ensures ok { OnOk result (out.new.items ≡ out.old.items ++ header_text self.now sequence_number) }
+        ensures err { OnErr result (out.new.items ≡ out.old.items) }
+        ensures full { OnErr result (vec_capacity out.old < vec_len out.old + header_length) }
+    {
+        let words = [
+            self.bits(),
+            self.size as u32,
+            self.remote,
+            self.local,
+            sequence_number,
+            self.id,
+        ];
+        let mut text = [0; HEADER_LENGTH];
+        LittleEndian::write_u32_into(&words, &mut text);
+        out.extend_from_slice(&text)
+    }
+}

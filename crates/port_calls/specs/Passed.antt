@@ -1,0 +1,2 @@
+-- What the libraries above say of the state, passed on.
+pub use Rattle.rights.specs.Passed.{Running}

@@ -1,0 +1,9 @@
+use Rattle.std.proofs.Common.{◌≡◌, ◌++◌, drop, map, flat_map}
+use Rattle.ipc_model.specs.messages.Items.{names_of_item}
+use Rattle.type_desc.specs.Values.{item_value}
+use Rattle.receiving.proofs.shown.add_names_in_items.Given as goal
+
+-- what was added, with what is left from here, is what is to be added
+abbrev pub invariant-loop-item : goal.invariant-loop-item
+invariant-loop-item l =
+    l.names.items ++ flat_map names_of_item (map item_value (drop l.item-index l.items)) ≡ l.fn.names.items ++ flat_map names_of_item (map item_value l.items)

@@ -1,0 +1,28 @@
+-- What a receipt's reply shows of the choice that was made: the port, and the names that the message's rights got.
+use Rattle.std.specs.Prelude.{ℕ, List, []}
+use Rattle.codes.specs.declared.kern_return.KernReturn.{KernReturn}
+use Rattle.codes.specs.declared.kern_return.KernReturn.TheVariants.{RcvHeaderErrorSpace}
+use Rattle.ipc_model.specs.declared.call.Reply.{Reply}
+use Rattle.ipc_model.specs.declared.call.Reply.TheVariants as reply
+use Rattle.ipc_model.specs.messages.Receiving.{Receipt}
+use Rattle.receiving.specs.declared.asked.Asked.{Asked}
+use Rattle.receiving.specs.declared.asked.Preference.{Preference}
+use Rattle.receiving.specs.declared.asked.Preference.TheVariants as preference
+
+-- what is asked for, in the words of the machine
+abbrev pub receipt_of : Asked → Receipt
+receipt_of asked = record { limit = asked.limit; large = asked.large; name = asked.name; waited = asked.waited }
+
+-- The reply names the port, except where the space lacked names.
+abbrev pub preferred_by_code : KernReturn → ℕ → Preference
+preferred_by_code RcvHeaderErrorSpace member = preference.Lacking
+preferred_by_code _ member = preference.Member member
+
+abbrev pub preferred_by : Reply → Preference
+preferred_by (reply.Message code size member message) = preferred_by_code code member
+preferred_by _ = preference.Least
+
+-- the bytes of the message that was received
+abbrev pub text_in : Reply → List ℕ
+text_in (reply.Message code size member message) = message
+text_in _ = []

@@ -1,0 +1,74 @@
+-- From which port a receipt takes its message.
+use Rattle.std.specs.Prelude.{◌≡◌, ℕ, Bool, true, false, ◌==◌, nat_lt, Contains, List, [], ◌∷◌, Option, None, Some, is_some, if◌then◌else◌}
+use Rattle.std.specs.FinMap as finmap
+use Rattle.codes.specs.declared.kern_return.KernReturn.{KernReturn}
+use Rattle.codes.specs.declared.kern_return.KernReturn.TheVariants.{RcvTimedOut, RcvPortChanged, RcvInSet}
+use Rattle.ipc_model.specs.declared.entry.Entry.{Entry}
+use Rattle.ipc_model.specs.declared.entry.Entry.TheVariants.{Port, SendOnce, Set, Dead}
+use Rattle.ipc_model.specs.declared.message.Message.{Message}
+use Rattle.ipc_model.specs.messages.Receiving.{Receipt, HoldsReceiveRight, lacks_names, message_size, oldest, receive_refusal, source_names, sources}
+use Rattle.ipc_model.specs.state.State.{State, Names}
+use Rattle.live_ports.specs.Changed.{messages_at}
+use Rattle.receiving.specs.declared.asked.Preference.{Preference}
+use Rattle.receiving.specs.declared.asked.Preference.TheVariants as preference
+use Rattle.receiving.specs.declared.source.Giver.{Giver}
+use Rattle.receiving.specs.declared.source.Giver.TheVariants as giver
+use Rattle.receiving.specs.declared.source.Source.{Source}
+
+-- what a name gives messages by
+abbrev pub port_giver : ℕ → Bool → Giver
+port_giver port receive = if receive then giver.Port port else giver.Nothing
+
+abbrev pub giver_of : Option Entry → Giver
+giver_of None = giver.Nothing
+giver_of (Some (Port rights)) = port_giver rights.port rights.receive
+giver_of (Some (SendOnce port target)) = giver.Nothing
+giver_of (Some Set) = giver.Set
+giver_of (Some (Dead references)) = giver.Nothing
+
+-- whether a port has a message, and whether it is in a set
+abbrev pub has_message : State → ℕ → Bool
+has_message state serial = is_some (oldest (messages_at state.ports serial))
+
+abbrev pub is_in_set : State → ℕ → Bool
+is_in_set state serial = elim (finmap.get state.ports serial) as (λ _. Bool) [ None ↦ false | Some port ↦ is_some port.set ]
+
+-- the code that a receipt from this port is refused with
+abbrev pub port_refusal : State → Receipt → ℕ → Option KernReturn
+port_refusal state receipt serial =
+    if is_in_set state serial then Some (if receipt.waited then RcvPortChanged else RcvInSet)
+    else if has_message state serial then None
+    else Some RcvTimedOut
+
+-- a message that isn't too large, but for whose rights the space lacks names
+abbrev pub oldest_lacks : Receipt → Names → List Message → Bool
+oldest_lacks receipt names [] = false
+oldest_lacks receipt names (message ∷ later) = if nat_lt receipt.limit (message_size message) then false else lacks_names names message
+
+-- a member of a set is preferred, and has a message
+abbrev pub is_preferred : State → Names → Receipt → Preference → ℕ → ℕ → Bool
+is_preferred state names receipt preference.Least member serial = true
+is_preferred state names receipt (preference.Member name) member serial = member == name
+is_preferred state names receipt preference.Lacking member serial = oldest_lacks receipt names (messages_at state.ports serial)
+
+abbrev pub gives : State → Names → Receipt → Preference → ℕ × ℕ → Bool
+gives state names receipt preference member = if has_message state member.1 then is_preferred state names receipt preference member.0 member.1 else false
+
+abbrev pub source_value : Source → ℕ × ℕ
+source_value source = (source.member, source.port)
+
+abbrev pub source_list : State → Names → Receipt → List ℕ
+source_list state names receipt = source_names (sources state names receipt.name (finmap.get names receipt.name))
+
+-- A receipt takes its message from this port, whose receive right stands under this name.
+pub record IsSource (state : State) (names : Names) (receipt : Receipt) (member serial : ℕ) : Type 0 where
+  pub passes : receive_refusal state names receipt ≡ None
+  pub among : Contains (source_list state names receipt) member
+  pub holds : HoldsReceiveRight names member serial
+  pub has : has_message state serial ≡ true
+
+-- Where a port that might be the source is preferred, it is.
+abbrev pub IsPreferred : State → Names → Receipt → Preference → ℕ → ℕ → Type 0
+IsPreferred state names receipt preference member serial =
+    (other : ℕ) (port : ℕ) → Contains (source_list state names receipt) other → HoldsReceiveRight names other port → has_message state port ≡ true
+    → is_preferred state names receipt preference other port ≡ true → is_preferred state names receipt preference member serial ≡ true

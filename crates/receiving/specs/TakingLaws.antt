@@ -1,0 +1,215 @@
+-- A port's oldest message, and what taking it out leaves.
+use Rattle.std.specs.Prelude.{IsSome, ◌≡◌, ℕ, ◌+◌, ◌*◌, ◌<◌, ◌^◌, Bool, true, false, nat_lt, All, List, [], ◌∷◌, ◌++◌, length, take, drop, flat_map, Option, None, Some, option_map, MatchBool, refl}
+use Rattle.std.proofs.Common.{sym, ◌∙◌, ap, subst, arith, append-nil}
+use Rattle.std.specs.FinMap as finmap
+use Rattle.codes.specs.declared.kern_return.KernReturn.TheVariants.{Success, RcvHeaderErrorSpace}
+use Rattle.ipc_model.specs.declared.message.CarriedRight.{CarriedRight}
+use Rattle.ipc_model.specs.declared.call.Reply.{Reply}
+use Rattle.ipc_model.specs.declared.call.Reply.TheVariants as reply
+use Rattle.ipc_model.specs.declared.message.Message.{Message}
+use Rattle.ipc_model.specs.declared.port.PortState.{PortState}
+use Rattle.ipc_model.specs.effects.Effects.{Effect, releases_of}
+use Rattle.ipc_model.specs.messages.Messages.{complex_bit, header_length, message_text}
+use Rattle.ipc_model.specs.messages.Receiving.{Receipt, Received, TakesOut, TooLarge, arriving, body_names, destination_consumed, lacks_names, message_size, received_body, received_text, reply_kind_number, reply_name, without_message, without_oldest}
+use Rattle.ipc_model.specs.rights.CopyOut.{Arrives}
+use Rattle.ipc_model.specs.rights.Dispositions.{number_of_kind}
+use Rattle.ipc_model.specs.calls.PortCalls.{names_in}
+use Rattle.ipc_model.specs.state.Lawful.{Lawful, LawfulMessage, LawfulNames}
+use Rattle.ipc_model.specs.state.State.{Names, State, next_count, with_names}
+use Rattle.ipc_laws.specs.ListLaws.{same_head}
+use Rattle.ipc_laws.specs.ReceiptLaws.{as_many_names}
+use Rattle.ipc_laws.specs.RecordedReceipts.{body_long, names_left}
+use Rattle.live_ports.specs.Changed.{messages_at, messages_in, numbers_of}
+use Rattle.live_ports.specs.Seen.{lives_in, seen_message, seen_right}
+use Rattle.live_ports.specs.declared.port.PortNumbers.{PortNumbers}
+use Rattle.msg_header.specs.declared.header.Header.{Header}
+use Rattle.msg_header.specs.HeaderLaws.{header_and_body}
+use Rattle.msg_header.specs.Headers.{header_bits, header_text}
+use Rattle.receiving.specs.ShownNames.{arrived_small, lawful_fit, names_shown, shown_are_given}
+use Rattle.receiving.specs.Shows.{text_in}
+use Rattle.receiving.specs.Taking.{OfOldest}
+
+-- the messages of a port that lives
+pub messages_of_port : (state : State) (serial : ℕ) (port : PortState) → finmap.get state.ports serial ≡ Some port → messages_at state.ports serial ≡ port.messages
+messages_of_port state serial port live = ap messages_in live
+
+-- the oldest message is what is seen of the one that was sent
+pub oldest_seen : (state : State) (serial : ℕ) (port : PortState) (message : Message) (later : List Message) (lives : ℕ → Bool) (sent : Message) → finmap.get state.ports serial ≡ Some port → port.messages ≡ message ∷ later
+    → messages_at state.ports serial ≡ seen_message lives sent ∷ drop 1 (messages_at state.ports serial) → message ≡ seen_message lives sent
+oldest_seen state serial port message later lives sent live first is =
+    same_head message (seen_message lives sent) later (drop 1 (messages_at state.ports serial)) (sym first ∙ sym (messages_of_port state serial port live) ∙ is)
+
+pub none_oldest : (state : State) (serial : ℕ) (port : PortState) (message : Message) (later : List Message) (P : Type 0) → finmap.get state.ports serial ≡ Some port → port.messages ≡ message ∷ later → messages_at state.ports serial ≡ [] → P
+none_oldest state serial port message later P live first none = absurd (cc (sym first ∙ sym (messages_of_port state serial port live) ∙ none))
+
+first_less : (first : Message) (later : List Message) → 0 < length (first ∷ later)
+first_less first later = omega arith
+
+pub oldest_lawful : (state : State) (serial : ℕ) (port : PortState) (message : Message) (later : List Message) → Lawful state → finmap.get state.ports serial ≡ Some port → port.messages ≡ message ∷ later → LawfulMessage message
+oldest_lawful state serial port message later lawful live first =
+    (subst (λ (l : List Message). All LawfulMessage l) first (lawful.ports serial port live).2.messages) 0 message (first_less message later)
+
+-- a message is received in the same bytes as it was sent and as it is seen
+pub text_seen : (lives : ℕ → Bool) (sent : Message) (member seqno : ℕ) (given : List ℕ) → received_text (seen_message lives sent) member seqno given ≡ received_text sent member seqno given
+text_seen lives sent member seqno given = by_reply sent.reply
+  where
+    by_reply : (reply : Option CarriedRight)
+        → message_text (reply_kind_number (option_map (seen_right lives) reply) + number_of_kind sent.destination * 2 ^ 8 + complex_bit sent.complex) (reply_name (option_map (seen_right lives) reply) given) member seqno sent.id (received_body sent (body_names (option_map (seen_right lives) reply) given))
+        ≡ message_text (reply_kind_number reply + number_of_kind sent.destination * 2 ^ 8 + complex_bit sent.complex) (reply_name reply given) member seqno sent.id (received_body sent (body_names reply given))
+    by_reply None = refl
+    by_reply (Some right) = refl
+
+pub body_names_seen : (lives : ℕ → Bool) (reply : Option CarriedRight) (given : List ℕ) → body_names (option_map (seen_right lives) reply) given ≡ body_names reply given
+body_names_seen lives None given = refl
+body_names_seen lives (Some right) given = refl
+
+-- names and queues are changed in either order
+pub names_then_oldest : (state : State) (space serial : ℕ) (names : Names) → without_oldest (with_names state space names) serial ≡ with_names (without_oldest state serial) space names
+names_then_oldest state space serial names = elim (finmap.get state.ports serial) as (λ (o : Option PortState).
+    (elim o as (λ _. State) [ None ↦ with_names state space names | Some port ↦ record (with_names state space names) { ports = finmap.insert state.ports serial (record port { messages = drop 1 port.messages; sequence_number = (without port) }) } ])
+    ≡ with_names (elim o as (λ _. State) [ None ↦ state | Some port ↦ record state { ports = finmap.insert state.ports serial (record port { messages = drop 1 port.messages; sequence_number = (without port) }) } ]) space names) [
+      | None ↦ refl
+      | Some port ↦ refl
+    ]
+  where
+    without : PortState → ℕ
+    without port = next_count port.sequence_number
+
+-- the releases of the oldest message alone
+pub releases_first : (state : State) (serial : ℕ) (port : PortState) (message : Message) (later : List Message) → finmap.get state.ports serial ≡ Some port → port.messages ≡ message ∷ later
+    → flat_map releases_of (take 1 (messages_at state.ports serial)) ≡ releases_of message
+releases_first state serial port message later live first =
+    ap (λ (l : List Message). flat_map releases_of (take 1 l)) (messages_of_port state serial port live ∙ first) ∙ append-nil (releases_of message)
+
+-- what comes of the message
+pub was_large : (old : State) (space : ℕ) (names : Names) (receipt : Receipt) (member serial : ℕ) (port : PortState) (message : Message) (answer : Reply) (new : State) (effects : List Effect)
+    → nat_lt receipt.limit (message_size message) ≡ true → TooLarge old member serial message receipt.large answer new effects → TakesOut old space names receipt member serial port message answer new effects
+was_large old space names receipt member serial port message answer new effects large is =
+    subst (λ (b : Bool). MatchBool b (TooLarge old member serial message receipt.large answer new effects)
+    (MatchBool (lacks_names names message) ((answer ≡ without_message RcvHeaderErrorSpace 0 0) × (new ≡ old) × (effects ≡ [])) (Received old space names member serial port message answer new effects))) (sym large) is
+
+pub was_lacking : (old : State) (space : ℕ) (names : Names) (receipt : Receipt) (member serial : ℕ) (port : PortState) (message : Message) (answer : Reply) (new : State) (effects : List Effect)
+    → nat_lt receipt.limit (message_size message) ≡ false → lacks_names names message ≡ true → answer ≡ without_message RcvHeaderErrorSpace 0 0 → new ≡ old → effects ≡ []
+    → TakesOut old space names receipt member serial port message answer new effects
+was_lacking old space names receipt member serial port message answer new effects small lacks is same none =
+    subst (λ (b : Bool). MatchBool b (TooLarge old member serial message receipt.large answer new effects)
+    (MatchBool (lacks_names names message) ((answer ≡ without_message RcvHeaderErrorSpace 0 0) × (new ≡ old) × (effects ≡ [])) (Received old space names member serial port message answer new effects))) (sym small)
+    (subst (λ (b : Bool). MatchBool b ((answer ≡ without_message RcvHeaderErrorSpace 0 0) × (new ≡ old) × (effects ≡ [])) (Received old space names member serial port message answer new effects)) (sym lacks) (is, same, none))
+
+pub was_received : (old : State) (space : ℕ) (names : Names) (receipt : Receipt) (member serial : ℕ) (port : PortState) (message : Message) (answer : Reply) (new : State) (effects : List Effect)
+    → nat_lt receipt.limit (message_size message) ≡ false → lacks_names names message ≡ false → Received old space names member serial port message answer new effects
+    → TakesOut old space names receipt member serial port message answer new effects
+was_received old space names receipt member serial port message answer new effects small fits is =
+    subst (λ (b : Bool). MatchBool b (TooLarge old member serial message receipt.large answer new effects)
+    (MatchBool (lacks_names names message) ((answer ≡ without_message RcvHeaderErrorSpace 0 0) × (new ≡ old) × (effects ≡ [])) (Received old space names member serial port message answer new effects))) (sym small)
+    (subst (λ (b : Bool). MatchBool b ((answer ≡ without_message RcvHeaderErrorSpace 0 0) × (new ≡ old) × (effects ≡ [])) (Received old space names member serial port message answer new effects)) (sym fits) is)
+
+-- the port of what is known of its numbers, and its oldest message as it is seen
+pub record Known (state : State) (serial : ℕ) (sent : Message) : Type 0 where
+  pub port : PortState
+  pub later : List Message
+  pub live : finmap.get state.ports serial ≡ Some port
+  pub first : port.messages ≡ seen_message (lives_in state.ports) sent ∷ later
+
+numbered : (o : Option PortState) (numbers : PortNumbers) → Some numbers ≡ option_map numbers_of o → (port : PortState) × (o ≡ Some port)
+numbered None numbers is = absurd (cc is)
+numbered (Some port) numbers is = (port, refl)
+
+pub known : (state : State) (serial : ℕ) (sent : Message) (numbers : PortNumbers)
+    → messages_at state.ports serial ≡ seen_message (lives_in state.ports) sent ∷ drop 1 (messages_at state.ports serial) → Some numbers ≡ option_map numbers_of (finmap.get state.ports serial) → Known state serial sent
+known state serial sent numbers oldest is =
+    let port = numbered (finmap.get state.ports serial) numbers is in
+    record {
+      port = port.0;
+      later = drop 1 (messages_at state.ports serial);
+      live = port.1;
+      first = sym (messages_of_port state serial port.0 port.1) ∙ oldest;
+    }
+
+pub oldest_small : (state : State) (serial : ℕ) (sent : Message) → Known state serial sent → OfOldest state serial (λ _ message. LawfulMessage message) → message_size sent < 2 ^ 32
+oldest_small state serial sent is lawful = omega (arith, (lawful is.port (seen_message (lives_in state.ports) sent) is.later is.live is.first).small)
+
+pub oldest_long : (state : State) (serial : ℕ) (sent : Message) (given : List ℕ) → Known state serial sent → OfOldest state serial (λ _ message. LawfulMessage message)
+    → OfOldest state serial (λ _ message. length given ≡ length (arriving message)) → length (received_body sent (body_names sent.reply given)) ≡ length sent.body
+oldest_long state serial sent given is lawful many =
+    let seen : Message = seen_message (lives_in state.ports) sent in
+    let long = body_long seen (body_names seen.reply given) (lawful is.port seen is.later is.live is.first) (names_left seen.reply seen.rights given (many is.port seen is.later is.live is.first)) in
+    ap (λ (names : List ℕ). length (received_body sent names)) (sym (body_names_seen (lives_in state.ports) sent.reply given)) ∙ long
+
+-- a header with the body behind it is the message as received
+pub text_of_header : (message : Message) (member seqno : ℕ) (given : List ℕ) (header : Header) (first mid last : List ℕ) → length (received_body message (body_names message.reply given)) ≡ length message.body
+    → header ≡ record {
+      size = message_size message;
+      remote_disposition = reply_kind_number message.reply;
+      local_disposition = number_of_kind message.destination;
+      complex = message.complex;
+      remote = reply_name message.reply given;
+      local = member;
+      id = message.id;
+    } → first ≡ [] → mid ≡ first ++ header_text header seqno → last ≡ mid ++ received_body message (body_names message.reply given) → last ≡ received_text message member seqno given
+text_of_header message member seqno given header first mid last long is none header_is last_is =
+    let body : List ℕ = received_body message (body_names message.reply given) in
+    let size : header.size ≡ header_length + length body = ap (λ (h : Header). h.size) is ∙ ap (λ (n : ℕ). header_length + n) (sym long) in
+    last_is ∙ ap (λ (l : List ℕ). l ++ body) (header_is ∙ ap (λ (l : List ℕ). l ++ header_text header seqno) none) ∙ header_and_body header seqno body size
+    ∙ ap (λ (h : Header). message_text (header_bits h) h.remote h.local seqno h.id body) is
+
+-- a message that was taken out whole
+pub whole_received : (old : State) (space : ℕ) (names : Names) (member serial : ℕ) (port : PortState) (message : Message) (answer : Reply) (mid new : State) (effects before : List Effect) (rights : List CarriedRight) (given text : List ℕ) (after : Names) (size : ℕ)
+    → rights ≡ arriving message → Arrives names rights given after → size ≡ message_size message → text ≡ received_text message member port.sequence_number given → answer ≡ reply.Message Success size member text
+    → mid ≡ with_names old space after → new ≡ without_oldest mid serial → before ≡ [] → effects ≡ before ++ destination_consumed message.destination serial
+    → Received old space names member serial port message answer new effects
+whole_received old space names member serial port message answer mid new effects before rights given text after size are arrives size_is text_is is named taken none consumed = (
+  given,
+  after,
+  subst (λ (l : List CarriedRight). Arrives names l given after) are arrives,
+  is ∙ ap (λ (n : ℕ). reply.Message Success n member text) size_is ∙ ap (reply.Message Success (message_size message) member) text_is,
+  taken ∙ ap (λ (s : State). without_oldest s serial) named ∙ names_then_oldest old space serial after,
+  consumed ∙ ap (λ (l : List Effect). l ++ destination_consumed message.destination serial) none,
+)
+
+-- What a reply shows tells it.
+
+pub large_told : (old : State) (space : ℕ) (names : Names) (receipt : Receipt) (member serial : ℕ) (port : PortState) (message : Message) (answer : Reply) (new : State) (effects : List Effect) (other : Reply) (last : State) (others : List Effect)
+    → nat_lt receipt.limit (message_size message) ≡ true → TooLarge old member serial message receipt.large answer new effects → TakesOut old space names receipt member serial port message other last others → answer ≡ other
+large_told old space names receipt member serial port message answer new effects other last others large is may =
+    let too : TooLarge old member serial message receipt.large other last others =
+    subst (λ (b : Bool). MatchBool b (TooLarge old member serial message receipt.large other last others)
+    (MatchBool (lacks_names names message) ((other ≡ without_message RcvHeaderErrorSpace 0 0) × (last ≡ old) × (others ≡ [])) (Received old space names member serial port message other last others))) large may in
+    is.0 ∙ sym too.0
+
+small_takes : (old : State) (space : ℕ) (names : Names) (receipt : Receipt) (member serial : ℕ) (port : PortState) (message : Message) (other : Reply) (last : State) (others : List Effect)
+    → nat_lt receipt.limit (message_size message) ≡ false → TakesOut old space names receipt member serial port message other last others
+    → MatchBool (lacks_names names message) ((other ≡ without_message RcvHeaderErrorSpace 0 0) × (last ≡ old) × (others ≡ [])) (Received old space names member serial port message other last others)
+small_takes old space names receipt member serial port message other last others small may =
+    subst (λ (b : Bool). MatchBool b (TooLarge old member serial message receipt.large other last others)
+    (MatchBool (lacks_names names message) ((other ≡ without_message RcvHeaderErrorSpace 0 0) × (last ≡ old) × (others ≡ [])) (Received old space names member serial port message other last others))) small may
+
+pub lacking_told : (old : State) (space : ℕ) (names : Names) (receipt : Receipt) (member serial : ℕ) (port : PortState) (message : Message) (answer : Reply) (other : Reply) (last : State) (others : List Effect)
+    → nat_lt receipt.limit (message_size message) ≡ false → lacks_names names message ≡ true → answer ≡ without_message RcvHeaderErrorSpace 0 0 → TakesOut old space names receipt member serial port message other last others → answer ≡ other
+lacking_told old space names receipt member serial port message answer other last others small lacks is may =
+    let too : (other ≡ without_message RcvHeaderErrorSpace 0 0) × (last ≡ old) × (others ≡ []) =
+    subst (λ (b : Bool). MatchBool b ((other ≡ without_message RcvHeaderErrorSpace 0 0) × (last ≡ old) × (others ≡ [])) (Received old space names member serial port message other last others)) lacks
+    (small_takes old space names receipt member serial port message other last others small may) in
+    is ∙ sym too.0
+
+pub whole_told : (old : State) (space : ℕ) (names : Names) (receipt : Receipt) (member serial : ℕ) (port : PortState) (message : Message) (answer : Reply) (wanted : List ℕ) (other : Reply) (last : State) (others : List Effect)
+    → nat_lt receipt.limit (message_size message) ≡ false → lacks_names names message ≡ false → LawfulMessage message → LawfulNames names
+    → ((after : Names) → Arrives names (arriving message) wanted after → answer ≡ reply.Message Success (message_size message) member (received_text message member port.sequence_number wanted))
+    → wanted ≡ names_shown (text_in other) → TakesOut old space names receipt member serial port message other last others → answer ≡ other
+whole_told old space names receipt member serial port message answer wanted other last others small fits lawful named told shows may =
+    let whole : Received old space names member serial port message other last others =
+    subst (λ (b : Bool). MatchBool b ((other ≡ without_message RcvHeaderErrorSpace 0 0) × (last ≡ old) × (others ≡ [])) (Received old space names member serial port message other last others)) fits
+    (small_takes old space names receipt member serial port message other last others small may) in
+    let given : List ℕ = whole.0 in
+    let many = as_many_names names (arriving message) given whole.1 whole.2 in
+    let same : wanted ≡ given =
+    shows ∙ ap (λ (r : Reply). names_shown (text_in r)) whole.3 ∙ shown_are_given message member port.sequence_number given lawful many (arrived_small names (arriving message) given whole.1 (lawful_fit names named) whole.2) in
+    told whole.1 (subst (λ (l : List ℕ). Arrives names (arriving message) l whole.1) (sym same) whole.2)
+    ∙ ap (λ (l : List ℕ). reply.Message Success (message_size message) member (received_text message member port.sequence_number l)) same ∙ sym whole.3
+
+pub names_lawful : (state : State) (space : ℕ) → Lawful state → IsSome (finmap.get state.spaces space) → LawfulNames (names_in state space)
+names_lawful state space lawful there = by_case (finmap.get state.spaces space) refl there
+  where
+    by_case : (o : Option Names) → finmap.get state.spaces space ≡ o → IsSome o → LawfulNames (elim o as (λ _. Names) [ None ↦ finmap.empty | Some names ↦ names ])
+    by_case None at is = absurd (cc is)
+    by_case (Some names) at is = (lawful.spaces space names at).2

@@ -1,0 +1,14 @@
+//! Receiving a message (Mach 3 Kernel Interfaces, `mach_msg`, `MACH_RCV_MSG`), as it acts on the running state. The order
+//! of the tests is this server's (docs/FORMATS.md).
+#![tactic(auto)]
+
+mod asked;
+mod looking;
+mod receiving;
+mod shown;
+mod source;
+mod text;
+
+pub use asked::{Asked, Preference};
+pub use receiving::receive;
+pub use shown::names_shown;

@@ -1,0 +1,246 @@
+ghost use Rattle.std.specs.Prelude.{◌≡◌, ◌+◌, ◌≤◌, ◌<◌, ◌^◌, ◌++◌, ℕ, List, [], None, Some, IfOk, IfSome, IfNone, OnOk, IsSome, length};
+ghost use Rattle.std.specs.FinMap as map;
+ghost use Rattle.codes.specs.declared.limits.TheConstants.{MAX_NAMES};
+ghost use Rattle.ipc_model.specs.calls.PortCalls.{names_in};
+ghost use Rattle.ipc_model.specs.calls.Step.{ActsIn};
+ghost use Rattle.ipc_model.specs.declared.call.Call.TheVariants as call;
+ghost use Rattle.ipc_model.specs.declared.call.Reply as machine;
+ghost use Rattle.ipc_model.specs.declared.port.PortState.{PortState};
+ghost use Rattle.ipc_model.specs.effects.Effects as waiting;
+ghost use Rattle.ipc_model.specs.messages.Receiving.{Received, TakesOut, TooLarge, arriving, destination_consumed, message_size, received_text};
+ghost use Rattle.ipc_model.specs.rights.CopyOut.{Arrives, names_wanted};
+ghost use Rattle.ipc_model.specs.state.Lawful.{Lawful, LawfulMessage};
+ghost use Rattle.ipc_model.specs.state.State.{Names, State};
+ghost use Rattle.live_ports.specs.Changed.{messages_at};
+ghost use Rattle.receiving.specs.ShownNames.{names_shown};
+ghost use Rattle.receiving.specs.Shows.{preferred_by, receipt_of, text_in};
+ghost use Rattle.receiving.specs.Sources.{IsSource};
+ghost use Rattle.receiving.specs.Taking.{OfOldest};
+
+use crate::asked::{Asked, Preference};
+use crate::looking::{arriving, lacks_room, size_of};
+use crate::source::{Source, find_source};
+use crate::text::received_text;
+use codes::{KernReturn, MACH_PORT_NULL};
+use effects::{Effect, Effects};
+use ipc_model::{CarriedRight, Reply, RightKind, Sequence};
+use rights::{IpcState, arrive};
+use std::alloc::{AllocError, Global};
+
+/// What is to be known of a message before it is taken out.
+#[derive(Clone, Copy, Debug, PartialEq, Eq)]
+struct Outline {
+    size: u32,
+    destination: RightKind,
+}
+
+/// `mach_msg` with `MACH_RCV_MSG`: the oldest message of the port whose receive right a name holds, or of a member of a
+/// set, is taken out; its rights arrive in the caller's space, and what its destination sets off goes to the end of the
+/// effects. Of a set it is the message that is preferred, where one is, and else that of the member with the least name;
+/// rights arrive under these names where they may. The space is there, the state is one that the kernel keeps, and no
+/// effect waits.
+///
+/// The message has its port's sequence number, which then grows by one.
+///
+/// The reply's code: `RcvInvalidName` where the name holds neither a receive right nor a set (after a wait `RcvPortDied`),
+/// `RcvInSet` where the port is in a set (after a wait `RcvPortChanged`), `RcvTimedOut` where there is no message;
+/// `RcvTooLarge` where it is larger than the limit, and is destroyed unless the receipt asked for it to stay;
+/// `RcvHeaderErrorSpace` where the space lacks names for its rights. Where memory is wanted the changes are to be given up.
+pub fn receive(
+    alloc: Global,
+    state: &mut IpcState,
+    space: u32,
+    asked: Asked,
+    preference: Preference,
+    names: &[u32],
+    effects: &mut Effects,
+) -> Result<Reply, AllocError>
+    requires none { effects.old ≡ [] }
+    requires there { IsSome (map.get state.old.current.spaces space) }
+    requires lawful { Lawful state.old.current }
+    ensures acts { IfOk result (λ reply. ActsIn state.old.current space (names_in state.old.current space) (call.Receive asked.limit asked.large asked.name asked.waited) reply state.new.current effects.new) }
+    // Where the call may be answered by a reply that shows this, it is.
+    ensures shown { IfOk result (λ reply. (other : machine.Reply) → (last : State) → (others : List waiting.Effect) → preference ≡ preferred_by other → names.now ≡ names_shown (text_in other)
+        → ActsIn state.old.current space (names_in state.old.current space) (call.Receive asked.limit asked.large asked.name asked.waited) other last others → reply ≡ other) }
+    ensures before { state.new.before ≡ state.old.before }
+{
+    match find_source(alloc, state, space, asked, preference)? {
+        Err(code) => Ok(Reply::without_message(alloc, code, 0, MACH_PORT_NULL)),
+        Ok(source) => {
+            let reply = take_out(alloc, state, space, asked, source, names, effects)?;
+            Ok(reply)
+        }
+    }
+}
+
+/// Takes the oldest message of a port out.
+fn take_out(
+    alloc: Global,
+    state: &mut IpcState,
+    space: u32,
+    asked: Asked,
+    source: Source,
+    names: &[u32],
+    effects: &mut Effects,
+) -> Result<Reply, AllocError>
+    requires none { effects.old ≡ [] }
+    requires there { IsSome (map.get state.old.current.spaces space) }
+    requires lawful { Lawful state.old.current }
+    ensures acts { IfOk result (λ reply. OfOldest state.old.current source.port
+        (λ port message. TakesOut state.old.current space (names_in state.old.current space) (receipt_of asked) source.member source.port port message reply state.new.current effects.new)) }
+    ensures shown { IfOk result (λ reply. OfOldest state.old.current source.port (λ port message. (other : machine.Reply) → (last : State) → (others : List waiting.Effect) → names.now ≡ names_shown (text_in other)
+        → TakesOut state.old.current space (names_in state.old.current space) (receipt_of asked) source.member source.port port message other last others → reply ≡ other)) }
+    ensures before { state.new.before ≡ state.old.before }
+{
+    let Some(outline) = outline_of(state, source.port) else {
+        return Ok(without_message(alloc, KernReturn::RcvTimedOut));
+    };
+    if outline.size > asked.limit {
+        let reply = too_large(alloc, state, source, outline, asked.large, effects)?;
+        return Ok(reply);
+    }
+    let rights = oldest_rights(alloc, state, source.port)?;
+    if lacks_room(state, space, rights.as_slice()) {
+        return Ok(without_message(alloc, KernReturn::RcvHeaderErrorSpace));
+    }
+    let reply = take_whole(
+        alloc,
+        state,
+        space,
+        source,
+        outline,
+        rights.as_slice(),
+        names,
+        effects,
+    )?;
+    Ok(reply)
+}
+
+/// What is to be known of a port's oldest message, if it has one.
+fn outline_of(state: &IpcState, port: u64) -> Option<Outline>
+    requires lawful { Lawful state.now.current }
+    ensures none { IfNone result (messages_at state.now.current.ports port ≡ []) }
+    ensures some { IfSome result (λ outline. OfOldest state.now.current port (λ _ message. (outline.size ≡ message_size message) × (outline.destination ≡ message.destination))) }
+{
+    match state.oldest(port) {
+        Some(message) => Some(Outline {
+            size: size_of(message) as u32,
+            destination: message.destination,
+        }),
+        None => None,
+    }
+}
+
+/// The rights that arrive with a port's oldest message; none where it has no message.
+fn oldest_rights(
+    alloc: Global,
+    state: &IpcState,
+    port: u64,
+) -> Result<Vec<CarriedRight>, AllocError>
+    ensures { IfOk result (λ rights. OfOldest state.now.current port (λ _ message. rights.items ≡ arriving message)) }
+{
+    match state.oldest(port) {
+        Some(message) => arriving(alloc, state, message),
+        None => Ok(Vec::new(alloc)),
+    }
+}
+
+/// The answer to a receipt whose message is too large. It stays where the receipt asked for that; else it is destroyed,
+/// with its rights.
+fn too_large(
+    alloc: Global,
+    state: &mut IpcState,
+    source: Source,
+    outline: Outline,
+    large: bool,
+    effects: &mut Effects,
+) -> Result<Reply, AllocError>
+    requires none { effects.old ≡ [] }
+    ensures large { IfOk result (λ reply. OfOldest state.old.current source.port (λ _ message. outline.size ≡ message_size message → outline.destination ≡ message.destination
+        → TooLarge state.old.current source.member source.port message large reply state.new.current effects.new)) }
+    ensures before { state.new.before ≡ state.old.before }
+{
+    if !large {
+        consume(outline.destination, source.port, effects)?;
+        state.release_oldest(source.port, effects)?;
+        state.take_message(source.port)?;
+    }
+    Ok(Reply::without_message(alloc, KernReturn::RcvTooLarge, outline.size, source.member))
+}
+
+/// The destination right of a message that was taken out is consumed: a send right is released, a send-once right
+/// vanishes.
+fn consume(right: RightKind, port: u64, effects: &mut Effects) -> Result<(), AllocError>
+    ensures { OnOk result (effects.new ≡ effects.old ++ destination_consumed right port) }
+{
+    match right {
+        RightKind::Send => effects.push(Effect::Release { kind: right, port }),
+        RightKind::Receive | RightKind::SendOnce => Ok(()),
+    }
+}
+
+/// Takes a message out whole: its rights arrive, and its destination is consumed.
+fn take_whole(
+    alloc: Global,
+    state: &mut IpcState,
+    space: u32,
+    source: Source,
+    outline: Outline,
+    rights: &[CarriedRight],
+    names: &[u32],
+    effects: &mut Effects,
+) -> Result<Reply, AllocError>
+    requires none { effects.old ≡ [] }
+    requires there { IsSome (map.get state.old.current.spaces space) }
+    requires lawful { Lawful state.old.current }
+    requires rights { OfOldest state.old.current source.port (λ _ message. rights.now ≡ arriving message) }
+    requires outline { OfOldest state.old.current source.port (λ _ message. (outline.size ≡ message_size message) × (outline.destination ≡ message.destination)) }
+    requires room { map.len (names_in state.old.current space) + names_wanted (names_in state.old.current space) [] rights.now ≤ MAX_NAMES }
+    ensures received { IfOk result (λ reply. OfOldest state.old.current source.port
+        (λ port message. Received state.old.current space (names_in state.old.current space) source.member source.port port message reply state.new.current effects.new)) }
+    ensures wanted { IfOk result (λ reply. OfOldest state.old.current source.port (λ port message. (last : Names) → Arrives (names_in state.old.current space) (arriving message) names.now last
+        → reply ≡ Reply.Message KernReturn.Success (message_size message) source.member (received_text message source.member port.sequence_number names.now))) }
+    ensures before { state.new.before ≡ state.old.before }
+{
+    let mut given = Vec::with_capacity(alloc, rights.len())?;
+    arrive(state, space, rights, names, &mut given)?;
+    let text = oldest_text(alloc, state, source, given.as_slice())?;
+    consume(outline.destination, source.port, effects)?;
+    state.take_message(source.port)?;
+    Ok(Reply::Message {
+        code: KernReturn::Success,
+        size: outline.size,
+        member: source.member,
+        message: Sequence::new(text),
+    })
+}
+
+/// The bytes of a port's oldest message as it is received, where its rights got these names; none where it has no message.
+fn oldest_text(
+    alloc: Global,
+    state: &IpcState,
+    source: Source,
+    given: &[u32],
+) -> Result<Vec<u8>, AllocError>
+    requires lawful { OfOldest state.now.current source.port (λ _ message. LawfulMessage message) }
+    requires given { OfOldest state.now.current source.port (λ _ message. length given.now ≡ length (arriving message)) }
+    ensures { IfOk result (λ text. OfOldest state.now.current source.port (λ port message. text.items ≡ received_text message source.member port.sequence_number given.now)) }
+{
+    match (state.oldest(source.port), state.numbers(source.port)) {
+        (Some(message), Some(numbers)) => received_text(
+            alloc,
+            message,
+            source.member,
+            numbers.sequence_number,
+            given,
+        ),
+        _ => Ok(Vec::new(alloc)),
+    }
+}
+
+/// What `mach_msg` answers where no message is told of.
+fn without_message(alloc: Global, code: KernReturn) -> Reply
+    ensures { result ≡ Reply.Message code 0 MACH_PORT_NULL [] }
+{
+    Reply::without_message(alloc, code, 0, MACH_PORT_NULL)
+}

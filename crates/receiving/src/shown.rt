@@ -1,0 +1,73 @@
+ghost use Rattle.std.specs.Prelude.{◌≡◌, ◌++◌, map, flat_map, IfOk, OnOk};
+ghost use Rattle.ipc_model.specs.messages.Items.{items_of, names_of_item};
+ghost use Rattle.receiving.specs.ShownNames as shown;
+ghost use Rattle.type_desc.specs.Values.{item_value};
+
+use codes::HEADER_LENGTH;
+use msg_header::{Header, parse};
+use std::alloc::{AllocError, Global};
+use type_desc::{Item, ItemFault, items};
+
+/// Adds the name of the reply right, if the header says that there is one.
+fn add_reply_name(header: Header, names: &mut Vec<u32>) -> Result<(), AllocError>
+    ensures { OnOk result (names.new.items ≡ names.old.items ++ shown.name_in_header header.remote_disposition header.remote) }
+{
+    if header.remote_disposition != 0 {
+        names.push(header.remote)?;
+    }
+    Ok(())
+}
+
+/// Adds the names in an item, from the left: those of its ports, if it is a port item.
+fn add_names(item: &Item<'_>, names: &mut Vec<u32>) -> Result<(), AllocError>
+    ensures { OnOk result (names.new.items ≡ names.old.items ++ names_of_item (item_value item.now)) }
+{
+    for index in 0..item.port_count() {
+        names.push(item.name(index))?;
+    }
+    Ok(())
+}
+
+/// Adds the names in items, from the left.
+fn add_names_in_items(items: &[Item<'_>], names: &mut Vec<u32>) -> Result<(), AllocError>
+    ensures { OnOk result (names.new.items ≡ names.old.items ++ flat_map names_of_item (map item_value items.now)) }
+{
+    for item in items {
+        add_names(item, names)?;
+    }
+    Ok(())
+}
+
+/// Adds the names in the port items of a body, of which there are none where items don't tile it.
+fn add_names_in_body(alloc: Global, body: &[u8], names: &mut Vec<u32>) -> Result<(), AllocError>
+    ensures { OnOk result (names.new.items ≡ names.old.items ++ shown.names_in_items (items_of body.now)) }
+{
+    match items(alloc, body) {
+        Ok(items) => {
+            add_names_in_items(&items, names)?;
+            Ok(())
+        }
+        Err(ItemFault::Code(_)) => Ok(()),
+        Err(ItemFault::NoMemory) => Err(AllocError),
+    }
+}
+
+#[tactic(auto, using(crate::specs::ShownNames::none_shown))]
+/// The names that a received message shows, which its rights got in the receiver's space: that of the reply right, if the
+/// header says that there is one, and behind it those in the port items of the body, from the left, if
+/// MACH_MSGH_BITS_COMPLEX says that there are any.
+///
+/// Bytes that are fewer than a header's show none, and no memory is taken for them. Where memory is wanted nothing is given.
+pub fn names_shown(alloc: Global, message: &[u8]) -> Result<Vec<u32>, AllocError>
+    ensures { IfOk result (λ names. names.items ≡ shown.names_shown message.now) }
+{
+    let mut names = Vec::new(alloc);
+    let Ok(header) = parse(message) else {
+        return Ok(names);
+    };
+    add_reply_name(header, &mut names)?;
+    if header.complex {
+        add_names_in_body(alloc, &message[HEADER_LENGTH..], &mut names)?;
+    }
+    Ok(names)
+}

@@ -1,0 +1,6 @@
+-- What the libraries above say of the state, passed on.
+pub use Rattle.ipc_state.specs.Added.{added_again, added_there, names_added}
+pub use Rattle.ipc_state.specs.Live.{carries_live, is_live, is_live_port, is_live_reply}
+pub use Rattle.ipc_state.specs.Running.{Running}
+pub use Rattle.ipc_state.specs.SetNames.{member_names, member_under}
+pub use Rattle.ipc_state.specs.There.{changed_there, or_empty}

@@ -1,0 +1,103 @@
+//! Rights that arrive in the receiver's space, one after another.
+ghost use Rattle.std.specs.Prelude.{◌≡◌, ℕ, ◌+◌, ◌<◌, ◌≤◌, ◌∷◌, [], None, Some, IfOk, OnOk, IsSome, MatchOption, length};
+ghost use Rattle.std.specs.FinMap as map;
+ghost use Rattle.codes.specs.declared.limits.TheConstants.{MAX_NAMES};
+ghost use Rattle.ipc_model.specs.calls.PortCalls.{names_in};
+ghost use Rattle.ipc_model.specs.declared.message.PortInMessage.TheVariants as in_message;
+ghost use Rattle.ipc_model.specs.rights.CopyOut.{Arrives, MayArrive, names_after, names_wanted};
+ghost use Rattle.ipc_model.specs.state.State.{Names, with_names};
+
+use crate::copy_out::{arrival_name, may_arrive, put_right};
+use ipc_model::{CarriedRight, PortInMessage};
+use ipc_state::IpcState;
+use std::alloc::AllocError;
+
+/// The name under which a right arrives: the wanted one where it may arrive under it, or else the one that it gets by
+/// itself.
+pub fn arrival_wanted(state: &IpcState, space: u32, right: CarriedRight, wanted: Option<u32>) -> u32
+    ensures may { MayArrive (names_in state.now.current space) right.kind right.port result }
+    ensures wanted { (shown : ℕ) → wanted ≡ Some shown → MayArrive (names_in state.now.current space) right.kind right.port shown → result ≡ shown }
+{
+    match wanted {
+        Some(name) if may_arrive(state, space, right, name) => name,
+        _ => arrival_name(state, space, right),
+    }
+}
+
+/// Has a right that arrives come to stand under a name; what is no right changes nothing.
+fn put_arrived(
+    state: &mut IpcState,
+    space: u32,
+    right: CarriedRight,
+    name: u32,
+) -> Result<(), AllocError>
+    requires there { IsSome (map.get state.old.current.spaces space) }
+    requires room { (serial : ℕ) → right.port ≡ in_message.Live serial → map.get (names_in state.old.current space) name ≡ None → map.len (names_in state.old.current space) < MAX_NAMES }
+    ensures ok { OnOk result (state.new.current ≡ with_names state.old.current space (names_after (names_in state.old.current space) right.kind right.port name)) }
+    ensures before { state.new.before ≡ state.old.before }
+{
+    match right.port {
+        PortInMessage::Live(_) => put_right(state, space, right, name),
+        PortInMessage::Null => Ok(()),
+        PortInMessage::Dead => Ok(()),
+    }
+}
+
+/// One right arrives, and this is its name.
+fn arrive_one(
+    state: &mut IpcState,
+    space: u32,
+    right: CarriedRight,
+    wanted: Option<u32>,
+) -> Result<u32, AllocError>
+    requires there { IsSome (map.get state.old.current.spaces space) }
+    requires room { (name serial : ℕ) → right.port ≡ in_message.Live serial → MayArrive (names_in state.old.current space) right.kind right.port name
+        → map.get (names_in state.old.current space) name ≡ None → map.len (names_in state.old.current space) < MAX_NAMES }
+    ensures may { IfOk result (λ name. MayArrive (names_in state.old.current space) right.kind right.port name) }
+    ensures ok { IfOk result (λ name. state.new.current ≡ with_names state.old.current space (names_after (names_in state.old.current space) right.kind right.port name)) }
+    ensures wanted { IfOk result (λ name. (shown : ℕ) → wanted ≡ Some shown → MayArrive (names_in state.old.current space) right.kind right.port shown → name ≡ shown) }
+    ensures before { state.new.before ≡ state.old.before }
+{
+    let name = arrival_wanted(state, space, right, wanted);
+    put_arrived(state, space, right, name)?;
+    Ok(name)
+}
+
+/// The first of the names that are wanted, if there is one, and those behind it.
+fn front(wanted: &[u32]) -> (Option<u32>, &[u32])
+    ensures { MatchOption result.0 ((wanted.now ≡ []) × (result.1.now ≡ [])) (λ first. wanted.now ≡ first ∷ result.1.now) }
+{
+    match wanted.split_first() {
+        Some((first, behind)) => (Some(*first), behind),
+        None => (None, wanted),
+    }
+}
+
+/// Rights arrive in a space, each under the wanted name where it may; their names are added. There is room for the new
+/// names that they want. Where memory is wanted the changes are to be given up.
+pub fn arrive(
+    state: &mut IpcState,
+    space: u32,
+    rights: &[CarriedRight],
+    wanted: &[u32],
+    given: &mut Vec<u32>,
+) -> Result<(), AllocError>
+    requires none { given.old.items ≡ [] }
+    requires there { IsSome (map.get state.old.current.spaces space) }
+    requires room { map.len (names_in state.old.current space) + names_wanted (names_in state.old.current space) [] rights.now ≤ MAX_NAMES }
+    ensures arrives { OnOk result (Arrives (names_in state.old.current space) rights.now given.new.items (names_in state.new.current space)) }
+    ensures ok { OnOk result (state.new.current ≡ with_names state.old.current space (names_in state.new.current space)) }
+    ensures wanted { OnOk result ((last : Names) → Arrives (names_in state.old.current space) rights.now wanted.now last → given.new.items ≡ wanted.now) }
+    ensures before { state.new.before ≡ state.old.before }
+{
+    let mut rest = rights;
+    let mut left = wanted;
+    while let Some((right, behind)) = rest.split_first() {
+        let (shown, later) = front(left);
+        let name = arrive_one(state, space, *right, shown)?;
+        given.push(name)?;
+        rest = behind;
+        left = later;
+    }
+    Ok(())
+}

@@ -1,0 +1,3 @@
+pub mod Gave
+pub mod Sends
+pub mod SoFar

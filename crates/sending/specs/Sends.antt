@@ -1,0 +1,28 @@
+-- What a send leaves.
+use Rattle.std.specs.Prelude.{◌≡◌, ℕ, List, ◌++◌, Option, Result, Ok, Err}
+use Rattle.codes.specs.declared.kern_return.KernReturn.{KernReturn}
+use Rattle.codes.specs.declared.kern_return.KernReturn.TheVariants.{SendInvalidHeader}
+use Rattle.ipc_model.specs.calls.Tests.{and_then, or_refused}
+use Rattle.ipc_model.specs.declared.message.Message.{Message}
+use Rattle.ipc_model.specs.effects.Effects.{Effect}
+use Rattle.ipc_model.specs.messages.Items.{Item}
+use Rattle.ipc_model.specs.messages.Messages.{Parts}
+use Rattle.ipc_model.specs.messages.Sending.{Ready, header_disposition, reply_disposition, items_if_complex, ready_of_items, sent}
+use Rattle.ipc_model.specs.rights.Dispositions.{Disposition}
+use Rattle.ipc_model.specs.state.State.{State}
+
+-- a message that is ready and its port were found, and this is the state; its notices wait behind those that waited
+abbrev pub ReadyIs : State → List Effect → List Effect → Ready → Message × ℕ → Type 0
+ReadyIs new waiting after ready found = (found.0 ≡ ready.message) × (found.1 ≡ ready.port) × (new ≡ ready.state) × (after ≡ waiting ++ ready.notices)
+
+-- what a message becomes whose size is one that messages have
+abbrev pub of_dispositions : State → ℕ → Parts → Result Ready KernReturn
+of_dispositions state space parts =
+    and_then (or_refused SendInvalidHeader (header_disposition parts.remote_disposition)) (λ (destination : Disposition).
+    and_then (reply_disposition parts.local_disposition parts.local) (λ (reply : Option Disposition).
+    and_then (items_if_complex parts.complex parts.body) (λ (items : List Item). ready_of_items state space parts destination reply items)))
+
+-- a message that was ready was sent
+abbrev pub WasSent : Result Ready KernReturn → State → List Effect → Type 0
+WasSent (Ok ready) new effects = (new ≡ (sent ready).0) × (effects ≡ (sent ready).1)
+WasSent (Err code) new effects = ⊥

@@ -1,0 +1,34 @@
+//! The limit of a queue.
+ghost use Rattle.std.specs.Prelude.{◌≡◌, ◌&&◌, not};
+ghost use Rattle.ipc_model.specs.declared.message.RightKind.TheVariants as kind;
+ghost use Rattle.ipc_model.specs.messages.Sending.{is_full};
+ghost use Rattle.ipc_model.specs.state.Placed.{same_kind};
+
+use ipc_model::RightKind;
+use rights::IpcState;
+
+/// Whether a port's queue holds as many messages as its limit, or more.
+fn is_full(state: &IpcState, port: u64) -> bool
+    ensures { result ≡ is_full state.now.current port }
+{
+    let Some(numbers) = state.numbers(port) else {
+        return false;
+    };
+    numbers.limit <= state.message_count(port)
+}
+
+/// Whether a queue's limit stops a message that is sent by such a right: one by a send-once right isn't stopped by it.
+pub(crate) fn is_stopped(state: &IpcState, port: u64, destination: RightKind) -> bool
+    ensures { result ≡ (is_full state.now.current port && not (same_kind destination kind.SendOnce)) }
+{
+    is_full(state, port) && !is_send_once(destination)
+}
+
+fn is_send_once(destination: RightKind) -> bool
+    ensures { result ≡ same_kind destination kind.SendOnce }
+{
+    match destination {
+        RightKind::SendOnce => true,
+        RightKind::Receive | RightKind::Send => false,
+    }
+}

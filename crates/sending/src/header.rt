@@ -1,0 +1,170 @@
+//! The rights of a message's header: the destination, and the right to reply by.
+ghost use Rattle.std.specs.Prelude.{◌≡◌, ◌++◌, Some, true, false};
+ghost use Rattle.ipc_model.specs.messages.Sending as sending;
+ghost use Rattle.ipc_model.specs.state.State.{is_null_or_dead};
+ghost use Rattle.sending.specs.Gave.{Gave};
+
+use crate::SendFault;
+use crate::take::{live_port, passed, received_kind, take};
+use codes::{Disposition, KernReturn};
+use effects::Effects;
+use ipc_model::{CarriedRight, RightKind};
+use rights::IpcState;
+
+/// Whose rights a message's header names, and how they are handed over.
+#[derive(Clone, Copy, Debug, PartialEq, Eq)]
+pub(crate) struct Named {
+    pub(crate) remote: u32,
+    pub(crate) destination: Disposition,
+    pub(crate) local: u32,
+    /// None where there is no reply right.
+    pub(crate) reply: Option<Disposition>,
+}
+
+/// The rights that were taken for a header: the kind of the destination right and its port, and the reply right.
+#[derive(Clone, Copy, Debug, PartialEq, Eq)]
+pub(crate) struct HeaderRights {
+    pub(crate) kind: RightKind,
+    pub(crate) port: u64,
+    pub(crate) reply: Option<CarriedRight>,
+}
+
+/// Takes the destination right, which has to be one to a port that lives.
+fn take_destination(
+    state: &mut IpcState,
+    space: u32,
+    name: u32,
+    disposition: Disposition,
+    effects: &mut Effects,
+) -> Result<(RightKind, u64), SendFault>
+    ensures taken { Gave (sending.take_destination state.old.current space name disposition)
+        (λ taken found. (found.0 ≡ taken.0.right.kind) × (found.1 ≡ taken.1) × (state.new.current ≡ taken.0.state) × (effects.new ≡ effects.old ++ taken.0.notices)) result }
+    ensures before { state.new.before ≡ state.old.before }
+{
+    let right = take(
+        state,
+        space,
+        name,
+        disposition,
+        KernReturn::SendInvalidDest,
+        effects,
+    )?;
+    let port = live_port(right.port)?;
+    Ok((right.kind, port))
+}
+
+/// Takes the right to reply by, if the header names one; `MACH_PORT_NULL` and `MACH_PORT_DEAD` pass through.
+fn take_reply(
+    state: &mut IpcState,
+    space: u32,
+    name: u32,
+    disposition: Option<Disposition>,
+    effects: &mut Effects,
+) -> Result<Option<CarriedRight>, SendFault>
+    ensures taken { Gave (sending.take_reply state.old.current space name disposition)
+        (λ taken found. (found ≡ taken.reply) × (state.new.current ≡ taken.state) × (effects.new ≡ effects.old ++ taken.notices)) result }
+    ensures before { state.new.before ≡ state.old.before }
+{
+    let Some(disposition) = disposition else {
+        return Ok(None);
+    };
+    if let Some(port) = passed(name) {
+        let kind = received_kind(disposition);
+        return Ok(Some(CarriedRight { kind, port }));
+    }
+    take_named_reply(state, space, name, disposition, effects)
+}
+
+/// The same of a reply that is named.
+fn take_named_reply(
+    state: &mut IpcState,
+    space: u32,
+    name: u32,
+    disposition: Disposition,
+    effects: &mut Effects,
+) -> Result<Option<CarriedRight>, SendFault>
+    requires { is_null_or_dead name ≡ false }
+    ensures taken { Gave (sending.take_reply state.old.current space name (Some disposition))
+        (λ taken found. (found ≡ taken.reply) × (state.new.current ≡ taken.state) × (effects.new ≡ effects.old ++ taken.notices)) result }
+    ensures before { state.new.before ≡ state.old.before }
+{
+    let right = take(
+        state,
+        space,
+        name,
+        disposition,
+        KernReturn::SendInvalidReply,
+        effects,
+    )?;
+    Ok(Some(right))
+}
+
+/// Whether a disposition moves a right, and so consumes something of its name.
+fn consumes(disposition: Disposition) -> bool
+    ensures { result ≡ sending.consumes disposition }
+{
+    match disposition {
+        Disposition::MoveReceive | Disposition::MoveSend | Disposition::MoveSendOnce => true,
+        Disposition::CopySend | Disposition::MakeSend | Disposition::MakeSendOnce => false,
+    }
+}
+
+/// Whether the reply right is taken first: the destination moves a right and the reply doesn't.
+fn reply_goes_first(destination: Disposition, reply: Option<Disposition>) -> bool
+    ensures { result ≡ sending.reply_goes_first destination reply }
+{
+    match reply {
+        Some(reply) => consumes(destination) && !consumes(reply),
+        None => false,
+    }
+}
+
+/// Takes the rights of a header: what consumes nothing goes first, and among equals the destination.
+pub(crate) fn take_header(
+    state: &mut IpcState,
+    space: u32,
+    named: Named,
+    effects: &mut Effects,
+) -> Result<HeaderRights, SendFault>
+    ensures taken { Gave (sending.take_header state.old.current space named.remote named.destination named.local named.reply)
+        (λ header found. (found ≡ record { kind = header.kind; port = header.port; reply = header.reply }) × (state.new.current ≡ header.state) × (effects.new ≡ effects.old ++ header.notices)) result }
+    ensures before { state.new.before ≡ state.old.before }
+{
+    if reply_goes_first(named.destination, named.reply) {
+        take_reply_first(state, space, named, effects)
+    } else {
+        take_destination_first(state, space, named, effects)
+    }
+}
+
+fn take_reply_first(
+    state: &mut IpcState,
+    space: u32,
+    named: Named,
+    effects: &mut Effects,
+) -> Result<HeaderRights, SendFault>
+    requires { sending.reply_goes_first named.destination named.reply ≡ true }
+    ensures taken { Gave (sending.take_header state.old.current space named.remote named.destination named.local named.reply)
+        (λ header found. (found ≡ record { kind = header.kind; port = header.port; reply = header.reply }) × (state.new.current ≡ header.state) × (effects.new ≡ effects.old ++ header.notices)) result }
+    ensures before { state.new.before ≡ state.old.before }
+{
+    let reply = take_reply(state, space, named.local, named.reply, effects)?;
+    let (kind, port) = take_destination(state, space, named.remote, named.destination, effects)?;
+    Ok(HeaderRights { kind, port, reply })
+}
+
+fn take_destination_first(
+    state: &mut IpcState,
+    space: u32,
+    named: Named,
+    effects: &mut Effects,
+) -> Result<HeaderRights, SendFault>
+    requires { sending.reply_goes_first named.destination named.reply ≡ false }
+    ensures taken { Gave (sending.take_header state.old.current space named.remote named.destination named.local named.reply)
+        (λ header found. (found ≡ record { kind = header.kind; port = header.port; reply = header.reply }) × (state.new.current ≡ header.state) × (effects.new ≡ effects.old ++ header.notices)) result }
+    ensures before { state.new.before ≡ state.old.before }
+{
+    let (kind, port) = take_destination(state, space, named.remote, named.destination, effects)?;
+    let reply = take_reply(state, space, named.local, named.reply, effects)?;
+    Ok(HeaderRights { kind, port, reply })
+}

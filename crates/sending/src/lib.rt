@@ -1,0 +1,16 @@
+//! Sending a message (Mach 3 Kernel Interfaces, `mach_msg`, `MACH_SEND_MSG`), as it acts on the running state. The order
+//! of the tests is this server's (docs/FORMATS.md).
+#![tactic(auto)]
+
+mod deliver;
+mod fault;
+mod full;
+mod header;
+mod items;
+mod reading;
+mod ready;
+mod send_message;
+mod take;
+
+pub use fault::SendFault;
+pub use send_message::send;

@@ -1,0 +1,42 @@
+ghost use Rattle.std.specs.Prelude.{◌≡◌, [], IfErr, OnOk, IsSome};
+ghost use Rattle.std.specs.FinMap as map;
+ghost use Rattle.ipc_model.specs.messages.Sending.{ready_to_send};
+ghost use Rattle.ipc_model.specs.state.Circular.{Grounded};
+ghost use Rattle.ipc_model.specs.state.Lawful.{Lawful};
+ghost use Rattle.sending.specs.Gave.{IsToldBy};
+ghost use Rattle.sending.specs.Sends.{WasSent};
+
+use crate::SendFault;
+use crate::deliver::deliver;
+use crate::ready::ready;
+use effects::Effects;
+use rights::IpcState;
+use std::alloc::Global;
+
+/// `mach_msg` with `MACH_SEND_MSG`: a task's bytes become a message at the end of its destination's queue, with the rights
+/// that they name; a message that would carry a receive right in a circle is destroyed. What this sets off goes to the end
+/// of the effects. The space is there, the state is one that the kernel keeps, and no effect waits.
+///
+/// `Refused`, by the first test that fails: `SendMsgTooSmall` (fewer than 24 bytes, no multiple of 4, or an item that is cut
+/// off), `SendNoBuffer` (more than 8,192 bytes, or more than 256 ports), `SendInvalidHeader`, `SendInvalidMemory` and
+/// `SendInvalidType` (an item), `SendInvalidDest`, `SendInvalidReply`, `SendInvalidRight` (a right of the body),
+/// `SendTimedOut` (the queue is full). `NoMemory`. With either the changes are to be given up.
+pub fn send(
+    alloc: Global,
+    state: &mut IpcState,
+    space: u32,
+    message: &[u8],
+    effects: &mut Effects,
+) -> Result<(), SendFault>
+    requires none { effects.old ≡ [] }
+    requires there { IsSome (map.get state.old.current.spaces space) }
+    requires lawful { Lawful state.old.current }
+    requires grounded { Grounded state.old.current }
+    ensures sent { OnOk result (WasSent (ready_to_send state.old.current space message.now) state.new.current effects.new) }
+    ensures refused { IfErr result (λ fault. IsToldBy (ready_to_send state.old.current space message.now) fault) }
+    ensures before { state.new.before ≡ state.old.before }
+{
+    let (ready, queue) = ready(alloc, state, space, message, effects)?;
+    deliver(state, queue, ready, effects)?;
+    Ok(())
+}

@@ -1,0 +1,116 @@
+//! The numbers that spaces have, as bits, so that the least that none has is found without a look at each space.
+ghost use Rattle.std.specs.Prelude.{◌≡◌, ◌≢◌, ℕ, ◌+◌, ◌<◌, MatchOption};
+ghost use Rattle.std.specs.FinMap as map;
+ghost use Rattle.std.specs.Int.{bit_at};
+ghost use Rattle.spaces.specs.Numbers.{place_at, AreTaken, IsFirstFree};
+ghost use Rattle.spaces.specs.Slots.{SpaceMap};
+
+use codes::MAX_SPACES;
+
+/// Which of the numbers from 1 to `MAX_SPACES` spaces have: a bit for each, 64 in a word. It is copied whole to be kept
+/// or given up.
+#[derive(Clone, Copy)]
+pub(crate) struct Numbers {
+    pub(crate) words: [u64; 4],
+}
+
+impl Numbers {
+    /// The numbers of no spaces.
+    pub(crate) fn new() -> Self
+        ensures { AreTaken result map.empty }
+    {
+        Numbers { words: [0; 4] }
+    }
+
+    /// A space has this number from now on.
+    pub(crate) fn add(&mut self, number: u32)
+        ensures { (spaces : SpaceMap) → AreTaken self.old spaces → AreTaken self.new (map.insert spaces number map.empty) }
+    {
+        if let Some(place) = place_of(number) {
+            self.take(place);
+        }
+    }
+
+    /// No space has this number any more.
+    pub(crate) fn remove(&mut self, number: u32)
+        ensures { (spaces : SpaceMap) → AreTaken self.old spaces → AreTaken self.new (map.remove spaces number) }
+    {
+        if let Some(place) = place_of(number) {
+            self.leave(place);
+        }
+    }
+
+    /// Takes a place.
+    fn take(&mut self, place: u32)
+        requires { place < 256 }
+        ensures taken { place_at self.new place ≡ 1 }
+        ensures others { (k : ℕ) → k ≢ place → place_at self.new k ≡ place_at self.old k }
+    {
+        let at = (place / 64) as usize;
+        self.words[at] = with_bit(self.words[at], place % 64);
+    }
+
+    /// Leaves a place.
+    fn leave(&mut self, place: u32)
+        requires { place < 256 }
+        ensures free { place_at self.new place ≡ 0 }
+        ensures others { (k : ℕ) → k ≢ place → place_at self.new k ≡ place_at self.old k }
+    {
+        let at = (place / 64) as usize;
+        self.words[at] = without_bit(self.words[at], place % 64);
+    }
+
+    /// The first free place, or how many places there are.
+    pub(crate) fn first_free(&self) -> u32
+        ensures { IsFirstFree self.now result }
+    {
+        let mut before: u32 = 0;
+        for word in &self.words {
+            if let Some(bit) = first_clear(*word) {
+                return before + bit;
+            }
+            before += 64;
+        }
+        before
+    }
+}
+
+/// The place of a number, if it has one.
+fn place_of(number: u32) -> Option<u32>
+    ensures { MatchOption result ((k : ℕ) → k < 256 → number ≡ k + 1 → ⊥) (λ place. (place < 256) × (number ≡ place + 1)) }
+{
+    if 0 < number && number as usize <= MAX_SPACES {
+        Some(number - 1)
+    } else {
+        None
+    }
+}
+
+/// The first bit of a word that isn't set, if there is one.
+fn first_clear(word: u64) -> Option<u32>
+    ensures { MatchOption result ((i : ℕ) → i < 64 → bit_at word i ≡ 1) (λ bit. (bit < 64) × (bit_at word bit ≡ 0) × ((i : ℕ) → i < bit → bit_at word i ≡ 1)) }
+{
+    if word == u64::MAX {
+        None
+    } else {
+        Some(word.trailing_ones())
+    }
+}
+
+/// A word with one bit set.
+fn with_bit(word: u64, bit: u32) -> u64
+    requires { bit < 64 }
+    ensures set { bit_at result bit ≡ 1 }
+    ensures others { (i : ℕ) → i ≢ bit → bit_at result i ≡ bit_at word i }
+{
+    word | (1 << bit)
+}
+
+/// A word with one bit cleared.
+fn without_bit(word: u64, bit: u32) -> u64
+    requires { bit < 64 }
+    ensures clear { bit_at result bit ≡ 0 }
+    ensures others { (i : ℕ) → i < 64 → i ≢ bit → bit_at result i ≡ bit_at word i }
+{
+    word & !(1 << bit)
+}

@@ -1,0 +1,112 @@
+-- A body is read item by item.
+use Rattle.std.specs.Prelude.{◌≡◌, ℕ, zero, suc, ◌+◌, ◌<◌, ◌≤◌, Bool, true, false, ◌==◌, List, [], ◌∷◌, ◌++◌, length, None, Some, Result, Ok, Err, if◌then◌else◌, refl}
+use Rattle.std.proofs.Common.{sym, ◌∙◌, ap, arith, append_assoc, append-nil, length-drop}
+use Rattle.std.proofs.lemmas.Bool.{eqb-true}
+use Rattle.byteorder.specs.Endian.{little_number}
+use Rattle.codes.specs.declared.kern_return.KernReturn.{KernReturn}
+use Rattle.ipc_model.specs.messages.Items.{Item, items_of, items_within, item_of, after_item, is_long_form, tests_of_item, descriptor_length, data_length}
+use Rattle.ipc_model.specs.calls.Tests.{Tests, first_failing, and_then, unless_failing}
+
+-- the form of the descriptor in front
+abbrev pub form_of : List ℕ → Bool
+form_of bytes = is_long_form (little_number 4 bytes)
+
+-- the item in front, and what stands behind it
+abbrev pub front_item : List ℕ → Item
+front_item bytes = item_of bytes (form_of bytes)
+
+abbrev pub behind_item : List ℕ → List ℕ
+behind_item bytes = after_item bytes (form_of bytes)
+
+-- items that were read, with those that are read of the rest
+abbrev pub with_front : List Item → Result (List Item) KernReturn → Result (List Item) KernReturn
+with_front front rest = and_then rest (λ items. Ok (front ++ items))
+
+at_least_four : (b : Bool) → 4 ≤ descriptor_length b
+at_least_four true = omega arith
+at_least_four false = omega arith
+
+-- more steps than bytes find no more
+same_within : (m n : ℕ) (bytes : List ℕ) → length bytes ≤ m → length bytes ≤ n → items_within m bytes ≡ items_within n bytes
+same_within zero zero bytes few less = refl
+same_within zero (suc n) [] few less = refl
+same_within (suc m) zero [] few less = refl
+same_within (suc m) (suc n) [] few less = refl
+same_within zero n (b ∷ bytes) few less = absurd (omega (arith, few))
+same_within m zero (b ∷ bytes) few less = absurd (omega (arith, less))
+same_within (suc m) (suc n) (b ∷ bytes) few less =
+    let text : List ℕ = b ∷ bytes in
+    let long : Bool = form_of text in
+    let shorter : length (after_item text long) < length text = omega (arith, few, length-drop (descriptor_length long + data_length text long) text, at_least_four long) in
+    ap (λ (r : Result (List Item) KernReturn). unless_failing (tests_of_item text) (and_then r (λ items. Ok (item_of text long ∷ items))))
+    (same_within m n (after_item text long) (omega (arith, few, shorter)) (omega (arith, less, shorter)))
+
+passes_on : {X : Type 0} (tests : Tests) (r : Result X KernReturn) → first_failing tests ≡ None → unless_failing tests r ≡ r
+passes_on [] r passes = refl
+passes_on (test ∷ tests) r passes = elim test.0 as (λ (b : Bool). (if b then Some test.1 else first_failing tests) ≡ None → (if b then Err test.1 else unless_failing tests r) ≡ r) [
+  | true ↦ λ (e : _). absurd (cc e)
+  | false ↦ λ (e : _). passes_on tests r e
+] passes
+
+stops : {X : Type 0} (tests : Tests) (r : Result X KernReturn) (code : KernReturn) → first_failing tests ≡ Some code → unless_failing tests r ≡ Err code
+stops [] r code fails = absurd (cc fails)
+stops {X} (test ∷ tests) r code fails = elim test.0 as (λ (b : Bool). (if b then Some test.1 else first_failing tests) ≡ Some code → ◌≡◌ {A = Result X KernReturn} (if b then Err test.1 else unless_failing tests r) (Err code)) [
+  | true ↦ λ (e : _). cc e
+  | false ↦ λ (e : _). stops tests r code e
+] fails
+
+-- Where the item in front passes its tests, the items are it and those behind it.
+pub one_item : (bytes : List ℕ) → 0 < length bytes → first_failing (tests_of_item bytes) ≡ None → items_of bytes ≡ and_then (items_of (behind_item bytes)) (λ items. Ok (front_item bytes ∷ items))
+unfolding items_of
+one_item [] some passes = absurd (omega (arith, some))
+one_item (b ∷ bytes) some passes =
+    let text : List ℕ = b ∷ bytes in
+    let behind : List ℕ = behind_item text in
+    let shorter : length behind < length text = omega (arith, length-drop (descriptor_length (form_of text) + data_length text (form_of text)) text, at_least_four (form_of text)) in
+    passes_on (tests_of_item text) (and_then (items_within (length bytes) behind) (λ items. Ok (front_item text ∷ items))) passes
+    ∙ ap (λ (r : Result (List Item) KernReturn). and_then r (λ items. Ok (front_item text ∷ items))) (same_within (length bytes) (length behind) behind (omega (arith, shorter)) (omega arith))
+
+-- Where it fails one, there are none.
+pub no_item : (bytes : List ℕ) (code : KernReturn) → 0 < length bytes → first_failing (tests_of_item bytes) ≡ Some code → items_of bytes ≡ Err code
+unfolding items_of
+no_item [] code some fails = absurd (omega (arith, some))
+no_item (b ∷ bytes) code some fails =
+    let text : List ℕ = b ∷ bytes in
+    stops (tests_of_item text) (and_then (items_within (length bytes) (behind_item text)) (λ items. Ok (front_item text ∷ items))) code fails
+
+pub items_of_none : items_of [] ≡ Ok []
+unfolding items_of
+items_of_none = refl
+
+-- one more item was read
+pub front_more : (front : List Item) (item : Item) (rest : Result (List Item) KernReturn) → with_front front (and_then rest (λ items. Ok (item ∷ items))) ≡ with_front (front ++ item ∷ []) rest
+front_more front item (Ok items) = ap Ok (sym (append_assoc front (item ∷ []) items))
+front_more front item (Err code) = refl
+
+-- before an item was read
+pub front_none : (rest : Result (List Item) KernReturn) → rest ≡ with_front [] rest
+front_none (Ok items) = refl
+front_none (Err code) = refl
+
+pub none_is : (bytes : List ℕ) → length bytes ≡ 0 → bytes ≡ []
+none_is [] is = refl
+none_is (b ∷ bytes) is = absurd (omega (arith, is))
+
+pub some_left : (bytes : List ℕ) → (length bytes == 0) ≡ false → 0 < length bytes
+some_left [] is = absurd (cc is)
+some_left (b ∷ bytes) is = omega arith
+
+-- What is left is one item and what stands behind it.
+pub one_more : (body bytes rest : List ℕ) (front : List Item) (item : Item) → items_of body ≡ with_front front (items_of bytes) → (length bytes == 0) ≡ false → first_failing (tests_of_item bytes) ≡ None
+    → item ≡ front_item bytes → rest ≡ behind_item bytes → items_of body ≡ with_front (front ++ item ∷ []) (items_of rest)
+one_more body bytes rest front item before left passes is behind =
+    before ∙ ap (with_front front) (one_item bytes (some_left bytes left) passes) ∙ front_more front (front_item bytes) (items_of (behind_item bytes)) ∙ (λ i. with_front (front ++ sym is i ∷ []) (items_of (sym behind i)))
+
+-- Nothing is left.
+pub all_read : (body bytes : List ℕ) (front : List Item) → items_of body ≡ with_front front (items_of bytes) → (length bytes == 0) ≡ true → items_of body ≡ Ok front
+all_read body bytes front before left =
+    before ∙ ap (λ (l : List ℕ). with_front front (items_of l)) (none_is bytes (eqb-true (length bytes) 0 left)) ∙ ap (with_front front) items_of_none ∙ ap Ok (append-nil front)
+
+-- What is left doesn't begin with an item.
+pub one_fault : (body bytes : List ℕ) (front : List Item) (code : KernReturn) → items_of body ≡ with_front front (items_of bytes) → (length bytes == 0) ≡ false → first_failing (tests_of_item bytes) ≡ Some code → items_of body ≡ Err code
+one_fault body bytes front code before left fails = before ∙ ap (with_front front) (no_item bytes code (some_left bytes left) fails)

@@ -1,0 +1,105 @@
+ghost use Rattle.std.specs.Prelude.{◌≡◌, ◌++◌, true, false, IfOk, OnOk, OnErr};
+ghost use Rattle.ipc_model.specs.messages.Items.{is_port_item, item_text, items_of, body_filled};
+ghost use Rattle.type_desc.specs.Adding.{Keeps};
+ghost use Rattle.type_desc.specs.Values.{item_value, filled_item, names_after};
+
+use crate::adding::{add_words, behind_front, front_of};
+use crate::first::first_item;
+use crate::item::Item;
+use std::alloc::AllocError;
+
+impl Item<'_> {
+    /// The names that are left for the items behind it: those behind its own ports'.
+    pub fn names_behind<'n>(&self, names: &'n [u32]) -> &'n [u32]
+        ensures { result.now ≡ names_after (item_value self.now) names.now }
+    {
+        if self.is_port() {
+            behind_front(names, self.number)
+        } else {
+            names
+        }
+    }
+
+    #[tactic(auto, using(crate::specs::Adding::keeps_more))]
+    /// Adds an item of ports with names in their places.
+    fn add_filled_ports(&self, names: &[u32], out: &mut Vec<u8>) -> Result<(), AllocError>
+        requires { is_port_item (item_value self.now) ≡ true }
+        ensures ok { OnOk result (out.new.items ≡ out.old.items ++ item_text (filled_item (item_value self.now) names.now)) }
+        ensures part { OnErr result (Keeps out.old.items out.new.items) }
+    {
+        self.add_descriptor(self.type_name, out)?;
+        add_words(out, front_of(names, self.number))?;
+        Ok(())
+    }
+
+    /// Adds the item with names in the places of its ports.
+    fn add_filled(&self, names: &[u32], out: &mut Vec<u8>) -> Result<(), AllocError>
+        ensures ok { OnOk result (out.new.items ≡ out.old.items ++ item_text (filled_item (item_value self.now) names.now)) }
+        ensures part { OnErr result (Keeps out.old.items out.new.items) }
+    {
+        if self.is_port() {
+            self.add_filled_ports(names, out)?;
+            return Ok(());
+        }
+        self.add_plain(out)?;
+        Ok(())
+    }
+
+    /// Adds the item's bytes with the names in front in the places of its ports; as it is where it holds none.
+    ///
+    /// Where memory is wanted nothing changed.
+    pub fn push_filled(&self, names: &[u32], out: &mut Vec<u8>) -> Result<(), AllocError>
+        ensures ok { OnOk result (out.new.items ≡ out.old.items ++ item_text (filled_item (item_value self.now) names.now)) }
+        ensures err { OnErr result (out.new.items ≡ out.old.items) }
+    {
+        let before = out.len();
+        match self.add_filled(names, out) {
+            Ok(()) => Ok(()),
+            Err(error) => {
+                out.truncate(before);
+                Err(error)
+            }
+        }
+    }
+}
+
+/// Adds the items of a body with names in the places of their ports, as far as they go: `false` where a fault stops them.
+fn add_filled_items(body: &[u8], names: &[u32], out: &mut Vec<u8>) -> Result<bool, AllocError>
+    ensures tiled { IfOk result (λ tiled. tiled ≡ true → out.new.items ≡ out.old.items ++ body_filled (items_of body.now) body.now names.now) }
+    ensures faulty { IfOk result (λ tiled. tiled ≡ false → body_filled (items_of body.now) body.now names.now ≡ body.now) }
+    ensures kept { Keeps out.old.items out.new.items }
+{
+    let mut rest = body;
+    let mut left = names;
+    while !rest.is_empty() {
+        let Ok((item, behind)) = first_item(rest) else {
+            return Ok(false);
+        };
+        item.push_filled(left, out)?;
+        left = item.names_behind(left);
+        rest = behind;
+    }
+    Ok(true)
+}
+
+/// Adds a body with names in the places of the ports of its items, from the left; as it is where it is no row of items.
+/// Names beyond its ports are ignored, and where there are too few the places of the others are left out.
+///
+/// Where memory is wanted nothing changed. None is taken for anything but the bytes that are added.
+pub fn push_filled_body(body: &[u8], names: &[u32], out: &mut Vec<u8>) -> Result<(), AllocError>
+    ensures ok { OnOk result (out.new.items ≡ out.old.items ++ body_filled (items_of body.now) body.now names.now) }
+    ensures err { OnErr result (out.new.items ≡ out.old.items) }
+{
+    let before = out.len();
+    match add_filled_items(body, names, out) {
+        Ok(true) => Ok(()),
+        Ok(false) => {
+            out.truncate(before);
+            out.extend_from_slice(body)
+        }
+        Err(error) => {
+            out.truncate(before);
+            Err(error)
+        }
+    }
+}

@@ -1,0 +1,26 @@
+ghost use Rattle.std.specs.Prelude.{◌≡◌, Ok, IfOk, IfErr, map};
+ghost use Rattle.ipc_model.specs.messages.Items.{items_of};
+ghost use Rattle.type_desc.specs.Values.{item_value, FaultOf};
+
+use crate::fault::ItemFault;
+use crate::first::first_item;
+use crate::item::Item;
+use std::alloc::Global;
+
+/// The items that tile a body, from the left: none of an empty one. Each item's data is a slice of the body.
+///
+/// `Code`: the code of the leftmost item's first test that fails, as `first_item` gives it. `NoMemory`: none
+/// for the list.
+pub fn items(alloc: Global, body: &[u8]) -> Result<Vec<Item<'_>>, ItemFault>
+    ensures found { IfOk result (λ found. items_of body.now ≡ Ok (map item_value found.items)) }
+    ensures fault { IfErr result (λ fault. FaultOf (items_of body.now) fault) }
+{
+    let mut items = Vec::new(alloc);
+    let mut rest = body;
+    while !rest.is_empty() {
+        let (item, behind) = first_item(rest)?;
+        items.push(item)?;
+        rest = behind;
+    }
+    Ok(items)
+}

@@ -1,0 +1,89 @@
+ghost use Rattle.std.specs.Prelude.{◌≡◌, ◌++◌, true, false, map, OnOk, OnErr};
+ghost use Rattle.ipc_model.specs.messages.Items.{is_port_item, item_text, items_text, as_stored};
+ghost use Rattle.type_desc.specs.Adding.{Keeps};
+ghost use Rattle.type_desc.specs.Values.{item_value};
+
+use crate::adding::{push_zeros, received_type};
+use crate::item::Item;
+use std::alloc::AllocError;
+
+impl Item<'_> {
+    /// Adds an item of ports as a queued message has it.
+    fn add_stored_ports(&self, out: &mut Vec<u8>) -> Result<(), AllocError>
+        requires { is_port_item (item_value self.now) ≡ true }
+        ensures ok { OnOk result (out.new.items ≡ out.old.items ++ item_text (as_stored (item_value self.now))) }
+        ensures part { OnErr result (Keeps out.old.items out.new.items) }
+    {
+        self.add_descriptor(received_type(self.type_name), out)?;
+        push_zeros(out, self.content.len())?;
+        Ok(())
+    }
+
+    /// Adds the item as it is.
+    pub(crate) fn add_plain(&self, out: &mut Vec<u8>) -> Result<(), AllocError>
+        ensures ok { OnOk result (out.new.items ≡ out.old.items ++ item_text (item_value self.now)) }
+        ensures part { OnErr result (Keeps out.old.items out.new.items) }
+    {
+        self.add_descriptor(self.type_name, out)?;
+        out.extend_from_slice(self.content)?;
+        Ok(())
+    }
+
+    /// Adds the item as a queued message has it.
+    fn add_stored(&self, out: &mut Vec<u8>) -> Result<(), AllocError>
+        ensures ok { OnOk result (out.new.items ≡ out.old.items ++ item_text (as_stored (item_value self.now))) }
+        ensures part { OnErr result (Keeps out.old.items out.new.items) }
+    {
+        if self.is_port() {
+            self.add_stored_ports(out)?;
+            return Ok(());
+        }
+        self.add_plain(out)?;
+        Ok(())
+    }
+
+    /// Adds the bytes of the item as a queued message has it: the type as received, and 0 in each port's place.
+    ///
+    /// Where memory is wanted nothing changed.
+    pub fn push_stored(&self, out: &mut Vec<u8>) -> Result<(), AllocError>
+        ensures ok { OnOk result (out.new.items ≡ out.old.items ++ item_text (as_stored (item_value self.now))) }
+        ensures err { OnErr result (out.new.items ≡ out.old.items) }
+    {
+        let before = out.len();
+        match self.add_stored(out) {
+            Ok(()) => Ok(()),
+            Err(error) => {
+                out.truncate(before);
+                Err(error)
+            }
+        }
+    }
+}
+
+/// Adds items as a queued message has them. Where memory is wanted some of them may have been added.
+fn add_stored_items(items: &[Item<'_>], out: &mut Vec<u8>) -> Result<(), AllocError>
+    ensures ok { OnOk result (out.new.items ≡ out.old.items ++ items_text (map as_stored (map item_value items.now))) }
+    ensures part { OnErr result (Keeps out.old.items out.new.items) }
+{
+    for item in items {
+        item.push_stored(out)?;
+    }
+    Ok(())
+}
+
+/// Adds the bytes of items as a queued message has them: types of ports as received, and 0 in each port's place.
+///
+/// Where memory is wanted nothing changed.
+pub fn push_stored_items(items: &[Item<'_>], out: &mut Vec<u8>) -> Result<(), AllocError>
+    ensures ok { OnOk result (out.new.items ≡ out.old.items ++ items_text (map as_stored (map item_value items.now))) }
+    ensures err { OnErr result (out.new.items ≡ out.old.items) }
+{
+    let before = out.len();
+    match add_stored_items(items, out) {
+        Ok(()) => Ok(()),
+        Err(error) => {
+            out.truncate(before);
+            Err(error)
+        }
+    }
+}
