@@ -1,0 +1,22 @@
+-- A state as rows.
+use Rattle.std.specs.Prelude.{ℕ, List, map}
+use Rattle.std.specs.FinMap as finmap
+use Rattle.ipc_model.specs.declared.entry.Entry.{Entry}
+use Rattle.ipc_model.specs.declared.port.PortState.{PortState}
+use Rattle.ipc_model.specs.state.State.{Names, State}
+use Rattle.snapshot.specs.declared.rows.LivePort.{LivePort}
+use Rattle.snapshot.specs.declared.rows.NamedEntry.{NamedEntry}
+use Rattle.snapshot.specs.declared.rows.Snapshot.{Snapshot}
+use Rattle.snapshot.specs.declared.rows.Space.{Space}
+
+-- the names of a space, rising
+abbrev pub names_of : Names → List NamedEntry
+names_of names = map (λ e. record { name = e.0; entry = e.1 }) (finmap.entries names)
+
+-- the snapshot of a state: its spaces, each with its names, and its live ports, each list rising
+unfoldable pub snapshot_of : State → Snapshot
+snapshot_of state = record {
+  next_serial = state.next;
+  spaces = map (λ e. record { number = e.0; names = names_of e.1 }) (finmap.entries state.spaces);
+  ports = map (λ e. record { serial = e.0; state = e.1 }) (finmap.entries state.ports);
+}

@@ -1,0 +1,6 @@
+//! A state of the machine as plain values: what an image holds and an inspector prints.
+#![tactic(auto)]
+
+mod rows;
+
+pub use rows::{LivePort, NamedEntry, Snapshot, Space};

@@ -1,0 +1,37 @@
+use ipc_model::{Entry, PortState, Sequence};
+
+/// A name of a space and what it stands for.
+#[derive(Debug, Drop)]
+pub struct NamedEntry {
+    pub name: u32,
+    pub entry: Entry,
+}
+
+/// A port space.
+#[derive(Debug, Drop)]
+pub struct Space {
+    /// The space's number.
+    pub number: u32,
+    /// Its names, rising.
+    pub names: Sequence<NamedEntry>,
+}
+
+/// A live port.
+#[derive(Debug, Drop)]
+pub struct LivePort {
+    /// The port's serial number.
+    pub serial: u64,
+    /// What it keeps, its queue among it.
+    pub state: PortState,
+}
+
+/// A state: the spaces by their numbers, the live ports by their serials.
+#[derive(Debug, Drop)]
+pub struct Snapshot {
+    /// The serial that the next port gets.
+    pub next_serial: u64,
+    /// The spaces, rising by number.
+    pub spaces: Sequence<Space>,
+    /// The live ports, rising by serial.
+    pub ports: Sequence<LivePort>,
+}
