@@ -1,3 +1,4 @@
+pub mod Recency
 pub mod Slabbed
 pub mod Slotted
 pub mod Standing

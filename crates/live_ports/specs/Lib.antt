@@ -6,3 +6,4 @@ pub mod Touched
 pub mod Tables
 pub mod PortTable
 pub mod Slabbed
+pub mod Recent

@@ -1,6 +1,7 @@
 //! The live ports, whose changes are kept or given up. Neither takes memory.
 #![tactic(auto)]
 
+mod keys;
 mod port;
 mod ports;
 mod slots;

@@ -8,9 +8,9 @@ ghost use Rattle.live_ports.specs.Tables.{current_of, slot_changed, present_chan
 ghost use Rattle.slab.specs.Slab as slab;
 ghost use Rattle.slab.specs.Slab.{Updates};
 
+use crate::keys::SerialKeys;
 use crate::port::{Port, PortNumbers};
 use ipc_model::Message;
-use number_map::NumberMap;
 use slab::Slab;
 use std::alloc::{AllocError, Global};
 use std::marker::Model;
@@ -21,7 +21,7 @@ use std::marker::Model;
 pub(crate) struct PortSlots {
     alloc: Global,
     ports: Slab<Port>,
-    keys: NumberMap<usize>,
+    keys: SerialKeys,
 }
 
 impl Model for PortSlots {
@@ -49,7 +49,7 @@ impl PortSlots {
         PortSlots {
             alloc,
             ports: Slab::new(alloc),
-            keys: NumberMap::new(alloc),
+            keys: SerialKeys::new(alloc),
         }
     }
 
@@ -58,7 +58,7 @@ impl PortSlots {
         ensures { option_copied result ≡ map.get self.now serial }
     {
         match self.keys.get(serial) {
-            Some(key) => self.ports.get(*key),
+            Some(key) => self.ports.get(key),
             None => None,
         }
     }
@@ -69,7 +69,7 @@ impl PortSlots {
         ensures err { OnErr result (self.new ≡ self.old) }
     {
         if let Some(key) = self.keys.get(serial) {
-            replace_at(&mut self.ports, *key, port);
+            replace_at(&mut self.ports, key, port);
             return Ok(());
         }
         add_to_both(&mut self.ports, &mut self.keys, serial, port)
@@ -89,7 +89,7 @@ impl PortSlots {
         ensures { self.new ≡ slot_changed self.old serial (present_changed (with_numbers numbers)) }
     {
         if let Some(key) = self.keys.get(serial) {
-            set_numbers_at(&mut self.ports, *key, numbers);
+            set_numbers_at(&mut self.ports, key, numbers);
         }
     }
 
@@ -100,7 +100,7 @@ impl PortSlots {
         ensures err { OnErr result (self.new ≡ self.old) }
     {
         match self.keys.get(serial) {
-            Some(key) => push_at(&mut self.ports, *key, message),
+            Some(key) => push_at(&mut self.ports, key, message),
             None => Ok(()),
         }
     }
@@ -110,7 +110,7 @@ impl PortSlots {
         ensures { self.new ≡ slot_changed self.old serial (present_changed without_first) }
     {
         if let Some(key) = self.keys.get(serial) {
-            take_at(&mut self.ports, *key);
+            take_at(&mut self.ports, key);
         }
     }
 
@@ -119,7 +119,7 @@ impl PortSlots {
         ensures { self.new ≡ slot_changed self.old serial buried }
     {
         if let Some(key) = self.keys.get(serial) {
-            bury_at(&mut self.ports, *key);
+            bury_at(&mut self.ports, key);
         }
     }
 
@@ -128,7 +128,7 @@ impl PortSlots {
         ensures { self.new ≡ slot_changed self.old serial kept_slot }
     {
         if let Some(key) = self.keys.get(serial) {
-            keep_at(&mut self.ports, *key);
+            keep_at(&mut self.ports, key);
         }
     }
 
@@ -137,7 +137,7 @@ impl PortSlots {
         ensures { self.new ≡ slot_changed self.old serial given_up_slot }
     {
         if let Some(key) = self.keys.get(serial) {
-            give_up_at(&mut self.ports, *key);
+            give_up_at(&mut self.ports, key);
         }
     }
 
@@ -172,7 +172,7 @@ impl PortSlots {
 /// A port comes under a serial that has none. Where memory is wanted nothing changed.
 fn add_to_both(
     ports: &mut Slab<Port>,
-    keys: &mut NumberMap<usize>,
+    keys: &mut SerialKeys,
     serial: u128,
     port: Port,
 ) -> Result<(), AllocError>

@@ -6,7 +6,7 @@ use Rattle.live_ports.proofs.slots.PortSlots.give_up.Goals as goal
 pub returns-in-Some : goal.returns-in-Some
 returns-in-Some c =
     let inside = c.self.inside in
-    slot_is_changed (given_up_slot) inside.ports c.give_up_at.new.ports inside.keys c.args.serial c.in-Some.key.now c.self.invariant (sym c.in-Some.ensures) c.give_up_at.ensures ∙ ap (λ (m : Slots). slot_changed m c.args.serial (given_up_slot)) c.self.view_is
+    slot_is_changed (given_up_slot) inside.ports c.give_up_at.new.ports inside.keys c.args.serial c.in-Some.key c.self.invariant (sym c.in-Some.ensures) c.give_up_at.ensures ∙ ap (λ (m : Slots). slot_changed m c.args.serial (given_up_slot)) c.self.view_is
 
 pub returns-in_default : goal.returns-in_default
 returns-in_default c =

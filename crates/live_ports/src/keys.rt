@@ -1,0 +1,141 @@
+//! The slab's keys of the live ports' serials.
+ghost use Rattle.std.specs.Prelude.{◌≡◌, ◌<◌, ◌≤◌, ℕ, None, Some, IfSome, MatchOption, OnOk, OnErr, slice_index_or};
+ghost use Rattle.std.specs.FinMap as map;
+ghost use Rattle.live_ports.specs.Recent.{at, place_of, IsNoted};
+
+use number_map::NumberMap;
+use std::alloc::{AllocError, Global};
+use std::marker::Model;
+
+const PLACES: usize = 16384;
+
+/// The keys of serials. An ordered map has them all; a table of `PLACES`, made with the first of them where there is
+/// memory for it, finds most of them in one look. Contracts see the finite map from serials to keys.
+#[derive(Drop)]
+pub(crate) struct SerialKeys {
+    alloc: Global,
+    keys: NumberMap<usize>,
+    recent: Vec<Option<(u64, usize)>>,
+}
+
+impl Model for SerialKeys {
+    ghost use Rattle.std.specs.Coded.{coded_ℕ};
+    ghost use Rattle.std.specs.FinMap as map;
+    ghost use Rattle.live_ports.specs.Slabbed.{Keys};
+    ghost use Rattle.live_ports.specs.Recent.{AreRecent};
+
+    ghost Value = { Keys };
+
+    ghost coded = { map.code coded_ℕ coded_ℕ };
+
+    ghost view = { λ s. s.keys };
+
+    ghost invariant = { λ s. AreRecent s.recent.items s.keys };
+}
+
+impl SerialKeys {
+    /// No keys. It takes no memory.
+    pub(crate) fn new(alloc: Global) -> Self
+        ensures { result ≡ map.empty }
+    {
+        SerialKeys {
+            alloc,
+            keys: NumberMap::new(alloc),
+            recent: Vec::new(alloc),
+        }
+    }
+
+    /// The key of a serial.
+    pub(crate) fn get(&self, serial: u128) -> Option<usize>
+        ensures { result ≡ map.get self.now serial }
+    {
+        if let Some(key) = noted_key(&self.recent, serial) {
+            return Some(key);
+        }
+        self.keys.get(serial).copied()
+    }
+
+    /// The least serial from one on that has a key, with it.
+    pub(crate) fn next_from(&self, from: u128) -> Option<(u128, &usize)>
+        ensures { MatchOption result ((serial : ℕ) → from ≤ serial → map.get self.now serial ≡ None)
+            (λ e. (from ≤ e.0) × (map.get self.now e.0 ≡ Some e.1.now) × ((serial : ℕ) → from ≤ serial → serial < e.0 → map.get self.now serial ≡ None)) }
+    {
+        self.keys.next_from(from)
+    }
+
+    /// Sets the key of a serial. Where memory is wanted nothing changed.
+    pub(crate) fn insert(&mut self, serial: u128, key: usize) -> Result<(), AllocError>
+        ensures ok { OnOk result (self.new ≡ map.insert self.old serial key) }
+        ensures err { OnErr result (self.new ≡ self.old) }
+    {
+        self.keys.insert(serial, key)?;
+        make_places(&mut self.recent, self.alloc);
+        note(&mut self.recent, place(serial), noted(serial, key));
+        Ok(())
+    }
+
+    /// A serial has no key any more. What it was.
+    pub(crate) fn remove(&mut self, serial: u128) -> Option<usize>
+        ensures before { result ≡ map.get self.old serial }
+        ensures removed { self.new ≡ map.remove self.old serial }
+    {
+        note(&mut self.recent, place(serial), None);
+        self.keys.remove(serial)
+    }
+}
+
+/// The place of a serial.
+fn place(serial: u128) -> usize
+    ensures { result ≡ place_of serial }
+{
+    (serial % 16384) as usize
+}
+
+/// What a place has for a serial and its key. A serial that is no `u64` has no place.
+fn noted(serial: u128, key: usize) -> Option<(u64, usize)>
+    ensures { IfSome result (λ noted. (noted.0 ≡ serial) × (noted.1 ≡ key)) }
+{
+    let short = u64::try_from(serial).ok()?;
+    Some((short, key))
+}
+
+/// The key that stands at a serial's place, if it is the serial's.
+fn noted_key(recent: &[Option<(u64, usize)>], serial: u128) -> Option<usize>
+    ensures { IfSome result (λ key. at recent.now (place_of serial) ≡ Some (serial, key)) }
+{
+    let Some(Some((other, key))) = recent.get(place(serial)) else {
+        return None;
+    };
+    if u128::from(*other) == serial {
+        Some(*key)
+    } else {
+        None
+    }
+}
+
+/// The places are there from now on, if there is memory for them.
+fn make_places(recent: &mut Vec<Option<(u64, usize)>>, alloc: Global)
+    ensures { (place : ℕ) → at recent.new.items place ≡ at recent.old.items place }
+{
+    if recent.is_empty() {
+        *recent = free_places(alloc);
+    }
+}
+
+/// Places that are free, or none where memory is wanted.
+fn free_places(alloc: Global) -> Vec<Option<(u64, usize)>>
+    ensures { (place : ℕ) → at result.items place ≡ None }
+{
+    match vec![in alloc; None; PLACES] {
+        Ok(places) => places,
+        Err(_) => Vec::new(alloc),
+    }
+}
+
+fn note(recent: &mut Vec<Option<(u64, usize)>>, place: usize, content: Option<(u64, usize)>)
+    ensures { IsNoted content place recent.old.items recent.new.items }
+{
+    if place < recent.len() {
+        recent[place] = content;
+    }
+}
