@@ -1,5 +1,13 @@
-//! Tests of the service over a store, with stops between its calls.
+//! Tests of the service over a store: streams, faults, and stops between and within its calls.
 #![tactic(auto)]
 
 #[cfg(test)]
+mod frames;
+#[cfg(test)]
+mod programs;
+#[cfg(test)]
 mod served;
+#[cfg(test)]
+mod stops;
+#[cfg(test)]
+mod streams;
