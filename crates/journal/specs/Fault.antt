@@ -18,3 +18,12 @@ fault_text Damaged = codes "damaged"
 fault_text NoMemory = codes "no memory"
 fault_text Failed = codes "failed"
 fault_text Version = codes "version"
+
+-- a fault's line of errors
+abbrev pub fault_line : StoreFault → List ℕ
+fault_line Device = codes "store fault 1: device\n"
+fault_line Full = codes "store fault 2: full\n"
+fault_line Damaged = codes "store fault 3: damaged\n"
+fault_line NoMemory = codes "store fault 4: no memory\n"
+fault_line Failed = codes "store fault 5: failed\n"
+fault_line Version = codes "store fault 6: version\n"

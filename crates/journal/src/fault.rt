@@ -1,5 +1,5 @@
 ghost use Rattle.std.specs.Prelude.{◌≡◌, Some};
-ghost use Rattle.journal.specs.Fault.{fault_number, fault_text};
+ghost use Rattle.journal.specs.Fault.{fault_line, fault_number, fault_text};
 
 use disk::DiskFault;
 use std::alloc::{AllocError, AllocFailed};
@@ -28,6 +28,20 @@ impl StoreFault {
         ensures { result ≡ fault_number self }
     {
         self as u8
+    }
+
+    /// The fault as a line of errors, behind the name of a program: its kind, its number and its text.
+    pub fn line(self) -> &'static str
+        ensures { result.now ≡ fault_line self }
+    {
+        match self {
+            StoreFault::Device => "store fault 1: device\n",
+            StoreFault::Full => "store fault 2: full\n",
+            StoreFault::Damaged => "store fault 3: damaged\n",
+            StoreFault::NoMemory => "store fault 4: no memory\n",
+            StoreFault::Failed => "store fault 5: failed\n",
+            StoreFault::Version => "store fault 6: version\n",
+        }
     }
 }
 

@@ -11,7 +11,7 @@ ghost use Rattle.ipc_model.specs.state.Lawful.{Lawful};
 
 use crate::choices::Shown;
 use crate::reply::is_same_reply;
-use crate::stepping::step;
+use crate::stepping::{step, try_answer};
 use codes::{KernReturn, MACH_PORT_GET_RECEIVE_STATUS, MACH_PORT_GET_REFS, MACH_PORT_TYPE};
 use ipc_model::{Call, Record, Reply, call_in_range};
 use port_calls::IpcState;
@@ -114,12 +114,8 @@ impl Kernel {
         ensures fits { IfOk result (λ answer. IfSome answer (λ reply. length (reply_text reply) ≤ MAX_FRAME_CONTENT)) }
     {
         let mut state = self.state.copy()?;
-        let shown = Shown::nothing(self.alloc);
-        let reply = step(self.alloc, &mut state, space, call, &shown)?;
-        if call.has_record(&reply) {
-            return Ok(None);
-        }
-        Ok(Some(reply))
+        let answer = try_answer(self.alloc, &mut state, space, call)?;
+        Ok(answer)
     }
 
     /// What `answer` answers, without a copy of the state: the call is made and given up.
@@ -131,14 +127,9 @@ impl Kernel {
         ensures fits { IfOk result (λ answer. IfSome answer (λ reply. length (reply_text reply) ≤ MAX_FRAME_CONTENT)) }
         ensures same { self.new ≡ self.old }
     {
-        let shown = Shown::nothing(self.alloc);
-        let answered = step(self.alloc, &mut self.state, space, call, &shown);
+        let answer = try_answer(self.alloc, &mut self.state, space, call);
         self.state.give_up();
-        let reply = answered?;
-        if call.has_record(&reply) {
-            return Ok(None);
-        }
-        Ok(Some(reply))
+        answer
     }
 
     /// What `apply` answers to `mach_port_type`, which changes nothing: the type bits of a name, or `InvalidTask` where

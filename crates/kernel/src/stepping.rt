@@ -1,9 +1,12 @@
-ghost use Rattle.std.specs.Prelude.{◌≡◌, [], true, false, None, IfOk, IfSome, IfNone, IsSome};
+ghost use Rattle.std.specs.Prelude.{◌≡◌, ◌≤◌, [], true, false, length, None, IfOk, IfSome, IfNone, IsSome};
 ghost use Rattle.std.specs.FinMap as map;
 ghost use Rattle.ipc_laws.specs.PortCallLaws.{is_port_call};
-ghost use Rattle.ipc_model.specs.calls.Step.{Step};
+ghost use Rattle.codes.specs.declared.limits.TheConstants.{MAX_FRAME_CONTENT};
+ghost use Rattle.ipc_model.specs.calls.Step.{Step, has_record};
 ghost use Rattle.ipc_model.specs.state.Circular.{Grounded};
 ghost use Rattle.ipc_model.specs.state.Lawful.{Lawful};
+ghost use Rattle.ipc_model.specs.state.State.{State};
+ghost use Rattle.ipc_model.specs.texts.Texts.{reply_text};
 ghost use Rattle.kernel.specs.Choosing.{Prefers, only_reads, sets_nothing_off};
 ghost use Rattle.kernel.specs.Stepping.{PrefersStep};
 ghost use Rattle.port_calls.specs.Trying.{Tries};
@@ -46,6 +49,32 @@ pub fn step(
     }
     let reply = step_by_effects(alloc, state, space, call, shown)?;
     Ok(reply)
+}
+
+/// What `step` answers to a call that has no record, or `None` where the step has one. The changes are to be given up.
+pub fn try_answer(
+    alloc: Global,
+    state: &mut IpcState,
+    space: u32,
+    call: &Call,
+) -> Result<Option<Reply>, AllocError>
+    requires fresh { map.get state.old.current.ports state.old.current.next ≡ None }
+    requires rest { state.old.before ≡ state.old.current }
+    requires lawful { Lawful state.old.current }
+    requires grounded { Grounded state.old.current }
+    ensures answered { IfOk result (λ answer. IfSome answer
+        (λ reply. Step state.old.current space call.now reply state.old.current × (has_record call.now reply ≡ false))) }
+    ensures none { IfOk result (λ answer. IfNone answer ((reply : Reply) × (new : State)
+        × Step state.old.current space call.now reply new × (has_record call.now reply ≡ true))) }
+    ensures fits { IfOk result (λ answer. IfSome answer (λ reply. length (reply_text reply) ≤ MAX_FRAME_CONTENT)) }
+    ensures before { state.new.before ≡ state.old.before }
+{
+    let shown = Shown::nothing(alloc);
+    let reply = step(alloc, state, space, call, &shown)?;
+    if call.has_record(&reply) {
+        return Ok(None);
+    }
+    Ok(Some(reply))
 }
 
 /// Makes a step that may take rights and set something off.

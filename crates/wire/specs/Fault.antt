@@ -14,3 +14,10 @@ fault_text Short = codes "short"
 fault_text TooLong = codes "too long"
 fault_text Device = codes "device"
 fault_text NoMemory = codes "no memory"
+
+-- a fault's line of errors
+abbrev pub fault_line : WireFault → List ℕ
+fault_line Short = codes "wire fault 1: short\n"
+fault_line TooLong = codes "wire fault 2: too long\n"
+fault_line Device = codes "wire fault 3: device\n"
+fault_line NoMemory = codes "wire fault 4: no memory\n"

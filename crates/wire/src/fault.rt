@@ -1,5 +1,5 @@
 ghost use Rattle.std.specs.Prelude.{◌≡◌, Some};
-ghost use Rattle.wire.specs.Fault.{fault_number, fault_text};
+ghost use Rattle.wire.specs.Fault.{fault_line, fault_number, fault_text};
 ghost use Rattle.wire.specs.declared.fault.WireFault.TheVariants.{NoMemory};
 
 use std::alloc::AllocError;
@@ -25,6 +25,18 @@ impl WireFault {
         ensures { result ≡ fault_number self }
     {
         self as u32
+    }
+
+    /// The fault as a line of errors, behind the name of a program: its kind, its number and its text.
+    pub fn line(self) -> &'static str
+        ensures { result.now ≡ fault_line self }
+    {
+        match self {
+            WireFault::Short => "wire fault 1: short\n",
+            WireFault::TooLong => "wire fault 2: too long\n",
+            WireFault::Device => "wire fault 3: device\n",
+            WireFault::NoMemory => "wire fault 4: no memory\n",
+        }
     }
 }
 

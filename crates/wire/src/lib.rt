@@ -11,4 +11,4 @@ mod write;
 pub use fault::WireFault;
 pub use frame::Frame;
 pub use read::read_frame;
-pub use write::write_frame;
+pub use write::{write_bytes, write_frame};

@@ -29,8 +29,9 @@ fn write_some<W: Write>(writer: &mut W, bytes: &[u8]) -> Result<usize, WireFault
     Err(WireFault::Device)
 }
 
-// Writes all of the bytes, or some first ones of them.
-fn send<W: Write>(writer: &mut W, bytes: &[u8]) -> Result<(), WireFault>
+/// Writes the bytes behind what was written before, and doesn't flush. `Device`: the writer failed, or takes no more
+/// bytes. Some first bytes of them may then have been written, and no others.
+pub fn write_bytes<W: Write>(writer: &mut W, bytes: &[u8]) -> Result<(), WireFault>
     ensures ok { OnOk result (Appends (W.contents writer.old) (W.contents writer.new) bytes.now) }
     ensures part { OnErr result
         (AppendsPart (W.contents writer.old) (W.contents writer.new) bytes.now) }
@@ -58,6 +59,6 @@ pub fn write_frame<W: Write>(writer: &mut W, frame: &Frame) -> Result<(), WireFa
 {
     let content = frame.content();
     let length = content.len() as u32;
-    send(writer, &length.to_le_bytes())?;
-    send(writer, content)
+    write_bytes(writer, &length.to_le_bytes())?;
+    write_bytes(writer, content)
 }

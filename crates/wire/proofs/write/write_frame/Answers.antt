@@ -20,17 +20,17 @@ part_behind : (old mid new : Option (List ℕ)) (front bytes : List ℕ) → App
 part_behind old mid new front bytes first (sent, rest, split, appended) =
     (front ++ sent, rest, ap (λ (b : List ℕ). front ++ b) split ∙ sym (append_assoc front sent rest), Appends-trans old mid new front sent first appended)
 
-pub returns-in_err-send-clause-part : goal.returns-in_err-send-clause-part
-returns-in_err-send-clause-part g c =
+pub returns-in_err-write_bytes-clause-part : goal.returns-in_err-write_bytes-clause-part
+returns-in_err-write_bytes-clause-part g c =
     let content = c.args.frame.now.content in
     let spelled : c.to_le_bytes.result ≡ word (length content) = c.to_le_bytes.ensures ∙ ap (λ (b : List ℕ). word (length b)) c.content-content.ensures.value in
-    let part = rw spelled at c.in_err-send.ensures.part in
+    let part = rw spelled at c.in_err-write_bytes.ensures.part in
     at_any _ (part_before _ _ (word (length content)) content part)
 
 pub returns-clause-part : goal.returns-clause-part
 returns-clause-part g c =
     let content = c.args.frame.now.content in
     let spelled : c.to_le_bytes.result ≡ word (length content) = c.to_le_bytes.ensures ∙ ap (λ (b : List ℕ). word (length b)) c.content-content.ensures.value in
-    let first = rw spelled at c.in_ok-send.ensures.ok in
-    let second = rw c.content-content.ensures.value at c.send-2.ensures.part in
+    let first = rw spelled at c.in_ok-write_bytes.ensures.ok in
+    let second = rw c.content-content.ensures.value at c.write_bytes-2.ensures.part in
     on_err_weaker _ (part_behind _ _ _ (word (length content)) content first) second

@@ -1,7 +1,7 @@
 -- What is gone from the rest was appended.
 use Rattle.std.proofs.Common.{◌≡◌, List, ℕ, ◌++◌, length}
 use Rattle.std.specs.Io.KnownBytes.{Appends}
-use Rattle.wire.proofs.write.send.Given as goal
+use Rattle.wire.proofs.write.write_bytes.Given as goal
 
 abbrev pub invariant-loop-rest : goal.invariant-loop-rest
 invariant-loop-rest g l = (sent : List ℕ) × (l.initial.rest ≡ sent ++ l.rest) × Appends (g.W.Write.contents l.initial.writer) (g.W.Write.contents l.writer) sent
