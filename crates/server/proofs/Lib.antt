@@ -1,3 +1,4 @@
 mod Answered
 mod Going
 mod Keeping
+mod Stopping
