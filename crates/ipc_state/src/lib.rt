@@ -3,6 +3,7 @@
 #![tactic(auto)]
 
 mod carried;
+mod copying;
 mod counts;
 mod deaths;
 mod names;

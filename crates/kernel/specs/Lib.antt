@@ -3,3 +3,4 @@ pub mod Trials
 pub mod Stepping
 pub mod Unrecorded
 pub mod Fitting
+pub mod Copying

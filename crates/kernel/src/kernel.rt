@@ -42,7 +42,7 @@ impl From<AllocError> for ReplayFault {
 #[derive(Drop)]
 pub struct Kernel {
     alloc: Global,
-    state: IpcState,
+    pub(crate) state: IpcState,
 }
 
 impl Model for Kernel {

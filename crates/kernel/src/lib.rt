@@ -2,6 +2,7 @@
 #![tactic(auto)]
 
 mod choices;
+mod copying;
 mod dispatch;
 mod kernel;
 mod laws;

@@ -3,3 +3,5 @@
 
 #[cfg(test)]
 mod calls_made;
+#[cfg(test)]
+mod copied;

@@ -7,3 +7,4 @@ pub mod Tables
 pub mod PortTable
 pub mod Slabbed
 pub mod Recent
+pub mod NextPort

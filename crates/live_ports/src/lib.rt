@@ -2,6 +2,7 @@
 #![tactic(auto)]
 
 mod keys;
+mod next_port;
 mod port;
 mod ports;
 mod slots;

@@ -22,7 +22,7 @@ use std::marker::Model;
 /// death visits no other queue.
 #[derive(Drop)]
 pub struct LivePorts {
-    tables: Tables,
+    pub(crate) tables: Tables,
 }
 
 impl Model for LivePorts {

@@ -1,5 +1,5 @@
 //! The slots of ports, in a slab.
-ghost use Rattle.std.specs.Prelude.{◌≡◌, ◌<◌, ◌-◌, ◌^◌, None, IfOk, IfSome, MatchOption, OnOk, OnErr, length, option_copied, option_and_then};
+ghost use Rattle.std.specs.Prelude.{◌≡◌, ℕ, ◌≤◌, ◌<◌, ◌-◌, ◌^◌, None, IfOk, IfSome, MatchOption, OnOk, OnErr, length, option_copied, option_and_then};
 ghost use Rattle.std.specs.FinMap as map;
 ghost use Rattle.live_ports.specs.Changed.{with_message, with_numbers, without_first};
 ghost use Rattle.live_ports.specs.PortSlot.{PortSlot};
@@ -61,6 +61,17 @@ impl PortSlots {
             Some(key) => self.ports.get(key),
             None => None,
         }
+    }
+
+    /// The least serial from one on that may have a port: before it none has.
+    pub(crate) fn next_serial(&self, from: u128) -> Option<u128>
+        ensures { MatchOption result ((serial : ℕ) → from ≤ serial → map.get self.now serial ≡ None)
+            (λ next. (from ≤ next) × ((serial : ℕ) → from ≤ serial → serial < next → map.get self.now serial ≡ None)) }
+    {
+        let Some((serial, _)) = self.keys.next_from(from) else {
+            return None;
+        };
+        Some(serial)
     }
 
     /// Sets the port of a serial. Where memory is wanted nothing changed.

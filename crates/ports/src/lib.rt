@@ -6,6 +6,7 @@ mod burials;
 mod changes;
 mod deaths;
 mod indexes;
+mod next_port;
 mod ports;
 mod reads;
 mod rights;

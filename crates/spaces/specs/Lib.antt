@@ -8,3 +8,4 @@ pub mod Reading
 pub mod Renamed
 pub mod Slots
 pub mod Walks
+pub mod NextSpace

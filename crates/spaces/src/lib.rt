@@ -5,6 +5,7 @@ mod counting;
 mod deaths;
 mod indexes;
 mod moves;
+mod next_space;
 mod numbers;
 mod reads;
 mod slot;

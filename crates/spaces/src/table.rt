@@ -20,7 +20,7 @@ use std::marker::Model;
 #[derive(Drop)]
 pub struct SpaceTable {
     alloc: Global,
-    slots: NumberMap<Space>,
+    pub(crate) slots: NumberMap<Space>,
     /// The slots that may have changed.
     touched: Vec<u128>,
     count: usize,

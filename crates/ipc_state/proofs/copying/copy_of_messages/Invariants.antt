@@ -1,0 +1,7 @@
+use Rattle.std.proofs.Common.{◌≡◌, take}
+use Rattle.live_ports.specs.Changed.{messages_at}
+use Rattle.ipc_state.proofs.copying.copy_of_messages.Given as goal
+
+-- the messages so far
+abbrev pub invariant-loop-index : goal.invariant-loop-index
+invariant-loop-index l = l.copy.items ≡ take l.index (messages_at l.ports.current.ports l.serial)

@@ -1,0 +1,14 @@
+use Rattle.std.proofs.Common.{◌≤◌, ◌-◌, ◌^◌}
+use Rattle.ipc_model.specs.calls.PortCalls.{names_in}
+use Rattle.kernel.specs.Copying.{named_row, AreGathered}
+use Rattle.kernel.proofs.copying.names_of.Given as goal
+
+-- what was gathered, with the names that are left, is the whole
+abbrev pub invariant-loop-name : goal.invariant-loop-name
+invariant-loop-name l = record {
+  gathered : AreGathered named_row (names_in l.state.current l.space) l.names.items l.at;
+  fits : l.at ≤ 2 ^ 32;
+}
+
+abbrev pub decreases-loop-name : goal.decreases-loop-name
+decreases-loop-name l = 2 ^ 33 - l.at

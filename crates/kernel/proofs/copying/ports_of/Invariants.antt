@@ -1,0 +1,10 @@
+use Rattle.std.proofs.Common.{◌-◌, ◌^◌}
+use Rattle.kernel.specs.Copying.{port_row, AreGathered}
+use Rattle.kernel.proofs.copying.ports_of.Given as goal
+
+-- what was gathered, with the ports that are left, is the whole
+abbrev pub invariant-loop-serial : goal.invariant-loop-serial
+invariant-loop-serial l = AreGathered port_row l.state.current.ports l.ports.items l.at
+
+abbrev pub decreases-loop-serial : goal.decreases-loop-serial
+decreases-loop-serial l = 2 ^ 64 - l.at

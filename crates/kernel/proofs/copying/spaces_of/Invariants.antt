@@ -1,0 +1,13 @@
+use Rattle.std.proofs.Common.{◌≤◌, ◌-◌, ◌^◌}
+use Rattle.kernel.specs.Copying.{space_row, AreGathered}
+use Rattle.kernel.proofs.copying.spaces_of.Given as goal
+
+-- what was gathered, with the spaces that are left, is the whole
+abbrev pub invariant-loop-number : goal.invariant-loop-number
+invariant-loop-number l = record {
+  gathered : AreGathered space_row l.state.current.spaces l.spaces.items l.at;
+  fits : l.at ≤ 2 ^ 32;
+}
+
+abbrev pub decreases-loop-number : goal.decreases-loop-number
+decreases-loop-number l = 2 ^ 33 - l.at

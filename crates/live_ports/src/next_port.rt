@@ -1,0 +1,49 @@
+//! The live ports gone through by their serials.
+ghost use Rattle.std.specs.Prelude.{◌≡◌, ℕ, ◌≤◌, ◌<◌, ◌-◌, ◌^◌, None, IfSome, MatchOption};
+ghost use Rattle.std.specs.FinMap as map;
+ghost use Rattle.live_ports.specs.NextPort.{IsNextPort, IsNextWord};
+ghost use Rattle.live_ports.specs.Tables.{present_ports};
+
+use crate::LivePorts;
+use crate::slots::PortSlots;
+use crate::tables::Tables;
+
+impl LivePorts {
+    /// The least serial from one on under which a port lives. What died since the changes were last kept is passed over.
+    pub fn next_port(&self, from: u64) -> Option<u64>
+        ensures next { IsNextPort self.now.current.ports from result }
+        ensures fits { IfSome result (λ serial. serial < 2 ^ 64 - 1) }
+    {
+        // All serials are below the next one, which is a word.
+        let _next = self.tables.next;
+        self.tables.next_port(from)
+    }
+}
+
+impl Tables {
+    /// The least serial of a word from one on under which a port lives.
+    pub(crate) fn next_port(&self, from: u64) -> Option<u64>
+        ensures { IsNextWord (present_ports self.now.slots) from result }
+    {
+        let mut at = u128::from(from);
+        while let Some(serial) = next_slot(&self.slots, at) {
+            if self.contains(serial) {
+                return Some(serial);
+            }
+            at = u128::from(serial) + 1;
+        }
+        None
+    }
+}
+
+/// The least serial of a word from one on that may have a slot: none before it has.
+fn next_slot(slots: &PortSlots, from: u128) -> Option<u64>
+    ensures slot { MatchOption result ((serial : ℕ) → from ≤ serial → serial < 2 ^ 64 → map.get slots.now serial ≡ None)
+        (λ next. (from ≤ next) × ((serial : ℕ) → from ≤ serial → serial < next → map.get slots.now serial ≡ None)) }
+    ensures fits { IfSome result (λ next. next < 2 ^ 64) }
+{
+    let Some(serial) = slots.next_serial(from) else {
+        return None;
+    };
+    u64::try_from(serial).ok()
+}
