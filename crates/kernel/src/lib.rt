@@ -12,3 +12,4 @@ mod stepping;
 
 pub use kernel::{Kernel, ReplayFault};
 pub use laws::unrecorded_steps_change_nothing;
+pub use snapshot::Snapshot;

@@ -6,3 +6,4 @@ pub mod Opened
 pub mod Recovered
 pub mod RecoveredLaws
 pub mod Steps
+pub mod Looked

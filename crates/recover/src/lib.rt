@@ -2,10 +2,12 @@
 #![tactic(auto)]
 
 mod laws;
+mod looking;
 mod making;
 mod opening;
 mod reading;
 
 pub use kernel::Kernel;
 pub use laws::stands_as_written;
+pub use looking::{Looked, look};
 pub use opening::{Opened, open};

@@ -42,11 +42,11 @@ impl<D: Disk> Model for Opened<D> {
 
 /// As much of the front of each slot as tells what the slot is, and all of segment 0.
 #[derive(Drop)]
-struct Fronts {
-    image0: Vec<u8>,
-    image1: Vec<u8>,
-    segment0: Vec<u8>,
-    segment1: Vec<u8>,
+pub(crate) struct Fronts {
+    pub(crate) image0: Vec<u8>,
+    pub(crate) image1: Vec<u8>,
+    pub(crate) segment0: Vec<u8>,
+    pub(crate) segment1: Vec<u8>,
 }
 
 /// The bytes of a slot, at most so many from its front.
@@ -82,17 +82,16 @@ fn whole_segment<D: Disk>(alloc: Global, disk: &mut D) -> Result<Vec<u8>, StoreF
     front_of(alloc, disk, Slot::Segment0, length)
 }
 
-/// Syncs the slots and reads their fronts.
-fn read_fronts<D: Disk>(alloc: Global, disk: &mut D) -> Result<Fronts, StoreFault>
+/// Reads the fronts of the slots.
+pub(crate) fn read_slots<D: Disk>(alloc: Global, disk: &mut D) -> Result<Fronts, StoreFault>
     ensures fronts { D.honest → IfOk result (λ fronts. four_slots fronts.image0.items fronts.image1.items fronts.segment0.items fronts.segment1.items
         ≡ fronts_of (D.view disk.old).seen) }
     ensures seen { D.honest → (D.view disk.new).seen ≡ (D.view disk.old).seen }
-    ensures rest { D.honest → OnOk result (IsAtRest (D.view disk.new)) }
+    ensures rest { D.honest → IsAtRest (D.view disk.old) → OnOk result (IsAtRest (D.view disk.new)) }
     ensures quiet { OnOk result (D.failed_calls disk.new ≡ D.failed_calls disk.old) }
     ensures device { IsErrOf result StoreFault.Device → D.failed_calls disk.new ≡ one_more (D.failed_calls disk.old) }
     ensures faults { OnErr result ((result ≡ Err StoreFault.Device) ⊎ (result ≡ Err StoreFault.NoMemory)) }
 {
-    sync_all(disk)?;
     let image0 = front_of(alloc, disk, Slot::Image0, IMAGE_HEADER + 24)?;
     let image1 = front_of(alloc, disk, Slot::Image1, IMAGE_HEADER)?;
     let segment0 = whole_segment(alloc, disk)?;
@@ -105,8 +104,23 @@ fn read_fronts<D: Disk>(alloc: Global, disk: &mut D) -> Result<Fronts, StoreFaul
     })
 }
 
+/// Syncs the slots and reads their fronts.
+fn read_fronts<D: Disk>(alloc: Global, disk: &mut D) -> Result<Fronts, StoreFault>
+    ensures fronts { D.honest → IfOk result (λ fronts. four_slots fronts.image0.items fronts.image1.items fronts.segment0.items fronts.segment1.items
+        ≡ fronts_of (D.view disk.old).seen) }
+    ensures seen { D.honest → (D.view disk.new).seen ≡ (D.view disk.old).seen }
+    ensures rest { D.honest → OnOk result (IsAtRest (D.view disk.new)) }
+    ensures quiet { OnOk result (D.failed_calls disk.new ≡ D.failed_calls disk.old) }
+    ensures device { IsErrOf result StoreFault.Device → D.failed_calls disk.new ≡ one_more (D.failed_calls disk.old) }
+    ensures faults { OnErr result ((result ≡ Err StoreFault.Device) ⊎ (result ≡ Err StoreFault.NoMemory)) }
+{
+    sync_all(disk)?;
+    let fronts = read_slots(alloc, disk)?;
+    Ok(fronts)
+}
+
 /// The state after the records of these batches, how many records they are, and how many bytes they have.
-fn replay_batches(alloc: Global, batches: &[u8]) -> Result<(Kernel, u64, usize), StoreFault>
+pub(crate) fn replay_batches(alloc: Global, batches: &[u8]) -> Result<(Kernel, u64, usize), StoreFault>
     ensures state { IfOk result (λ r. (records : List Record) × SpellsCounted batches.now records r.2
         × Run opening_state records r.0 × (r.1 ≡ length records)) }
     ensures damaged { IsErrOf result StoreFault.Damaged → (records : List Record) → (state : State)

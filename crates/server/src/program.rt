@@ -133,7 +133,7 @@ fn serve_folder<'a, F: Files, I: Read, O: Write>(
 }
 
 /// Opens the store of a disk, and serves one connection on it.
-fn serve_disk<D: Disk, I: Read, O: Write>(
+fn serve_disk<D: Disk + Drop, I: Read, O: Write>(
     alloc: Global,
     disk: D,
     input: &mut I,
