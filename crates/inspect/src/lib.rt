@@ -1,0 +1,9 @@
+//! A state of the machine in lines of text, for people and scripts.
+#![tactic(auto)]
+
+mod gather;
+mod line;
+mod listing;
+mod tally;
+
+pub use listing::list;
