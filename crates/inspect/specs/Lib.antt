@@ -1,3 +1,4 @@
 pub mod Gathering
 pub mod Listing
 pub mod Rows
+pub mod Writing

@@ -5,5 +5,7 @@ mod gather;
 mod line;
 mod listing;
 mod tally;
+mod write;
 
 pub use listing::list;
+pub use write::{WriteFault, write_listing};
