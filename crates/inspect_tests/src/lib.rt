@@ -1,0 +1,5 @@
+//! Tests of the inspector's texts.
+#![tactic(auto)]
+
+#[cfg(test)]
+mod listing_tests;
