@@ -15,7 +15,8 @@ use Rattle.inspect.specs.declared.tally.Tally.{Tally}
 use Rattle.inspect.specs.Gathering.{no_rights, tally_of, gathered}
 use Rattle.inspect.specs.Listing.{name_line, space_line, space_lines, place_text, receive_right, receive_text, port_line, store_line, listing}
 use Rattle.inspect.specs.Rows.{names_rows, spaces_rows, standing_text, port_row, ports_rows, snapshot_rows}
-use Rattle.inspect.proofs.Counted.{standing_of, gathered_is, tallied, tally_of_all, send_tallied, send_once_tallied, receive_tallied}
+use Rattle.inspect.proofs.Walked.{standing_of}
+use Rattle.inspect.proofs.Counted.{gathered_is, tallied, tally_of_all, send_tallied, send_once_tallied, receive_tallied}
 
 both : {a b c d : List ℕ} → a ≡ b → c ≡ d → a ++ c ≡ b ++ d
 both {a} {b} {c} {d} first second = ap (λ x. x ++ c) first ∙ ap (λ y. b ++ y) second

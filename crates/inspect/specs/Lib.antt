@@ -2,4 +2,5 @@ pub mod Examples
 pub mod Gathering
 pub mod Listing
 pub mod Rows
+pub mod Walking
 pub mod Writing

@@ -4,8 +4,8 @@ use Rattle.snapshot.specs.declared.rows.LivePort.{LivePort}
 use Rattle.snapshot.specs.declared.rows.NamedEntry.{NamedEntry}
 use Rattle.snapshot.specs.declared.rows.Snapshot.{Snapshot}
 use Rattle.snapshot.specs.declared.rows.Space.{Space}
-use Rattle.inspect.specs.declared.tally.Standing.{Standing}
-use Rattle.inspect.specs.declared.tally.Standing.TheVariants.{Name, Queue, Request}
+use Rattle.inspect.specs.declared.standing.Standing.{Standing}
+use Rattle.inspect.specs.declared.standing.Standing.TheVariants.{Held, Queued, DeadNameRequest, NoSendersRequest, PortDestroyedRequest}
 use Rattle.inspect.specs.Gathering.{Notes, tally_of, gathered}
 use Rattle.inspect.specs.Listing.{hexadecimal, name_line, space_line, port_text, store_line}
 
@@ -18,11 +18,14 @@ space_rows space = space_line space.number ++ names_rows space.names
 abbrev pub spaces_rows : List Space → List ℕ
 spaces_rows spaces = flat_map space_rows spaces
 
+-- where a receive right stands; requests keep send-once rights alone
 abbrev pub standing_text : Option Standing → List ℕ
 standing_text None = []
-standing_text (Some (Name space name)) = codes " held " ++ (decimal space ++ (codes " " ++ hexadecimal name))
-standing_text (Some (Queue queue)) = codes " carried " ++ decimal queue
-standing_text (Some Request) = []
+standing_text (Some (Held space name)) = codes " held " ++ (decimal space ++ (codes " " ++ hexadecimal name))
+standing_text (Some (Queued queue)) = codes " carried " ++ decimal queue
+standing_text (Some (DeadNameRequest space name)) = []
+standing_text (Some (NoSendersRequest port)) = []
+standing_text (Some (PortDestroyedRequest port)) = []
 
 abbrev pub port_row : Notes → LivePort → List ℕ
 port_row notes port =

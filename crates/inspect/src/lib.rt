@@ -1,10 +1,11 @@
 //! A state of the machine in lines of text, for people and scripts.
 #![tactic(auto)]
 
-mod gather;
 mod line;
 mod listing;
+mod standing;
 mod tally;
+mod walk;
 mod write;
 
 pub use listing::list;

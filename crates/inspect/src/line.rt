@@ -3,7 +3,8 @@ ghost use Rattle.ipc_model.specs.state.State as model;
 ghost use Rattle.inspect.specs.Listing.{hexadecimal, port_of, references_of, name_line, space_line, queue_text, port_text, store_line};
 ghost use Rattle.inspect.specs.Rows.{standing_text};
 
-use crate::tally::{Standing, Tally};
+use crate::standing::Standing;
+use crate::tally::Tally;
 use codes::Right;
 use ipc_model::{Entry, PortState};
 use std::alloc::{AllocError, Global};
@@ -99,12 +100,12 @@ fn standing_text(alloc: Global, receive: Option<Standing>) -> Result<String, All
     ensures { IfOk result (λ text. string_bytes text ≡ standing_text receive) }
 {
     match receive {
-        Some(Standing::Name { space, name }) => {
+        Some(Standing::Held { space, name }) => {
             let name = hexadecimal(alloc, name)?;
             format!(in alloc; " held {space} {name}")
         }
-        Some(Standing::Queue(queue)) => format!(in alloc; " carried {queue}"),
-        Some(Standing::Request) | None => Ok(String::new(alloc)),
+        Some(Standing::Queued { queue }) => format!(in alloc; " carried {queue}"),
+        _ => Ok(String::new(alloc)),
     }
 }
 

@@ -4,9 +4,8 @@ ghost use Rattle.snapshot.specs.Snapshots.{snapshot_of};
 ghost use Rattle.inspect.specs.Listing.{listing};
 ghost use Rattle.inspect.specs.Rows.{names_rows, space_rows, spaces_rows, ports_rows, snapshot_rows};
 
-use crate::gather::gather;
 use crate::line::{name_line, port_line, space_line, store_line};
-use crate::tally::Tallies;
+use crate::tally::{Tallies, gather};
 use snapshot::{LivePort, NamedEntry, Snapshot, Space};
 use std::alloc::{AllocError, Global};
 

@@ -1,21 +1,14 @@
 ghost use Rattle.std.specs.Prelude.{◌≡◌, ◌+◌, IfOk, OnOk};
 ghost use Rattle.std.specs.FinMap as finmap;
-ghost use Rattle.inspect.specs.Gathering.{with_right, no_rights, tally_of, noted};
+ghost use Rattle.inspect.specs.Gathering.{with_right, no_rights, tally_of, noted, gathered};
+ghost use Rattle.inspect.specs.Walking.{snapshot_seen};
 
+use crate::standing::{Standing, StandingRight};
+use crate::walk::{Visitor, see_snapshot};
 use ipc_model::RightKind;
 use number_map::NumberMap;
+use snapshot::Snapshot;
 use std::alloc::{AllocError, Global};
-
-/// Where a right stands.
-#[derive(Clone, Copy, Debug, PartialEq, Eq)]
-pub(crate) enum Standing {
-    /// Under a name of a space.
-    Name { space: u32, name: u32 },
-    /// In a message of this port's queue.
-    Queue(u64),
-    /// As the target of a request.
-    Request,
-}
 
 /// The rights of a port.
 #[derive(Clone, Copy, Debug)]
@@ -94,19 +87,33 @@ impl Tallies {
             None => Tally::none(),
         }
     }
+}
+
+impl Visitor for Tallies {
+    ghost use Rattle.inspect.specs.Gathering.{Notes, noted};
+
+    ghost View = { Notes };
+
+    ghost view = { λ tallies. tallies.by_port };
+
+    ghost seen = { noted };
 
     #[tactic(auto, unfolding(crate::specs::Gathering::noted))]
-    /// Notes a right of a port. It fails where memory runs out.
-    pub(crate) fn note(
-        &mut self,
-        kind: RightKind,
-        serial: u64,
-        standing: Standing,
-    ) -> Result<(), AllocError>
-        ensures { OnOk result (self.new.by_port ≡ noted kind serial standing self.old.by_port) }
-    {
-        let tally = self.tally(serial).with_right(kind, standing)?;
-        self.by_port.insert(u128::from(serial), tally)?;
+    fn see(&mut self, right: StandingRight) -> Result<(), AllocError> {
+        let tally = self
+            .tally(right.port)
+            .with_right(right.kind, right.standing)?;
+        self.by_port.insert(u128::from(right.port), tally)?;
         Ok(())
     }
+}
+
+#[tactic(auto, unfolding(crate::specs::Gathering::gathered))]
+/// The rights of a snapshot's ports, by one walk over it. It fails where memory runs out.
+pub(crate) fn gather(alloc: Global, snapshot: &Snapshot) -> Result<Tallies, AllocError>
+    ensures { IfOk result (λ tallies. tallies.by_port ≡ gathered snapshot.now) }
+{
+    let mut tallies = Tallies::new(alloc);
+    see_snapshot(&mut tallies, snapshot)?;
+    Ok(tallies)
 }
