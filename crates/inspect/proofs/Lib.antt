@@ -1,3 +1,4 @@
 pub mod Counted
+pub mod Drawn
 pub mod Listed
 pub mod Walked

@@ -18,7 +18,7 @@ use Rattle.inspect.specs.Rows.{names_rows, spaces_rows, standing_text, port_row,
 use Rattle.inspect.proofs.Walked.{standing_of}
 use Rattle.inspect.proofs.Counted.{gathered_is, tallied, tally_of_all, send_tallied, send_once_tallied, receive_tallied}
 
-both : {a b c d : List ℕ} → a ≡ b → c ≡ d → a ++ c ≡ b ++ d
+pub both : {a b c d : List ℕ} → a ≡ b → c ≡ d → a ++ c ≡ b ++ d
 both {a} {b} {c} {d} first second = ap (λ x. x ++ c) first ∙ ap (λ y. b ++ y) second
 
 names_are : (es : List (ℕ × Entry)) → names_rows (map (λ e. record { name = e.0; entry = e.1 }) es) ≡ flat_map (λ e. name_line e.0 e.1) es
@@ -53,10 +53,10 @@ receive_at : (state : State) (serial : ℕ) → standing_text (tally_of (gathere
 receive_at state serial =
     ap (λ (t : Tally). standing_text t.receive) (tally_is state serial) ∙ ap standing_text (receive_tallied serial (placed state) no_rights) ∙ receive_is (receive_right state serial)
 
-send_at : (state : State) (serial : ℕ) → (tally_of (gathered (snapshot_of state)) serial).send ≡ send_count state serial
+pub send_at : (state : State) (serial : ℕ) → (tally_of (gathered (snapshot_of state)) serial).send ≡ send_count state serial
 send_at state serial = ap (λ (t : Tally). t.send) (tally_is state serial) ∙ send_tallied serial (placed state) no_rights ∙ omega arith
 
-send_once_at : (state : State) (serial : ℕ) → (tally_of (gathered (snapshot_of state)) serial).send_once ≡ send_once_count state serial
+pub send_once_at : (state : State) (serial : ℕ) → (tally_of (gathered (snapshot_of state)) serial).send_once ≡ send_once_count state serial
 send_once_at state serial = ap (λ (t : Tally). t.send_once) (tally_is state serial) ∙ send_once_tallied serial (placed state) no_rights ∙ omega arith
 
 port_is : (state : State) (serial : ℕ) (port : PortState) → port_row (gathered (snapshot_of state)) (record { serial = serial; state = port }) ≡ port_line state serial port

@@ -22,7 +22,7 @@ fn request_bit(target: Option<u64>) -> u32
 }
 
 /// The type bits of what a name stands for.
-fn type_of(entry: &Entry) -> u32
+pub(crate) fn type_of(entry: &Entry) -> u32
     ensures { result ≡ model.type_of entry.now }
 {
     match entry {
@@ -58,7 +58,7 @@ fn port_of(entry: &Entry) -> u64
     }
 }
 
-fn references_of(entry: &Entry) -> u32
+pub(crate) fn references_of(entry: &Entry) -> u32
     ensures { result ≡ references_of entry.now }
 {
     match entry {
@@ -69,7 +69,7 @@ fn references_of(entry: &Entry) -> u32
 }
 
 #[tactic(auto, unfolding(crate::specs::Listing::hexadecimal))]
-fn hexadecimal(alloc: Global, number: u32) -> Result<String, AllocError>
+pub(crate) fn hexadecimal(alloc: Global, number: u32) -> Result<String, AllocError>
     ensures { IfOk result (λ text. string_bytes text ≡ hexadecimal number) }
 {
     hex::encode(alloc, number.to_be_bytes())
