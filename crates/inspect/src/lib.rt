@@ -1,4 +1,4 @@
-//! A state of the machine in lines of text, for people and scripts.
+//! A state of the machine in lines of text for people and scripts, and drawn for Graphviz.
 #![tactic(auto)]
 
 mod drawing;
@@ -12,4 +12,4 @@ mod write;
 
 pub use drawing::draw;
 pub use listing::list;
-pub use write::{WriteFault, write_listing};
+pub use write::{WriteFault, write_drawing, write_listing};

@@ -3,10 +3,12 @@ ghost use Rattle.std.specs.Io.{WritesAtMost};
 ghost use Rattle.std.specs.Io.KnownBytes.{Appends, Keeps};
 ghost use Rattle.ipc_model.specs.state.State.{State};
 ghost use Rattle.snapshot.specs.Snapshots.{snapshot_of};
+ghost use Rattle.inspect.specs.Drawing.{drawing};
 ghost use Rattle.inspect.specs.Listing.{listing};
 ghost use Rattle.inspect.specs.Writing.{AppendsPart};
 ghost use Rattle.inspect.specs.declared.write.WriteFault.TheVariants.{NoMemory};
 
+use crate::drawing::draw;
 use crate::listing::list;
 use snapshot::Snapshot;
 use std::alloc::{AllocError, Global};
@@ -82,5 +84,22 @@ pub fn write_listing<W: Write>(
 {
     let mut text = Vec::new(alloc);
     list(alloc, epoch, records, snapshot, &mut text)?;
+    write_bytes(writer, text.as_slice())
+}
+
+/// Writes the drawing of a state, as `draw` gives it, behind what was written before, and doesn't flush. `NoMemory`:
+/// memory ran out, and nothing was written. `Writer`: the writer failed, or takes no more bytes. Some first bytes may
+/// then have been written, and no others.
+pub fn write_drawing<W: Write>(
+    alloc: Global,
+    snapshot: &Snapshot,
+    writer: &mut W,
+) -> Result<(), WriteFault>
+    ensures ok { (state : State) → snapshot.now ≡ snapshot_of state → OnOk result (Appends (W.contents writer.old) (W.contents writer.new) (drawing state)) }
+    ensures part { (state : State) → snapshot.now ≡ snapshot_of state → OnErr result (AppendsPart (W.contents writer.old) (W.contents writer.new) (drawing state)) }
+    ensures unwritten { result ≡ Err WriteFault.NoMemory → Keeps (W.contents writer.old) (W.contents writer.new) }
+{
+    let mut text = Vec::new(alloc);
+    draw(alloc, snapshot, &mut text)?;
     write_bytes(writer, text.as_slice())
 }

@@ -2,4 +2,8 @@
 #![tactic(auto)]
 
 #[cfg(test)]
+mod drawing_tests;
+#[cfg(test)]
 mod listing_tests;
+#[cfg(test)]
+mod sample;
