@@ -1,13 +1,9 @@
 -- A state as rows.
-use Rattle.std.specs.Prelude.{ℕ, List, map}
+use Rattle.std.specs.Prelude.{List, map}
 use Rattle.std.specs.FinMap as finmap
-use Rattle.ipc_model.specs.declared.entry.Entry.{Entry}
-use Rattle.ipc_model.specs.declared.port.PortState.{PortState}
 use Rattle.ipc_model.specs.state.State.{Names, State}
-use Rattle.snapshot.specs.declared.rows.LivePort.{LivePort}
 use Rattle.snapshot.specs.declared.rows.NamedEntry.{NamedEntry}
 use Rattle.snapshot.specs.declared.rows.Snapshot.{Snapshot}
-use Rattle.snapshot.specs.declared.rows.Space.{Space}
 
 -- the names of a space, rising
 abbrev pub names_of : Names → List NamedEntry

@@ -1,0 +1,4 @@
+pub mod Counted
+pub mod Drawn
+pub mod Listed
+pub mod Walked

@@ -1,0 +1,35 @@
+-- The rights of a snapshot, gathered by their ports.
+use Rattle.std.specs.Prelude.{ℕ, ◌+◌, None, Some}
+use Rattle.std.specs.FinMap as finmap
+use Rattle.std.specs.Option.{option_or, unwrap_or}
+use Rattle.std.specs.Ordering.{nat_cmp}
+use Rattle.ipc_model.specs.declared.message.RightKind.{RightKind}
+use Rattle.ipc_model.specs.declared.message.RightKind.TheVariants as kind
+use Rattle.snapshot.specs.declared.rows.Snapshot.{Snapshot}
+use Rattle.listing.specs.declared.standing.Standing.{Standing}
+use Rattle.listing.specs.declared.standing.StandingRight.{StandingRight}
+use Rattle.listing.specs.declared.tally.Tally.{Tally}
+use Rattle.listing.specs.Walking.{snapshot_seen}
+
+-- what is noted of ports, by their serials
+abbrev pub Notes : Type 0
+Notes = finmap.FinMap nat_cmp Tally
+
+abbrev pub no_rights : Tally
+no_rights = record { receive = None; send = 0; send_once = 0 }
+
+abbrev pub tally_of : Notes → ℕ → Tally
+tally_of notes serial = unwrap_or (finmap.get notes serial) no_rights
+
+-- a port's tally with one right more
+abbrev pub with_right : RightKind → Standing → Tally → Tally
+with_right kind.Receive standing tally = record tally { receive = option_or tally.receive (Some standing) }
+with_right kind.Send standing tally = record tally { send = tally.send + 1 }
+with_right kind.SendOnce standing tally = record tally { send_once = tally.send_once + 1 }
+
+unfoldable pub noted : StandingRight → Notes → Notes
+noted right notes = finmap.insert notes right.port (with_right right.kind right.standing (tally_of notes right.port))
+
+-- what is noted of all of a snapshot's rights
+unfoldable pub gathered : Snapshot → Notes
+gathered snapshot = snapshot_seen noted snapshot finmap.empty

@@ -1,0 +1,40 @@
+-- The lines of a snapshot's rows, where the rights of ports are gathered.
+use Rattle.std.specs.Prelude.{ℕ, List, [], ◌++◌, flat_map, Option, None, Some, codes, decimal}
+use Rattle.snapshot.specs.declared.rows.LivePort.{LivePort}
+use Rattle.snapshot.specs.declared.rows.NamedEntry.{NamedEntry}
+use Rattle.snapshot.specs.declared.rows.Snapshot.{Snapshot}
+use Rattle.snapshot.specs.declared.rows.Space.{Space}
+use Rattle.listing.specs.declared.standing.Standing.{Standing}
+use Rattle.listing.specs.declared.standing.Standing.TheVariants.{Held, Queued, DeadNameRequest, NoSendersRequest, PortDestroyedRequest}
+use Rattle.listing.specs.Gathering.{Notes, tally_of, gathered}
+use Rattle.listing.specs.Listing.{hexadecimal, name_line, space_line, port_text, store_line}
+
+abbrev pub names_rows : List NamedEntry → List ℕ
+names_rows names = flat_map (λ (named : NamedEntry). name_line named.name named.entry) names
+
+abbrev pub space_rows : Space → List ℕ
+space_rows space = space_line space.number ++ names_rows space.names
+
+abbrev pub spaces_rows : List Space → List ℕ
+spaces_rows spaces = flat_map space_rows spaces
+
+-- where a receive right stands; requests keep send-once rights alone
+abbrev pub standing_text : Option Standing → List ℕ
+standing_text None = []
+standing_text (Some (Held space name)) = codes " held " ++ (decimal space ++ (codes " " ++ hexadecimal name))
+standing_text (Some (Queued queue)) = codes " carried " ++ decimal queue
+standing_text (Some (DeadNameRequest space name)) = []
+standing_text (Some (NoSendersRequest port)) = []
+standing_text (Some (PortDestroyedRequest port)) = []
+
+abbrev pub port_row : Notes → LivePort → List ℕ
+port_row notes port =
+    let tally = tally_of notes port.serial in
+    port_text port.serial (standing_text tally.receive) tally.send tally.send_once port.state
+
+abbrev pub ports_rows : Notes → List LivePort → List ℕ
+ports_rows notes ports = flat_map (port_row notes) ports
+
+unfoldable pub snapshot_rows : ℕ → ℕ → Snapshot → List ℕ
+snapshot_rows epoch records snapshot =
+    store_line epoch records ++ (spaces_rows snapshot.spaces ++ ports_rows (gathered snapshot) snapshot.ports)

@@ -1,0 +1,119 @@
+ghost use Rattle.std.specs.Prelude.{◌≡◌, ◌++◌, OnOk};
+ghost use Rattle.ipc_model.specs.state.State.{State};
+ghost use Rattle.snapshot.specs.Snapshots.{snapshot_of};
+ghost use Rattle.listing.specs.Drawing.{drawing};
+ghost use Rattle.listing.specs.Strokes.{names_drawn, space_drawn, spaces_drawn, ports_drawn, edges_drawn, drawn};
+
+use crate::standing::StandingRight;
+use crate::stroke::{cluster_head, edge_line, name_node_line, port_node_line};
+use crate::tally::{Tallies, gather};
+use crate::walk::{Visitor, see_snapshot};
+use snapshot::{LivePort, NamedEntry, Snapshot, Space};
+use std::alloc::{AllocError, Global};
+use std::mem;
+
+/// What a drawing begins with.
+const HEAD: &[u8] = b"digraph ports {\n  rankdir=LR;\n  node [shape=box];\n";
+
+fn push_names(
+    alloc: Global,
+    out: &mut Vec<u8>,
+    space: u32,
+    names: &[NamedEntry],
+) -> Result<(), AllocError>
+    ensures { OnOk result (out.new.items ≡ out.old.items ++ names_drawn space names.now) }
+{
+    for named in names {
+        let line = name_node_line(alloc, space, named.name, &named.entry)?;
+        out.extend_from_slice(line.as_bytes())?;
+    }
+    Ok(())
+}
+
+fn push_space(alloc: Global, out: &mut Vec<u8>, space: &Space) -> Result<(), AllocError>
+    ensures { OnOk result (out.new.items ≡ out.old.items ++ space_drawn space.now) }
+{
+    let head = cluster_head(alloc, space.number)?;
+    out.extend_from_slice(head.as_bytes())?;
+    push_names(alloc, out, space.number, space.names.as_slice())?;
+    out.extend_from_slice(b"  }\n")
+}
+
+fn push_spaces(alloc: Global, out: &mut Vec<u8>, spaces: &[Space]) -> Result<(), AllocError>
+    ensures { OnOk result (out.new.items ≡ out.old.items ++ spaces_drawn spaces.now) }
+{
+    for space in spaces {
+        push_space(alloc, out, space)?;
+    }
+    Ok(())
+}
+
+fn push_ports(
+    alloc: Global,
+    out: &mut Vec<u8>,
+    tallies: &Tallies,
+    ports: &[LivePort],
+) -> Result<(), AllocError>
+    ensures { OnOk result (out.new.items ≡ out.old.items ++ ports_drawn tallies.now.by_port ports.now) }
+{
+    for port in ports {
+        let tally = tallies.tally(port.serial);
+        let line = port_node_line(alloc, port.serial, tally, &port.state)?;
+        out.extend_from_slice(line.as_bytes())?;
+    }
+    Ok(())
+}
+
+/// A text that gets an edge for each right.
+#[derive(Drop)]
+struct Edges {
+    alloc: Global,
+    text: Vec<u8>,
+}
+
+impl Visitor for Edges {
+    ghost use Rattle.std.specs.Prelude.{List, ℕ};
+    ghost use Rattle.listing.specs.Strokes.{edge_drawn};
+
+    ghost View = { List ℕ };
+
+    ghost view = { λ edges. edges.text.items };
+
+    ghost seen = { edge_drawn };
+
+    fn see(&mut self, right: StandingRight) -> Result<(), AllocError> {
+        let line = edge_line(self.alloc, right)?;
+        self.text.extend_from_slice(line.as_bytes())
+    }
+}
+
+fn push_edges(alloc: Global, out: &mut Vec<u8>, snapshot: &Snapshot) -> Result<(), AllocError>
+    ensures { OnOk result (out.new.items ≡ edges_drawn snapshot.now out.old.items) }
+{
+    let text = mem::replace(out, Vec::new(alloc));
+    let mut edges = Edges { alloc, text };
+    let result = see_snapshot(&mut edges, snapshot);
+    *out = edges.text;
+    result
+}
+
+#[tactic(auto, unfolding(crate::specs::Strokes::drawn))]
+fn push_drawing(alloc: Global, snapshot: &Snapshot, out: &mut Vec<u8>) -> Result<(), AllocError>
+    ensures { OnOk result (out.new.items ≡ drawn snapshot.now out.old.items) }
+{
+    let tallies = gather(alloc, snapshot)?;
+    out.extend_from_slice(HEAD)?;
+    push_spaces(alloc, out, snapshot.spaces.as_slice())?;
+    push_ports(alloc, out, &tallies, snapshot.ports.as_slice())?;
+    push_edges(alloc, out, snapshot)?;
+    out.extend_from_slice(b"}\n")
+}
+
+/// Adds a drawing of a state to a text, in the words of Graphviz: its spaces as clusters of their names, its live ports,
+/// and an edge for each right from where it stands to its port. It fails where memory runs out, and some of it may have
+/// been added then.
+pub fn draw(alloc: Global, snapshot: &Snapshot, out: &mut Vec<u8>) -> Result<(), AllocError>
+    ensures { (state : State) → snapshot.now ≡ snapshot_of state → OnOk result (out.new.items ≡ out.old.items ++ drawing state) }
+{
+    push_drawing(alloc, snapshot, out)
+}

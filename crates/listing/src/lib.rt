@@ -1,0 +1,15 @@
+//! A state of the machine in lines of text for people and scripts, and drawn for Graphviz.
+#![tactic(auto)]
+
+mod drawing;
+mod line;
+mod listing;
+mod standing;
+mod stroke;
+mod tally;
+mod walk;
+mod write;
+
+pub use drawing::draw;
+pub use listing::list;
+pub use write::{WriteFault, write_drawing, write_listing};

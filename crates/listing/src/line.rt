@@ -1,0 +1,147 @@
+ghost use Rattle.std.specs.Prelude.{◌≡◌, IfOk, string_bytes};
+ghost use Rattle.ipc_model.specs.state.State as model;
+ghost use Rattle.listing.specs.Listing.{hexadecimal, port_of, references_of, name_line, space_line, queue_text, port_text, store_line};
+ghost use Rattle.listing.specs.Rows.{standing_text};
+
+use crate::standing::Standing;
+use crate::tally::Tally;
+use codes::Right;
+use ipc_model::{Entry, PortState};
+use std::alloc::{AllocError, Global};
+
+/// The bit of a dead-name request in a name's type (`MACH_PORT_TYPE_DNREQUEST`).
+const REQUEST_BIT: u32 = 1 << 31;
+
+fn request_bit(target: Option<u64>) -> u32
+    ensures { result ≡ model.request_bit target }
+{
+    match target {
+        Some(_) => REQUEST_BIT,
+        None => 0,
+    }
+}
+
+/// The type bits of what a name stands for.
+pub(crate) fn type_of(entry: &Entry) -> u32
+    ensures { result ≡ model.type_of entry.now }
+{
+    match entry {
+        Entry::Port(rights) => {
+            let send = if rights.send == 0 {
+                0
+            } else {
+                Right::Send.type_bit()
+            };
+            let receive = if rights.receive {
+                Right::Receive.type_bit()
+            } else {
+                0
+            };
+            send + receive + request_bit(rights.dead_name_target)
+        }
+        Entry::SendOnce {
+            dead_name_target,
+            ..
+        } => { Right::SendOnce.type_bit() + request_bit(*dead_name_target) }
+        Entry::Set => Right::PortSet.type_bit(),
+        Entry::Dead { .. } => Right::DeadName.type_bit(),
+    }
+}
+
+fn port_of(entry: &Entry) -> u64
+    ensures { result ≡ port_of entry.now }
+{
+    match entry {
+        Entry::Port(rights) => rights.port,
+        Entry::SendOnce { port, .. } => *port,
+        Entry::Set | Entry::Dead { .. } => 0,
+    }
+}
+
+pub(crate) fn references_of(entry: &Entry) -> u32
+    ensures { result ≡ references_of entry.now }
+{
+    match entry {
+        Entry::Port(rights) => rights.send,
+        Entry::SendOnce { .. } | Entry::Set => 1,
+        Entry::Dead { references } => *references,
+    }
+}
+
+#[tactic(auto, unfolding(crate::specs::Listing::hexadecimal))]
+pub(crate) fn hexadecimal(alloc: Global, number: u32) -> Result<String, AllocError>
+    ensures { IfOk result (λ text. string_bytes text ≡ hexadecimal number) }
+{
+    hex::encode(alloc, number.to_be_bytes())
+}
+
+#[tactic(auto, unfolding(crate::specs::Listing::name_line))]
+/// The line of a name.
+pub(crate) fn name_line(alloc: Global, name: u32, entry: &Entry) -> Result<String, AllocError>
+    ensures { IfOk result (λ line. string_bytes line ≡ name_line name entry.now) }
+{
+    let name = hexadecimal(alloc, name)?;
+    let bits = hexadecimal(alloc, type_of(entry))?;
+    let port = port_of(entry);
+    let references = references_of(entry);
+    format!(in alloc; "name {name} {bits} port {port} refs {references}\n")
+}
+
+#[tactic(auto, unfolding(crate::specs::Listing::space_line))]
+/// The line of a space.
+pub(crate) fn space_line(alloc: Global, space: u32) -> Result<String, AllocError>
+    ensures { IfOk result (λ line. string_bytes line ≡ space_line space) }
+{
+    format!(in alloc; "space {space}\n")
+}
+
+/// Where a port's receive right stands, a space in front.
+fn standing_text(alloc: Global, receive: Option<Standing>) -> Result<String, AllocError>
+    ensures { IfOk result (λ text. string_bytes text ≡ standing_text receive) }
+{
+    match receive {
+        Some(Standing::Held { space, name }) => {
+            let name = hexadecimal(alloc, name)?;
+            format!(in alloc; " held {space} {name}")
+        }
+        Some(Standing::Queued { queue }) => format!(in alloc; " carried {queue}"),
+        _ => Ok(String::new(alloc)),
+    }
+}
+
+#[tactic(auto, unfolding(crate::specs::Listing::queue_text))]
+/// The end of a port's line.
+fn queue_text(alloc: Global, port: &PortState) -> Result<String, AllocError>
+    ensures { IfOk result (λ text. string_bytes text ≡ queue_text port.now) }
+{
+    let queued = port.messages.as_slice().len();
+    let limit = port.limit;
+    let seqno = port.sequence_number;
+    let mscount = port.make_send_count;
+    format!(in alloc; " queue {queued} of {limit} seqno {seqno} mscount {mscount}\n")
+}
+
+#[tactic(auto, unfolding(crate::specs::Listing::port_text))]
+/// The line of a port.
+pub(crate) fn port_line(
+    alloc: Global,
+    serial: u64,
+    tally: Tally,
+    port: &PortState,
+) -> Result<String, AllocError>
+    ensures { IfOk result (λ line. string_bytes line ≡ port_text serial (standing_text tally.receive) tally.send tally.send_once port.now) }
+{
+    let receive = standing_text(alloc, tally.receive)?;
+    let queue = queue_text(alloc, port)?;
+    let send = tally.send;
+    let once = tally.send_once;
+    format!(in alloc; "port {serial}{receive} send {send} once {once}{queue}")
+}
+
+#[tactic(auto, unfolding(crate::specs::Listing::store_line))]
+/// The line of what a store counts.
+pub(crate) fn store_line(alloc: Global, epoch: u64, records: u64) -> Result<String, AllocError>
+    ensures { IfOk result (λ line. string_bytes line ≡ store_line epoch records) }
+{
+    format!(in alloc; "epoch {epoch} records {records}\n")
+}

@@ -1,0 +1,85 @@
+ghost use Rattle.std.specs.Prelude.{◌≡◌, ◌++◌, OnOk};
+ghost use Rattle.ipc_model.specs.state.State.{State};
+ghost use Rattle.snapshot.specs.Snapshots.{snapshot_of};
+ghost use Rattle.listing.specs.Listing.{listing};
+ghost use Rattle.listing.specs.Rows.{names_rows, space_rows, spaces_rows, ports_rows, snapshot_rows};
+
+use crate::line::{name_line, port_line, space_line, store_line};
+use crate::tally::{Tallies, gather};
+use snapshot::{LivePort, NamedEntry, Snapshot, Space};
+use std::alloc::{AllocError, Global};
+
+fn push_names(alloc: Global, out: &mut Vec<u8>, names: &[NamedEntry]) -> Result<(), AllocError>
+    ensures { OnOk result (out.new.items ≡ out.old.items ++ names_rows names.now) }
+{
+    for named in names {
+        let line = name_line(alloc, named.name, &named.entry)?;
+        out.extend_from_slice(line.as_bytes())?;
+    }
+    Ok(())
+}
+
+fn push_space(alloc: Global, out: &mut Vec<u8>, space: &Space) -> Result<(), AllocError>
+    ensures { OnOk result (out.new.items ≡ out.old.items ++ space_rows space.now) }
+{
+    let line = space_line(alloc, space.number)?;
+    out.extend_from_slice(line.as_bytes())?;
+    push_names(alloc, out, space.names.as_slice())
+}
+
+fn push_spaces(alloc: Global, out: &mut Vec<u8>, spaces: &[Space]) -> Result<(), AllocError>
+    ensures { OnOk result (out.new.items ≡ out.old.items ++ spaces_rows spaces.now) }
+{
+    for space in spaces {
+        push_space(alloc, out, space)?;
+    }
+    Ok(())
+}
+
+fn push_ports(
+    alloc: Global,
+    out: &mut Vec<u8>,
+    tallies: &Tallies,
+    ports: &[LivePort],
+) -> Result<(), AllocError>
+    ensures { OnOk result (out.new.items ≡ out.old.items ++ ports_rows tallies.now.by_port ports.now) }
+{
+    for port in ports {
+        let tally = tallies.tally(port.serial);
+        let line = port_line(alloc, port.serial, tally, &port.state)?;
+        out.extend_from_slice(line.as_bytes())?;
+    }
+    Ok(())
+}
+
+#[tactic(auto, unfolding(crate::specs::Rows::snapshot_rows))]
+fn push_rows(
+    alloc: Global,
+    epoch: u64,
+    records: u64,
+    snapshot: &Snapshot,
+    out: &mut Vec<u8>,
+) -> Result<(), AllocError>
+    ensures { OnOk result (out.new.items ≡ out.old.items ++ snapshot_rows epoch records snapshot.now) }
+{
+    let tallies = gather(alloc, snapshot)?;
+    let line = store_line(alloc, epoch, records)?;
+    out.extend_from_slice(line.as_bytes())?;
+    push_spaces(alloc, out, snapshot.spaces.as_slice())?;
+    push_ports(alloc, out, &tallies, snapshot.ports.as_slice())
+}
+
+/// Adds the lines of a state to a text: `epoch` and `records` as its store counts them, then its spaces with their
+/// names, then its live ports. One walk gathers the rights of each port, and one writes the lines. It fails where
+/// memory runs out, and some lines may have been added then.
+pub fn list(
+    alloc: Global,
+    epoch: u64,
+    records: u64,
+    snapshot: &Snapshot,
+    out: &mut Vec<u8>,
+) -> Result<(), AllocError>
+    ensures { (state : State) → snapshot.now ≡ snapshot_of state → OnOk result (out.new.items ≡ out.old.items ++ listing epoch records state) }
+{
+    push_rows(alloc, epoch, records, snapshot, out)
+}

@@ -1,0 +1,119 @@
+ghost use Rattle.std.specs.Prelude.{◌≡◌, ◌+◌, IfOk, OnOk};
+ghost use Rattle.std.specs.FinMap as finmap;
+ghost use Rattle.listing.specs.Gathering.{with_right, no_rights, tally_of, noted, gathered};
+ghost use Rattle.listing.specs.Walking.{snapshot_seen};
+
+use crate::standing::{Standing, StandingRight};
+use crate::walk::{Visitor, see_snapshot};
+use ipc_model::RightKind;
+use number_map::NumberMap;
+use snapshot::Snapshot;
+use std::alloc::{AllocError, Global};
+
+/// The rights of a port.
+#[derive(Clone, Copy, Debug)]
+pub(crate) struct Tally {
+    /// Where its receive right stands.
+    pub(crate) receive: Option<Standing>,
+    /// How many send rights it has.
+    pub(crate) send: u64,
+    /// How many send-once rights it has.
+    pub(crate) send_once: u64,
+}
+
+/// A count one further. No memory holds more rights than 64 bits count.
+fn one_more(count: u64) -> Result<u64, AllocError>
+    ensures { IfOk result (λ more. more ≡ count + 1) }
+{
+    match count.checked_add(1) {
+        Some(more) => Ok(more),
+        None => Err(AllocError),
+    }
+}
+
+impl Tally {
+    fn none() -> Tally
+        ensures { result ≡ no_rights }
+    {
+        Tally {
+            receive: None,
+            send: 0,
+            send_once: 0,
+        }
+    }
+
+    /// The tally with one right more.
+    fn with_right(self, kind: RightKind, standing: Standing) -> Result<Tally, AllocError>
+        ensures { IfOk result (λ tally. tally ≡ with_right kind standing self) }
+    {
+        Ok(match kind {
+            RightKind::Receive => Tally {
+                receive: self.receive.or(Some(standing)),
+                ..self
+            },
+            RightKind::Send => Tally {
+                send: one_more(self.send)?,
+                ..self
+            },
+            RightKind::SendOnce => Tally {
+                send_once: one_more(self.send_once)?,
+                ..self
+            },
+        })
+    }
+}
+
+/// The rights of each port, by its serial.
+#[derive(Drop)]
+pub(crate) struct Tallies {
+    by_port: NumberMap<Tally>,
+}
+
+impl Tallies {
+    pub(crate) fn new(alloc: Global) -> Tallies
+        ensures { result.by_port ≡ finmap.empty }
+    {
+        Tallies {
+            by_port: NumberMap::new(alloc),
+        }
+    }
+
+    /// The rights of a port.
+    pub(crate) fn tally(&self, serial: u64) -> Tally
+        ensures { result ≡ tally_of self.now.by_port serial }
+    {
+        match self.by_port.get(u128::from(serial)) {
+            Some(tally) => *tally,
+            None => Tally::none(),
+        }
+    }
+}
+
+impl Visitor for Tallies {
+    ghost use Rattle.listing.specs.Gathering.{Notes, noted};
+
+    ghost View = { Notes };
+
+    ghost view = { λ tallies. tallies.by_port };
+
+    ghost seen = { noted };
+
+    #[tactic(auto, unfolding(crate::specs::Gathering::noted))]
+    fn see(&mut self, right: StandingRight) -> Result<(), AllocError> {
+        let tally = self
+            .tally(right.port)
+            .with_right(right.kind, right.standing)?;
+        self.by_port.insert(u128::from(right.port), tally)?;
+        Ok(())
+    }
+}
+
+#[tactic(auto, unfolding(crate::specs::Gathering::gathered))]
+/// The rights of a snapshot's ports, by one walk over it. It fails where memory runs out.
+pub(crate) fn gather(alloc: Global, snapshot: &Snapshot) -> Result<Tallies, AllocError>
+    ensures { IfOk result (λ tallies. tallies.by_port ≡ gathered snapshot.now) }
+{
+    let mut tallies = Tallies::new(alloc);
+    see_snapshot(&mut tallies, snapshot)?;
+    Ok(tallies)
+}

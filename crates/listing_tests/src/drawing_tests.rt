@@ -1,0 +1,51 @@
+use crate::sample::sample;
+use listing::{draw, write_drawing};
+use std::alloc::{AllocError, Global};
+use std::test::Fail;
+
+const TEXT: &str = r#"digraph ports {
+  rankdir=LR;
+  node [shape=box];
+  subgraph cluster_1 {
+    label="space 1";
+    n1_00000100 [label="00000100 00030000 refs 2"];
+    n1_00000101 [label="00000101 80010000 refs 3"];
+    n1_00000102 [label="00000102 00080000 refs 1"];
+  }
+  p1 [shape=ellipse, label="port 1\nsend 3 once 1\nqueue 1 of 5\nseqno 1 mscount 4"];
+  p2 [shape=ellipse, label="port 2\nsend 1 once 0\nqueue 0 of 16\nseqno 0 mscount 0"];
+  n1_00000100 -> p1 [label="receive"];
+  n1_00000100 -> p1 [label="send x2"];
+  n1_00000101 -> p2 [label="send x3"];
+  n1_00000101 -> p1 [label="dead-name request"];
+  p1 -> p1 [label="carried send"];
+  p1 -> p2 [label="carried receive"];
+  p1 -> p1 [label="carried send"];
+}
+"#;
+
+fn drawn(alloc: Global) -> Result<Vec<u8>, AllocError> {
+    let mut text = Vec::new(alloc);
+    draw(alloc, &sample(alloc)?, &mut text)?;
+    Ok(text)
+}
+
+fn written(alloc: Global) -> Result<Option<Vec<u8>>, AllocError> {
+    let mut text = Vec::new(alloc);
+    let done = write_drawing(alloc, &sample(alloc)?, &mut text).is_ok();
+    Ok(if done { Some(text) } else { None })
+}
+
+#[test]
+fn drawing_of_a_state(rt: HostRuntime) -> Result<(), Fail> {
+    let text = drawn(rt.alloc())?;
+    assert_eq!(rt; text.as_slice(), TEXT.as_bytes());
+    Ok(())
+}
+
+#[test]
+fn drawing_written(rt: HostRuntime) -> Result<(), Fail> {
+    let text = written(rt.alloc())?.ok_or("it is written")?;
+    assert_eq!(rt; text.as_slice(), TEXT.as_bytes());
+    Ok(())
+}
