@@ -1,4 +1,5 @@
-pub mod Counted
-pub mod Drawn
-pub mod Listed
-pub mod Walked
+mod Counted
+mod Drawn
+mod Listed
+mod Told
+mod Walked

@@ -77,7 +77,7 @@ abbrev pub port_line : State → ℕ → PortState → List ℕ
 port_line state serial port =
     port_text serial (receive_text (receive_right state serial)) (send_count state serial) (send_once_count state serial) port
 
--- the checkpoints that a store has behind it (its epoch), and the records behind the last
+-- the epoch of a store, and how many records its segments hold
 unfoldable pub store_line : ℕ → ℕ → List ℕ
 store_line epoch records = codes "epoch " ++ (decimal epoch ++ (codes " records " ++ (decimal records ++ codes "\n")))
 

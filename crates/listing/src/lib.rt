@@ -2,6 +2,7 @@
 #![tactic(auto)]
 
 mod drawing;
+mod laws;
 mod line;
 mod listing;
 mod standing;
@@ -11,5 +12,6 @@ mod walk;
 mod write;
 
 pub use drawing::draw;
+pub use laws::holders_are_told;
 pub use listing::list;
 pub use write::{WriteFault, write_drawing, write_listing};

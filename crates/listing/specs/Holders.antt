@@ -1,0 +1,25 @@
+-- Where the receive rights of a lawful state's ports are.
+use Rattle.std.specs.Prelude.{◌≡◌, ℕ, true, Option, None, Some}
+use Rattle.ipc_model.specs.state.Lawful.{Lawful}
+use Rattle.ipc_model.specs.state.Placed.{Place, held, destination, reply, body, dead_name_request, no_senders_request, port_destroyed_request, waiting, Right}
+use Rattle.ipc_model.specs.state.State.{State, lives}
+use Rattle.listing.specs.Listing.{receive_right}
+
+-- under a name, or in a message of a queue
+abbrev pub IsHeldOrCarried : Place → Type 0
+IsHeldOrCarried (held space name) = Unit {0}
+IsHeldOrCarried (destination queue) = Unit {0}
+IsHeldOrCarried (reply queue) = Unit {0}
+IsHeldOrCarried (body queue) = Unit {0}
+IsHeldOrCarried (dead_name_request space name) = ⊥
+IsHeldOrCarried (no_senders_request port) = ⊥
+IsHeldOrCarried (port_destroyed_request port) = ⊥
+IsHeldOrCarried waiting = ⊥
+
+abbrev pub IsTold : Option Right → Type 0
+IsTold None = ⊥
+IsTold (Some right) = IsHeldOrCarried right.place
+
+-- The line of each live port tells where its receive right is.
+abbrev pub HoldersAreTold : Type 0
+HoldersAreTold = (state : State) (serial : ℕ) → Lawful state → lives state serial ≡ true → IsTold (receive_right state serial)
