@@ -59,61 +59,38 @@ fn message(alloc: Global) -> Result<Call, AllocError> {
     Ok(Call::Send { message })
 }
 
-/// A copy of the state after these calls.
-fn copy_after_calls(alloc: Global) -> Result<Snapshot, AllocError> {
-    let mut kernel = Kernel::opening(alloc)?;
+fn make_calls(alloc: Global, kernel: &mut Kernel) -> Result<(), AllocError> {
     for call in &BEFORE {
         kernel.apply(1, call)?;
     }
     kernel.apply(1, &message(alloc)?)?;
     kernel.apply(1, &DEATH)?;
+    Ok(())
+}
+
+/// A copy of the state after these calls.
+fn copy_after_calls(alloc: Global) -> Result<Snapshot, AllocError> {
+    let mut kernel = Kernel::opening(alloc)?;
+    make_calls(alloc, &mut kernel)?;
     kernel.copy(alloc)
 }
 
-/// What the names of the only space from 0x100 on stand for.
-fn entries_of(copy: &Snapshot) -> [Option<Entry>; 6] {
+/// A name and what it stands for.
+type NameSeen = Option<(u32, Entry)>;
+
+/// The names of the only space, as far as the sixth.
+fn names_of(copy: &Snapshot) -> [NameSeen; 6] {
     let [space] = copy.spaces.as_slice() else {
         return [None; 6];
     };
     let names = space.names.as_slice();
-    [0, 1, 2, 3, 4, 5].map(|index| match names.get(index) {
-        Some(named) if named.name == 0x100 + index as u32 => Some(named.entry),
-        _ => None,
-    })
+    [0, 1, 2, 3, 4, 5].map(|index| names.get(index).map(|named| (named.name, named.entry)))
 }
 
-fn receive_right(port: u64) -> Option<Entry> {
-    Some(Entry::Port(PortRights {
-        port,
-        receive: true,
-        send: 0,
-        dead_name_target: None,
-    }))
-}
+/// A live port's serial, its set, the target of its port-destroyed request, and how many messages it has.
+type PortSeen = Option<(u64, Option<u32>, Option<u64>, usize)>;
 
-#[test]
-fn a_copy_has_the_names(rt: HostRuntime) -> Result<(), Fail> {
-    let copy = copy_after_calls(rt.alloc())?;
-    assert_eq!(rt;
-        entries_of(&copy),
-        [
-            receive_right(1),
-            receive_right(2),
-            Some(Entry::Dead { references: 1 }),
-            Some(Entry::Set),
-            Some(Entry::SendOnce {
-                port: 2,
-                dead_name_target: Some(1),
-            }),
-            None,
-        ]
-    );
-    Ok(())
-}
-
-/// What is compared of a live port: its serial, its set, the target of its port-destroyed request, and how many messages
-/// it has.
-fn port_of(copy: &Snapshot, index: usize) -> Option<(u64, Option<u32>, Option<u64>, usize)> {
+fn port_of(copy: &Snapshot, index: usize) -> PortSeen {
     let port = copy.ports.as_slice().get(index)?;
     Some((
         port.serial,
@@ -130,32 +107,77 @@ fn rights_of(copy: &Snapshot) -> Option<[Option<CarriedRight>; 2]> {
     Some([message.reply, message.rights.as_slice().first().copied()])
 }
 
-#[test]
-fn a_copy_has_the_ports(rt: HostRuntime) -> Result<(), Fail> {
-    let copy = copy_after_calls(rt.alloc())?;
-    assert_eq!(rt; copy.next_serial, 4);
-    assert_eq!(rt;
-        [0, 1, 2].map(|index| port_of(&copy, index)),
-        [
-            Some((1, Some(0x103), None, 1)),
-            Some((2, None, Some(1), 0)),
-            None
-        ]
-    );
-    Ok(())
+/// What is compared of a copy.
+#[derive(Clone, Copy)]
+struct Seen {
+    next_serial: u64,
+    names: [NameSeen; 6],
+    ports: [PortSeen; 3],
+    rights: Option<[Option<CarriedRight>; 2]>,
 }
 
-#[test]
-fn a_copied_message_has_its_rights_as_seen(rt: HostRuntime) -> Result<(), Fail> {
-    let copy = copy_after_calls(rt.alloc())?;
-    let reply = CarriedRight {
+fn seen_after_calls(alloc: Global) -> Result<Seen, AllocError> {
+    let copy = copy_after_calls(alloc)?;
+    Ok(Seen {
+        next_serial: copy.next_serial,
+        names: names_of(&copy),
+        ports: [0, 1, 2].map(|index| port_of(&copy, index)),
+        rights: rights_of(&copy),
+    })
+}
+
+fn receive_right(port: u64) -> Entry {
+    Entry::Port(PortRights {
+        port,
+        receive: true,
+        send: 0,
+        dead_name_target: None,
+    })
+}
+
+fn expected_names() -> [NameSeen; 6] {
+    [
+        Some((0x100, receive_right(1))),
+        Some((0x101, receive_right(2))),
+        Some((0x102, Entry::Dead { references: 1 })),
+        Some((0x103, Entry::Set)),
+        Some((
+            0x104,
+            Entry::SendOnce {
+                port: 2,
+                dead_name_target: Some(1),
+            },
+        )),
+        None,
+    ]
+}
+
+const EXPECTED_RIGHTS: [Option<CarriedRight>; 2] = [
+    Some(CarriedRight {
         kind: RightKind::SendOnce,
         port: PortInMessage::Dead,
-    };
-    let right = CarriedRight {
+    }),
+    Some(CarriedRight {
         kind: RightKind::Send,
         port: PortInMessage::Live(2),
-    };
-    assert_eq!(rt; rights_of(&copy), Some([Some(reply), Some(right)]));
+    }),
+];
+
+#[test]
+fn a_copy_has_all_that_the_state_has(rt: HostRuntime) -> Result<(), Fail> {
+    let seen = seen_after_calls(rt.alloc())?;
+    assert_eq!(rt; seen.names, expected_names());
+    assert_eq!(rt;
+        (seen.next_serial, seen.ports),
+        (
+            4,
+            [
+                Some((1, Some(0x103), None, 1)),
+                Some((2, None, Some(1), 0)),
+                None
+            ]
+        )
+    );
+    assert_eq!(rt; seen.rights, Some(EXPECTED_RIGHTS));
     Ok(())
 }
