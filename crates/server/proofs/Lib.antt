@@ -1,4 +1,5 @@
 mod Answered
+mod Ended
 mod Going
 mod Keeping
 mod Stopping

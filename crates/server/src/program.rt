@@ -142,11 +142,11 @@ fn serve_disk<D: Disk + Drop, I: Read, O: Write>(
     ensures run { IfSome (I.remaining input.old) (λ bytes. IfSome (O.contents output.old) (λ before.
         IsRun D.honest D.view bytes before (I.remaining input.new) (O.contents output.new) result)) }
 {
-    match open(alloc, disk) {
-        Ok(opened) => {
-            let mut caller = Alone::new(alloc, opened);
-            serve(alloc, input, output, &mut caller)
-        }
-        Err((fault, _)) => Err(ServeFault::Store(fault)),
-    }
+    let opened = match open(alloc, disk) {
+        Ok(opened) => opened,
+        Err((fault, _)) => return Err(ServeFault::Store(fault)),
+    };
+    let mut caller = Alone::new(alloc, opened);
+    let end = serve(alloc, input, output, &mut caller);
+    end
 }
