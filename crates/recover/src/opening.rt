@@ -120,7 +120,10 @@ fn read_fronts<D: Disk>(alloc: Global, disk: &mut D) -> Result<Fronts, StoreFaul
 }
 
 /// The state after the records of these batches, how many records they are, and how many bytes they have.
-pub(crate) fn replay_batches(alloc: Global, batches: &[u8]) -> Result<(Kernel, u64, usize), StoreFault>
+pub(crate) fn replay_batches(
+    alloc: Global,
+    batches: &[u8],
+) -> Result<(Kernel, u64, usize), StoreFault>
     ensures state { IfOk result (λ r. (records : List Record) × SpellsCounted batches.now records r.2
         × Run opening_state records r.0 × (r.1 ≡ length records)) }
     ensures damaged { IsErrOf result StoreFault.Damaged → (records : List Record) → (state : State)

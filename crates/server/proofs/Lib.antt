@@ -1,5 +1,3 @@
 mod Answered
-mod Ended
 mod Going
 mod Keeping
-mod Stopping

@@ -8,6 +8,8 @@ mod expect;
 #[cfg(test)]
 mod journal_tests;
 #[cfg(test)]
+mod looked;
+#[cfg(test)]
 mod making;
 #[cfg(test)]
 mod recover_tests;

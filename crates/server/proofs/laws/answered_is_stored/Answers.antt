@@ -1,5 +1,0 @@
-use Rattle.server.proofs.Stopping.{stored_whole}
-use Rattle.server.proofs.laws.answered_is_stored.Goals as goal
-
-pub returns : goal.returns
-returns c = stored_whole

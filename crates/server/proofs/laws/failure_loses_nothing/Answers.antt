@@ -1,5 +1,0 @@
-use Rattle.server.proofs.Stopping.{lost_nothing}
-use Rattle.server.proofs.laws.failure_loses_nothing.Goals as goal
-
-pub returns : goal.returns
-returns c = lost_nothing
