@@ -1,5 +1,5 @@
 -- How a connection goes on.
-use Rattle.std.proofs.Common.{◌≡◌, ℕ, Bool, true, false, cond, nat_lt, take, drop, List, [], ◌∷◌, ◌++◌, length, Option, Some, None, IfSome, refl, sym, ap, subst, ◌∙◌, append_assoc}
+use Rattle.std.proofs.Common.{◌≡◌, ℕ, Bool, true, false, cond, nat_lt, take, drop, List, [], ◌∷◌, ◌++◌, length, Option, Some, None, IfSome, refl, sym, ap, subst, ◌∙◌, ◌+◌, arith, append_assoc, length-append}
 use Rattle.std.proofs.lemmas.List.{append-nil}
 use Rattle.std.proofs.Math.Dec.{eqb-suc-zero}
 use Rattle.std.specs.Io.KnownBytes.{Appends, Keeps}
@@ -28,17 +28,18 @@ keeps_is out old new e is = known new (subst (λ o. Keeps o new) e is)
 
 module _ {C : Type 0} (answers : C → Call → Reply → C → Type 0) where
   -- some of the input was served
-  pub record Going (old now : C) (input before : List ℕ) (left written : Option (List ℕ)) : Type 0 where
+  pub record Going (old now : C) (input before : List ℕ) (left written : Option (List ℕ)) (count : ℕ) : Type 0 where
     pub exchanges : Exchanges
     pub rest : List ℕ
     pub calls : Answers answers old exchanges now
     pub read : input ≡ requests_text exchanges ++ rest
     pub rest_is : left ≡ Some rest
     pub replies : written ≡ Some (before ++ replies_text exchanges)
+    pub counted : length exchanges ≡ count
 
-  pub begun : (old : C) (input before : List ℕ) (left written : Option (List ℕ)) → left ≡ Some input → written ≡ Some before → Going old old input before left written
+  pub begun : (old : C) (input before : List ℕ) (left written : Option (List ℕ)) → left ≡ Some input → written ≡ Some before → Going old old input before left written 0
   begun old input before left written e f =
-      record { exchanges = []; rest = input; calls = refl; read = refl; rest_is = e; replies = f ∙ ap (λ l. Some l) (sym (append-nil before)) }
+      record { exchanges = []; rest = input; calls = refl; read = refl; rest_is = e; replies = f ∙ ap (λ l. Some l) (sym (append-nil before)); counted = refl }
 
   answers-push : (old mid new : C) (exchanges : Exchanges) (exchange : List ℕ × Reply) → Answers answers old exchanges mid → IsAnswered answers mid exchange.0 exchange.1 new → Answers answers old (exchanges ++ exchange ∷ []) new
   answers-push old mid new [] exchange so_far is = (new, subst (λ c. IsAnswered answers c exchange.0 exchange.1 new) so_far is, refl)
@@ -53,14 +54,14 @@ module _ {C : Type 0} (answers : C → Call → Reply → C → Type 0) where
   replies_text-push (first ∷ exchanges) exchange = ap (λ l. frame_text (reply_text first.1) ++ l) (replies_text-push exchanges exchange) ∙ sym (append_assoc (frame_text (reply_text first.1)) (replies_text exchanges) (frame_text (reply_text exchange.1)))
 
   -- at the end of the input
-  pub ended_whole : (old now : C) (input before : List ℕ) (left written after : Option (List ℕ)) (so_far : Going old now input before left written) → (so_far.rest ≡ []) × (after ≡ Some []) → ServesAll answers old now input before after written
-  ended_whole old now input before left written after so_far is =
+  pub ended_whole : (old now : C) (input before : List ℕ) (left written after : Option (List ℕ)) (count : ℕ) (so_far : Going old now input before left written count) → (so_far.rest ≡ []) × (after ≡ Some []) → ServesAll answers old now input before after written
+  ended_whole old now input before left written after count so_far is =
       record { exchanges = so_far.exchanges; calls = so_far.calls; read = so_far.read ∙ ap (λ l. requests_text so_far.exchanges ++ l) is.0 ∙ append-nil (requests_text so_far.exchanges); all = is.1; replies = so_far.replies }
 
   -- one frame more
-  pub goes_on : (old mid new : C) (input before content after : List ℕ) (answer : Reply) (left now written sent : Option (List ℕ)) (so_far : Going old mid input before left written) → so_far.rest ≡ frame_text content ++ after → now ≡ Some after → IsAnswered answers mid content answer new
-      → sent ≡ Some ((before ++ replies_text so_far.exchanges) ++ frame_text (reply_text answer)) → Going old new input before now sent
-  goes_on old mid new input before content after answer left now written sent so_far frame now_is answered out =
+  pub goes_on : (old mid new : C) (input before content after : List ℕ) (answer : Reply) (left now written sent : Option (List ℕ)) (count : ℕ) (so_far : Going old mid input before left written count) → so_far.rest ≡ frame_text content ++ after → now ≡ Some after → IsAnswered answers mid content answer new
+      → sent ≡ Some ((before ++ replies_text so_far.exchanges) ++ frame_text (reply_text answer)) → Going old new input before now sent (count + 1)
+  goes_on old mid new input before content after answer left now written sent count so_far frame now_is answered out =
       let exchange : List ℕ × Reply = (content, answer) in
       record {
         exchanges = so_far.exchanges ++ exchange ∷ [];
@@ -69,6 +70,7 @@ module _ {C : Type 0} (answers : C → Call → Reply → C → Type 0) where
         read = so_far.read ∙ ap (λ l. requests_text so_far.exchanges ++ l) frame ∙ sym (append_assoc (requests_text so_far.exchanges) (frame_text content) after) ∙ ap (λ l. l ++ after) (sym (requests_text-push so_far.exchanges exchange));
         rest_is = now_is;
         replies = out ∙ ap (λ l. Some l) (append_assoc before (replies_text so_far.exchanges) (frame_text (reply_text answer)) ∙ ap (λ l. before ++ l) (sym (replies_text-push so_far.exchanges exchange)));
+        counted = omega (arith, so_far.counted, length-append so_far.exchanges (exchange ∷ []));
       }
 
 -- what was read of known bytes

@@ -1,3 +1,5 @@
 mod Answered
+mod Ended
 mod Going
 mod Keeping
+mod Stopping

@@ -1,6 +1,7 @@
 -- What a clause sees of a lone caller, and what a stop during a call leaves.
 use Rattle.std.specs.Prelude.{◌≡◌, ◌⊎◌, ℕ, ◌+◌, Bool, true, false, if◌then◌else◌, refl}
 use Rattle.std.specs.Coded.{Coded, code_by, coded×, coded_ℕ, coded_bool}
+use Rattle.disk.specs.Moments.{View, Passes}
 use Rattle.disk.specs.Slots.{Slots}
 use Rattle.ipc_model.specs.declared.call.Call.{Call}
 use Rattle.ipc_model.specs.declared.call.Call.TheVariants as call
@@ -8,6 +9,9 @@ use Rattle.ipc_model.specs.declared.call.Reply.{Reply}
 use Rattle.ipc_model.specs.state.State.{State}
 use Rattle.ipc_model.specs.state.StateCode.{state_code}
 use Rattle.ipc_model.specs.calls.Step.{Step, has_record, succeeded}
+use Rattle.journal.specs.declared.fault.StoreFault.{StoreFault}
+use Rattle.journal.specs.declared.fault.StoreFault.TheVariants.{Failed}
+use Rattle.recover.specs.Kept.{IsKept}
 use Rattle.recover.specs.Recovered.{Recovers}
 use Rattle.server.specs.Serving.{StepOrShortage}
 
@@ -54,3 +58,21 @@ abbrev pub AnswersStored : {D : Type 0} → AloneValue D → Call → Reply → 
 AnswersStored old call answer new =
     StepOrShortage old.kernel old.space call answer new.kernel × (new.records ≡ old.records + records_of call answer)
     × (new.space ≡ space_after old.space call answer) × (new.failed ≡ false)
+
+-- A call of a lone caller that didn't fail before. Where the disk is honest and the store is kept, a stop at any moment of
+-- the call leaves the state before it or the state after it, and the store is kept with what was answered.
+module _ {D : Type 0} (honest : Type 0) (view : D → View) where
+  pub record AnswersKept (old : AloneValue D) (call : Call) (answer : Reply) (new : AloneValue D) : Type 0 where
+    pub stored : AnswersStored old call answer new
+    pub unrecorded : has_record call answer ≡ false → IsMoved old new
+    pub passes : honest → IsKept (view old.disk) old.kernel old.records
+        → Passes (view old.disk) (view new.disk) (IsBeforeOrAfter old.kernel old.records old.space call new.kernel)
+    pub kept : honest → IsKept (view old.disk) old.kernel old.records → IsKept (view new.disk) new.kernel new.records
+
+  -- A call that fails in the store. The caller is of no further use; a stop at any moment of the call leaves the state before
+  -- it or the state after it.
+  pub record FailsKept (old : AloneValue D) (call : Call) (fault : StoreFault) (new : AloneValue D) : Type 0 where
+    pub failed : new.failed ≡ true
+    pub failed_before : old.failed ≡ true → (fault ≡ Failed) × (new ≡ old)
+    pub passes : honest → IsKept (view old.disk) old.kernel old.records
+        → Passes (view old.disk) (view new.disk) (IsBeforeOrAfter old.kernel old.records old.space call new.kernel)

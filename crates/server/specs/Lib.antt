@@ -1,2 +1,4 @@
 pub mod Keeping
+pub mod Program
 pub mod Serving
+pub mod Stopping

@@ -1,5 +1,5 @@
 -- What a caller may answer, and what is written for what is read.
-use Rattle.std.specs.Prelude.{◌≡◌, ◌⊎◌, ℕ, List, [], ◌∷◌, ◌++◌, Option, None, Some, MatchBool}
+use Rattle.std.specs.Prelude.{◌≡◌, ◌⊎◌, ℕ, ◌-◌, ◌^◌, true, List, [], ◌∷◌, ◌++◌, length, Option, None, Some, Result, Ok, Err, MatchBool}
 use Rattle.byteorder.specs.Endian.{little_number}
 use Rattle.calls.specs.Requests.{Asks, IsSend}
 use Rattle.calls.specs.declared.request.Request.{Request}
@@ -15,6 +15,13 @@ use Rattle.ipc_model.specs.calls.Refusals.{refused_of}
 use Rattle.ipc_model.specs.state.State.{State}
 use Rattle.ipc_model.specs.calls.Step.{Step, number_of_call, succeeded}
 use Rattle.ipc_model.specs.texts.Texts.{reply_text}
+use Rattle.journal.specs.declared.fault.StoreFault.{StoreFault}
+use Rattle.server.specs.declared.service.ServeFault.{ServeFault}
+use Rattle.server.specs.declared.service.ServeFault.TheVariants.{Wire, Store}
+use Rattle.wire.specs.Frame.{IsReadOf}
+use Rattle.wire.specs.Writing.{AppendsPart}
+use Rattle.wire.specs.declared.fault.WireFault.{WireFault}
+use Rattle.wire.specs.declared.fault.WireFault.TheVariants.{Device, NoMemory}
 use Rattle.words.specs.Words.{word, frame_text}
 
 -- how a call is refused where memory or room for its record is wanted
@@ -89,3 +96,95 @@ pub record ServesAll {C : Type 0} (answers : C → Call → Reply → C → Type
   pub read : input ≡ requests_text exchanges
   pub all : left ≡ Some []
   pub replies : written ≡ Some (before ++ replies_text exchanges)
+
+-- How the calls that a frame asks for fail in the store: a call did, where the receipt of a mach_msg is called only after a
+-- send whose code is 0.
+abbrev pub FailsBoth : {C : Type 0} → (C → Call → Reply → C → Type 0) → (C → Call → StoreFault → C → Type 0) → C → Call → Call → StoreFault → C → Type 0
+FailsBoth {C} answers fails old send receive fault new =
+    fails old send fault new ⊎ ((sent : Reply) × (mid : C) × answers old send sent mid × (succeeded send sent ≡ true) × fails mid receive fault new)
+
+abbrev pub FailsMessage : {C : Type 0} → (C → Call → Reply → C → Type 0) → (C → Call → StoreFault → C → Type 0) → C → Option Call → Option Call → StoreFault → C → Type 0
+FailsMessage answers fails old None None fault new = ⊥
+FailsMessage answers fails old (Some send) None fault new = fails old send fault new
+FailsMessage answers fails old None (Some receive) fault new = fails old receive fault new
+FailsMessage answers fails old (Some send) (Some receive) fault new = FailsBoth answers fails old send receive fault new
+
+abbrev pub FailsRequest : {C : Type 0} → (C → Call → Reply → C → Type 0) → (C → Call → StoreFault → C → Type 0) → C → Request → StoreFault → C → Type 0
+FailsRequest answers fails old (request.One c) fault new = fails old c fault new
+FailsRequest answers fails old (request.Message m) fault new = FailsMessage answers fails old m.send m.receive fault new
+FailsRequest answers fails old (request.Answered code) fault new = ⊥
+
+-- what a frame's content asks for failed so in the store
+abbrev pub IsFailed : {C : Type 0} → (C → Call → Reply → C → Type 0) → (C → Call → StoreFault → C → Type 0) → C → List ℕ → StoreFault → C → Type 0
+IsFailed answers fails old content fault new = (asks : Request) × Asks content asks × FailsRequest answers fails old asks fault new
+
+-- Some of the input was served: the frames of these exchanges stood at its front, the rest is behind them, and what was
+-- written before and their replies is all that is sent.
+pub record Exchanged {C : Type 0} (answers : C → Call → Reply → C → Type 0) (old now : C) (input before rest sent : List ℕ) : Type 0 where
+  pub exchanges : Exchanges
+  pub calls : Answers answers old exchanges now
+  pub read : input ≡ requests_text exchanges ++ rest
+  pub replies : sent ≡ before ++ replies_text exchanges
+
+-- A connection that ends with a fault, by where it does.
+module _ {C : Type 0} (answers : C → Call → Reply → C → Type 0) (fails : C → Call → StoreFault → C → Type 0) (old new : C) (input before : List ℕ) (left written : Option (List ℕ)) where
+  -- memory for the replies is wanted before anything is read
+  pub record NeverBegins (fault : WireFault) : Type 0 where
+    pub fault_is : fault ≡ NoMemory
+    pub same : new ≡ old
+    pub unread : left ≡ Some input
+    pub unwritten : written ≡ Some before
+
+  -- behind some exchanges no frame can be read; nothing is called or written for what stands there
+  pub record StopsReading (fault : WireFault) : Type 0 where
+    pub rest : List ℕ
+    pub sent : List ℕ
+    pub exchanged : Exchanged answers old new input before rest sent
+    pub unreadable : IsReadOf rest (Err fault) left
+    pub written_is : written ≡ Some sent
+
+  -- behind some exchanges a frame is read whose calls fail in the store; nothing is written for it, and nothing behind it is
+  -- read
+  pub record StopsCalling (fault : StoreFault) : Type 0 where
+    pub mid : C
+    pub rest : List ℕ
+    pub sent : List ℕ
+    pub exchanged : Exchanged answers old mid input before rest sent
+    pub content : List ℕ
+    pub behind : List ℕ
+    pub frame : rest ≡ frame_text content ++ behind
+    pub unread : left ≡ Some behind
+    pub failed : IsFailed answers fails mid content fault new
+    pub written_is : written ≡ Some sent
+
+  -- the writer fails in the last reply, of which some first bytes are written, or all and it can't be flushed; nothing
+  -- behind its frame is read
+  pub record StopsWriting (fault : WireFault) : Type 0 where
+    pub fault_is : fault ≡ Device
+    pub mid : C
+    pub rest : List ℕ
+    pub sent : List ℕ
+    pub exchanged : Exchanged answers old mid input before rest sent
+    pub content : List ℕ
+    pub behind : List ℕ
+    pub frame : rest ≡ frame_text content ++ behind
+    pub unread : left ≡ Some behind
+    pub answer : Reply
+    pub answered : IsAnswered answers mid content answer new
+    pub part : AppendsPart (Some sent) written (frame_text (reply_text answer))
+
+  -- as many frames were served as a connection serves at most
+  pub record StopsAtMost (fault : WireFault) : Type 0 where
+    pub fault_is : fault ≡ Device
+    pub rest : List ℕ
+    pub sent : List ℕ
+    pub exchanged : Exchanged answers old new input before rest sent
+    pub most : length exchanged.exchanges ≡ 2 ^ 64 - 1
+    pub unread : left ≡ Some rest
+    pub written_is : written ≡ Some sent
+
+  -- How a connection ended.
+  abbrev pub Ends : Result (Unit {0}) ServeFault → Type 0
+  Ends (Ok done) = ServesAll answers old new input before left written
+  Ends (Err (Wire fault)) = NeverBegins fault ⊎ (StopsReading fault ⊎ (StopsWriting fault ⊎ StopsAtMost fault))
+  Ends (Err (Store fault)) = StopsCalling fault

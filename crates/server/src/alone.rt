@@ -1,14 +1,15 @@
-ghost use Rattle.std.specs.Prelude.{◌≡◌, ◌+◌, ◌<◌, ◌≤◌, true, false, if◌then◌else◌, length, IfOk, OnOk, OnErr, IsErrOf};
+ghost use Rattle.std.specs.Prelude.{◌≡◌, ◌+◌, ◌<◌, ◌≤◌, true, false, if◌then◌else◌, length, IfErr, IfOk, OnOk, OnErr, IsErrOf};
 ghost use Rattle.disk.specs.Moments.{LeftSince, MayLeave, Passes};
 ghost use Rattle.disk.specs.Slots.{Slots};
 ghost use Rattle.recover.specs.Kept.{IsKept};
 ghost use Rattle.recover.specs.Recovered.{Recovers};
-ghost use Rattle.server.specs.Keeping.{AnswersStored, IsBeforeOrAfter, IsMoved, attached_by, records_of};
+ghost use Rattle.server.specs.Keeping.{AnswersKept, FailsKept, IsBeforeOrAfter, IsMoved, attached_by, records_of};
 ghost use Rattle.server.specs.Serving.{StepOrShortage, shortage_of};
 ghost use Rattle.ipc_model.specs.calls.Step.{has_record, succeeded};
 ghost use Rattle.ipc_model.specs.texts.Texts.{reply_text};
 ghost use Rattle.ipc_model.specs.declared.call.Call.{Call};
 ghost use Rattle.ipc_model.specs.declared.call.Reply.{Reply};
+ghost use Rattle.journal.specs.declared.fault.StoreFault.{StoreFault};
 
 use codes::{FIRST_SPACE, KernReturn, MACH_PORT_NULL, MAX_FRAME_CONTENT, MAX_RECORDS};
 use disk::Disk;
@@ -23,11 +24,15 @@ pub trait Caller {
     /// What it may answer to a call, and what it is afterwards.
     ghost answers: { Self → Call → Reply → Self → Type 0 };
 
+    /// How a call may fail in the store, and what it is afterwards.
+    ghost fails: { Self → Call → StoreFault → Self → Type 0 };
+
     /// Makes a call. A reply is given only when all that it tells of is stored, and it
     /// fits in a frame.
     fn call(&mut self, call: Call) -> Result<Reply, StoreFault>
         ensures answers { IfOk result (λ reply. answers self.old call reply self.new) }
-        ensures fits { IfOk result (λ reply. length (reply_text reply) ≤ MAX_FRAME_CONTENT) };
+        ensures fits { IfOk result (λ reply. length (reply_text reply) ≤ MAX_FRAME_CONTENT) }
+        ensures fails { IfErr result (λ fault. fails self.old call fault self.new) };
 }
 
 /// The caller of a lone connection: an opened store that nobody else uses.
@@ -92,7 +97,9 @@ impl<D: Disk> Alone<D> {
 }
 
 impl<D: Disk> Caller for Alone<D> {
-    ghost answers = { AnswersStored };
+    ghost answers = { AnswersKept D.honest D.view };
+
+    ghost fails = { FailsKept D.honest D.view };
 
     /// Makes a call. One that has a record is stored before it is answered. After a fault the caller is of no
     /// further use, and answers `Failed`: a call that was made and not stored is known to nobody.
@@ -100,8 +107,9 @@ impl<D: Disk> Caller for Alone<D> {
     /// Where the slots stand for a state (`Recovers`), `recover::open` gives that state, and doesn't find them
     /// damaged or of another version.
     fn call(&mut self, call: Call) -> Result<Reply, StoreFault>
-        ensures answers { IfOk result (λ reply. AnswersStored self.old call reply self.new) }
+        ensures answers { IfOk result (λ reply. AnswersKept D.honest D.view self.old call reply self.new) }
         ensures fits { IfOk result (λ reply. length (reply_text reply) ≤ MAX_FRAME_CONTENT) }
+        ensures fails { IfErr result (λ fault. FailsKept D.honest D.view self.old call fault self.new) }
         // A stop at any moment from the beginning of the call to its end leaves the state before it or the state after
         // it, also where the call fails.
         ensures any_moment { D.honest → self.old.failed ≡ false → (c : Slots) → LeftSince (D.view self.new.disk) (D.view self.old.disk).moment c

@@ -1,61 +1,169 @@
-ghost use Rattle.std.specs.Prelude.{◌≡◌, ◌≢◌, ◌≤◌, length};
+ghost use Rattle.std.specs.Prelude.{◌≡◌, ◌++◌, length, codes, IfErr, IfSome, OnErr, OnOk};
+ghost use Rattle.std.specs.Io.KnownBytes.{Appends};
+ghost use Rattle.recover.specs.Kept.{IsKept};
+ghost use Rattle.server.specs.Program.{EndsAlone, IsRun, ServesOpened, line_of, status_of, words_of};
+ghost use Rattle.wire.specs.Writing.{AppendsPart};
 
 use crate::{Alone, ServeFault, serve};
-use disk::FileDisk;
+use disk::{Disk, FileDisk};
 use journal::StoreFault;
-use recover::open;
+use recover::{Opened, open};
 use std::alloc::Global;
 use std::io::{Read, Write};
 use std::rt::Files;
+use wire::{WireFault, write_bytes};
+
+/// How a run of the program for one connection ends.
+#[derive(Clone, Copy, Debug, PartialEq, Eq)]
+pub enum LoneEnd {
+    /// The input was served to its end.
+    Served,
+    /// The words are not one.
+    CommandLine,
+    /// The store or the connection failed.
+    Fault(ServeFault),
+}
+
+impl LoneEnd {
+    /// The status to end with: 0 without a fault, 1 after a fault, 2 where the words are not one.
+    pub fn status(self) -> u8
+        ensures { result ≡ status_of self }
+    {
+        match self {
+            LoneEnd::Served => 0,
+            LoneEnd::Fault(_) => 1,
+            LoneEnd::CommandLine => 2,
+        }
+    }
+
+    /// What stands on the line of errors behind the program's name: nothing where all was served.
+    pub fn words(self) -> &'static str
+        ensures { result.now ≡ words_of self }
+    {
+        match self {
+            LoneEnd::Served => "",
+            LoneEnd::CommandLine => "command line\n",
+            LoneEnd::Fault(ServeFault::Wire(fault)) => fault.line(),
+            LoneEnd::Fault(ServeFault::Store(fault)) => fault.line(),
+        }
+    }
+
+    /// Writes the line of errors, if there is one. `Device`: the writer failed, and some first bytes of the line may have
+    /// been written.
+    pub fn tell<E: Write>(self, errors: &mut E) -> Result<(), WireFault>
+        ensures ok { OnOk result (Appends (E.contents errors.old) (E.contents errors.new) (line_of self)) }
+        ensures part { OnErr result (AppendsPart (E.contents errors.old) (E.contents errors.new) (line_of self)) }
+        ensures err { IfErr result (λ fault. fault ≡ WireFault.Device) }
+    {
+        match self {
+            LoneEnd::Served => Ok(()),
+            LoneEnd::CommandLine => write_line(errors, self.words()),
+            LoneEnd::Fault(_) => write_line(errors, self.words()),
+        }
+    }
+}
+
+/// Writes the program's name and these words behind it.
+fn write_line<E: Write>(errors: &mut E, words: &str) -> Result<(), WireFault>
+    ensures ok { OnOk result (Appends (E.contents errors.old) (E.contents errors.new) (codes "machipcd: " ++ words.now)) }
+    ensures part { OnErr result (AppendsPart (E.contents errors.old) (E.contents errors.new) (codes "machipcd: " ++ words.now)) }
+    ensures err { IfErr result (λ fault. fault ≡ WireFault.Device) }
+{
+    write_bytes(errors, b"machipcd: ")?;
+    write_bytes(errors, words.as_bytes())
+}
 
 /// All of the program for one connection: the words of its command line, its input, output and errors. It gives
 /// the status to end with.
 ///
 /// The one word is the store's folder. 0: the input was served to its end. 1: after a fault, which is a line
 /// of errors. 2: the words are not one, which is a line of errors too.
-pub fn lone<F: Files, I: Read, O: Write, E: Write>(
+pub fn lone<'a, F: Files, I: Read, O: Write, E: Write>(
     alloc: Global,
-    files: &F,
+    files: &'a F,
     words: &[String],
     input: &mut I,
     output: &mut O,
     errors: &mut E,
 ) -> u8
-    ensures command_line { length words.now ≢ 1 → result ≡ 2 }
-    ensures served { length words.now ≡ 1 → result ≤ 1 }
+    // The status and the line of errors are those of how the run ended. A writer of errors that fails has a part of the line.
+    ensures ended { IfSome (I.remaining input.old) (λ bytes. IfSome (O.contents output.old) (λ before.
+        (end : LoneEnd) × (result ≡ status_of end) × AppendsPart (E.contents errors.old) (E.contents errors.new) (line_of end)
+        × EndsAlone ⟦<FileDisk<&'a F> as Disk>⟧.honest ⟦<FileDisk<&'a F> as Disk>⟧.view bytes before (I.remaining input.new) (O.contents output.new) (length words.now) end)) }
+{
+    let end = run_alone(alloc, files, words, input, output);
+    let _ = end.tell(errors);
+    end.status()
+}
+
+/// What `lone` does but for its line of errors.
+pub fn run_alone<'a, F: Files, I: Read, O: Write>(
+    alloc: Global,
+    files: &'a F,
+    words: &[String],
+    input: &mut I,
+    output: &mut O,
+) -> LoneEnd
+    ensures ended { IfSome (I.remaining input.old) (λ bytes. IfSome (O.contents output.old) (λ before.
+        EndsAlone ⟦<FileDisk<&'a F> as Disk>⟧.honest ⟦<FileDisk<&'a F> as Disk>⟧.view bytes before (I.remaining input.new) (O.contents output.new) (length words.now) result)) }
 {
     let [store] = words else {
-        let _ = writeln!(errors, "machipcd: command line");
-        return 2;
+        return LoneEnd::CommandLine;
     };
-    match serve_store(alloc, files, store.as_str(), input, output) {
-        Ok(()) => 0,
-        Err(ServeFault::Wire(fault)) => {
-            let number = fault.number();
-            let _ = writeln!(errors, "machipcd: wire fault {number}: {fault}");
-            1
-        }
-        Err(ServeFault::Store(fault)) => {
-            let number = fault.number();
-            let _ = writeln!(errors, "machipcd: store fault {number}: {fault}");
-            1
-        }
+    match serve_folder(alloc, files, store.as_str(), input, output) {
+        Ok(()) => LoneEnd::Served,
+        Err(fault) => LoneEnd::Fault(fault),
     }
 }
 
 /// Opens the store in a folder, and serves one connection on it.
-fn serve_store<F: Files, I: Read, O: Write>(
+fn serve_folder<'a, F: Files, I: Read, O: Write>(
     alloc: Global,
-    files: &F,
+    files: &'a F,
     folder: &str,
     input: &mut I,
     output: &mut O,
-) -> Result<(), ServeFault> {
+) -> Result<(), ServeFault>
+    ensures run { IfSome (I.remaining input.old) (λ bytes. IfSome (O.contents output.old) (λ before.
+        IsRun ⟦<FileDisk<&'a F> as Disk>⟧.honest ⟦<FileDisk<&'a F> as Disk>⟧.view bytes before (I.remaining input.new) (O.contents output.new) result)) }
+{
     let Ok(disk) = FileDisk::at(alloc, files, folder) else {
         return Err(ServeFault::Store(StoreFault::Device));
     };
+    serve_disk(alloc, disk, input, output)
+}
+
+/// Opens the store of a disk, and serves one connection on it.
+fn serve_disk<D: Disk + Drop, I: Read, O: Write>(
+    alloc: Global,
+    disk: D,
+    input: &mut I,
+    output: &mut O,
+) -> Result<(), ServeFault>
+    ensures run { IfSome (I.remaining input.old) (λ bytes. IfSome (O.contents output.old) (λ before.
+        IsRun D.honest D.view bytes before (I.remaining input.new) (O.contents output.new) result)) }
+{
     match open(alloc, disk) {
-        Ok(opened) => serve(alloc, input, output, &mut Alone::new(alloc, opened)),
-        Err((fault, _disk)) => Err(ServeFault::Store(fault)),
+        Ok(opened) => {
+            serve_opened(alloc, opened, input, output)?;
+            Ok(())
+        }
+        Err((fault, _)) => Err(ServeFault::Store(fault)),
     }
+}
+
+/// Serves one connection on an opened store.
+fn serve_opened<D: Disk + Drop, I: Read, O: Write>(
+    alloc: Global,
+    opened: Opened<D>,
+    input: &mut I,
+    output: &mut O,
+) -> Result<(), ServeFault>
+    requires { D.honest → IsKept (D.view opened.journal.disk) opened.kernel opened.journal.records }
+    ensures run { IfSome (I.remaining input.old) (λ bytes. IfSome (O.contents output.old) (λ before.
+        ServesOpened D.honest D.view bytes before (I.remaining input.new) (O.contents output.new) result)) }
+{
+    let mut caller = Alone::new(alloc, opened);
+    serve(alloc, input, output, &mut caller)?;
+    Ok(())
 }

@@ -1,8 +1,8 @@
-ghost use Rattle.std.specs.Prelude.{◌≡◌, ◌≤◌, ◌<◌, length, IfOk, IfSome, OnOk};
+ghost use Rattle.std.specs.Prelude.{◌≡◌, ◌≤◌, ◌<◌, length, IfErr, IfOk, IfSome, OnOk};
 ghost use Rattle.ipc_model.specs.messages.Receiving as receiving;
 ghost use Rattle.ipc_model.specs.calls.Refusals.{refused_of};
 ghost use Rattle.ipc_model.specs.texts.Texts.{reply_text};
-ghost use Rattle.server.specs.Serving.{AnswersBoth, AnswersMessage, AnswersRequest, IsAnswered, ServesAll};
+ghost use Rattle.server.specs.Serving.{AnswersBoth, AnswersMessage, AnswersRequest, Ends, FailsBoth, FailsMessage, FailsRequest, IsAnswered, IsFailed};
 
 use crate::Caller;
 use calls::{CallFault, Request, read_request, reply_frame};
@@ -52,8 +52,9 @@ pub fn serve<R: Read, W: Write, C: Caller>(
     writer: &mut W,
     caller: &mut C,
 ) -> Result<(), ServeFault>
-    ensures served { IfSome (R.remaining reader.old) (λ input. IfSome (W.contents writer.old) (λ before.
-        OnOk result (ServesAll C.answers caller.old caller.new input before (R.remaining reader.new) (W.contents writer.new)))) }
+    // All that was read, called and written, by how it ended.
+    ensures ended { IfSome (R.remaining reader.old) (λ input. IfSome (W.contents writer.old) (λ before.
+        Ends C.answers C.fails caller.old caller.new input before (R.remaining reader.new) (W.contents writer.new) result)) }
 {
     let Ok(mut reply) = Frame::with_room(alloc, MAX_FRAME_CONTENT as usize) else {
         return Err(ServeFault::Wire(WireFault::NoMemory));
@@ -83,6 +84,7 @@ fn answer<C: Caller>(
     ensures room { reply.old.room ≤ reply.new.room }
     ensures answered { OnOk result ((answer : Reply) × (reply.new.content ≡ reply_text answer)
         × IsAnswered C.answers caller.old request.now.content answer caller.new) }
+    ensures failed { IfErr result (λ fault. IsFailed C.answers C.fails caller.old request.now.content fault caller.new) }
 {
     let answer = answer_of(alloc, caller, request)?;
     reply_frame(&answer, reply);
@@ -92,6 +94,7 @@ fn answer<C: Caller>(
 /// The reply to a frame, after the calls that it asks for were made.
 fn answer_of<C: Caller>(alloc: Global, caller: &mut C, request: &Frame) -> Result<Reply, StoreFault>
     ensures answered { IfOk result (λ reply. IsAnswered C.answers caller.old request.now.content reply caller.new) }
+    ensures failed { IfErr result (λ fault. IsFailed C.answers C.fails caller.old request.now.content fault caller.new) }
     ensures fits { IfOk result (λ reply. length (reply_text reply) ≤ MAX_FRAME_CONTENT) }
 {
     match read_request(alloc, request) {
@@ -108,6 +111,7 @@ fn answer_request<C: Caller>(
     asked: Request,
 ) -> Result<Reply, StoreFault>
     ensures answered { IfOk result (λ reply. AnswersRequest C.answers caller.old asked reply caller.new) }
+    ensures failed { IfErr result (λ fault. FailsRequest C.answers C.fails caller.old asked fault caller.new) }
     ensures fits { IfOk result (λ reply. length (reply_text reply) ≤ MAX_FRAME_CONTENT) }
 {
     match asked {
@@ -125,6 +129,7 @@ fn answer_message<C: Caller>(
     receive: Option<Call>,
 ) -> Result<Reply, StoreFault>
     ensures answered { IfOk result (λ reply. AnswersMessage C.answers caller.old send receive reply caller.new) }
+    ensures failed { IfErr result (λ fault. FailsMessage C.answers C.fails caller.old send receive fault caller.new) }
     ensures fits { IfOk result (λ reply. length (reply_text reply) ≤ MAX_FRAME_CONTENT) }
 {
     match (send, receive) {
@@ -141,6 +146,7 @@ fn send_and_receive<C: Caller>(
     receive: Call,
 ) -> Result<Reply, StoreFault>
     ensures answered { IfOk result (λ reply. AnswersBoth C.answers caller.old send receive reply caller.new) }
+    ensures failed { IfErr result (λ fault. FailsBoth C.answers C.fails caller.old send receive fault caller.new) }
     ensures fits { IfOk result (λ reply. length (reply_text reply) ≤ MAX_FRAME_CONTENT) }
 {
     let sent = caller.call(send)?;

@@ -1,5 +1,5 @@
-use Rattle.std.proofs.Common.{refl, sym, ◌∙◌}
-use Rattle.server.proofs.Answered.{if_ok, at_true, at_false}
+use Rattle.std.proofs.Common.{inr, refl, sym, ◌∙◌}
+use Rattle.server.proofs.Answered.{if_err, if_ok, at_true, at_false}
 use Rattle.server.proofs.service.send_and_receive.Goals as goal
 
 pub returns-then-not-is_success-clause-answered : goal.returns-then-not-is_success-clause-answered
@@ -20,3 +20,9 @@ returns-clause-answered g c =
       at_true _ _ _ (sym (c.is_success.ensures c.args.send) ∙ c.if-not-is_success.false) answered,
     ))
     c.call-2.ensures.answers
+
+pub returns-clause-failed : goal.returns-clause-failed
+returns-clause-failed g c =
+    if_err c.call-2.result
+    (λ _ failed. inr (c.in_ok-sent.sent, c.call.new.self, c.in_ok-sent.ensures.answers, sym (c.is_success.ensures c.args.send) ∙ c.if-not-is_success.false, failed))
+    c.call-2.ensures.fails

@@ -1,7 +1,7 @@
 use Rattle.std.specs.Prelude.{ℕ, if◌then◌else◌}
-use Rattle.std.proofs.Common.{ap, ◌∙◌}
+use Rattle.std.proofs.Common.{ap, refl, sym, ◌∙◌}
 use Rattle.ipc_model.specs.calls.Step.{succeeded}
-use Rattle.server.proofs.Keeping.{kept_recovers, since_kept}
+use Rattle.server.proofs.Keeping.{kept_recovers, no_time, since_kept}
 use Rattle.server.proofs.alone.AloneCaller.call.Goals as goal
 
 pub returns-in-Err-clause-any_moment : goal.returns-in-Err-clause-any_moment
@@ -11,10 +11,34 @@ returns-in-Err-clause-any_moment g c = λ honest _.
     let kept = c.self.invariant c.if-self.false honest in
     rw (← c.self.view_is) (since_kept old (g.D.Disk.view made.new.journal.disk) c.self.inside.kernel made.new.kernel c.self.inside.journal.records c.self.inside.space c.args.call kept (made.ensures.passes honest kept))
 
+pub returns-then-self-clause-fails : goal.returns-then-self-clause-fails
+returns-then-self-clause-fails g c =
+    rw (← c.self.view_is) (record {
+      failed = c.if-self.true;
+      failed_before = λ _. (refl, refl);
+      passes = λ _ _. no_time g.D.Disk.view c.self.inside.journal.disk c.self.inside.journal.disk _ refl;
+    })
+
+pub returns-in-Err-clause-fails : goal.returns-in-Err-clause-fails
+returns-in-Err-clause-fails g c =
+    rw (← c.self.view_is) (record {
+      failed = refl;
+      failed_before = λ before. absurd (cc (sym c.if-self.false ∙ before));
+      passes = λ honest kept. c.make_call.ensures.passes honest kept;
+    })
+
 pub returns-in-Ok-clause-answers : goal.returns-in-Ok-clause-answers
 returns-in-Ok-clause-answers g c =
     let attached = ap (λ (n : ℕ). if succeeded c.args.call c.in-Ok.reply then n else c.self.inside.space) c.attached_by-attached.ensures in
-    rw (← c.self.view_is) (c.in-Ok.ensures.answers, c.in-Ok.ensures.counted, c.space_after-self-inside.ensures c.args.call ∙ attached, c.if-self.false)
+    let after = c.space_after-self-inside.result in
+    rw (← c.self.view_is) (record {
+      stored = (c.in-Ok.ensures.answers, c.in-Ok.ensures.counted, c.space_after-self-inside.ensures c.args.call ∙ attached, c.if-self.false);
+      unrecorded = λ none.
+          let same = c.in-Ok.ensures.unrecorded none in
+          λ i. record { kernel = same.0 i; disk = (same.1 i).disk; records = (same.1 i).records; space = after; failed = c.self.inside.failed };
+      passes = λ honest kept. c.make_call.ensures.passes honest kept;
+      kept = λ honest kept. c.in-Ok.ensures.kept honest kept;
+    })
 
 pub returns-in-Ok-clause-any_moment : goal.returns-in-Ok-clause-any_moment
 returns-in-Ok-clause-any_moment g c = λ honest _.

@@ -1,0 +1,57 @@
+-- How a run of the program for one connection ends: its status, its line of errors, and what was read and written.
+use Rattle.std.specs.Prelude.{◌≡◌, ◌≢◌, ◌⊎◌, ℕ, false, List, [], ◌++◌, Option, Some, Result, Ok, Err, codes}
+use Rattle.disk.specs.Moments.{View}
+use Rattle.journal.specs.Fault as store
+use Rattle.journal.specs.declared.fault.StoreFault.{StoreFault}
+use Rattle.recover.specs.Kept.{IsKept}
+use Rattle.server.specs.Keeping.{AloneValue, AnswersKept, FailsKept}
+use Rattle.server.specs.Serving.{Ends}
+use Rattle.server.specs.declared.program.LoneEnd.{LoneEnd}
+use Rattle.server.specs.declared.program.LoneEnd.TheVariants.{Served, CommandLine, Fault}
+use Rattle.server.specs.declared.service.ServeFault.{ServeFault}
+use Rattle.server.specs.declared.service.ServeFault.TheVariants.{Wire, Store}
+use Rattle.wire.specs.Fault as wire
+
+-- 0: the input was served to its end; 1: a fault; 2: the words are not one
+abbrev pub status_of : LoneEnd → ℕ
+status_of Served = 0
+status_of CommandLine = 2
+status_of (Fault fault) = 1
+
+-- what stands on the line of errors behind the program's name; no line where all was served
+abbrev pub words_of : LoneEnd → List ℕ
+words_of Served = []
+words_of CommandLine = codes "command line\n"
+words_of (Fault (Wire fault)) = wire.fault_line fault
+words_of (Fault (Store fault)) = store.fault_line fault
+
+abbrev pub line_of : LoneEnd → List ℕ
+line_of Served = []
+line_of CommandLine = codes "machipcd: " ++ words_of CommandLine
+line_of (Fault fault) = codes "machipcd: " ++ words_of (Fault fault)
+
+-- the store can't be opened; nothing was read or written
+pub record Unopened (input before : List ℕ) (left written : Option (List ℕ)) (result : Result (Unit {0}) ServeFault) : Type 0 where
+  pub fault : StoreFault
+  pub fault_is : result ≡ Err (Store fault)
+  pub unread : left ≡ Some input
+  pub unwritten : written ≡ Some before
+
+module _ {D : Type 0} (honest : Type 0) (view : D → View) (input before : List ℕ) (left written : Option (List ℕ)) where
+  -- the store was opened, and a caller that is attached to space 1 was served
+  pub record ServesOpened (result : Result (Unit {0}) ServeFault) : Type 0 where
+    pub old : AloneValue D
+    pub new : AloneValue D
+    pub attached : old.space ≡ 1
+    pub works : old.failed ≡ false
+    pub kept : honest → IsKept (view old.disk) old.kernel old.records
+    pub ends : Ends (AnswersKept honest view) (FailsKept honest view) old new input before left written result
+
+  abbrev pub IsRun : Result (Unit {0}) ServeFault → Type 0
+  IsRun result = Unopened input before left written result ⊎ ServesOpened result
+
+  -- how the program ends for so many words
+  abbrev pub EndsAlone : ℕ → LoneEnd → Type 0
+  EndsAlone words CommandLine = (words ≢ 1) × (left ≡ Some input) × (written ≡ Some before)
+  EndsAlone words Served = (words ≡ 1) × IsRun (Ok tt)
+  EndsAlone words (Fault fault) = (words ≡ 1) × IsRun (Err fault)

@@ -1,0 +1,106 @@
+-- What a stop leaves while a lone connection is served: the state after some first ones of the records that its calls made,
+-- and nothing that was answered is missing.
+use Rattle.std.specs.Prelude.{◌≡◌, ◌⊎◌, ℕ, ◌+◌, ◌≤◌, List, [], ◌∷◌, ◌++◌, length, take, Option, None, Some, MatchBool, if◌then◌else◌}
+use Rattle.calls.specs.Requests.{Asks}
+use Rattle.calls.specs.declared.request.Request.{Request}
+use Rattle.calls.specs.declared.request.Request.TheVariants as request
+use Rattle.codes.specs.declared.kern_return.KernReturn.TheVariants.{Success}
+use Rattle.codes.specs.declared.name.TheConstants.{MACH_PORT_NULL}
+use Rattle.disk.specs.Moments.{View, LeftSince}
+use Rattle.disk.specs.Slots.{Slots}
+use Rattle.ipc_model.specs.calls.Step.{Run, has_record, succeeded}
+use Rattle.ipc_model.specs.declared.call.Call.{Call}
+use Rattle.ipc_model.specs.declared.call.Reply.{Reply}
+use Rattle.ipc_model.specs.declared.record.Record.{Record}
+use Rattle.ipc_model.specs.messages.Receiving.{without_message}
+use Rattle.ipc_model.specs.state.State.{State}
+use Rattle.journal.specs.declared.fault.StoreFault.{StoreFault}
+use Rattle.recover.specs.Kept.{IsKept}
+use Rattle.recover.specs.Recovered.{Recovers}
+use Rattle.server.specs.Keeping.{AloneValue, AnswersKept, FailsKept}
+use Rattle.server.specs.Serving.{Answers, Exchanges, IsFailed, IsRefused, LacksMemory}
+
+-- the record of a call of a task of this space that was answered so, if it has one
+abbrev pub record_of : ℕ → Call → Reply → List Record
+record_of space c answer = if has_record c answer then (record { space = space; call = c; reply = answer }) ∷ [] else []
+
+-- the records that the calls of frames made, in order
+module _ {D : Type 0} (answers : AloneValue D → Call → Reply → AloneValue D → Type 0) where
+  abbrev pub MakesOne : AloneValue D → Call → Reply → AloneValue D → List Record → Type 0
+  MakesOne old c answer new records = answers old c answer new × (records ≡ record_of old.space c answer)
+
+  abbrev pub MakesBoth : AloneValue D → Call → Call → Reply → AloneValue D → List Record → Type 0
+  MakesBoth old send receive answer new records =
+      (sent : Reply) × (mid : AloneValue D) × answers old send sent mid
+      × MatchBool (succeeded send sent) (answers mid receive answer new × (records ≡ record_of old.space send sent ++ record_of mid.space receive answer))
+      ((answer ≡ sent) × (new ≡ mid) × (records ≡ record_of old.space send sent))
+
+  abbrev pub MakesMessage : AloneValue D → Option Call → Option Call → Reply → AloneValue D → List Record → Type 0
+  MakesMessage old None None answer new records = (answer ≡ without_message Success 0 MACH_PORT_NULL) × (new ≡ old) × (records ≡ [])
+  MakesMessage old (Some send) None answer new records = MakesOne old send answer new records
+  MakesMessage old None (Some receive) answer new records = MakesOne old receive answer new records
+  MakesMessage old (Some send) (Some receive) answer new records = MakesBoth old send receive answer new records
+
+  abbrev pub MakesRequest : AloneValue D → Request → Reply → AloneValue D → List Record → Type 0
+  MakesRequest old (request.One c) answer new records = MakesOne old c answer new records
+  MakesRequest old (request.Message m) answer new records = MakesMessage old m.send m.receive answer new records
+  MakesRequest old (request.Answered code) answer new records = (answer ≡ without_message code 0 MACH_PORT_NULL) × (new ≡ old) × (records ≡ [])
+
+  abbrev pub Makes : AloneValue D → List ℕ → Reply → AloneValue D → List Record → Type 0
+  Makes old content answer new records =
+      ((asks : Request) × Asks content asks × MakesRequest old asks answer new records)
+      ⊎ ((IsRefused old content answer new ⊎ LacksMemory old content answer new) × (records ≡ []))
+
+  abbrev pub MakesAll : AloneValue D → Exchanges → AloneValue D → List Record → Type 0
+  MakesAll old [] new records = (new ≡ old) × (records ≡ [])
+  MakesAll old (exchange ∷ exchanges) new records =
+      (mid : AloneValue D) × (first rest : List Record) × Makes old exchange.0 exchange.1 mid first × MakesAll mid exchanges new rest × (records ≡ first ++ rest)
+
+-- slots that stand for the state after the first ones of these records, which follow a state with so many before it
+pub record StandsWithin (old : State) (count : ℕ) (records : List Record) (c : Slots) : Type 0 where
+  pub first : ℕ
+  pub within : first ≤ length records
+  pub state : State
+  pub run : Run old (take first records) state
+  pub stands : Recovers c state (count + first)
+
+-- the calls that are asked for
+abbrev pub given : Option Call → List Call
+given None = []
+given (Some c) = c ∷ []
+
+abbrev pub calls_of : Request → List Call
+calls_of (request.One c) = c ∷ []
+calls_of (request.Message m) = given m.send ++ given m.receive
+calls_of (request.Answered code) = []
+
+-- each of these records is of one of these calls
+abbrev pub IsAmong : Call → List Call → Type 0
+IsAmong c [] = ⊥
+IsAmong c (d ∷ calls) = (c ≡ d) ⊎ IsAmong c calls
+
+abbrev pub AreOf : List Call → List Record → Type 0
+AreOf calls [] = Unit {0}
+AreOf calls (entry ∷ records) = IsAmong entry.call calls × AreOf calls records
+
+-- Frames that were answered: the store is kept with all the records that their calls made, and a stop at any moment since
+-- the first of them leaves the state after some first ones of these.
+pub record IsStoredWhole {D : Type 0} (honest : Type 0) (view : D → View) (old : AloneValue D) (exchanges : Exchanges) (new : AloneValue D) : Type 0 where
+  pub records : List Record
+  pub made : MakesAll (AnswersKept honest view) old exchanges new records
+  pub counted : new.records ≡ old.records + length records
+  pub kept : IsKept (view new.disk) new.kernel new.records
+  pub any_moment : (c : Slots) → LeftSince (view new.disk) (view old.disk).moment c → StandsWithin old.kernel old.records records c
+
+abbrev pub AnsweredIsStored : {D : Type 0} → Type 0 → (D → View) → Type 0
+AnsweredIsStored {D} honest view =
+    (old : AloneValue D) (exchanges : Exchanges) (new : AloneValue D) → honest → IsKept (view old.disk) old.kernel old.records
+    → Answers (AnswersKept honest view) old exchanges new → IsStoredWhole honest view old exchanges new
+
+-- A frame whose calls failed in the store: a stop at any moment since leaves the state before it, or the one after the first
+-- of its calls.
+abbrev pub FailureLosesNothing : {D : Type 0} → Type 0 → (D → View) → Type 0
+FailureLosesNothing {D} honest view =
+    (old : AloneValue D) (content : List ℕ) (fault : StoreFault) (new : AloneValue D) → honest → IsKept (view old.disk) old.kernel old.records
+    → IsFailed (AnswersKept honest view) (FailsKept honest view) old content fault new → (c : Slots) → LeftSince (view new.disk) (view old.disk).moment c
+    → (asks : Request) × Asks content asks × ((records : List Record) × AreOf (calls_of asks) records × StandsWithin old.kernel old.records records c)

@@ -1,0 +1,15 @@
+// Laws over what `serve` says of a lone caller, as contracts of functions that do nothing, so that the check proves them.
+ghost use Rattle.server.specs.Stopping.{AnsweredIsStored, FailureLosesNothing};
+
+use disk::Disk;
+
+/// What a lone caller answered is stored: a stop at any moment since leaves the state after some first ones of the records
+/// that the calls made, and behind the last answer, all of them.
+pub fn answered_is_stored<D: Disk>()
+    ensures { AnsweredIsStored D.honest D.view }
+{}
+
+/// A call that fails in the store takes nothing with it that was answered before.
+pub fn failure_loses_nothing<D: Disk>()
+    ensures { FailureLosesNothing D.honest D.view }
+{}
