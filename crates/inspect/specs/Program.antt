@@ -5,7 +5,6 @@ use Rattle.ipc_model.specs.state.State.{State}
 use Rattle.listing.specs.Drawing.{drawing}
 use Rattle.listing.specs.Listing.{listing}
 use Rattle.wire.specs.Writing.{AppendsPart}
-use Rattle.inspect.specs.declared.fault.ListFault.{ListFault}
 use Rattle.inspect.specs.declared.fault.ListFault.TheVariants.{Store, Write}
 use Rattle.inspect.specs.declared.program.ShowEnd.{ShowEnd}
 use Rattle.inspect.specs.declared.program.ShowEnd.TheVariants.{Shown, CommandLine, Fault}

@@ -2,8 +2,8 @@
 #![tactic(auto)]
 
 mod fault;
-mod program;
 mod printing;
+mod program;
 
 pub use fault::ListFault;
 pub use printing::{list, sketch};

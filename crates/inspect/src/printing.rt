@@ -17,11 +17,7 @@ use wire::write_bytes;
 ///
 /// `Store`: the store can't be read, and nothing was written. `Write`: the writer failed, and some first bytes of the
 /// lines may have been written.
-pub fn list<D: Disk, W: Write>(
-    alloc: Global,
-    disk: &mut D,
-    writer: &mut W,
-) -> Result<(), ListFault>
+pub fn list<D: Disk, W: Write>(alloc: Global, disk: &mut D, writer: &mut W) -> Result<(), ListFault>
     ensures ok { OnOk result ((text : List ℕ) × IsListing D.honest (D.view disk.old).seen text × Appends (W.contents writer.old) (W.contents writer.new) text) }
     ensures part { IsErrOf result ListFault.Write → (text : List ℕ) × IsListing D.honest (D.view disk.old).seen text × AppendsPart (W.contents writer.old) (W.contents writer.new) text }
     ensures unwritten { IfErr result (λ fault. fault ≢ ListFault.Write → Keeps (W.contents writer.old) (W.contents writer.new)) }
