@@ -1,0 +1,19 @@
+use Rattle.std.proofs.Common.{◌++◌, ◌∙◌}
+use Rattle.std.proofs.lemmas.Result.{err_from_is_err_and}
+use Rattle.listing.specs.Drawing.{drawing}
+use Rattle.inspect.proofs.printing.sketch_of.Goals as goal
+
+pub returns-in_err-look-clause-damaged : goal.returns-in_err-look-clause-damaged
+returns-in_err-look-clause-damaged g c = λ honest is.
+    let p = err_from_is_err_and c.from_residual.result c.from_residual.ensures.1 in
+    c.in_err-look.ensures.damaged honest (cc (p.1, p.2, is))
+
+pub returns-clause-text : goal.returns-clause-text
+returns-clause-text g c =
+    let found = c.in_ok-look.ensures.state in
+    record {
+      state = found.state;
+      records = c.in_ok-look.look.records;
+      stands = found.stands;
+      drawn = c.in_ok-draw.ensures found.state found.rows ∙ (λ i. c.new-text.ensures.items i ++ drawing found.state);
+    }

@@ -1,0 +1,21 @@
+-- What is printed of a store.
+use Rattle.std.specs.Prelude.{◌≡◌, ℕ, List}
+use Rattle.disk.specs.Slots.{Slots}
+use Rattle.ipc_model.specs.state.State.{State}
+use Rattle.listing.specs.Drawing.{drawing}
+use Rattle.listing.specs.Listing.{listing}
+use Rattle.recover.specs.Recovered.{Recovers}
+
+-- The lines of a state. On an honest disk it is the one that the slots stand for, with so many records.
+pub record IsListing (honest : Type 0) (slots : Slots) (text : List ℕ) : Type 0 where
+  pub state : State
+  pub records : ℕ
+  pub stands : honest → Recovers slots state records
+  pub lines : text ≡ listing 0 records state
+
+-- and the drawing of it
+pub record IsSketch (honest : Type 0) (slots : Slots) (text : List ℕ) : Type 0 where
+  pub state : State
+  pub records : ℕ
+  pub stands : honest → Recovers slots state records
+  pub drawn : text ≡ drawing state

@@ -1,0 +1,47 @@
+-- How a run of an inspector ends: its status and its line of errors.
+use Rattle.std.specs.Prelude.{◌≡◌, ◌≢◌, ℕ, List, [], ◌++◌, Option, codes}
+use Rattle.std.specs.Io.KnownBytes.{Appends, Keeps}
+use Rattle.ipc_model.specs.state.State.{State}
+use Rattle.listing.specs.Drawing.{drawing}
+use Rattle.listing.specs.Listing.{listing}
+use Rattle.wire.specs.Writing.{AppendsPart}
+use Rattle.inspect.specs.declared.fault.ListFault.TheVariants.{Store, Write}
+use Rattle.inspect.specs.declared.program.ShowEnd.{ShowEnd}
+use Rattle.inspect.specs.declared.program.ShowEnd.TheVariants.{Shown, CommandLine, Fault}
+use Rattle.journal.specs.Fault as store
+use Rattle.wire.specs.Fault as wire
+use Rattle.wire.specs.declared.fault.WireFault.TheVariants.{Device}
+
+-- 0: the store was printed; 1: a fault; 2: the words are not one
+abbrev pub status_of : ShowEnd → ℕ
+status_of Shown = 0
+status_of CommandLine = 2
+status_of (Fault fault) = 1
+
+-- what stands on the line of errors behind the program's name; no line where the store was printed
+abbrev pub words_of : ShowEnd → List ℕ
+words_of Shown = []
+words_of CommandLine = codes "command line\n"
+words_of (Fault (Store fault)) = store.fault_line fault
+words_of (Fault Write) = wire.fault_line Device
+
+-- a line of errors, behind the name of a program
+abbrev pub line_of : List ℕ → ShowEnd → List ℕ
+line_of name Shown = []
+line_of name CommandLine = name ++ words_of CommandLine
+line_of name (Fault fault) = name ++ words_of (Fault fault)
+
+-- the lines of some state, and the drawing of one
+abbrev pub IsSomeListing : List ℕ → Type 0
+IsSomeListing text = (state : State) × (records : ℕ) × (text ≡ listing 0 records state)
+
+abbrev pub IsSomeDrawing : List ℕ → Type 0
+IsSomeDrawing text = (state : State) × (text ≡ drawing state)
+
+-- What was written by a run that ended so, for so many words: the whole text, some first bytes of it where the output can't
+-- be written, nothing else.
+abbrev pub Prints : (List ℕ → Type 0) → ℕ → Option (List ℕ) → Option (List ℕ) → ShowEnd → Type 0
+Prints IsText words old new CommandLine = (words ≢ 1) × Keeps old new
+Prints IsText words old new Shown = (words ≡ 1) × ((text : List ℕ) × IsText text × Appends old new text)
+Prints IsText words old new (Fault Write) = (words ≡ 1) × ((text : List ℕ) × IsText text × AppendsPart old new text)
+Prints IsText words old new (Fault (Store fault)) = (words ≡ 1) × Keeps old new

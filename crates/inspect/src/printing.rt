@@ -1,0 +1,87 @@
+ghost use Rattle.std.specs.Prelude.{◌≡◌, ◌≢◌, ℕ, List, Err, IfErr, IfOk, IsErrOf, OnErr, OnOk};
+ghost use Rattle.std.specs.Io.KnownBytes.{Appends, Keeps};
+ghost use Rattle.inspect.specs.Printed.{IsListing, IsSketch};
+ghost use Rattle.recover.specs.Recovered.{IsDamaged, IsOtherVersion};
+ghost use Rattle.wire.specs.Writing.{AppendsPart};
+
+use crate::ListFault;
+use disk::Disk;
+use journal::StoreFault;
+use recover::look;
+use std::alloc::Global;
+use std::io::Write;
+use wire::write_bytes;
+
+/// Writes the lines of a store, and flushes them: `epoch E records N`; each space with its names; each live port with
+/// where its receive right is, its rights' counts and its queue. The store isn't written to.
+///
+/// `Store`: the store can't be read, and nothing was written. `Write`: the writer failed, and some first bytes of the
+/// lines may have been written.
+pub fn list<D: Disk, W: Write>(alloc: Global, disk: &mut D, writer: &mut W) -> Result<(), ListFault>
+    ensures ok { OnOk result ((text : List ℕ) × IsListing D.honest (D.view disk.old).seen text × Appends (W.contents writer.old) (W.contents writer.new) text) }
+    ensures part { IsErrOf result ListFault.Write → (text : List ℕ) × IsListing D.honest (D.view disk.old).seen text × AppendsPart (W.contents writer.old) (W.contents writer.new) text }
+    ensures unwritten { IfErr result (λ fault. fault ≢ ListFault.Write → Keeps (W.contents writer.old) (W.contents writer.new)) }
+    ensures seen { D.honest → (D.view disk.new).seen ≡ (D.view disk.old).seen }
+    ensures version { D.honest → IsErrOf result (ListFault.Store StoreFault.Version) → IsOtherVersion (D.view disk.old).seen }
+    ensures damaged { D.honest → IsErrOf result (ListFault.Store StoreFault.Damaged) → IsDamaged (D.view disk.old).seen }
+{
+    let text = lines_of(alloc, disk)?;
+    send(writer, &text)
+}
+
+/// Writes a drawing of a store for Graphviz, and flushes it: spaces with their names, ports with their counts, an edge
+/// for each right. The store isn't written to. Its faults are those of `list`.
+pub fn sketch<D: Disk, W: Write>(
+    alloc: Global,
+    disk: &mut D,
+    writer: &mut W,
+) -> Result<(), ListFault>
+    ensures ok { OnOk result ((text : List ℕ) × IsSketch D.honest (D.view disk.old).seen text × Appends (W.contents writer.old) (W.contents writer.new) text) }
+    ensures part { IsErrOf result ListFault.Write → (text : List ℕ) × IsSketch D.honest (D.view disk.old).seen text × AppendsPart (W.contents writer.old) (W.contents writer.new) text }
+    ensures unwritten { IfErr result (λ fault. fault ≢ ListFault.Write → Keeps (W.contents writer.old) (W.contents writer.new)) }
+    ensures seen { D.honest → (D.view disk.new).seen ≡ (D.view disk.old).seen }
+    ensures version { D.honest → IsErrOf result (ListFault.Store StoreFault.Version) → IsOtherVersion (D.view disk.old).seen }
+    ensures damaged { D.honest → IsErrOf result (ListFault.Store StoreFault.Damaged) → IsDamaged (D.view disk.old).seen }
+{
+    let text = sketch_of(alloc, disk)?;
+    send(writer, &text)
+}
+
+fn lines_of<D: Disk>(alloc: Global, disk: &mut D) -> Result<Vec<u8>, ListFault>
+    ensures text { IfOk result (λ text. IsListing D.honest (D.view disk.old).seen text.items) }
+    ensures seen { D.honest → (D.view disk.new).seen ≡ (D.view disk.old).seen }
+    ensures version { D.honest → IsErrOf result (ListFault.Store StoreFault.Version) → IsOtherVersion (D.view disk.old).seen }
+    ensures damaged { D.honest → IsErrOf result (ListFault.Store StoreFault.Damaged) → IsDamaged (D.view disk.old).seen }
+    ensures err { IfErr result (λ fault. fault ≢ ListFault.Write) }
+{
+    let look = look(alloc, disk)?;
+    let mut text = Vec::new(alloc);
+    listing::list(alloc, look.epoch, look.records, &look.snapshot, &mut text)?;
+    Ok(text)
+}
+
+fn sketch_of<D: Disk>(alloc: Global, disk: &mut D) -> Result<Vec<u8>, ListFault>
+    ensures text { IfOk result (λ text. IsSketch D.honest (D.view disk.old).seen text.items) }
+    ensures seen { D.honest → (D.view disk.new).seen ≡ (D.view disk.old).seen }
+    ensures version { D.honest → IsErrOf result (ListFault.Store StoreFault.Version) → IsOtherVersion (D.view disk.old).seen }
+    ensures damaged { D.honest → IsErrOf result (ListFault.Store StoreFault.Damaged) → IsDamaged (D.view disk.old).seen }
+    ensures err { IfErr result (λ fault. fault ≢ ListFault.Write) }
+{
+    let look = look(alloc, disk)?;
+    let mut text = Vec::new(alloc);
+    listing::draw(alloc, &look.snapshot, &mut text)?;
+    Ok(text)
+}
+
+/// Writes a text whole, and flushes it. Where the writer fails some first bytes may have been written.
+fn send<W: Write>(writer: &mut W, text: &[u8]) -> Result<(), ListFault>
+    ensures ok { OnOk result (Appends (W.contents writer.old) (W.contents writer.new) text.now) }
+    ensures part { OnErr result (AppendsPart (W.contents writer.old) (W.contents writer.new) text.now) }
+    ensures err { IfErr result (λ fault. fault ≡ ListFault.Write) }
+{
+    write_bytes(writer, text)?;
+    if writer.flush().is_err() {
+        return Err(ListFault::Write);
+    }
+    Ok(())
+}

@@ -1,0 +1,177 @@
+ghost use Rattle.std.specs.Prelude.{◌≡◌, ◌≢◌, ◌++◌, ℕ, List, codes, length, IfErr, IsErrOf, OnErr, OnOk};
+ghost use Rattle.std.specs.Io.KnownBytes.{Appends, Keeps};
+ghost use Rattle.inspect.specs.Program.{IsSomeDrawing, IsSomeListing, Prints, line_of, status_of, words_of};
+ghost use Rattle.wire.specs.Writing.{AppendsPart};
+
+use crate::{ListFault, list, sketch};
+use disk::FileDisk;
+use journal::StoreFault;
+use std::alloc::Global;
+use std::io::Write;
+use std::rt::Files;
+use wire::{WireFault, write_bytes};
+
+/// How a run of an inspector ends.
+#[derive(Clone, Copy, Debug, PartialEq, Eq)]
+pub enum ShowEnd {
+    /// The store was printed.
+    Shown,
+    /// The words are not one.
+    CommandLine,
+    /// The store can't be read, or the output can't be written.
+    Fault(ListFault),
+}
+
+impl ShowEnd {
+    /// The status to end with: 0 without a fault, 1 after a fault, 2 where the words are not one.
+    pub fn status(self) -> u8
+        ensures { result ≡ status_of self }
+    {
+        match self {
+            ShowEnd::Shown => 0,
+            ShowEnd::Fault(_) => 1,
+            ShowEnd::CommandLine => 2,
+        }
+    }
+
+    /// What stands on the line of errors behind the program's name: nothing where the store was printed.
+    pub fn words(self) -> &'static str
+        ensures { result.now ≡ words_of self }
+    {
+        match self {
+            ShowEnd::Shown => "",
+            ShowEnd::CommandLine => "command line\n",
+            ShowEnd::Fault(ListFault::Store(fault)) => fault.line(),
+            ShowEnd::Fault(ListFault::Write) => WireFault::Device.line(),
+        }
+    }
+
+    /// Writes the line of errors behind this name of a program, if there is one. `Device`: the writer failed, and some
+    /// first bytes of the line may have been written.
+    pub fn tell<E: Write>(self, name: &str, errors: &mut E) -> Result<(), WireFault>
+        ensures ok { OnOk result (Appends (E.contents errors.old) (E.contents errors.new) (line_of name.now self)) }
+        ensures part { OnErr result (AppendsPart (E.contents errors.old) (E.contents errors.new) (line_of name.now self)) }
+        ensures err { IfErr result (λ fault. fault ≡ WireFault.Device) }
+    {
+        match self {
+            ShowEnd::Shown => Ok(()),
+            ShowEnd::CommandLine => write_line(errors, name, self.words()),
+            ShowEnd::Fault(_) => write_line(errors, name, self.words()),
+        }
+    }
+}
+
+/// Writes a name and words behind it.
+fn write_line<E: Write>(errors: &mut E, name: &str, words: &str) -> Result<(), WireFault>
+    ensures ok { OnOk result (Appends (E.contents errors.old) (E.contents errors.new) (name.now ++ words.now)) }
+    ensures part { OnErr result (AppendsPart (E.contents errors.old) (E.contents errors.new) (name.now ++ words.now)) }
+    ensures err { IfErr result (λ fault. fault ≡ WireFault.Device) }
+{
+    write_bytes(errors, name.as_bytes())?;
+    write_bytes(errors, words.as_bytes())
+}
+
+/// All of `machls`: the words of its command line, its output and errors. It gives the status to end with.
+///
+/// The one word is the store's folder; its files are opened for reading alone. 0: its lines were written. 1: after a
+/// fault, which is a line of errors. 2: the words are not one, which is a line of errors too.
+pub fn show<F: Files, W: Write, E: Write>(
+    alloc: Global,
+    files: &F,
+    words: &[String],
+    output: &mut W,
+    errors: &mut E,
+) -> u8
+    ensures ended { (end : ShowEnd) × (result ≡ status_of end) × AppendsPart (E.contents errors.old) (E.contents errors.new) (line_of (codes "machls: ") end)
+        × Prints IsSomeListing (length words.now) (W.contents output.old) (W.contents output.new) end }
+{
+    let end = run_show(alloc, files, words, output);
+    let _ = end.tell("machls: ", errors);
+    end.status()
+}
+
+/// What `show` does but for its line of errors.
+pub fn run_show<F: Files, W: Write>(
+    alloc: Global,
+    files: &F,
+    words: &[String],
+    output: &mut W,
+) -> ShowEnd
+    ensures ended { Prints IsSomeListing (length words.now) (W.contents output.old) (W.contents output.new) result }
+{
+    let [store] = words else {
+        return ShowEnd::CommandLine;
+    };
+    match list_folder(alloc, files, store.as_str(), output) {
+        Ok(()) => ShowEnd::Shown,
+        Err(fault) => ShowEnd::Fault(fault),
+    }
+}
+
+/// Writes the lines of the store in a folder.
+fn list_folder<F: Files, W: Write>(
+    alloc: Global,
+    files: &F,
+    folder: &str,
+    output: &mut W,
+) -> Result<(), ListFault>
+    ensures ok { OnOk result ((text : List ℕ) × IsSomeListing text × Appends (W.contents output.old) (W.contents output.new) text) }
+    ensures part { IsErrOf result ListFault.Write → (text : List ℕ) × IsSomeListing text × AppendsPart (W.contents output.old) (W.contents output.new) text }
+    ensures unwritten { IfErr result (λ fault. fault ≢ ListFault.Write → Keeps (W.contents output.old) (W.contents output.new)) }
+{
+    let Ok(mut disk) = FileDisk::at(alloc, files, folder) else {
+        return Err(ListFault::Store(StoreFault::Device));
+    };
+    list(alloc, &mut disk, output)
+}
+
+/// All of `machmap`, which is `machls` with a drawing in place of the lines.
+pub fn show_drawing<F: Files, W: Write, E: Write>(
+    alloc: Global,
+    files: &F,
+    words: &[String],
+    output: &mut W,
+    errors: &mut E,
+) -> u8
+    ensures ended { (end : ShowEnd) × (result ≡ status_of end) × AppendsPart (E.contents errors.old) (E.contents errors.new) (line_of (codes "machmap: ") end)
+        × Prints IsSomeDrawing (length words.now) (W.contents output.old) (W.contents output.new) end }
+{
+    let end = run_drawing(alloc, files, words, output);
+    let _ = end.tell("machmap: ", errors);
+    end.status()
+}
+
+/// What `show_drawing` does but for its line of errors.
+pub fn run_drawing<F: Files, W: Write>(
+    alloc: Global,
+    files: &F,
+    words: &[String],
+    output: &mut W,
+) -> ShowEnd
+    ensures ended { Prints IsSomeDrawing (length words.now) (W.contents output.old) (W.contents output.new) result }
+{
+    let [store] = words else {
+        return ShowEnd::CommandLine;
+    };
+    match draw_folder(alloc, files, store.as_str(), output) {
+        Ok(()) => ShowEnd::Shown,
+        Err(fault) => ShowEnd::Fault(fault),
+    }
+}
+
+/// Writes the drawing of the store in a folder.
+fn draw_folder<F: Files, W: Write>(
+    alloc: Global,
+    files: &F,
+    folder: &str,
+    output: &mut W,
+) -> Result<(), ListFault>
+    ensures ok { OnOk result ((text : List ℕ) × IsSomeDrawing text × Appends (W.contents output.old) (W.contents output.new) text) }
+    ensures part { IsErrOf result ListFault.Write → (text : List ℕ) × IsSomeDrawing text × AppendsPart (W.contents output.old) (W.contents output.new) text }
+    ensures unwritten { IfErr result (λ fault. fault ≢ ListFault.Write → Keeps (W.contents output.old) (W.contents output.new)) }
+{
+    let Ok(mut disk) = FileDisk::at(alloc, files, folder) else {
+        return Err(ListFault::Store(StoreFault::Device));
+    };
+    sketch(alloc, &mut disk, output)
+}

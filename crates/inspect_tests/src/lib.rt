@@ -1,0 +1,7 @@
+//! Tests of the inspectors: what they print of stores, and how they end.
+#![tactic(auto)]
+
+#[cfg(test)]
+mod programs;
+#[cfg(test)]
+mod stores;
