@@ -12,8 +12,9 @@ test:
 # The programs, proved and built, in bin/.
 bin:
 	@mkdir -p bin
-	@empty=$$(mktemp -d) && (cd crates/machipcd && rt run -- "$$empty" < /dev/null > /dev/null) && rm -r "$$empty"
-	cp crates/machipcd/out/machipcd bin/
+	@empty=$$(mktemp -d) && for program in machipcd machls machmap; do \
+	  (cd crates/$$program && rt run -- "$$empty" < /dev/null > /dev/null) && cp crates/$$program/out/$$program bin/ || exit 1; \
+	done; rm -r "$$empty"
 
 # Acknowledged calls a second on a new store in files, beside pairs of syncs in the same folder; and calls and
 # messages in memory.
