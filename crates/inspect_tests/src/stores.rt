@@ -84,7 +84,7 @@ fn a_store_is_listed(rt: HostRuntime) -> Result<(), Fail> {
 #[test]
 fn a_writer_that_fails_has_a_part(rt: HostRuntime) -> Result<(), Fail> {
     let mut disk = used(rt.alloc())?;
-    for room in [0, 1, 40, 131] {
+    for room in [0, 1, 40, 129] {
         let (lines, end) = listed(rt.alloc(), &mut disk, room);
         assert!(rt;
             end == Err(ListFault::Write) && Some(lines.as_slice()) == LINES.as_bytes().get(..room)
