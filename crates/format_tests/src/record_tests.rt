@@ -51,7 +51,7 @@ fn record_bytes(rt: &HostRuntime, number: u64, record: &Record) -> Result<Vec<u8
 // Reads the record that these bytes are, and writes it again.
 fn read_and_written(rt: &HostRuntime, text: &[u8]) -> Result<Vec<u8>, Fail> {
     let (number, record) = record_of(rt, text)?;
-    in_range(&record);
+    in_range(record.space, &record.call, &record.reply);
     record_bytes(rt, number, &record)
 }
 

@@ -1,3 +1,4 @@
 mod Batches
 mod Reading
 mod Storing
+mod Whole

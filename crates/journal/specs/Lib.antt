@@ -1,3 +1,4 @@
+pub mod Batch
 pub mod Fault
 pub mod Journal
 pub mod Reading

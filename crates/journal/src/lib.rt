@@ -1,10 +1,12 @@
 //! The journal: batches of records, each behind a gate of its own.
 #![tactic(auto)]
 
+mod batch;
 mod fault;
 mod journal;
 mod read;
 
+pub use batch::Batch;
 pub use fault::StoreFault;
 pub use journal::{CLOSED_GATE, Journal, OPEN_GATE};
 pub use read::read_batches;

@@ -1,8 +1,8 @@
-ghost use Rattle.std.specs.Prelude.{◌≡◌, ◌<◌, ◌^◌, ◌++◌, ℕ, List, IfSome, IsSomeAnd, OnOk, length};
-ghost use Rattle.words.specs.Words.{frame_text};
+ghost use Rattle.std.specs.Prelude.{◌≡◌, ◌<◌, ◌≤◌, ◌+◌, ◌-◌, ◌^◌, ◌++◌, ℕ, List, IfSome, IsSomeAnd, length, take, drop};
+ghost use Rattle.words.specs.Words.{word, frame_text};
 
-use std::alloc::AllocError;
-use words::{push_word, take_word};
+use byteorder::{ByteOrder, LittleEndian};
+use words::take_word;
 
 /// The content of the frame that stands in front, and the bytes behind it.
 pub fn take_frame(bytes: &[u8]) -> Option<(&[u8], &[u8])>
@@ -18,11 +18,13 @@ pub fn take_frame(bytes: &[u8]) -> Option<(&[u8], &[u8])>
     Some(rest.split_at(length))
 }
 
-/// Adds a frame of this content. Where memory is wanted some of its bytes may have been added.
-pub(crate) fn push_frame(out: &mut Vec<u8>, content: &[u8]) -> Result<(), AllocError>
-    requires { length content.now < 2 ^ 32 }
-    ensures { OnOk result (out.new.items ≡ out.old.items ++ frame_text content.now) }
+/// Writes the length of a frame into its four bytes at this place. Its content stands behind them, to the end.
+pub(crate) fn set_length(out: &mut Vec<u8>, at: usize)
+    requires room { at + 4 ≤ length out.old.items }
+    requires fits { length out.old.items - (at + 4) < 2 ^ 32 }
+    ensures { out.new.items ≡ take at out.old.items ++ (word (length out.old.items - (at + 4)) ++ drop (at + 4) out.old.items) }
 {
-    push_word(out, content.len() as u32)?;
-    out.extend_from_slice(content)
+    let length = out.len() - (at + 4);
+    let (_, frame) = out.as_mut_slice().split_at_mut(at);
+    LittleEndian::write_u32(frame, length as u32);
 }

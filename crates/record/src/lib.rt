@@ -9,4 +9,4 @@ mod write;
 pub use frame::take_frame;
 pub use ranges::in_range;
 pub use read::take_record;
-pub use write::push_record;
+pub use write::{push_exchange, push_record};

@@ -1,13 +1,58 @@
 ghost use Rattle.std.specs.Prelude.{◌≡◌, ◌<◌, ◌^◌, ◌++◌, OnOk, length};
 ghost use Rattle.ipc_model.specs.texts.Texts.{call_text, reply_text, kept_call, record_text};
+ghost use Rattle.words.specs.Words.{frame_text};
 
-use crate::frame::push_frame;
+use crate::frame::set_length;
 use calls::{push_kept_call, push_reply};
-use ipc_model::Record;
+use ipc_model::{Call, Record, Reply};
 use std::alloc::{AllocError, Global};
 use words::{push_long_word, push_word};
 
+/// Adds the frame of a call as a record keeps it. Where memory is wanted some of its bytes may have been added.
+fn push_call_frame(alloc: Global, out: &mut Vec<u8>, call: &Call) -> Result<(), AllocError>
+    requires { length (call_text call.now) < 2 ^ 32 }
+    ensures { OnOk result (out.new.items ≡ out.old.items ++ frame_text (call_text (kept_call call.now))) }
+{
+    let at = out.len();
+    push_word(out, 0)?;
+    push_kept_call(alloc, out, call)?;
+    set_length(out, at);
+    Ok(())
+}
+
+/// Adds the frame of a reply. Where memory is wanted some of its bytes may have been added.
+fn push_reply_frame(out: &mut Vec<u8>, reply: &Reply) -> Result<(), AllocError>
+    requires { length (reply_text reply.now) < 2 ^ 32 }
+    ensures { OnOk result (out.new.items ≡ out.old.items ++ frame_text (reply_text reply.now)) }
+{
+    let at = out.len();
+    push_word(out, 0)?;
+    push_reply(out, reply)?;
+    set_length(out, at);
+    Ok(())
+}
+
 #[tactic(auto, unfolding(ipc_model::specs::texts::Texts::record_text))]
+/// Adds the record of a call of a task of this space that was answered so, with its number: the call as a record keeps
+/// it. Where memory is wanted some of its bytes may have been added.
+pub fn push_exchange(
+    alloc: Global,
+    out: &mut Vec<u8>,
+    number: u64,
+    space: u32,
+    call: &Call,
+    reply: &Reply,
+) -> Result<(), AllocError>
+    requires call { length (call_text call.now) < 2 ^ 32 }
+    requires reply { length (reply_text reply.now) < 2 ^ 32 }
+    ensures { OnOk result (out.new.items ≡ out.old.items ++ record_text number (record { space = space; call = call.now; reply = reply.now })) }
+{
+    push_long_word(out, number)?;
+    push_word(out, space)?;
+    push_call_frame(alloc, out, call)?;
+    push_reply_frame(out, reply)
+}
+
 /// Adds a record with its number, its call as a record keeps it. Where memory is wanted some of its bytes may have been added.
 pub fn push_record(
     alloc: Global,
@@ -19,12 +64,12 @@ pub fn push_record(
     requires reply { length (reply_text «record».now.reply) < 2 ^ 32 }
     ensures { OnOk result (out.new.items ≡ out.old.items ++ record_text number «record».now) }
 {
-    let mut call = Vec::new(alloc);
-    push_kept_call(alloc, &mut call, &record.call)?;
-    let mut reply = Vec::new(alloc);
-    push_reply(&mut reply, &record.reply)?;
-    push_long_word(out, number)?;
-    push_word(out, record.space)?;
-    push_frame(out, &call)?;
-    push_frame(out, &reply)
+    push_exchange(
+        alloc,
+        out,
+        number,
+        record.space,
+        &record.call,
+        &record.reply,
+    )
 }

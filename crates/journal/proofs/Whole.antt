@@ -1,0 +1,70 @@
+-- The bytes of a batch as it grows.
+use Rattle.std.proofs.Common.{◌≡◌, ℕ, ◌+◌, ◌-◌, ◌<◌, ◌≤◌, List, [], ◌∷◌, ◌++◌, length, take, drop, replicate, refl, sym, ap, ◌∙◌, subst, arith, append_assoc, length-append, length-take}
+use Rattle.std.proofs.lemmas.List.{take_at}
+use Rattle.ipc_model.specs.store.Store.{closed_gate}
+use Rattle.words.specs.Words.{word, long_word}
+use Rattle.journal.specs.Batch.{BatchValue, body_of, content_of, empty_batch, value_of, with_text, IsWhole}
+
+-- what stands before the last element
+front_of_one : (all front last : List ℕ) → all ≡ front ++ last → length last ≡ 1 → take (length all - 1) all ≡ front
+front_of_one all front last is one =
+    let begins : length all - 1 ≡ length front = omega (arith, ap length is, length-append front last) in
+    (λ i. take (begins i) (is i)) ∙ take_at front last (length front) refl
+
+-- what a batch of these records is read as
+pub body_back : (count : ℕ) (body : List ℕ) → body_of (content_of (record { count = count; body = body }) ++ closed_gate ∷ []) ≡ body
+unfolding content_of
+body_back count body =
+    let content : List ℕ = word count ++ (long_word (length body) ++ body) in
+    ap (λ (l : List ℕ). drop 12 l) (front_of_one (content ++ closed_gate ∷ []) content (closed_gate ∷ []) refl refl)
+
+pub whole_of : (count : ℕ) (body text : List ℕ) → text ≡ content_of (record { count = count; body = body }) ++ closed_gate ∷ [] → IsWhole count text
+whole_of count body text is =
+    let back : body_of text ≡ body = ap body_of is ∙ body_back count body in
+    is ∙ ap (λ (b : List ℕ). content_of (record { count = count; body = b }) ++ closed_gate ∷ []) (sym back)
+
+pub whole_long : (count : ℕ) (text : List ℕ) → IsWhole count text → length text ≡ length (body_of text) + 13
+unfolding content_of
+whole_long count text whole = omega (arith, ap length whole, length-append (body_of text) (closed_gate ∷ []))
+
+pub pushed_long : (count : ℕ) (text more pushed : List ℕ) → IsWhole count text → pushed ≡ take (length text - 1) text ++ (more ++ closed_gate ∷ []) → 13 ≤ length pushed
+pushed_long count text more pushed whole is =
+    omega (
+      arith,
+      whole_long count text whole,
+      ap length is,
+      length-append (take (length text - 1) text) (more ++ closed_gate ∷ []),
+      length-append more (closed_gate ∷ []),
+      length-take (length text - 1) text,
+    )
+
+-- a record more before the gate, and then its count and length
+pub more_text : (count : ℕ) (text more pushed new : List ℕ) → IsWhole count text → pushed ≡ take (length text - 1) text ++ (more ++ closed_gate ∷ []) → new ≡ word (count + 1) ++ (long_word (length pushed - 13) ++ drop 12 pushed)
+    → new ≡ content_of (with_text (value_of count text) more) ++ closed_gate ∷ []
+unfolding content_of
+more_text count text more pushed new whole is_pushed is_new =
+    let body = body_of text in
+    let content : List ℕ = word count ++ (long_word (length body) ++ body) in
+    let front : take (length text - 1) text ≡ content = front_of_one text content (closed_gate ∷ []) whole refl in
+    let parts : pushed ≡ content ++ (more ++ closed_gate ∷ []) = is_pushed ∙ ap (λ (l : List ℕ). l ++ (more ++ closed_gate ∷ [])) front in
+    let behind : drop 12 pushed ≡ body ++ (more ++ closed_gate ∷ []) = ap (λ (l : List ℕ). drop 12 l) parts in
+    let long : length pushed - 13 ≡ length (body ++ more) =
+    omega (arith, ap length parts, length-append body (more ++ closed_gate ∷ []), length-append more (closed_gate ∷ []), length-append body more) in
+    is_new ∙ (λ i. word (count + 1) ++ (long_word (long i) ++ behind i))
+    ∙ ap (λ (l : List ℕ). word (count + 1) ++ (long_word (length (body ++ more)) ++ l)) (sym (append_assoc body more (closed_gate ∷ [])))
+
+pub value_back : (count : ℕ) (text : List ℕ) (batch : BatchValue) → text ≡ content_of batch ++ closed_gate ∷ [] → batch.count ≡ count → value_of count text ≡ batch
+value_back count text batch is counted =
+    let back : body_of text ≡ batch.body = ap body_of is ∙ body_back batch.count batch.body in
+    λ i. record { count = sym counted i; body = back i }
+
+none_text : replicate 13 0 ≡ content_of (record { count = 0; body = [] }) ++ closed_gate ∷ []
+unfolding content_of
+none_text = refl
+
+-- thirteen zeros are a batch of no records
+pub none_whole : (text : List ℕ) → text ≡ replicate 13 0 → IsWhole 0 text
+none_whole text is = whole_of 0 [] text (is ∙ none_text)
+
+pub none_value : (text : List ℕ) → text ≡ replicate 13 0 → value_of 0 text ≡ empty_batch
+none_value text is = ap (value_of 0) is

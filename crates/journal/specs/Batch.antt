@@ -1,0 +1,44 @@
+-- Records that are stored together, as the text of one batch.
+use Rattle.std.specs.Prelude.{◌≡◌, ℕ, ◌-◌, ◌+◌, ◌<◌, List, [], ◌∷◌, ◌++◌, length, take, drop, refl}
+use Rattle.std.specs.Coded.{Coded, code_by, coded×, coded_ℕ, coded_list}
+use Rattle.ipc_model.specs.declared.record.Record.{Record}
+use Rattle.ipc_model.specs.texts.Texts.{records_text}
+use Rattle.ipc_model.specs.store.Store.{batch_text, closed_gate}
+use Rattle.words.specs.Words.{word, long_word}
+
+-- How many records a batch has, and the texts of these, joined.
+pub record BatchValue : Type 0 where
+  pub count : ℕ
+  pub body : List ℕ
+
+abbrev pub batch_code : Coded BatchValue
+batch_code =
+    code_by (ℕ × List ℕ) (coded× coded_ℕ (coded_list coded_ℕ)) (λ b. (b.count, b.body)) (λ p. record { count = p.0; body = p.1 }) (λ _. refl)
+
+-- no records
+abbrev pub empty_batch : BatchValue
+empty_batch = record { count = 0; body = [] }
+
+-- one record more, of this text
+abbrev pub with_text : BatchValue → List ℕ → BatchValue
+with_text batch text = record { count = batch.count + 1; body = batch.body ++ text }
+
+-- what stands behind the batch's gate: how many records, how many bytes they have, and the records
+unfoldable pub content_of : BatchValue → List ℕ
+content_of batch = word batch.count ++ (long_word (length batch.body) ++ batch.body)
+
+-- the bytes between a batch's first twelve, which tell its count and length, and the gate behind it
+abbrev pub body_of : List ℕ → List ℕ
+body_of text = drop 12 (take (length text - 1) text)
+
+abbrev pub value_of : ℕ → List ℕ → BatchValue
+value_of count text = record { count = count; body = body_of text }
+
+-- These bytes are a batch of so many records, and a closed gate behind it.
+abbrev pub IsWhole : ℕ → List ℕ → Type 0
+IsWhole count text = text ≡ content_of (value_of count text) ++ closed_gate ∷ []
+
+-- The batch is of these records, numbered from n.
+pub record Holds (n : ℕ) (records : List Record) (batch : BatchValue) : Type 0 where
+  pub counted : batch.count ≡ length records
+  pub text : batch.body ≡ records_text n records
