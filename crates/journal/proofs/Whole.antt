@@ -1,9 +1,10 @@
 -- The bytes of a batch as it grows.
-use Rattle.std.proofs.Common.{◌≡◌, ℕ, ◌+◌, ◌-◌, ◌<◌, ◌≤◌, List, [], ◌∷◌, ◌++◌, length, take, drop, replicate, refl, sym, ap, ◌∙◌, subst, arith, append_assoc, length-append, length-take}
+use Rattle.std.proofs.Common.{◌≡◌, ℕ, ◌+◌, ◌-◌, ◌<◌, ◌≤◌, ◌^◌, List, [], ◌∷◌, ◌++◌, length, take, drop, replicate, refl, sym, ap, ◌∙◌, subst, arith, append_assoc, length-append, length-take}
 use Rattle.std.proofs.lemmas.List.{take_at}
 use Rattle.ipc_model.specs.store.Store.{closed_gate}
 use Rattle.words.specs.Words.{word, long_word}
-use Rattle.journal.specs.Batch.{BatchValue, body_of, content_of, empty_batch, value_of, with_text, IsWhole}
+use Rattle.words.specs.WordLaws.{same_word}
+use Rattle.journal.specs.Batch.{BatchValue, body_of, content_of, empty_batch, padded, value_of, with_text, IsWhole}
 
 -- what stands before the last element
 front_of_one : (all front last : List ℕ) → all ≡ front ++ last → length last ≡ 1 → take (length all - 1) all ≡ front
@@ -62,9 +63,24 @@ none_text : replicate 13 0 ≡ content_of (record { count = 0; body = [] }) ++ c
 unfolding content_of
 none_text = refl
 
--- thirteen zeros are a batch of no records
-pub none_whole : (text : List ℕ) → text ≡ replicate 13 0 → IsWhole 0 text
-none_whole text is = whole_of 0 [] text (is ∙ none_text)
+-- where there are no bytes is a batch of no records
+pub none_whole : (text : List ℕ) → text ≡ [] → IsWhole 0 (padded text)
+none_whole text is = whole_of 0 [] (padded text) (ap padded is ∙ none_text)
 
-pub none_value : (text : List ℕ) → text ≡ replicate 13 0 → value_of 0 text ≡ empty_batch
-none_value text is = ap (value_of 0) is
+pub none_value : (text : List ℕ) → text ≡ [] → value_of 0 (padded text) ≡ empty_batch
+none_value text is = ap (λ (l : List ℕ). value_of 0 (padded l)) is
+
+-- bytes are there
+pub padded_some : (text : List ℕ) → 0 < length text → padded text ≡ text
+padded_some [] some = absurd (omega arith)
+padded_some (x ∷ text) some = refl
+
+none_counted : (count : ℕ) (text : List ℕ) → text ≡ [] → IsWhole count (padded text) → count < 2 ^ 32 → count ≡ 0
+unfolding content_of
+none_counted count text is whole fits =
+    let body = body_of (padded text) in
+    sym (same_word 0 count (replicate 9 0) ((long_word (length body) ++ body) ++ closed_gate ∷ []) (omega arith) fits (sym (ap padded is) ∙ whole))
+
+pub counted_some : (count : ℕ) (text : List ℕ) → IsWhole count (padded text) → 0 < count → count < 2 ^ 32 → padded text ≡ text
+counted_some count [] whole some fits = absurd (omega (arith, none_counted count [] refl whole fits))
+counted_some count (x ∷ text) whole some fits = refl

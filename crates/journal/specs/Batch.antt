@@ -1,5 +1,5 @@
 -- Records that are stored together, as the text of one batch.
-use Rattle.std.specs.Prelude.{◌≡◌, ℕ, ◌-◌, ◌+◌, ◌<◌, List, [], ◌∷◌, ◌++◌, length, take, drop, refl}
+use Rattle.std.specs.Prelude.{◌≡◌, ℕ, ◌-◌, ◌+◌, ◌<◌, List, [], ◌∷◌, ◌++◌, length, take, drop, replicate, refl}
 use Rattle.std.specs.Coded.{Coded, code_by, coded×, coded_ℕ, coded_list}
 use Rattle.ipc_model.specs.declared.record.Record.{Record}
 use Rattle.ipc_model.specs.texts.Texts.{records_text}
@@ -30,6 +30,11 @@ content_of batch = word batch.count ++ (long_word (length batch.body) ++ batch.b
 -- the bytes between a batch's first twelve, which tell its count and length, and the gate behind it
 abbrev pub body_of : List ℕ → List ℕ
 body_of text = drop 12 (take (length text - 1) text)
+
+-- where there are no bytes, those of a batch of no records stand for them
+abbrev pub padded : List ℕ → List ℕ
+padded [] = replicate 13 0
+padded text = text
 
 abbrev pub value_of : ℕ → List ℕ → BatchValue
 value_of count text = record { count = count; body = body_of text }

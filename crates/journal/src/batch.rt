@@ -1,7 +1,7 @@
-ghost use Rattle.std.specs.Prelude.{◌≡◌, ◌+◌, ◌-◌, ◌<◌, ◌≤◌, ◌^◌, ◌++◌, ◌∷◌, [], length, take, drop, replicate, vec_len, vec_capacity, IfOk, OnOk, OnErr};
+ghost use Rattle.std.specs.Prelude.{◌≡◌, ◌+◌, ◌-◌, ◌<◌, ◌≤◌, ◌^◌, ◌++◌, ◌∷◌, length, take, drop, vec_len, vec_capacity, OnOk, OnErr};
 ghost use Rattle.ipc_model.specs.store.Store.{closed_gate};
 ghost use Rattle.words.specs.Words.{word, long_word};
-ghost use Rattle.journal.specs.Batch.{BatchValue, content_of, empty_batch, with_text};
+ghost use Rattle.journal.specs.Batch.{content_of, empty_batch, padded, with_text};
 
 use crate::journal::CLOSED_GATE;
 use byteorder::{ByteOrder, LittleEndian};
@@ -20,25 +20,27 @@ pub struct Batch {
 }
 
 impl Model for Batch {
-    ghost use Rattle.journal.specs.Batch.{BatchValue, IsWhole, batch_code, value_of};
+    ghost use Rattle.journal.specs.Batch.{BatchValue, IsWhole, batch_code, padded, value_of};
 
     ghost Value = { BatchValue };
 
     ghost coded = { batch_code };
 
-    ghost view = { λ b. value_of b.count b.text.items };
+    ghost view = { λ b. value_of b.count (padded b.text.items) };
 
-    // A closed gate stands behind the records.
-    ghost invariant = { λ b. IsWhole b.count b.text.items };
+    // A closed gate stands behind the records. Where there are none, there may be no bytes at all.
+    ghost invariant = { λ b. IsWhole b.count (padded b.text.items) };
 }
 
 impl Batch {
-    /// A batch of no records.
-    pub fn new(alloc: Global) -> Result<Self, AllocError>
-        ensures { IfOk result (λ batch. batch ≡ empty_batch) }
+    /// A batch of no records. It takes no memory.
+    pub fn new(alloc: Global) -> Self
+        ensures { result ≡ empty_batch }
     {
-        let text = zeros(alloc)?;
-        Ok(Batch { text, count: 0 })
+        Batch {
+            text: Vec::new(alloc),
+            count: 0,
+        }
     }
 
     /// How many records it has.
@@ -54,6 +56,7 @@ impl Batch {
         ensures ok { OnOk result (self.new ≡ with_text self.old text.now) }
         ensures err { OnErr result (self.new ≡ self.old) }
     {
+        write_front(&mut self.text)?;
         self.text.reserve(text.len())?;
         push_before_gate(&mut self.text, text);
         self.count += 1;
@@ -65,32 +68,28 @@ impl Batch {
     pub fn clear(&mut self)
         ensures { self.new ≡ empty_batch }
     {
-        write_none(&mut self.text);
+        self.text.clear();
         self.count = 0;
     }
 
     /// The batch as it is written behind its gate, with a closed gate at the end.
     pub(crate) fn text(&self) -> &[u8]
+        requires { 0 < self.now.count }
         ensures { result.now ≡ content_of self.now ++ closed_gate ∷ [] }
     {
         self.text.as_slice()
     }
 }
 
-/// The bytes of a batch of no records.
-fn zeros(alloc: Global) -> Result<Vec<u8>, AllocError>
-    ensures { IfOk result (λ text. text.items ≡ replicate 13 0) }
+/// Has the bytes of a batch of no records stand where nothing stands.
+fn write_front(text: &mut Vec<u8>) -> Result<(), AllocError>
+    ensures ok { OnOk result (text.new.items ≡ padded text.old.items) }
+    ensures err { OnErr result (text.new.items ≡ text.old.items) }
 {
-    vec![in alloc; 0; HEADER + 1]
-}
-
-/// Has a batch of no records stand in the place of a batch.
-fn write_none(text: &mut Vec<u8>)
-    requires { 13 ≤ length text.old.items }
-    ensures { text.new.items ≡ replicate 13 0 }
-{
-    text.truncate(HEADER + 1);
-    text.as_mut_slice().copy_from_slice(&[0; HEADER + 1]);
+    if !text.is_empty() {
+        return Ok(());
+    }
+    text.extend_from_slice(&[0; HEADER + 1])
 }
 
 /// Adds bytes before the gate at the end. There is room.

@@ -90,6 +90,13 @@ impl<D: Disk> Journal<D> {
         self.records
     }
 
+    /// Whether the device failed since the store was opened.
+    pub fn has_failed(&self) -> bool
+        ensures { result ≡ self.now.failed }
+    {
+        self.failed
+    }
+
     /// Stores a batch. At `Ok` it is on the disk. It takes no memory.
     ///
     /// `Failed`: the device failed in an earlier call; the store has to be opened again. `Full`: the segment would hold

@@ -10,6 +10,7 @@ ghost use Rattle.ipc_model.specs.state.Circular.{Grounded};
 ghost use Rattle.ipc_model.specs.state.Lawful.{Lawful};
 
 use crate::choices::Shown;
+use crate::recording::{Recorder, step_recorded};
 use crate::reply::is_same_reply;
 use crate::stepping::{step, try_answer};
 use codes::{KernReturn, MACH_PORT_GET_RECEIVE_STATUS, MACH_PORT_GET_REFS, MACH_PORT_TYPE};
@@ -92,6 +93,36 @@ impl Kernel {
         call_in_range(call);
         let shown = Shown::nothing(self.alloc);
         match step(self.alloc, &mut self.state, space, call, &shown) {
+            Ok(reply) => {
+                self.state.keep();
+                self.state.queues_are_short();
+                Ok(reply)
+            }
+            Err(error) => {
+                self.state.give_up();
+                Err(error)
+            }
+        }
+    }
+
+    /// Makes one step of the machine as `apply` does, and has its record written down before the step is kept. Where
+    /// memory is wanted neither the kernel nor the recorder changed.
+    pub fn apply_recorded<R: Recorder>(
+        &mut self,
+        space: u32,
+        call: &Call,
+        recorder: &mut R,
+    ) -> Result<Reply, AllocError>
+        requires { R.has_room recorder.old }
+        ensures step { IfOk result (λ reply. Step self.old space call.now reply self.new) }
+        ensures number { IfOk result (λ reply. number_of_reply reply ≡ number_of_call call.now) }
+        ensures written { IfOk result (λ reply. has_record call.now reply ≡ true → R.wrote recorder.old space call.now reply recorder.new) }
+        ensures unwritten { IfOk result (λ reply. has_record call.now reply ≡ false → recorder.new ≡ recorder.old) }
+        ensures fits { IfOk result (λ reply. length (reply_text reply) ≤ MAX_FRAME_CONTENT) }
+        ensures err { OnErr result ((self.new ≡ self.old) × (recorder.new ≡ recorder.old)) }
+    {
+        call_in_range(call);
+        match step_recorded(self.alloc, &mut self.state, space, call, recorder) {
             Ok(reply) => {
                 self.state.keep();
                 self.state.queues_are_short();

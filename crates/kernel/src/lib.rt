@@ -7,9 +7,11 @@ mod dispatch;
 mod kernel;
 mod laws;
 mod messages;
+mod recording;
 mod reply;
 mod stepping;
 
 pub use kernel::{Kernel, ReplayFault};
+pub use recording::Recorder;
 pub use laws::unrecorded_steps_change_nothing;
 pub use snapshot::Snapshot;

@@ -7,7 +7,7 @@ pub write_header-requires : goal.write_header-requires
 write_header-requires c =
     let count = c.self.inside.count in
     let text = c.reserve.new.self.items in
-    pushed_long count text c.args.text.now c.push_before_gate.new.text.items (subst (IsWhole count) (sym c.reserve.ensures.items) c.self.invariant) c.push_before_gate.ensures
+    pushed_long count text c.args.text.now c.push_before_gate.new.text.items (subst (IsWhole count) (sym (c.reserve.ensures.items ∙ c.in_ok-write_front.ensures.ok)) c.self.invariant) c.push_before_gate.ensures
 
 pub invariant_of-self-2 : goal.invariant_of-self-2
 invariant_of-self-2 c =
@@ -16,7 +16,7 @@ invariant_of-self-2 c =
     let batch = with_text (value_of count text) c.args.text.now in
     whole_of batch.count batch.body c.write_header.new.text.items
     (more_text count text c.args.text.now c.push_before_gate.new.text.items c.write_header.new.text.items
-    (subst (IsWhole count) (sym c.reserve.ensures.items) c.self.invariant) c.push_before_gate.ensures c.write_header.ensures)
+    (subst (IsWhole count) (sym (c.reserve.ensures.items ∙ c.in_ok-write_front.ensures.ok)) c.self.invariant) c.push_before_gate.ensures c.write_header.ensures)
 
 pub returns-clause-ok : goal.returns-clause-ok
 returns-clause-ok c =
@@ -24,5 +24,5 @@ returns-clause-ok c =
     let text = c.reserve.new.self.items in
     value_back (count + 1) c.write_header.new.text.items (with_text (value_of count text) c.args.text.now)
     (more_text count text c.args.text.now c.push_before_gate.new.text.items c.write_header.new.text.items
-    (subst (IsWhole count) (sym c.reserve.ensures.items) c.self.invariant) c.push_before_gate.ensures c.write_header.ensures) refl
-    ∙ ap (λ items. with_text (value_of count items) c.args.text.now) c.reserve.ensures.items ∙ ap (λ b. with_text b c.args.text.now) c.self.view_is
+    (subst (IsWhole count) (sym (c.reserve.ensures.items ∙ c.in_ok-write_front.ensures.ok)) c.self.invariant) c.push_before_gate.ensures c.write_header.ensures) refl
+    ∙ ap (λ items. with_text (value_of count items) c.args.text.now) (c.reserve.ensures.items ∙ c.in_ok-write_front.ensures.ok) ∙ ap (λ b. with_text b c.args.text.now) c.self.view_is

@@ -1,5 +1,0 @@
-use Rattle.journal.proofs.Whole.{none_whole}
-use Rattle.journal.proofs.batch.Batch.new.Goals as goal
-
-pub invariant_of-result : goal.invariant_of-result
-invariant_of-result c = none_whole c.in_ok-text.text.items c.in_ok-text.ensures

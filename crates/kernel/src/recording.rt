@@ -1,0 +1,63 @@
+//! Steps whose records are written down before they are kept.
+ghost use Rattle.std.specs.Prelude.{◌≡◌, ◌≤◌, true, false, length, None, IfOk, OnOk, OnErr};
+ghost use Rattle.std.specs.FinMap as map;
+ghost use Rattle.codes.specs.declared.limits.TheConstants.{MAX_FRAME_CONTENT};
+ghost use Rattle.ipc_laws.specs.RecordedSteps.{IsAnsweredWhole};
+ghost use Rattle.ipc_model.specs.calls.Step.{Step, has_record, number_of_call};
+ghost use Rattle.ipc_model.specs.declared.call.Call.{Call};
+ghost use Rattle.ipc_model.specs.declared.call.Reply.{Reply};
+ghost use Rattle.ipc_model.specs.state.Circular.{Grounded};
+ghost use Rattle.ipc_model.specs.state.Lawful.{Lawful};
+ghost use Rattle.ipc_model.specs.texts.Texts.{number_of_reply, reply_text};
+
+use crate::choices::Shown;
+use crate::stepping::step;
+use ipc_model::{Call, Reply};
+use port_calls::IpcState;
+use std::alloc::{AllocError, Global};
+
+/// Who writes down the record of a call, before the call is kept.
+pub trait Recorder {
+    /// There is room for one record more, but for memory.
+    ghost has_room: { Self → Type 0 };
+
+    /// What it is after it wrote down the record of a call of a task of this space that was answered so.
+    ghost wrote: { Self → ℕ → Call → Reply → Self → Type 0 };
+
+    /// Writes down a record. Where memory is wanted nothing changed.
+    fn write(&mut self, space: u32, call: &Call, reply: &Reply) -> Result<(), AllocError>
+        requires room { has_room self.old }
+        requires whole { IsAnsweredWhole call.now reply.now }
+        requires recorded { has_record call.now reply.now ≡ true }
+        ensures ok { OnOk result (wrote self.old space call.now reply.now self.new) }
+        ensures err { OnErr result (self.new ≡ self.old) };
+}
+
+/// Makes one step of the machine, and has its record written down, if it has one. The changes are to be kept, or given
+/// up where memory is wanted.
+pub(crate) fn step_recorded<R: Recorder>(
+    alloc: Global,
+    state: &mut IpcState,
+    space: u32,
+    call: &Call,
+    recorder: &mut R,
+) -> Result<Reply, AllocError>
+    requires fresh { map.get state.old.current.ports state.old.current.next ≡ None }
+    requires rest { state.old.before ≡ state.old.current }
+    requires lawful { Lawful state.old.current }
+    requires grounded { Grounded state.old.current }
+    requires room { R.has_room recorder.old }
+    ensures step { IfOk result (λ reply. Step state.old.current space call.now reply state.new.current) }
+    ensures written { IfOk result (λ reply. has_record call.now reply ≡ true → R.wrote recorder.old space call.now reply recorder.new) }
+    ensures unwritten { IfOk result (λ reply. has_record call.now reply ≡ false → recorder.new ≡ recorder.old) }
+    ensures before { state.new.before ≡ state.old.before }
+    ensures err { OnErr result (recorder.new ≡ recorder.old) }
+{
+    let shown = Shown::nothing(alloc);
+    let reply = step(alloc, state, space, call, &shown)?;
+    if !call.has_record(&reply) {
+        return Ok(reply);
+    }
+    recorder.write(space, call, &reply)?;
+    Ok(reply)
+}
