@@ -1,4 +1,4 @@
-ghost use Rattle.std.specs.Prelude.{◌≡◌, ◌+◌, ◌-◌, ◌<◌, ◌≤◌, ◌^◌, ◌++◌, ◌∷◌, length, take, drop, vec_len, vec_capacity, OnOk, OnErr};
+ghost use Rattle.std.specs.Prelude.{◌≡◌, ◌+◌, ◌-◌, ◌<◌, ◌≤◌, ◌^◌, ◌++◌, ◌∷◌, [], length, take, drop, vec_len, vec_capacity, OnOk, OnErr};
 ghost use Rattle.ipc_model.specs.store.Store.{closed_gate};
 ghost use Rattle.words.specs.Words.{word, long_word};
 ghost use Rattle.journal.specs.Batch.{content_of, empty_batch, padded, with_text};
