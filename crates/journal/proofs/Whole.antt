@@ -75,6 +75,9 @@ pub padded_some : (text : List ℕ) → 0 < length text → padded text ≡ text
 padded_some [] some = absurd (omega arith)
 padded_some (x ∷ text) some = refl
 
+pub whole_padded : (text : List ℕ) (batch : BatchValue) → text ≡ content_of batch ++ closed_gate ∷ [] → padded text ≡ text
+whole_padded text batch is = padded_some text (omega (arith, ap length is, length-append (content_of batch) (closed_gate ∷ [])))
+
 none_counted : (count : ℕ) (text : List ℕ) → text ≡ [] → IsWhole count (padded text) → count < 2 ^ 32 → count ≡ 0
 unfolding content_of
 none_counted count text is whole fits =

@@ -77,6 +77,7 @@ impl Batch {
         requires { 0 < self.now.count }
         ensures { result.now ≡ content_of self.now ++ closed_gate ∷ [] }
     {
+        let _count = self.count();
         self.text.as_slice()
     }
 }

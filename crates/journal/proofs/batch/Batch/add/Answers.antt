@@ -1,6 +1,6 @@
 use Rattle.std.proofs.Common.{◌+◌, refl, sym, ap, subst, ◌∙◌}
 use Rattle.journal.specs.Batch.{IsWhole, with_text, value_of}
-use Rattle.journal.proofs.Whole.{more_text, pushed_long, value_back, whole_of}
+use Rattle.journal.proofs.Whole.{more_text, pushed_long, value_back, whole_of, whole_padded}
 use Rattle.journal.proofs.batch.Batch.add.Goals as goal
 
 pub write_header-requires : goal.write_header-requires
@@ -14,15 +14,18 @@ invariant_of-self-2 c =
     let count = c.self.inside.count in
     let text = c.reserve.new.self.items in
     let batch = with_text (value_of count text) c.args.text.now in
-    whole_of batch.count batch.body c.write_header.new.text.items
-    (more_text count text c.args.text.now c.push_before_gate.new.text.items c.write_header.new.text.items
-    (subst (IsWhole count) (sym (c.reserve.ensures.items ∙ c.in_ok-write_front.ensures.ok)) c.self.invariant) c.push_before_gate.ensures c.write_header.ensures)
+    let new = c.write_header.new.text.items in
+    let is = more_text count text c.args.text.now c.push_before_gate.new.text.items new
+        (subst (IsWhole count) (sym (c.reserve.ensures.items ∙ c.in_ok-write_front.ensures.ok)) c.self.invariant) c.push_before_gate.ensures c.write_header.ensures in
+    subst (IsWhole (count + 1)) (sym (whole_padded new batch is)) (whole_of batch.count batch.body new is)
 
 pub returns-clause-ok : goal.returns-clause-ok
 returns-clause-ok c =
     let count = c.self.inside.count in
     let text = c.reserve.new.self.items in
-    value_back (count + 1) c.write_header.new.text.items (with_text (value_of count text) c.args.text.now)
-    (more_text count text c.args.text.now c.push_before_gate.new.text.items c.write_header.new.text.items
-    (subst (IsWhole count) (sym (c.reserve.ensures.items ∙ c.in_ok-write_front.ensures.ok)) c.self.invariant) c.push_before_gate.ensures c.write_header.ensures) refl
+    let batch = with_text (value_of count text) c.args.text.now in
+    let new = c.write_header.new.text.items in
+    let is = more_text count text c.args.text.now c.push_before_gate.new.text.items new
+        (subst (IsWhole count) (sym (c.reserve.ensures.items ∙ c.in_ok-write_front.ensures.ok)) c.self.invariant) c.push_before_gate.ensures c.write_header.ensures in
+    ap (value_of (count + 1)) (whole_padded new batch is) ∙ value_back (count + 1) new batch is refl
     ∙ ap (λ items. with_text (value_of count items) c.args.text.now) (c.reserve.ensures.items ∙ c.in_ok-write_front.ensures.ok) ∙ ap (λ b. with_text b c.args.text.now) c.self.view_is
