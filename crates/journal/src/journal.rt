@@ -117,7 +117,8 @@ impl<D: Disk> Journal<D> {
         ensures failed { IsErrOf result StoreFault.Failed ↔ (self.old.failed ≡ true) }
         ensures full { IsErrOf result StoreFault.Full ↔ ((self.old.failed ≡ false) × (MAX_RECORDS < self.old.records + batch.now.count)) }
         ensures device { IsErrOf result StoreFault.Device
-            → (self.new.failed ≡ true) × (D.failed_calls self.new.disk ≡ one_more (D.failed_calls self.old.disk)) }
+            → (self.new.failed ≡ true) × (D.failed_calls self.new.disk ≡ one_more (D.failed_calls self.old.disk))
+            × (self.new.records ≡ self.old.records) }
         ensures no_other { (result ≢ Err StoreFault.Damaged) × (result ≢ Err StoreFault.NoMemory) × (result ≢ Err StoreFault.Version) }
         ensures unchanged { OnErr result ((result ≡ Err StoreFault.Device) ⊎ (self.new ≡ self.old)) }
     {

@@ -219,7 +219,7 @@ pub fn open<D: Disk>(alloc: Global, disk: D) -> Result<Opened<D>, (StoreFault, D
     let mut disk = disk;
     match load(alloc, &mut disk) {
         Ok((kernel, records)) => {
-            let journal = Journal::new(alloc, disk, records);
+            let journal = Journal::new(disk, records);
             Ok(Opened { kernel, journal })
         }
         Err(fault) => Err((fault, disk)),

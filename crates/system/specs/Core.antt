@@ -13,7 +13,7 @@ use Rattle.ipc_model.specs.texts.Texts.{kept_record}
 use Rattle.ipc_model.specs.store.Store.{AreRecords}
 use Rattle.ipc_model.specs.world.World.{World, Ticket, After, greatest_seen, of_append, told}
 use Rattle.ipc_laws.specs.StepsKeep.{FitCalls}
-use Rattle.journal.specs.Batch.{BatchValue, Holds}
+use Rattle.journal.specs.Batch.{BatchValue, Holds, empty_batch}
 use Rattle.journal.specs.Journal.{JournalValue}
 use Rattle.recover.specs.Kept.{IsKept}
 use Rattle.recover.specs.Recovered.{Recovers}
@@ -31,6 +31,17 @@ pub record SystemValue (D : Type 0) : Type 0 where
   pub receipt : Option ℕ
   pub tickets : finmap.FinMap nat_cmp (Option TicketValue)
   pub given : ℕ
+
+-- A core that goes on from a state and a journal of its records, all of which are stored.
+abbrev pub first_system : {D : Type 0} → State → JournalValue D → SystemValue D
+first_system kernel journal = record {
+  core = record { kernel = kernel; row = record { length = journal.records; waiting = empty_batch }; handed = journal.records; is_out = false };
+  journal = journal;
+  out = None;
+  receipt = None;
+  tickets = finmap.empty;
+  given = 0;
+}
 
 -- What waits between the halves: nothing;
 pub record NothingBetween (world : World) : Type 0 where

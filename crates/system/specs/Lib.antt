@@ -1,3 +1,6 @@
+pub mod Changes
 pub mod Core
 pub mod Events
 pub mod Halves
+pub mod Phases
+pub mod SystemCode

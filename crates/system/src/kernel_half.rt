@@ -46,7 +46,7 @@ pub struct KernelHalf {
 }
 
 impl Model for KernelHalf {
-    ghost use Rattle.std.specs.Prelude.{◌≡◌, ◌≤◌, is_none, IfSome};
+    ghost use Rattle.std.specs.Prelude.{◌≡◌, ◌<◌, ◌≤◌, ◌^◌, is_none, IfSome};
     ghost use Rattle.journal.specs.Batch.{empty_batch};
     ghost use Rattle.system.specs.Halves.{KernelValue, kernel_code};
 
@@ -56,13 +56,12 @@ impl Model for KernelHalf {
 
     ghost view = { λ k. record { kernel = k.kernel; row = k.row; handed = k.handed; is_out = is_none k.spare } };
 
-    ghost invariant = { λ k. (k.handed ≤ k.row.length) × IfSome k.spare (λ batch. batch ≡ empty_batch) };
+    ghost invariant = { λ k. (k.handed ≤ k.row.length) × (k.row.length < 2 ^ 64) × IfSome k.spare (λ batch. batch ≡ empty_batch) };
 }
 
 impl KernelHalf {
     /// Goes on from a state and the records that the epoch's segment holds, all of which are stored. It takes no memory.
     pub fn new(alloc: Global, kernel: Kernel, records: u64) -> Self
-        requires { records ≤ MAX_RECORDS }
         ensures { result ≡ record { kernel = kernel; row = record { length = records; waiting = empty_batch }; handed = records; is_out = false } }
     {
         KernelHalf {
@@ -98,19 +97,19 @@ impl KernelHalf {
         ensures err { OnErr result (self.new ≡ self.old) }
     {
         call_in_range(call);
-        match self.kernel.answer_in_place(space, call)? {
-            Some(reply) => {
-                let seen = self.row.len();
-                Ok(Ticket { reply, seen })
-            }
-            None => Err(SubmitFault::EpochFull),
-        }
+        let answer = self.kernel.answer_in_place(space, call)?;
+        let Some(reply) = answer else {
+            return Err(SubmitFault::EpochFull);
+        };
+        let seen = self.row.len();
+        Ok(Ticket { reply, seen })
     }
 
     /// Takes the records that wait, as a batch. There is none while one is out, or where no record waits.
     pub fn take(&mut self) -> Option<Batch>
         ensures taken { IfSome result (λ batch. (batch ≡ self.old.row.waiting) × (0 < batch.count)
             × (self.old.is_out ≡ false) × (self.new ≡ without_waiting self.old)) }
+        ensures room { IfSome result (λ _. self.old.row.length ≤ MAX_RECORDS) }
         ensures none { IfNone result (((self.old.row.waiting.count ≡ 0) ⊎ (self.old.is_out ≡ true)) × (self.new ≡ self.old)) }
     {
         if self.row.waiting() == 0 {

@@ -5,9 +5,11 @@ mod event;
 mod kernel_half;
 mod row;
 mod store_half;
+mod system;
 mod ticket;
 
 pub use event::{Event, Outcome};
 pub use kernel_half::{KernelHalf, SubmitFault};
 pub use store_half::{Receipt, StoreHalf};
+pub use system::System;
 pub use ticket::Ticket;

@@ -1,4 +1,4 @@
-ghost use Rattle.std.specs.Prelude.{◌≡◌, ◌≤◌};
+ghost use Rattle.std.specs.Prelude.{◌≡◌, ◌<◌, ◌≤◌, ◌^◌};
 ghost use Rattle.codes.specs.declared.limits.TheConstants.{MAX_RECORDS};
 ghost use Rattle.journal.specs.Batch.{empty_batch};
 
@@ -23,7 +23,7 @@ pub(crate) struct Row {
 }
 
 impl Model for Row {
-    ghost use Rattle.std.specs.Prelude.{◌≤◌};
+    ghost use Rattle.std.specs.Prelude.{◌<◌, ◌≤◌};
     ghost use Rattle.codes.specs.declared.limits.TheConstants.{MAX_RECORDS};
     ghost use Rattle.system.specs.Halves.{RowValue, row_code};
 
@@ -33,13 +33,12 @@ impl Model for Row {
 
     ghost view = { λ r. record { length = r.length; waiting = r.waiting } };
 
-    ghost invariant = { λ r. (r.waiting.count ≤ r.length) × (r.length ≤ MAX_RECORDS) };
+    ghost invariant = { λ r. (r.waiting.count ≤ r.length) × (0 < r.waiting.count → r.length ≤ MAX_RECORDS) };
 }
 
 impl Row {
     /// The row of an epoch whose segment holds so many records. It takes no memory.
     pub(crate) fn new(alloc: Global, length: u64) -> Self
-        requires { length ≤ MAX_RECORDS }
         ensures { result ≡ record { length = length; waiting = empty_batch } }
     {
         Row {
@@ -52,14 +51,16 @@ impl Row {
 
     /// How many records it has.
     pub(crate) fn len(&self) -> u64
-        ensures { result ≡ self.now.length }
+        ensures length { result ≡ self.now.length }
+        ensures within { self.now.length < 2 ^ 64 }
     {
         self.length
     }
 
     /// How many of them wait to be taken.
     pub(crate) fn waiting(&self) -> u32
-        ensures { result ≡ self.now.waiting.count }
+        ensures count { result ≡ self.now.waiting.count }
+        ensures room { 0 < self.now.waiting.count → self.now.length ≤ MAX_RECORDS }
     {
         self.waiting.count()
     }

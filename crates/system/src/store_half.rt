@@ -105,7 +105,8 @@ impl<D: Disk> StoreHalf<D> {
         ensures full { IfErr result (λ fault. fault.0 ≡ StoreFault.Full
             ↔ ((self.old.failed ≡ false) × (MAX_RECORDS < self.old.records + batch.count))) }
         ensures device { IfErr result (λ fault. fault.0 ≡ StoreFault.Device
-            → (self.new.failed ≡ true) × (D.failed_calls self.new.disk ≡ one_more (D.failed_calls self.old.disk))) }
+            → (self.new.failed ≡ true) × (D.failed_calls self.new.disk ≡ one_more (D.failed_calls self.old.disk))
+            × (self.new.records ≡ self.old.records)) }
         ensures faults { IfErr result (λ fault. (fault.0 ≡ StoreFault.Device)
             ⊎ (((fault.0 ≡ StoreFault.Failed) ⊎ (fault.0 ≡ StoreFault.Full)) × (self.new ≡ self.old))) }
     {

@@ -1,0 +1,197 @@
+ghost use Rattle.std.specs.Prelude.{◌≡◌, ◌⊎◌, ℕ, ◌+◌, ◌-◌, ◌<◌, ◌≤◌, ◌^◌, None, Some, true, false, length, MatchBool, IfOk, IfErr, IfSome, IfNone, OnErr, OnOk, IsErrOf, IsSome};
+ghost use Rattle.std.specs.FinMap as map;
+ghost use Rattle.disk.specs.Moments.{one_more};
+ghost use Rattle.system.specs.Core.{first_system};
+ghost use Rattle.system.specs.Halves.{TicketValue};
+ghost use Rattle.system.specs.Changes.{Answers, FailsToStore, HandsIn, IsFullNow, IsNotDue, Stores, Submits, Takes};
+
+use crate::kernel_half::{KernelHalf, SubmitFault};
+use crate::store_half::{Receipt, StoreHalf};
+use crate::ticket::Ticket;
+use disk::Disk;
+use ipc_model::{Call, Reply};
+use journal::{Batch, StoreFault};
+use number_map::NumberMap;
+use recover::Opened;
+use std::alloc::Global;
+use std::marker::Model;
+
+/// The core of the server, for one thread: the two halves, and what goes between them. A ticket is known by its number, the
+/// first by 0.
+///
+/// It keeps what waits: records that aren't taken, a batch or its receipt, and tickets that aren't answered. What was stored
+/// and answered it lets go.
+#[derive(Drop)]
+pub struct System<D: Disk> {
+    core: KernelHalf,
+    store: StoreHalf<D>,
+    out: Option<Batch>,
+    receipt: Option<Receipt>,
+    tickets: NumberMap<Option<Ticket>>,
+    given: u64,
+}
+
+impl<D: Disk> Model for System<D> {
+    ghost use Rattle.system.specs.Core.{SystemValue};
+    ghost use Rattle.system.specs.Phases.{IsInOrder};
+    ghost use Rattle.system.specs.SystemCode.{system_code};
+
+    ghost Value = { SystemValue D };
+
+    ghost coded = { system_code D.code };
+
+    ghost view = { λ s. record { core = s.core; journal = s.store; out = s.out; receipt = s.receipt; tickets = s.tickets; given = s.given } };
+
+    ghost invariant = { λ s. IsInOrder (record { core = s.core; journal = s.store; out = s.out; receipt = s.receipt; tickets = s.tickets; given = s.given }) };
+}
+
+impl<D: Disk> System<D> {
+    /// Goes on from an opened store. It takes no memory.
+    pub fn new(alloc: Global, opened: Opened<D>) -> Self
+        ensures { result ≡ first_system opened.kernel opened.journal }
+    {
+        let Opened { kernel, journal } = opened;
+        let records = journal.records();
+        System {
+            core: KernelHalf::new(alloc, kernel, records),
+            store: StoreHalf::new(journal),
+            out: None,
+            receipt: None,
+            tickets: NumberMap::new(alloc),
+            given: 0,
+        }
+    }
+
+    /// The disk of the store, which is closed. What isn't stored is lost.
+    pub fn into_disk(self) -> D
+        ensures { result ≡ self.journal.disk }
+    {
+        let System {
+            core: _,
+            store,
+            out: _,
+            receipt: _,
+            tickets: _,
+            given: _,
+        } = self;
+        store.into_disk()
+    }
+
+    /// Makes a call of a task of this space, and gives the number of its ticket. Its record, if it has one, waits then to be
+    /// taken. With a fault nothing changed.
+    pub fn submit(&mut self, space: u32, call: &Call) -> Result<u64, SubmitFault>
+        ensures number { IfOk result (λ number. number ≡ self.old.given) }
+        ensures given { OnOk result (Submits self.old space call.now self.new) }
+        ensures full { IsErrOf result SubmitFault.EpochFull → IsFullNow self.old space call.now }
+        ensures err { OnErr result (self.new ≡ self.old) }
+    {
+        let number = self.given;
+        // No machine gives so many tickets.
+        if number == u64::MAX {
+            return Err(SubmitFault::NoMemory);
+        }
+        self.tickets.insert(u128::from(number), None)?;
+        match self.core.submit(space, call) {
+            Ok(ticket) => {
+                keep_ticket(&mut self.tickets, number, ticket);
+                self.given = number + 1;
+                Ok(number)
+            }
+            Err(fault) => {
+                self.tickets.remove(u128::from(number));
+                Err(fault)
+            }
+        }
+    }
+
+    /// Takes the records that wait, as a batch that is out until its receipt is handed in. Answers whether it did: it doesn't
+    /// where none waits or a batch is out.
+    pub fn take(&mut self) -> bool
+        ensures taken { MatchBool result (Takes self.old self.new)
+            (((self.old.core.row.waiting.count ≡ 0) ⊎ (self.old.core.is_out ≡ true)) × (self.new ≡ self.old)) }
+    {
+        match self.core.take() {
+            Some(batch) => {
+                self.out = Some(batch);
+                true
+            }
+            None => false,
+        }
+    }
+
+    /// Stores the batch that is out: all of it or nothing. Answers whether there was one to be stored. It takes no memory.
+    ///
+    /// `Device`: the device failed, and whether the batch is stored isn't known until the store is opened again. `Failed`: it
+    /// failed before; nothing changed. No other fault comes.
+    pub fn append(&mut self) -> Result<bool, StoreFault>
+        ensures done { IfOk result (λ is_stored. MatchBool is_stored (Stores D.honest D.view self.old self.new)
+            ((self.old.out ≡ None) × (self.old.journal.failed ≡ false) × (self.new ≡ self.old))) }
+        ensures faults { IfErr result (λ fault. ((fault ≡ StoreFault.Failed) × (self.old.journal.failed ≡ true) × (self.new ≡ self.old))
+            ⊎ ((fault ≡ StoreFault.Device) × FailsToStore D.honest D.view self.old self.new)) }
+        ensures device { IsErrOf result StoreFault.Device → D.failed_calls self.new.journal.disk ≡ one_more (D.failed_calls self.old.journal.disk) }
+    {
+        if self.store.has_failed() {
+            return Err(StoreFault::Failed);
+        }
+        let Some(batch) = self.out.take() else {
+            return Ok(false);
+        };
+        match self.store.append(batch) {
+            Ok(receipt) => {
+                self.receipt = Some(receipt);
+                Ok(true)
+            }
+            Err((fault, batch)) => {
+                self.out = Some(batch);
+                Err(fault)
+            }
+        }
+    }
+
+    /// Hands the receipt of the batch that was stored in. Answers whether there was one.
+    pub fn durable(&mut self) -> bool
+        ensures { MatchBool result (HandsIn self.old self.new) ((self.old.receipt ≡ None) × (self.new ≡ self.old)) }
+    {
+        match self.receipt.take() {
+            Some(receipt) => {
+                self.core.durable(receipt);
+                true
+            }
+            None => false,
+        }
+    }
+
+    /// The reply that a ticket keeps, where all that it saw is stored; it is given once.
+    pub fn reply(&mut self, number: u64) -> Option<Reply>
+        ensures answered { IfSome result (λ answer. Answers self.old number answer self.new) }
+        ensures none { IfNone result (IsNotDue self.old number × (self.new ≡ self.old)) }
+    {
+        if !self.is_due(number) {
+            return None;
+        }
+        let ticket = self.tickets.remove(u128::from(number)).flatten()?;
+        Some(ticket.into_reply())
+    }
+
+    /// Whether there is a ticket of this number, and all that it saw is stored.
+    fn is_due(&self, number: u64) -> bool
+        ensures { MatchBool result
+            ((ticket : TicketValue) × (map.get self.now.tickets number ≡ Some (Some ticket)) × (ticket.seen ≤ self.now.core.handed))
+            (IsNotDue self.now number) }
+    {
+        match self.tickets.get(u128::from(number)) {
+            Some(Some(ticket)) => self.core.is_due(ticket),
+            _ => false,
+        }
+    }
+}
+
+/// Keeps a ticket in the place that was made for it.
+fn keep_ticket(tickets: &mut NumberMap<Option<Ticket>>, number: u64, ticket: Ticket)
+    requires { IsSome (map.get tickets.old number) }
+    ensures { tickets.new ≡ map.insert tickets.old number (Some ticket) }
+{
+    if let Some(place) = tickets.get_mut(u128::from(number)) {
+        *place = Some(ticket);
+    }
+}
