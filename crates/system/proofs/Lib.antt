@@ -1,0 +1,2 @@
+mod PhaseLaws
+mod Tickets

@@ -20,7 +20,7 @@ module _ {D : Type 0} where
   pub record Submits (old : SystemValue D) (space : ℕ) (c : Call) (new : SystemValue D) : Type 0 where
     pub ticket : TicketValue
     pub gives : Gives old.core space c ticket new.core
-    pub rest : new ≡ record { core = new.core; journal = old.journal; out = old.out; receipt = old.receipt; tickets = finmap.insert old.tickets old.given (Some ticket); given = old.given + 1 }
+    pub rest : new ≡ record { core = new.core; journal = old.journal; out = old.out; receipt = old.receipt; tickets = record { kept = finmap.insert old.tickets.kept old.tickets.given (Some ticket); given = old.tickets.given + 1 } }
 
   -- The records that waited are out as a batch.
   pub record Takes (old new : SystemValue D) : Type 0 where
@@ -57,14 +57,14 @@ module _ {D : Type 0} where
   -- A ticket was answered.
   pub record Answers (old : SystemValue D) (number : ℕ) (answer : Reply) (new : SystemValue D) : Type 0 where
     pub ticket : TicketValue
-    pub there : finmap.get old.tickets number ≡ Some (Some ticket)
+    pub there : finmap.get old.tickets.kept number ≡ Some (Some ticket)
     pub due : ticket.seen ≤ old.core.handed
     pub answer_is : answer ≡ ticket.answer
-    pub rest : new ≡ record old { tickets = finmap.remove old.tickets number }
+    pub rest : new ≡ record old { tickets = record { kept = finmap.remove old.tickets.kept number; given = old.tickets.given } }
 
   -- There is no ticket of this number to be answered now.
   abbrev pub IsNotDue : SystemValue D → ℕ → Type 0
-  IsNotDue system number = (ticket : TicketValue) → finmap.get system.tickets number ≡ Some (Some ticket) → system.core.handed < ticket.seen
+  IsNotDue system number = (ticket : TicketValue) → finmap.get system.tickets.kept number ≡ Some (Some ticket) → system.core.handed < ticket.seen
 
   abbrev pub IsFullNow : SystemValue D → ℕ → Call → Type 0
   IsFullNow system space c = IsFullFor system.core space c

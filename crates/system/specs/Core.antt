@@ -1,6 +1,5 @@
 -- The core as a whole, and the world of events that it stands for.
 use Rattle.std.specs.Prelude.{◌≡◌, ◌⊎◌, ℕ, ◌+◌, ◌-◌, ◌<◌, ◌≤◌, Bool, true, false, List, [], ◌∷◌, ◌++◌, length, take, drop, map, Option, None, Some, slice_get, refl}
-use Rattle.std.specs.Coded.{Coded, code_by, coded×, coded_ℕ, coded_option}
 use Rattle.std.specs.FinMap as finmap
 use Rattle.std.specs.Ordering.{nat_cmp}
 use Rattle.codes.specs.declared.limits.TheConstants.{MAX_RECORDS}
@@ -22,15 +21,19 @@ use Rattle.system.specs.Halves.{KernelValue, TicketValue}
 use Rattle.system.specs.declared.event.Event.{Event}
 use Rattle.system.specs.declared.event.Outcome.{Outcome}
 
--- The two halves; what is between them, a batch that was taken or the receipt of so many records; and the tickets that weren't
--- answered, by number, with how many were given. (A number whose ticket is still being made stands for none.)
+-- The tickets that weren't answered, by number, and how many were given. (A number whose ticket is still being made stands
+-- for none.)
+pub record TicketsValue : Type 0 where
+  pub kept : finmap.FinMap nat_cmp (Option TicketValue)
+  pub given : ℕ
+
+-- The two halves; what is between them, a batch that was taken or the receipt of so many records; and the tickets.
 pub record SystemValue (D : Type 0) : Type 0 where
   pub core : KernelValue
   pub journal : JournalValue D
   pub out : Option BatchValue
   pub receipt : Option ℕ
-  pub tickets : finmap.FinMap nat_cmp (Option TicketValue)
-  pub given : ℕ
+  pub tickets : TicketsValue
 
 -- A core that goes on from a state and a journal of its records, all of which are stored.
 abbrev pub first_system : {D : Type 0} → State → JournalValue D → SystemValue D
@@ -39,8 +42,7 @@ first_system kernel journal = record {
   journal = journal;
   out = None;
   receipt = None;
-  tickets = finmap.empty;
-  given = 0;
+  tickets = record { kept = finmap.empty; given = 0 };
 }
 
 -- What waits between the halves: nothing;
@@ -105,8 +107,8 @@ pub record StandsFor {D : Type 0} (honest : Type 0) (view : D → View) (base : 
   pub handed : system.core.handed ≡ world.opened + world.handed
   pub stored : system.journal.records ≡ world.opened + world.stored
   pub between : Between world system.out system.receipt system.core.is_out
-  pub given : system.given ≡ length world.tickets
-  pub tickets : (n : ℕ) → finmap.get system.tickets n ≡ kept_ticket world.opened (slice_get world.tickets n)
+  pub given : system.tickets.given ≡ length world.tickets
+  pub tickets : (n : ℕ) → finmap.get system.tickets.kept n ≡ kept_ticket world.opened (slice_get world.tickets n)
   pub seen : greatest_seen world.tickets ≤ world.handed
   pub failed : system.journal.failed ≡ world.failed
   -- until the device fails, the store is kept; then, a stop leaves the state after the stored records at least

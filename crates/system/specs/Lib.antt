@@ -4,3 +4,4 @@ pub mod Events
 pub mod Halves
 pub mod Phases
 pub mod SystemCode
+pub mod TicketCode

@@ -17,4 +17,4 @@ IsPhase core stored _ _ _ = ⊥
 -- and no ticket has a number that wasn't given
 pub record IsInOrder {D : Type 0} (system : SystemValue D) : Type 0 where
   pub phase : IsPhase system.core system.journal.records system.out system.receipt system.core.is_out
-  pub fresh : (number : ℕ) → system.given ≤ number → finmap.get system.tickets number ≡ None
+  pub fresh : (number : ℕ) → system.tickets.given ≤ number → finmap.get system.tickets.kept number ≡ None

@@ -1,4 +1,4 @@
-ghost use Rattle.std.specs.Prelude.{◌≡◌, ◌⊎◌, ◌+◌, ◌<◌, ◌≤◌, true, false, length, nat_le, IfOk, IfErr, IfSome, IfNone, OnErr, IsErrOf};
+ghost use Rattle.std.specs.Prelude.{◌≡◌, ◌⊎◌, ◌+◌, ◌<◌, ◌≤◌, true, false, length, MatchBool, IfOk, IfErr, IfSome, IfNone, OnErr, IsErrOf};
 ghost use Rattle.codes.specs.declared.limits.TheConstants.{MAX_FRAME_CONTENT, MAX_RECORDS};
 ghost use Rattle.ipc_model.specs.texts.Texts.{reply_text};
 ghost use Rattle.journal.specs.Batch.{empty_batch};
@@ -130,7 +130,7 @@ impl KernelHalf {
 
     /// Whether all records that a ticket saw are stored, as far as receipts tell.
     pub fn is_due(&self, ticket: &Ticket) -> bool
-        ensures { result ≡ nat_le ticket.now.seen self.now.handed }
+        ensures { MatchBool result (ticket.now.seen ≤ self.now.handed) (self.now.handed < ticket.now.seen) }
     {
         ticket.seen <= self.handed
     }

@@ -1,4 +1,4 @@
-ghost use Rattle.std.specs.Prelude.{◌≡◌, ◌⊎◌, ℕ, ◌+◌, ◌-◌, ◌<◌, ◌≤◌, ◌^◌, None, Some, true, false, length, MatchBool, IfOk, IfErr, IfSome, IfNone, OnErr, OnOk, IsErrOf, IsSome};
+ghost use Rattle.std.specs.Prelude.{◌≡◌, ◌⊎◌, ℕ, ◌+◌, ◌-◌, ◌<◌, ◌≤◌, ◌^◌, None, Some, true, false, length, MatchBool, IfOk, IfErr, IfSome, IfNone, OnErr, OnOk, IsErrOf};
 ghost use Rattle.std.specs.FinMap as map;
 ghost use Rattle.disk.specs.Moments.{one_more};
 ghost use Rattle.system.specs.Core.{first_system};
@@ -7,11 +7,10 @@ ghost use Rattle.system.specs.Changes.{Answers, FailsToStore, HandsIn, IsFullNow
 
 use crate::kernel_half::{KernelHalf, SubmitFault};
 use crate::store_half::{Receipt, StoreHalf};
-use crate::ticket::Ticket;
+use crate::ticket::Tickets;
 use disk::Disk;
 use ipc_model::{Call, Reply};
 use journal::{Batch, StoreFault};
-use number_map::NumberMap;
 use recover::Opened;
 use std::alloc::Global;
 use std::marker::Model;
@@ -27,8 +26,7 @@ pub struct System<D: Disk> {
     store: StoreHalf<D>,
     out: Option<Batch>,
     receipt: Option<Receipt>,
-    tickets: NumberMap<Option<Ticket>>,
-    given: u64,
+    tickets: Tickets,
 }
 
 impl<D: Disk> Model for System<D> {
@@ -40,9 +38,9 @@ impl<D: Disk> Model for System<D> {
 
     ghost coded = { system_code D.code };
 
-    ghost view = { λ s. record { core = s.core; journal = s.store; out = s.out; receipt = s.receipt; tickets = s.tickets; given = s.given } };
+    ghost view = { λ s. record { core = s.core; journal = s.store; out = s.out; receipt = s.receipt; tickets = s.tickets } };
 
-    ghost invariant = { λ s. IsInOrder (record { core = s.core; journal = s.store; out = s.out; receipt = s.receipt; tickets = s.tickets; given = s.given }) };
+    ghost invariant = { λ s. IsInOrder (record { core = s.core; journal = s.store; out = s.out; receipt = s.receipt; tickets = s.tickets }) };
 }
 
 impl<D: Disk> System<D> {
@@ -57,8 +55,7 @@ impl<D: Disk> System<D> {
             store: StoreHalf::new(journal),
             out: None,
             receipt: None,
-            tickets: NumberMap::new(alloc),
-            given: 0,
+            tickets: Tickets::new(alloc),
         }
     }
 
@@ -72,7 +69,6 @@ impl<D: Disk> System<D> {
             out: _,
             receipt: _,
             tickets: _,
-            given: _,
         } = self;
         store.into_disk()
     }
@@ -80,25 +76,20 @@ impl<D: Disk> System<D> {
     /// Makes a call of a task of this space, and gives the number of its ticket. Its record, if it has one, waits then to be
     /// taken. With a fault nothing changed.
     pub fn submit(&mut self, space: u32, call: &Call) -> Result<u64, SubmitFault>
-        ensures number { IfOk result (λ number. number ≡ self.old.given) }
+        ensures number { IfOk result (λ number. number ≡ self.old.tickets.given) }
         ensures given { OnOk result (Submits self.old space call.now self.new) }
         ensures full { IsErrOf result SubmitFault.EpochFull → IsFullNow self.old space call.now }
         ensures err { OnErr result (self.new ≡ self.old) }
     {
-        let number = self.given;
         // No machine gives so many tickets.
-        if number == u64::MAX {
+        if self.tickets.given() == u64::MAX {
             return Err(SubmitFault::NoMemory);
         }
-        self.tickets.insert(u128::from(number), None)?;
+        self.tickets.make_place()?;
         match self.core.submit(space, call) {
-            Ok(ticket) => {
-                keep_ticket(&mut self.tickets, number, ticket);
-                self.given = number + 1;
-                Ok(number)
-            }
+            Ok(ticket) => Ok(self.tickets.give(ticket)),
             Err(fault) => {
-                self.tickets.remove(u128::from(number));
+                self.tickets.drop_place();
                 Err(fault)
             }
         }
@@ -169,29 +160,22 @@ impl<D: Disk> System<D> {
         if !self.is_due(number) {
             return None;
         }
-        let ticket = self.tickets.remove(u128::from(number)).flatten()?;
+        let ticket = self.tickets.take(number)?;
         Some(ticket.into_reply())
     }
 
     /// Whether there is a ticket of this number, and all that it saw is stored.
     fn is_due(&self, number: u64) -> bool
         ensures { MatchBool result
-            ((ticket : TicketValue) × (map.get self.now.tickets number ≡ Some (Some ticket)) × (ticket.seen ≤ self.now.core.handed))
+            ((ticket : TicketValue) × (map.get self.now.tickets.kept number ≡ Some (Some ticket)) × (ticket.seen ≤ self.now.core.handed))
             (IsNotDue self.now number) }
     {
-        match self.tickets.get(u128::from(number)) {
-            Some(Some(ticket)) => self.core.is_due(ticket),
-            _ => false,
+        let Some(ticket) = self.tickets.get(number) else {
+            return false;
+        };
+        if !self.core.is_due(ticket) {
+            return false;
         }
-    }
-}
-
-/// Keeps a ticket in the place that was made for it.
-fn keep_ticket(tickets: &mut NumberMap<Option<Ticket>>, number: u64, ticket: Ticket)
-    requires { IsSome (map.get tickets.old number) }
-    ensures { tickets.new ≡ map.insert tickets.old number (Some ticket) }
-{
-    if let Some(place) = tickets.get_mut(u128::from(number)) {
-        *place = Some(ticket);
+        true
     }
 }

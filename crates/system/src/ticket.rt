@@ -1,6 +1,11 @@
-ghost use Rattle.std.specs.Prelude.{◌≡◌};
+ghost use Rattle.std.specs.Prelude.{◌≡◌, ℕ, ◌+◌, ◌-◌, ◌<◌, ◌^◌, None, Some, MatchOption, IfSome, IfNone, IsSome, OnOk, OnErr, option_copied};
+ghost use Rattle.std.specs.FinMap as map;
+ghost use Rattle.system.specs.Core.{TicketsValue};
+ghost use Rattle.system.specs.Halves.{TicketValue};
 
 use ipc_model::Reply;
+use number_map::NumberMap;
+use std::alloc::{AllocError, Global};
 use std::marker::Model;
 
 /// What a call was answered, to be told once all records that it saw are stored. It can't be copied.
@@ -12,8 +17,7 @@ pub struct Ticket {
 
 impl Model for Ticket {
     ghost use Rattle.system.specs.Halves.{TicketValue};
-
-    ghost use Rattle.system.specs.SystemCode.{ticket_code};
+    ghost use Rattle.system.specs.TicketCode.{ticket_code};
 
     ghost Value = { TicketValue };
 
@@ -28,5 +32,102 @@ impl Ticket {
         ensures { result ≡ self.answer }
     {
         self.reply
+    }
+}
+
+/// The tickets that weren't answered, by number, and how many were given. The next one's place is made before its call is,
+/// so that keeping it takes no memory.
+#[derive(Drop)]
+pub(crate) struct Tickets {
+    kept: NumberMap<Option<Ticket>>,
+    given: u64,
+}
+
+impl Model for Tickets {
+    ghost use Rattle.system.specs.Core.{TicketsValue};
+    ghost use Rattle.system.specs.TicketCode.{tickets_code};
+
+    ghost Value = { TicketsValue };
+
+    ghost coded = { tickets_code };
+
+    ghost view = { λ t. record { kept = t.kept; given = t.given } };
+}
+
+impl Tickets {
+    /// No tickets. It takes no memory.
+    pub(crate) fn new(alloc: Global) -> Self
+        ensures { result ≡ record { kept = map.empty; given = 0 } }
+    {
+        Tickets {
+            kept: NumberMap::new(alloc),
+            given: 0,
+        }
+    }
+
+    /// How many were given.
+    pub(crate) fn given(&self) -> u64
+        ensures { result ≡ self.now.given }
+    {
+        self.given
+    }
+
+    /// Makes the place of the next ticket. Where memory is wanted nothing changed.
+    pub(crate) fn make_place(&mut self) -> Result<(), AllocError>
+        ensures ok { OnOk result (self.new ≡ record { kept = map.insert self.old.kept self.old.given None; given = self.old.given }) }
+        ensures err { OnErr result (self.new ≡ self.old) }
+    {
+        let _ = self.kept.insert(u128::from(self.given), None)?;
+        Ok(())
+    }
+
+    /// Gives up the place of the next ticket.
+    pub(crate) fn drop_place(&mut self)
+        ensures { self.new ≡ record { kept = map.remove self.old.kept self.old.given; given = self.old.given } }
+    {
+        let _ = self.kept.remove(u128::from(self.given));
+    }
+
+    /// Keeps the next ticket in its place, and gives its number.
+    pub(crate) fn give(&mut self, ticket: Ticket) -> u64
+        requires place { IsSome (map.get self.old.kept self.old.given) }
+        requires more { self.old.given < 2 ^ 64 - 1 }
+        ensures number { result ≡ self.old.given }
+        ensures kept { self.new ≡ record { kept = map.insert self.old.kept self.old.given (Some ticket); given = self.old.given + 1 } }
+    {
+        let number = self.given;
+        keep_ticket(&mut self.kept, number, ticket);
+        self.given = number + 1;
+        number
+    }
+
+    /// The ticket of a number.
+    pub(crate) fn get(&self, number: u64) -> Option<&Ticket>
+        ensures there { IfSome result (λ ticket. map.get self.now.kept number ≡ Some (Some ticket.now)) }
+        ensures none { IfNone result ((ticket : TicketValue) → map.get self.now.kept number ≡ Some (Some ticket) → ⊥) }
+    {
+        match self.kept.get(u128::from(number)) {
+            Some(Some(ticket)) => Some(ticket),
+            _ => None,
+        }
+    }
+
+    /// Takes the ticket of a number out.
+    pub(crate) fn take(&mut self, number: u64) -> Option<Ticket>
+        ensures there { IfSome result (λ ticket. map.get self.old.kept number ≡ Some (Some ticket)) }
+        ensures none { IfNone result ((ticket : TicketValue) → map.get self.old.kept number ≡ Some (Some ticket) → ⊥) }
+        ensures left { self.new ≡ record { kept = map.remove self.old.kept number; given = self.old.given } }
+    {
+        self.kept.remove(u128::from(number)).flatten()
+    }
+}
+
+/// Keeps a ticket in the place that was made for it.
+fn keep_ticket(tickets: &mut NumberMap<Option<Ticket>>, number: u64, ticket: Ticket)
+    requires { IsSome (map.get tickets.old number) }
+    ensures { tickets.new ≡ map.insert tickets.old number (Some ticket) }
+{
+    if let Some(place) = tickets.get_mut(u128::from(number)) {
+        *place = Some(ticket);
     }
 }
