@@ -1,3 +1,3 @@
-mod Batches
-mod Reading
+mod Pieces
+mod Steps
 mod Storing

@@ -1,4 +1,6 @@
 pub mod Fault
 pub mod Journal
+pub mod Readers
 pub mod Reading
 pub mod Storing
+pub mod Windows

@@ -4,7 +4,9 @@
 mod fault;
 mod journal;
 mod read;
+mod window;
 
 pub use fault::StoreFault;
 pub use journal::{CLOSED_GATE, Journal, OPEN_GATE};
-pub use read::read_batches;
+pub use read::{PIECE, RecordReader};
+pub use window::LONGEST_STEP;
