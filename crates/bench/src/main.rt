@@ -1,17 +1,20 @@
 //! `bench FOLDER` measures acknowledged calls on a new store in the folder FOLDER/store, which has to be there and
 //! empty, beside pairs of syncs of a file in FOLDER, which is what a stored call costs at least. It also measures calls
-//! of a kernel alone, in memory, also what each kind of call costs beside few and beside many other ports.
+//! of a kernel alone, in memory, also what each kind of call costs beside few and beside many other ports, and how long
+//! and in how much memory stores of many records are opened.
 #![tactic(auto)]
 
 mod costs;
 mod deaths;
 mod memory;
 mod messages;
+mod openings;
 
 use crate::costs::{hundredths, print_costs};
 use crate::deaths::print_deaths;
 use crate::memory::{Before, Cycle, HERE, call_of, time_in_memory};
 use crate::messages::print_messages;
+use crate::openings::print_openings;
 use disk::{Disk, FileDisk};
 use ipc_model::{Call, Reply};
 use server::{Alone, Caller, open};
@@ -257,6 +260,7 @@ fn print_in_memory(rt: &HostRuntime) -> Result<(), Fault> {
 
 /// Measures and prints everything.
 fn run(rt: &HostRuntime, folder: &str) -> Result<(), Fault> {
+    print_openings(rt, folder)?;
     print_stored(rt, folder)?;
     print_in_memory(rt)?;
     print_costs(rt)?;

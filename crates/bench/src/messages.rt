@@ -76,7 +76,7 @@ fn push_bytes(line: &mut String, count: u32) -> Result<(), AllocError> {
 }
 
 /// The line that sends a message of this size with so many send rights, which are moved.
-fn send_line(alloc: Global, size: u32, rights: u32) -> Result<String, AllocError> {
+pub(crate) fn send_line(alloc: Global, size: u32, rights: u32) -> Result<String, AllocError> {
     let mut line = String::new(alloc);
     line.push_str("send make_send 0x100 id 7")?;
     let mut left = size.saturating_sub(24);

@@ -1,6 +1,6 @@
 // A disk in four files of a folder.
 ghost use Rattle.std.specs.Prelude.{◌≡◌, ◌≤◌, length, IfOk};
-ghost use Rattle.disk.specs.Files.{unknown_view};
+ghost use Rattle.disk.specs.Files.{FilesKeepModel, folder_view};
 
 use crate::device::count_failure;
 use crate::{Disk, DiskFault, Slot};
@@ -253,10 +253,11 @@ impl<R: Files + Drop> FileDisk<R> {
     }
 }
 
+#[tactic(auto, unfolding(crate::specs::Files::FilesKeepModel))]
 impl<R: Files + Drop> Disk for FileDisk<R> {
-    ghost honest = { ⊥ };
+    ghost honest = { FilesKeepModel };
 
-    ghost view = { λ _. unknown_view };
+    ghost view = { λ disk. folder_view disk };
 
     ghost failed_calls = { λ disk. disk.failures };
 

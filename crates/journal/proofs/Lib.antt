@@ -1,4 +1,4 @@
-mod Batches
-mod Reading
+mod Pieces
+mod Steps
 mod Storing
 mod Whole

@@ -1,5 +1,7 @@
 pub mod Batch
 pub mod Fault
 pub mod Journal
+pub mod Readers
 pub mod Reading
 pub mod Storing
+pub mod Windows

@@ -5,8 +5,10 @@ mod batch;
 mod fault;
 mod journal;
 mod read;
+mod window;
 
 pub use batch::Batch;
 pub use fault::StoreFault;
 pub use journal::{CLOSED_GATE, Journal, OPEN_GATE};
-pub use read::read_batches;
+pub use read::{PIECE, RecordReader};
+pub use window::LONGEST_STEP;

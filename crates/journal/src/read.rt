@@ -1,75 +1,27 @@
-ghost use Rattle.std.specs.Prelude.{◌≡◌, ◌⊎◌, ◌≤◌, ◌++◌, ℕ, List, length, drop, ◌∷◌, Err, OnOk, OnErr, IfOk, IfSome, IfNone, IsErrOf};
+ghost use Rattle.std.specs.Prelude.{◌≡◌, ◌⊎◌, ◌+◌, ◌<◌, ◌≤◌, ◌++◌, ◌∷◌, ℕ, List, length, Err, OnOk, OnErr, IfOk, IfSome, IfNone, IsErrOf};
+ghost use Rattle.codes.specs.declared.limits.TheConstants.{MAX_RECORDS};
+ghost use Rattle.disk.specs.Slots.{slot_of};
+ghost use Rattle.disk.specs.Moments.{Passes, MayLeave, one_more};
 ghost use Rattle.ipc_model.specs.declared.record.Record.{Record};
-ghost use Rattle.ipc_model.specs.store.Store.{open_gate, IsClosed, SpellsBatches};
-ghost use Rattle.ipc_laws.specs.Counted.{SpellsCounted};
-ghost use Rattle.journal.specs.Reading.{IsContent, IsBatch};
+ghost use Rattle.ipc_model.specs.texts.Texts.{record_text, IsRecord};
+ghost use Rattle.ipc_model.specs.store.Store.{open_gate, IsClosed};
+ghost use Rattle.journal.specs.Readers.{place_of};
+ghost use Rattle.journal.specs.Reading.{Leads, IsLast, IsNothing, IsInBatch, IsBehindBatches};
+ghost use Rattle.journal.specs.Windows.{IsOver, IsFull};
 
 use crate::StoreFault;
 use crate::journal::OPEN_GATE;
+use crate::window::{LONGEST_STEP, Window};
 use codes::MAX_RECORDS;
+use disk::{Disk, Slot};
 use ipc_model::Record;
 use record::take_record;
-use std::alloc::Global;
+use std::alloc::{AllocError, Global};
+use std::marker::Model;
 use words::{take_long_word, take_word};
 
-/// Adds the records of a batch's content, which are numbered on from those that are there.
-fn take_records(
-    alloc: Global,
-    records: &mut Vec<Record>,
-    content: &[u8],
-    count: u32,
-) -> Result<(), StoreFault>
-    requires { length records.old.items ≤ MAX_RECORDS }
-    ensures added { OnOk result (let added = drop (length records.old.items) records.new.items in
-        (records.new.items ≡ records.old.items ++ added) × IsContent (length records.old.items) count content.now added) }
-    ensures damaged { IsErrOf result StoreFault.Damaged
-        → (added : List Record) → IsContent (length records.old.items) count content.now added → ⊥ }
-    ensures faults { OnErr result ((result ≡ Err StoreFault.Damaged) ⊎ (result ≡ Err StoreFault.NoMemory)) }
-{
-    let mut rest = content;
-    for _ in 0..count {
-        let Some((number, entry, after)) = take_record(alloc, rest)? else {
-            return Err(StoreFault::Damaged);
-        };
-        if number != records.len() as u64 || number >= MAX_RECORDS {
-            return Err(StoreFault::Damaged);
-        }
-        records.push(entry)?;
-        rest = after;
-    }
-    if rest.is_empty() {
-        Ok(())
-    } else {
-        Err(StoreFault::Damaged)
-    }
-}
-
-/// Adds the records of the batch whose open gate stands before these bytes, and gives what stands behind it.
-fn take_batch<'a>(
-    alloc: Global,
-    records: &mut Vec<Record>,
-    bytes: &'a [u8],
-) -> Result<&'a [u8], StoreFault>
-    requires { length records.old.items ≤ MAX_RECORDS }
-    ensures added { IfOk result (λ rest. let added = drop (length records.old.items) records.new.items in
-        (records.new.items ≡ records.old.items ++ added) × IsBatch (length records.old.items) bytes.now added rest.now) }
-    ensures damaged { IsErrOf result StoreFault.Damaged
-        → (added : List Record) (rest : List ℕ) → IsBatch (length records.old.items) bytes.now added rest → ⊥ }
-    ensures faults { OnErr result ((result ≡ Err StoreFault.Damaged) ⊎ (result ≡ Err StoreFault.NoMemory)) }
-{
-    let Some((count, rest)) = take_word(bytes) else {
-        return Err(StoreFault::Damaged);
-    };
-    let Some((length, rest)) = take_long_word(rest) else {
-        return Err(StoreFault::Damaged);
-    };
-    if count == 0 || (rest.len() as u64) < length {
-        return Err(StoreFault::Damaged);
-    }
-    let (content, behind) = rest.split_at(length as usize);
-    take_records(alloc, records, content, count)?;
-    Ok(behind)
-}
+/// How many bytes of a segment a reader holds at most.
+pub const PIECE: usize = 1 << 20;
 
 /// What stands behind the open gate that the bytes begin with, if they do.
 fn behind_open_gate(bytes: &[u8]) -> Option<&[u8]>
@@ -82,21 +34,182 @@ fn behind_open_gate(bytes: &[u8]) -> Option<&[u8]>
     }
 }
 
-/// The records of the batches behind a segment's header, and how many bytes these batches have: those behind
-/// open gates, up to the first that is closed or isn't there.
+/// How many records the batch that these bytes go on with still has, in how many bytes, and its content. Where the
+/// last batch has ended, that is the next one, whose open gate stands in front.
 ///
-/// `Damaged`, which comes just where the bytes spell no batches: an open batch isn't whole, isn't spelled as a
-/// batch is, or is numbered otherwise than on from the one before, or there are more records than a segment may
-/// hold. `NoMemory`: no memory.
-pub fn read_batches(alloc: Global, bytes: &[u8]) -> Result<(Vec<Record>, usize), StoreFault>
-    ensures spelled { IfOk result (λ r. SpellsCounted bytes.now r.0.items r.1) }
-    ensures damaged { IsErrOf result StoreFault.Damaged → (records : List Record) → SpellsBatches bytes.now records → ⊥ }
+/// `Damaged`: the batch has bytes behind its last record, or no record, or the slot ends within its head.
+fn batch_at(bytes: &[u8], left: u32, size: u64) -> Result<Option<(u32, u64, &[u8])>, StoreFault>
+    ensures found { IfOk result (λ found. IfSome found (λ r. IsInBatch left size bytes.now r.0 r.1 r.2.now)) }
+    ensures ended { IfOk result (λ found. IfNone found (IsBehindBatches left size bytes.now)) }
+    ensures no_batch { OnErr result ((count length_of : ℕ) (content : List ℕ) → IsInBatch left size bytes.now count length_of content → ⊥) }
+    ensures no_end { OnErr result (IsBehindBatches left size bytes.now → ⊥) }
+    ensures faults { OnErr result (result ≡ Err StoreFault.Damaged) }
+{
+    if left != 0 {
+        return Ok(Some((left, size, bytes)));
+    }
+    if size != 0 {
+        return Err(StoreFault::Damaged);
+    }
+    let Some(head) = behind_open_gate(bytes) else {
+        return Ok(None);
+    };
+    let Some((count, rest)) = take_word(head) else {
+        return Err(StoreFault::Damaged);
+    };
+    let Some((length, content)) = take_long_word(rest) else {
+        return Err(StoreFault::Damaged);
+    };
+    if count == 0 {
+        return Err(StoreFault::Damaged);
+    }
+    Ok(Some((count, length, content)))
+}
+
+/// The record of this number that stands in front, in so many bytes at most, and what stands behind it.
+///
+/// `Damaged`: there is none, or a segment holds no record of this number. `NoMemory`: no memory.
+fn record_at(
+    alloc: Global,
+    bytes: &[u8],
+    number: u64,
+    size: u64,
+) -> Result<(Record, &[u8]), StoreFault>
+    ensures found { IfOk result (λ r. bytes.now ≡ record_text number r.0 ++ r.1.now) }
+    ensures fits { IfOk result (λ r. IsRecord r.0 × (number < MAX_RECORDS)) }
+    ensures within { IfOk result (λ r. length bytes.now ≤ size + length r.1.now) }
+    ensures damaged { IsErrOf result StoreFault.Damaged → (entry : Record) (rest : List ℕ) → IsRecord entry → number < MAX_RECORDS
+        → length bytes.now ≤ size + length rest → bytes.now ≡ record_text number entry ++ rest → ⊥ }
     ensures faults { OnErr result ((result ≡ Err StoreFault.Damaged) ⊎ (result ≡ Err StoreFault.NoMemory)) }
 {
-    let mut records = Vec::new(alloc);
-    let mut rest = bytes;
-    while let Some(batch) = behind_open_gate(rest) {
-        rest = take_batch(alloc, &mut records, batch)?;
+    let Some((found, entry, rest)) = take_record(alloc, bytes)? else {
+        return Err(StoreFault::Damaged);
+    };
+    if found != number || number >= MAX_RECORDS {
+        return Err(StoreFault::Damaged);
     }
-    Ok((records, bytes.len() - rest.len()))
+    if size < (bytes.len() - rest.len()) as u64 {
+        return Err(StoreFault::Damaged);
+    }
+    Ok((entry, rest))
+}
+
+/// Takes the records of a segment one after another, from its first batch on: those of the batches behind open gates,
+/// up to the first gate that is closed or isn't there. It holds a piece of the slot at a time.
+#[derive(Drop)]
+pub struct RecordReader {
+    window: Window,
+    number: u64,
+    left: u32,
+    size: u64,
+    alloc: Global,
+}
+
+impl Model for RecordReader {
+    ghost use Rattle.std.specs.Prelude.{◌≤◌};
+    ghost use Rattle.codes.specs.declared.limits.TheConstants.{MAX_RECORDS};
+    ghost use Rattle.journal.specs.Readers.{ReaderValue};
+
+    ghost Value = { ReaderValue };
+
+    ghost view = { λ r. record { window = r.window; number = r.number; left = r.left; size = r.size } };
+
+    ghost invariant = { λ r. r.number ≤ MAX_RECORDS };
+}
+
+impl RecordReader {
+    /// A reader of a segment's slot, whose first batch begins at this place. It holds so many bytes at most.
+    pub fn new<D: Disk>(
+        alloc: Global,
+        disk: &D,
+        slot: Slot,
+        at: u64,
+        room: usize,
+    ) -> Result<RecordReader, AllocError>
+        requires place { D.honest → at ≤ length (slot_of (D.view disk.now).seen slot) }
+        requires room { LONGEST_STEP ≤ room }
+        ensures over { D.honest → IfOk result (λ reader. IsOver (slot_of (D.view disk.now).seen slot) reader.window) }
+        ensures place { D.honest → IfOk result (λ reader. place_of reader ≡ record { at = at; number = 0; left = 0; size = 0 }) }
+        ensures number { IfOk result (λ reader. reader.number ≡ 0) }
+        ensures slot { IfOk result (λ reader. reader.window.slot ≡ slot) }
+    {
+        let window = Window::over(alloc, disk, slot, at, room)?;
+        Ok(RecordReader {
+            window,
+            number: 0,
+            left: 0,
+            size: 0,
+            alloc,
+        })
+    }
+
+    /// The place in the slot behind the last record.
+    pub fn at(&self) -> u64
+        ensures { result ≡ self.now.window.at }
+    {
+        self.window.at()
+    }
+
+    /// How many records were read.
+    pub fn number(&self) -> u64
+        ensures { result ≡ self.now.number }
+    {
+        self.number
+    }
+
+    /// Takes the next record from what the window shows, which is full.
+    fn take_next(&mut self) -> Result<Option<Record>, StoreFault>
+        ensures leads { (bytes : List ℕ) → IsOver bytes self.old.window → IsFull self.old.window
+            → IfOk result (λ found. IfSome found (λ entry. Leads bytes (place_of self.old) entry (place_of self.new))) }
+        ensures last { (bytes : List ℕ) → IsOver bytes self.old.window → IsFull self.old.window
+            → IfOk result (λ found. IfNone found (IsLast bytes (place_of self.old))) }
+        ensures damaged { IsErrOf result StoreFault.Damaged → (bytes : List ℕ) → IsOver bytes self.old.window → IsFull self.old.window
+            → IsNothing bytes (place_of self.old) }
+        ensures over { (bytes : List ℕ) → IsOver bytes self.old.window → OnOk result (IsOver bytes self.new.window) }
+        ensures stays { IfOk result (λ found. IfNone found (self.new ≡ self.old)) }
+        ensures counted { IfOk result (λ found. IfSome found (λ _. (self.new.number ≡ self.old.number + 1) × (self.new.number ≤ MAX_RECORDS))) }
+        ensures slot { self.new.window.slot ≡ self.old.window.slot }
+        ensures faults { OnErr result ((result ≡ Err StoreFault.Damaged) ⊎ (result ≡ Err StoreFault.NoMemory)) }
+    {
+        let front = self.window.front();
+        let Some((left, size, content)) = batch_at(front, self.left, self.size)? else {
+            return Ok(None);
+        };
+        let (entry, behind) = record_at(self.alloc, content, self.number, size)?;
+        let taken = (content.len() - behind.len()) as u64;
+        let passed = front.len() - behind.len();
+        self.window.pass(passed);
+        self.number += 1;
+        self.left = left - 1;
+        self.size = size - taken;
+        Ok(Some(entry))
+    }
+
+    /// Takes the next record, if there is one more.
+    ///
+    /// `Damaged`, which comes just where the bytes from here on spell no batches: the batch isn't whole, isn't spelled
+    /// as a batch is, or is numbered otherwise than on from the one before, or there are more records than a segment
+    /// may hold. `NoMemory`: no memory. `Device`: the device failed.
+    pub fn next<D: Disk>(&mut self, disk: &mut D) -> Result<Option<Record>, StoreFault>
+        requires { D.honest → IsOver (slot_of (D.view disk.old).seen self.old.window.slot) self.old.window }
+        ensures leads { D.honest → IfOk result (λ found. IfSome found (λ entry.
+            Leads (slot_of (D.view disk.old).seen self.old.window.slot) (place_of self.old) entry (place_of self.new))) }
+        ensures last { D.honest → IfOk result (λ found. IfNone found
+            (IsLast (slot_of (D.view disk.old).seen self.old.window.slot) (place_of self.new))) }
+        ensures stays { IfOk result (λ found. IfNone found (place_of self.new ≡ place_of self.old)) }
+        ensures damaged { D.honest → IsErrOf result StoreFault.Damaged
+            → IsNothing (slot_of (D.view disk.old).seen self.old.window.slot) (place_of self.old) }
+        ensures over { D.honest → OnOk result (IsOver (slot_of (D.view disk.old).seen self.old.window.slot) self.new.window) }
+        ensures counted { IfOk result (λ found. IfSome found (λ _. (self.new.number ≡ self.old.number + 1) × (self.new.number ≤ MAX_RECORDS))) }
+        ensures slot { self.new.window.slot ≡ self.old.window.slot }
+        ensures seen { D.honest → (D.view disk.new).seen ≡ (D.view disk.old).seen }
+        ensures time { D.honest → Passes (D.view disk.old) (D.view disk.new) (MayLeave (D.view disk.old)) }
+        ensures quiet { OnOk result (D.failed_calls disk.new ≡ D.failed_calls disk.old) }
+        ensures device { IsErrOf result StoreFault.Device → D.failed_calls disk.new ≡ one_more (D.failed_calls disk.old) }
+        ensures faults { OnErr result ((result ≡ Err StoreFault.Device) ⊎ ((result ≡ Err StoreFault.Damaged) ⊎ (result ≡ Err StoreFault.NoMemory))) }
+    {
+        self.window.fill(disk)?;
+        let found = self.take_next()?;
+        Ok(found)
+    }
 }

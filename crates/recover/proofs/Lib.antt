@@ -1,5 +1,5 @@
 mod Ends
 mod Lengths
-mod Replays
 mod Rest
+mod Streams
 mod Surveys

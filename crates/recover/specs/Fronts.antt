@@ -11,6 +11,7 @@ four_slots image0 image1 segment0 segment1 = record {
   segment1 = segment1;
 }
 
--- what of the slots tells what the store is: the fronts, and all of segment 0
+-- what of the slots tells what the store is: their headers, with the image behind that of image 0 and the gate behind that
+-- of segment 0
 abbrev pub fronts_of : Slots → Slots
-fronts_of slots = four_slots (take 48 slots.image0) (take 24 slots.image1) slots.segment0 (take 16 slots.segment1)
+fronts_of slots = four_slots (take 48 slots.image0) (take 24 slots.image1) (take 17 slots.segment0) (take 16 slots.segment1)

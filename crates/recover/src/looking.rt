@@ -3,8 +3,8 @@ ghost use Rattle.std.specs.Prelude.{◌≡◌, ◌⊎◌, ◌++◌, ℕ, IfOk, I
 ghost use Rattle.disk.specs.Moments.{one_more};
 ghost use Rattle.ipc_model.specs.state.State.{State};
 ghost use Rattle.recover.specs.Looked.{IsLook};
-ghost use Rattle.ipc_model.specs.store.Store.{open_gate, segment_header};
 ghost use Rattle.recover.specs.Recovered.{Follows, IsDamaged, IsOtherVersion, Recovers};
+ghost use Rattle.recover.specs.Surveyed.{HasBatchesAt};
 
 use crate::opening::{read_slots, replay_batches};
 use crate::reading::survey;
@@ -65,7 +65,7 @@ fn find<D: Disk>(alloc: Global, disk: &mut D) -> Result<(Kernel, u64), StoreFaul
         &fronts.segment0,
         &fronts.segment1,
     )? {
-        Some(batches) => follow(alloc, &fronts.segment0, batches),
+        Some(batches) => follow(alloc, disk, batches),
         None => {
             let kernel = Kernel::opening(alloc)?;
             Ok((kernel, 0))
@@ -73,14 +73,17 @@ fn find<D: Disk>(alloc: Global, disk: &mut D) -> Result<(Kernel, u64), StoreFaul
     }
 }
 
-/// The state after the records that stand behind a segment's header, and their count.
-fn follow(alloc: Global, segment: &[u8], batches: &[u8]) -> Result<(Kernel, u64), StoreFault>
-    requires { segment.now ≡ segment_header open_gate 0 ++ batches.now }
-    ensures state { IfOk result (λ r. Follows segment.now r.0 r.1) }
-    ensures damaged { IsErrOf result StoreFault.Damaged → (state : State) → (count : ℕ) → Follows segment.now state count → ⊥ }
-    ensures faults { OnErr result ((result ≡ Err StoreFault.Damaged) ⊎ (result ≡ Err StoreFault.NoMemory)) }
+/// The state after the records of segment 0, whose batches begin at this place, and their count.
+fn follow<D: Disk>(alloc: Global, disk: &mut D, batches: u64) -> Result<(Kernel, u64), StoreFault>
+    requires { D.honest → HasBatchesAt (D.view disk.old).seen.segment0 batches }
+    ensures state { D.honest → IfOk result (λ r. Follows (D.view disk.old).seen.segment0 r.0 r.1) }
+    ensures seen { D.honest → (D.view disk.new).seen ≡ (D.view disk.old).seen }
+    ensures damaged { D.honest → IsErrOf result StoreFault.Damaged
+        → (state : State) → (count : ℕ) → Follows (D.view disk.old).seen.segment0 state count → ⊥ }
+    ensures faults { OnErr result ((result ≡ Err StoreFault.Device) ⊎ ((result ≡ Err StoreFault.Damaged) ⊎ (result ≡ Err StoreFault.NoMemory))) }
+    ensures quiet { OnOk result (D.failed_calls disk.new ≡ D.failed_calls disk.old) }
+    ensures device { IsErrOf result StoreFault.Device → D.failed_calls disk.new ≡ one_more (D.failed_calls disk.old) }
 {
-    let _ = segment;
-    let (kernel, count, _) = replay_batches(alloc, batches)?;
+    let (kernel, count, _) = replay_batches(alloc, disk, batches)?;
     Ok((kernel, count))
 }

@@ -1,20 +1,21 @@
-ghost use Rattle.std.specs.Prelude.{◌≡◌, ◌≢◌, ◌<◌, ◌≤◌, ◌++◌, ℕ, List, false, length, take, IfOk, IfErr, OnOk, OnErr, IsErrOf, ◌⊎◌, Err};
+ghost use Rattle.std.specs.Prelude.{◌≡◌, ◌≢◌, ◌-◌, ◌<◌, ◌≤◌, ◌++◌, ℕ, List, false, length, take, drop, IfOk, IfErr, OnOk, OnErr, IsErrOf, ◌⊎◌, Err};
 ghost use Rattle.disk.specs.Slots.{Slots, slot_of, with_slot};
 ghost use Rattle.disk.specs.Moments.{one_more, MayLeave};
 ghost use Rattle.ipc_model.specs.declared.record.Record.{Record};
 ghost use Rattle.ipc_model.specs.state.State.{State, opening_state};
 ghost use Rattle.ipc_model.specs.calls.Step.{Run};
 ghost use Rattle.ipc_laws.specs.Counted.{SpellsCounted};
-ghost use Rattle.ipc_model.specs.store.Store.{segment_header, open_gate, SpellsBatches, IsInUse};
+ghost use Rattle.ipc_model.specs.store.Store.{SpellsBatches, IsInUse};
 ghost use Rattle.recover.specs.AtRest.{IsAtRest};
 ghost use Rattle.recover.specs.Fronts.{four_slots, fronts_of};
 ghost use Rattle.recover.specs.Kept.{IsKept};
 ghost use Rattle.recover.specs.Recovered.{Follows, Recovers, HoldsOpeningImage, IsReady, IsDamaged, IsOtherVersion};
+ghost use Rattle.recover.specs.Surveyed.{HasBatchesAt};
 
 use crate::making::{end_segment, make_store, sync_all};
 use crate::reading::{IMAGE_HEADER, SEGMENT_HEADER, replay_all, survey};
 use disk::{Disk, Slot};
-use journal::{Journal, StoreFault, read_batches};
+use journal::{Journal, PIECE, RecordReader, StoreFault};
 use kernel::Kernel;
 use std::alloc::Global;
 use std::marker::Model;
@@ -40,7 +41,7 @@ impl<D: Disk> Model for Opened<D> {
     ghost invariant = { λ o. D.honest → IsKept (D.view o.journal.disk) o.kernel o.journal.records };
 }
 
-/// As much of the front of each slot as tells what the slot is, and all of segment 0.
+/// As much of the front of each slot as tells what the slot is.
 #[derive(Drop)]
 pub(crate) struct Fronts {
     pub(crate) image0: Vec<u8>,
@@ -69,19 +70,6 @@ fn front_of<D: Disk>(
     Ok(bytes)
 }
 
-/// All the bytes of segment 0.
-fn whole_segment<D: Disk>(alloc: Global, disk: &mut D) -> Result<Vec<u8>, StoreFault>
-    ensures bytes { D.honest → IfOk result (λ bytes. bytes.items ≡ (D.view disk.old).seen.segment0) }
-    ensures seen { D.honest → (D.view disk.new).seen ≡ (D.view disk.old).seen }
-    ensures rest { D.honest → IsAtRest (D.view disk.old) → OnOk result (IsAtRest (D.view disk.new)) }
-    ensures quiet { OnOk result (D.failed_calls disk.new ≡ D.failed_calls disk.old) }
-    ensures device { IsErrOf result StoreFault.Device → D.failed_calls disk.new ≡ one_more (D.failed_calls disk.old) }
-    ensures faults { OnErr result ((result ≡ Err StoreFault.Device) ⊎ (result ≡ Err StoreFault.NoMemory)) }
-{
-    let length = disk.length(Slot::Segment0) as usize;
-    front_of(alloc, disk, Slot::Segment0, length)
-}
-
 /// Reads the fronts of the slots.
 pub(crate) fn read_slots<D: Disk>(alloc: Global, disk: &mut D) -> Result<Fronts, StoreFault>
     ensures fronts { D.honest → IfOk result (λ fronts. four_slots fronts.image0.items fronts.image1.items fronts.segment0.items fronts.segment1.items
@@ -94,7 +82,7 @@ pub(crate) fn read_slots<D: Disk>(alloc: Global, disk: &mut D) -> Result<Fronts,
 {
     let image0 = front_of(alloc, disk, Slot::Image0, IMAGE_HEADER + 24)?;
     let image1 = front_of(alloc, disk, Slot::Image1, IMAGE_HEADER)?;
-    let segment0 = whole_segment(alloc, disk)?;
+    let segment0 = front_of(alloc, disk, Slot::Segment0, SEGMENT_HEADER + 1)?;
     let segment1 = front_of(alloc, disk, Slot::Segment1, SEGMENT_HEADER)?;
     Ok(Fronts {
         image0,
@@ -119,31 +107,40 @@ fn read_fronts<D: Disk>(alloc: Global, disk: &mut D) -> Result<Fronts, StoreFaul
     Ok(fronts)
 }
 
-/// The state after the records of these batches, how many records they are, and how many bytes they have.
-pub(crate) fn replay_batches(
+/// The state after the records of segment 0, whose batches begin at this place, how many records they are, and where
+/// the last batch ends.
+pub(crate) fn replay_batches<D: Disk>(
     alloc: Global,
-    batches: &[u8],
-) -> Result<(Kernel, u64, usize), StoreFault>
-    ensures state { IfOk result (λ r. (records : List Record) × SpellsCounted batches.now records r.2
+    disk: &mut D,
+    batches: u64,
+) -> Result<(Kernel, u64, u64), StoreFault>
+    requires { D.honest → batches ≤ length (D.view disk.old).seen.segment0 }
+    ensures state { D.honest → IfOk result (λ r. (records : List Record)
+        × SpellsCounted (drop batches (D.view disk.old).seen.segment0) records (r.2 - batches)
         × Run opening_state records r.0 × (r.1 ≡ length records)) }
-    ensures damaged { IsErrOf result StoreFault.Damaged → (records : List Record) → (state : State)
-        → SpellsBatches batches.now records → Run opening_state records state → ⊥ }
-    ensures faults { OnErr result ((result ≡ Err StoreFault.Damaged) ⊎ (result ≡ Err StoreFault.NoMemory)) }
+    ensures end { D.honest → IfOk result (λ r. (batches ≤ r.2) × (r.2 ≤ length (D.view disk.old).seen.segment0)) }
+    ensures damaged { D.honest → IsErrOf result StoreFault.Damaged → (records : List Record) → (state : State)
+        → SpellsBatches (drop batches (D.view disk.old).seen.segment0) records → Run opening_state records state → ⊥ }
+    ensures seen { D.honest → (D.view disk.new).seen ≡ (D.view disk.old).seen }
+    ensures rest { D.honest → IsAtRest (D.view disk.old) → OnOk result (IsAtRest (D.view disk.new)) }
+    ensures quiet { OnOk result (D.failed_calls disk.new ≡ D.failed_calls disk.old) }
+    ensures device { IsErrOf result StoreFault.Device → D.failed_calls disk.new ≡ one_more (D.failed_calls disk.old) }
+    ensures faults { OnErr result ((result ≡ Err StoreFault.Device) ⊎ ((result ≡ Err StoreFault.Damaged) ⊎ (result ≡ Err StoreFault.NoMemory))) }
 {
-    let (records, size) = read_batches(alloc, batches)?;
+    let mut reader = RecordReader::new(alloc, disk, Slot::Segment0, batches, PIECE)?;
     let opening = Kernel::opening(alloc)?;
-    let kernel = replay_all(opening, &records)?;
-    Ok((kernel, records.len() as u64, size))
+    let kernel = replay_all(opening, &mut reader, disk)?;
+    Ok((kernel, reader.number(), reader.at()))
 }
 
-/// The state after the records that stand behind segment 0's header, and their count. The segment is ended
+/// The state after the records of segment 0, whose batches begin at this place, and their count. The segment is ended
 /// behind them.
 fn load_stored<D: Disk>(
     alloc: Global,
     disk: &mut D,
-    batches: &[u8],
+    batches: u64,
 ) -> Result<(Kernel, u64), StoreFault>
-    requires { D.honest → (D.view disk.old).seen.segment0 ≡ segment_header open_gate 0 ++ batches.now }
+    requires { D.honest → HasBatchesAt (D.view disk.old).seen.segment0 batches }
     ensures state { D.honest → IfOk result (λ r. Follows (D.view disk.old).seen.segment0 r.0 r.1) }
     ensures ready { D.honest → IfOk result (λ r. IsReady (D.view disk.new).seen r.0 r.1) }
     ensures others { D.honest → OnOk result ((D.view disk.new).seen
@@ -155,8 +152,7 @@ fn load_stored<D: Disk>(
     ensures quiet { OnOk result (D.failed_calls disk.new ≡ D.failed_calls disk.old) }
     ensures device { IsErrOf result StoreFault.Device → D.failed_calls disk.new ≡ one_more (D.failed_calls disk.old) }
 {
-    let (kernel, count, size) = replay_batches(alloc, batches)?;
-    let end = SEGMENT_HEADER as u64 + size as u64;
+    let (kernel, count, end) = replay_batches(alloc, disk, batches)?;
     end_segment(disk, end)?;
     Ok((kernel, count))
 }

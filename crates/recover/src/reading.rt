@@ -1,12 +1,20 @@
 ghost use Rattle.std.specs.Prelude.{◌≡◌, ◌≢◌, ◌↔◌, ◌⊎◌, ℕ, ◌++◌, List, IsTrue, IfOk, IfSome, IfNone, OnOk, OnErr, IsErrOf};
+ghost use Rattle.disk.specs.Moments.{one_more};
+ghost use Rattle.disk.specs.declared.slot.Slot.TheVariants.{Segment0};
 ghost use Rattle.ipc_model.specs.state.State.{State};
 ghost use Rattle.ipc_model.specs.store.Store.{segment_header, open_gate};
-ghost use Rattle.ipc_model.specs.calls.Step.{Run};
-ghost use Rattle.recover.specs.Recovered.{IsOpen, HasOtherVersion, IsOtherVersion, HoldsOpeningImage, WasNeverUsed, IsDamaged};
+ghost use Rattle.ipc_model.specs.calls.Step.{Step};
+ghost use Rattle.journal.specs.Readers.{place_of};
+ghost use Rattle.journal.specs.Windows.{IsOver};
+ghost use Rattle.recover.specs.AtRest.{IsAtRest};
+ghost use Rattle.recover.specs.Recovered.{IsOpen, HasOtherVersion, IsOtherVersion, HoldsOpeningImage, WasNeverUsed};
 ghost use Rattle.recover.specs.Fronts.{four_slots};
+ghost use Rattle.recover.specs.Replayed.{Replays};
+ghost use Rattle.recover.specs.Surveyed.{HasBatchesAt, IsSurveyed};
 
+use disk::Disk;
 use ipc_model::Record;
-use journal::{OPEN_GATE, StoreFault};
+use journal::{OPEN_GATE, RecordReader, StoreFault};
 use kernel::{Kernel, ReplayFault};
 
 /// How many bytes an image slot has before its text.
@@ -65,9 +73,9 @@ fn first_epoch(slot: &[u8]) -> Option<&[u8]>
     slot.strip_prefix(&FIRST_HEADER)
 }
 
-/// The batches of segment 0 of a store in use: its image 0 has to be the opening image.
-fn survey_stored<'a>(image0: &[u8], segment0: &'a [u8]) -> Result<&'a [u8], StoreFault>
-    ensures stored { IfOk result (λ rest. segment0.now ≡ segment_header open_gate 0 ++ rest.now) }
+/// Where the batches of segment 0 of a store in use begin: its image 0 has to be the opening image.
+fn survey_stored(image0: &[u8], segment0: &[u8]) -> Result<u64, StoreFault>
+    ensures stored { IfOk result (λ batches. HasBatchesAt segment0.now batches) }
     ensures image { OnOk result (HoldsOpeningImage image0.now) }
     ensures damaged { OnErr result (HoldsOpeningImage image0.now → (rest : List ℕ) → segment0.now ≢ segment_header open_gate 0 ++ rest) }
     ensures faults { OnErr result (result ≡ Err StoreFault.Damaged) }
@@ -79,7 +87,7 @@ fn survey_stored<'a>(image0: &[u8], segment0: &'a [u8]) -> Result<&'a [u8], Stor
         return Err(StoreFault::Damaged);
     }
     match first_epoch(segment0) {
-        Some(batches) => Ok(batches),
+        Some(batches) => Ok((segment0.len() - batches.len()) as u64),
         None => Err(StoreFault::Damaged),
     }
 }
@@ -102,23 +110,25 @@ fn survey_new(segment0: &[u8]) -> Result<(), StoreFault>
     Ok(())
 }
 
-/// What the slots of a store are: those of a new store, or the batches of segment 0.
+/// What the slots of a store are, by their fronts: those of a new store, or of one in use, and then where the batches
+/// of segment 0 begin.
 ///
 /// `Version`: an open slot is of another version. `Damaged`: an open slot is of another epoch than 0, or the
 /// slots are none that a server leaves.
-pub fn survey<'a>(
+pub fn survey(
     image0: &[u8],
     image1: &[u8],
-    segment0: &'a [u8],
+    segment0: &[u8],
     segment1: &[u8],
-) -> Result<Option<&'a [u8]>, StoreFault>
+) -> Result<Option<u64>, StoreFault>
     ensures one_version { OnOk result (¬ IsOtherVersion (four_slots image0.now image1.now segment0.now segment1.now)) }
     ensures second { OnOk result ((¬ IsOpen 24 image1.now) × (¬ IsOpen 16 segment1.now)) }
-    ensures stored { IfOk result (λ found. IfSome found (λ rest. segment0.now ≡ segment_header open_gate 0 ++ rest.now)) }
+    ensures stored { IfOk result (λ found. IfSome found (λ batches. HasBatchesAt segment0.now batches)) }
     ensures image { IfOk result (λ found. IfSome found (λ _. HoldsOpeningImage image0.now)) }
     ensures new { IfOk result (λ found. IfNone found ((¬ IsOpen 24 image0.now) × WasNeverUsed segment0.now)) }
     ensures version { IsErrOf result StoreFault.Version → IsOtherVersion (four_slots image0.now image1.now segment0.now segment1.now) }
-    ensures damaged { IsErrOf result StoreFault.Damaged → IsDamaged (four_slots image0.now image1.now segment0.now segment1.now) }
+    ensures no_other { IsErrOf result StoreFault.Damaged → ¬ IsOtherVersion (four_slots image0.now image1.now segment0.now segment1.now) }
+    ensures damaged { IsErrOf result StoreFault.Damaged → ¬ IsSurveyed (four_slots image0.now image1.now segment0.now segment1.now) }
     ensures faults { OnErr result ((result ≡ Err StoreFault.Version) ⊎ (result ≡ Err StoreFault.Damaged)) }
 {
     if has_other_version(image0, image1, segment0, segment1) {
@@ -139,21 +149,46 @@ pub fn survey<'a>(
     Ok(None)
 }
 
-/// The state after these records.
+/// The state after a record.
 ///
-/// `Damaged`: a record is no step of the machine. `NoMemory`: no memory.
-pub fn replay_all(kernel: Kernel, records: &[Record]) -> Result<Kernel, StoreFault>
-    ensures run { IfOk result (λ state. Run kernel records.now state) }
-    ensures damaged { IsErrOf result StoreFault.Damaged → (state : State) → Run kernel records.now state → ⊥ }
+/// `Damaged`: the record is no step of the machine. `NoMemory`: no memory.
+fn replay_one(kernel: Kernel, entry: Record) -> Result<Kernel, StoreFault>
+    ensures step { IfOk result (λ state. Step kernel entry.space entry.call entry.reply state) }
+    ensures only { IfOk result (λ state. (other : State) → Step kernel entry.space entry.call entry.reply other → other ≡ state) }
+    ensures damaged { IsErrOf result StoreFault.Damaged → (state : State) → Step kernel entry.space entry.call entry.reply state → ⊥ }
     ensures faults { OnErr result ((result ≡ Err StoreFault.Damaged) ⊎ (result ≡ Err StoreFault.NoMemory)) }
 {
+    match kernel.replay(&entry) {
+        Ok(state) => Ok(state),
+        Err(ReplayFault::Mismatch) => Err(StoreFault::Damaged),
+        Err(ReplayFault::NoMemory) => Err(StoreFault::NoMemory),
+    }
+}
+
+/// The state after the records of segment 0 that are still to be read. Each is replayed as it is read.
+///
+/// `Damaged`: the segment spells no batches from here on, or a record is no step of the machine. `NoMemory`: no
+/// memory. `Device`: the device failed.
+pub fn replay_all<D: Disk>(
+    kernel: Kernel,
+    reader: &mut RecordReader,
+    disk: &mut D,
+) -> Result<Kernel, StoreFault>
+    requires slot { reader.old.window.slot ≡ Segment0 }
+    requires over { D.honest → IsOver (D.view disk.old).seen.segment0 reader.old.window }
+    ensures state { D.honest → IfOk result (λ state.
+        Replays (D.view disk.old).seen.segment0 (place_of reader.old) kernel state reader.new.number reader.new.window.at) }
+    ensures damaged { D.honest → IsErrOf result StoreFault.Damaged → (state : State) → (count end : ℕ)
+        → Replays (D.view disk.old).seen.segment0 (place_of reader.old) kernel state count end → ⊥ }
+    ensures seen { D.honest → (D.view disk.new).seen ≡ (D.view disk.old).seen }
+    ensures rest { D.honest → IsAtRest (D.view disk.old) → OnOk result (IsAtRest (D.view disk.new)) }
+    ensures quiet { OnOk result (D.failed_calls disk.new ≡ D.failed_calls disk.old) }
+    ensures device { IsErrOf result StoreFault.Device → D.failed_calls disk.new ≡ one_more (D.failed_calls disk.old) }
+    ensures faults { OnErr result ((result ≡ Err StoreFault.Device) ⊎ ((result ≡ Err StoreFault.Damaged) ⊎ (result ≡ Err StoreFault.NoMemory))) }
+{
     let mut state = kernel;
-    for entry in records {
-        state = match state.replay(entry) {
-            Ok(next) => next,
-            Err(ReplayFault::Mismatch) => return Err(StoreFault::Damaged),
-            Err(ReplayFault::NoMemory) => return Err(StoreFault::NoMemory),
-        };
+    while let Some(entry) = reader.next(disk)? {
+        state = replay_one(state, entry)?;
     }
     Ok(state)
 }

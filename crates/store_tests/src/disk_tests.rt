@@ -1,3 +1,4 @@
+use crate::counted::{CountedFiles, Syncs};
 use crate::expect::{same, same_bytes, same_in_row};
 use crate::making::slot;
 use disk::{Disk, DiskFault, FileDisk, MemDisk, Slot, Torn};
@@ -340,4 +341,73 @@ fn a_failed_call_is_counted(rt: HostRuntime) -> Result<(), Fail> {
     fs::remove_dir(&rt, folder.as_str())?;
     same(&rt, write_and_cut(disk)?, ([Err(DiskFault); 2], 2));
     Ok(())
+}
+
+// The files of a folder, whose syncs are counted.
+fn counted_at<'a>(
+    files: &'a HostRuntime,
+    folder: &'a str,
+    syncs: &'a Syncs,
+) -> Result<FileDisk<CountedFiles<'a>>, DiskFault> {
+    let counted = CountedFiles {
+        files,
+        folder,
+        syncs,
+    };
+    FileDisk::at(files.alloc(), counted, folder)
+}
+
+// How often files and their folder were synced behind each sync of a slot: one without a file, a new one, one that was
+// written again, one that wasn't, and another new one.
+fn count_syncs<D: Disk + Drop>(mut disk: D, syncs: &Syncs) -> Result<[(u32, u32); 5], Fail> {
+    let mut seen = [(0, 0); 5];
+    let rows: [(&[Step], Slot); 5] = [
+        (&[], Slot::Segment0),
+        (&[Step::Write(Slot::Segment0, 0, b"ab")], Slot::Segment0),
+        (&[Step::Write(Slot::Segment0, 1, b"B")], Slot::Segment0),
+        (&[], Slot::Segment0),
+        (&[Step::Cut(Slot::Image0, 0)], Slot::Image0),
+    ];
+    for (counts, (steps, slot)) in seen.iter_mut().zip(rows) {
+        take(&mut disk, steps)?;
+        sync(&mut disk, slot)?;
+        *counts = syncs.counts();
+    }
+    Ok(seen)
+}
+
+#[test]
+fn a_sync_syncs_the_file_and_a_new_one_its_folder(rt: HostRuntime) -> Result<(), Fail> {
+    let folder = fresh_folder(&rt)?;
+    let syncs = Syncs::new();
+    let seen = count_syncs(counted_at(&rt, folder.as_str(), &syncs)?, &syncs)?;
+    same(&rt, seen, [(0, 0), (1, 1), (2, 1), (3, 1), (4, 2)]);
+    Ok(remove(&rt, folder.as_str())?)
+}
+
+// What syncs answer while they fail, and afterwards.
+fn fail_syncs<D: Disk + Drop>(
+    mut disk: D,
+    syncs: &Syncs,
+) -> Result<([Result<(), DiskFault>; 2], u64), Fail> {
+    take(&mut disk, &[Step::Write(Slot::Segment0, 0, b"ab")])?;
+    syncs.fails.set(true);
+    let while_failing = sync(&mut disk, Slot::Segment0);
+    syncs.fails.set(false);
+    let afterwards = sync(&mut disk, Slot::Segment0);
+    Ok(([while_failing, afterwards], disk.failures()))
+}
+
+// What the system could not write it may have dropped, so a later sync would tell nothing.
+#[test]
+fn a_failed_sync_is_not_made_good(rt: HostRuntime) -> Result<(), Fail> {
+    let folder = fresh_folder(&rt)?;
+    let syncs = Syncs::new();
+    let seen = fail_syncs(counted_at(&rt, folder.as_str(), &syncs)?, &syncs)?;
+    same(
+        &rt,
+        (seen, syncs.counts()),
+        (([Err(DiskFault); 2], 2), (0, 0)),
+    );
+    Ok(remove(&rt, folder.as_str())?)
 }

@@ -2,9 +2,10 @@ use crate::expect::{same, same_in_row};
 use crate::making::{
     NEW_SEGMENT, SEGMENT, append_allocation, disk_with, journal_on, planned, slot,
 };
+use crate::streams::{Read, long_segment, records_of};
 use disk::{Slot, Torn};
 use ipc_model::{Call, Record, Reply};
-use journal::{StoreFault, read_batches};
+use journal::{LONGEST_STEP, PIECE, StoreFault};
 use std::alloc::Global;
 use std::test::Fail;
 
@@ -42,13 +43,17 @@ fn a_failure_is_remembered(rt: HostRuntime) -> Result<(), Fail> {
     Ok(())
 }
 
-fn batches(alloc: Global, bytes: &[u8]) -> Result<(Vec<Record>, usize), StoreFault> {
-    read_batches(alloc, bytes)
+// The records of a segment, which is read in pieces of so many bytes, and where the last one ends.
+fn read(alloc: Global, segment: &[u8], room: usize) -> Result<Result<Read, StoreFault>, Fail> {
+    let mut disk = disk_with(alloc, &[], segment)?;
+    records_of(alloc, &mut disk, room)
 }
 
 #[test]
-fn batches_are_read(rt: HostRuntime) -> Result<(), Fail> {
-    let (records, size) = batches(rt.alloc(), &SEGMENT[16..])?;
+fn records_are_read(rt: HostRuntime) -> Result<(), Fail> {
+    let Ok(Read { records, end }) = read(rt.alloc(), &SEGMENT, PIECE)? else {
+        return Err(Fail::from("the segment is read"));
+    };
     let [record] = records.as_slice() else {
         return Err(Fail::from("one record is read"));
     };
@@ -56,18 +61,47 @@ fn batches_are_read(rt: HostRuntime) -> Result<(), Fail> {
     let is_reply = matches!(record.reply, Reply::Allocate { name: 0x100 });
     same(
         &rt,
-        (size, record.space, is_call, is_reply),
-        (53, 1, true, true),
+        (end, record.space, is_call, is_reply),
+        (69, 1, true, true),
     );
     Ok(())
 }
 
 #[test]
 fn a_second_batch_has_its_own_number(rt: HostRuntime) -> Result<(), Fail> {
-    let mut twice = SEGMENT[16..69].to_vec(rt.alloc())?;
+    let mut twice = SEGMENT[..69].to_vec(rt.alloc())?;
     twice.extend_from_slice(&SEGMENT[16..])?;
-    let fault = batches(rt.alloc(), &twice).err();
+    let fault = read(rt.alloc(), &twice, PIECE)?.err();
     same(&rt, fault, Some(StoreFault::Damaged));
+    Ok(())
+}
+
+// How many records a segment is found to have, and where the last one ends.
+fn seen_in(alloc: Global, segment: &[u8], room: usize) -> Result<(usize, u64), Fail> {
+    match read(alloc, segment, room)? {
+        Ok(read) => Ok((read.records.len(), read.end)),
+        Err(_) => Err(Fail::from("the segment is read")),
+    }
+}
+
+// Records stand across the edges of pieces, and the pieces are of any size that is allowed.
+#[test]
+fn pieces_of_any_size(rt: HostRuntime) -> Result<(), Fail> {
+    let segment = long_segment(rt.alloc(), 2_599)?;
+    for room in [
+        LONGEST_STEP,
+        LONGEST_STEP + 1,
+        LONGEST_STEP + 52,
+        LONGEST_STEP + 1_000,
+        PIECE,
+    ] {
+        same_in_row(
+            &rt,
+            room,
+            seen_in(rt.alloc(), &segment, room)?,
+            (2_600, 16 + 2_600 * 53),
+        );
+    }
     Ok(())
 }
 

@@ -2,6 +2,8 @@
 #![tactic(auto)]
 
 #[cfg(test)]
+mod counted;
+#[cfg(test)]
 mod disk_tests;
 #[cfg(test)]
 mod expect;
@@ -13,3 +15,5 @@ mod looked;
 mod making;
 #[cfg(test)]
 mod recover_tests;
+#[cfg(test)]
+mod streams;

@@ -2,6 +2,7 @@ use crate::expect::{same, same_in_row};
 use crate::making::{
     NEW_SEGMENT, SEGMENT, append_allocation, disk_with, journal_on, planned, slot,
 };
+use crate::streams::long_segment;
 use disk::{MemDisk, Slot, Torn};
 use ipc_model::Reply;
 use journal::StoreFault;
@@ -134,6 +135,27 @@ fn cut_segments(rt: HostRuntime) -> Result<(), Fail> {
             found,
         );
     }
+    Ok(())
+}
+
+// Stores of more bytes than are read at once. In the second a record has another number than the last.
+#[test]
+fn stores_of_many_records(rt: HostRuntime) -> Result<(), Fail> {
+    let mut segment = long_segment(rt.alloc(), 19_999)?;
+    let whole = opened_with(rt.alloc(), &IMAGE, &segment)?;
+    let Some(number) = segment.get_mut(16 + 19_990 * 53 + 13) else {
+        return Err(Fail::from("the segment has the record"));
+    };
+    *number = 0;
+    let bent = opened_with(rt.alloc(), &IMAGE, &segment)?;
+    same(
+        &rt,
+        [whole, bent],
+        [
+            Ok((20_000, 0x20000, 16 + 20_000 * 53 + 1)),
+            Err(StoreFault::Damaged),
+        ],
+    );
     Ok(())
 }
 

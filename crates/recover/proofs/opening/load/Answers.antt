@@ -3,11 +3,20 @@ use Rattle.std.proofs.lemmas.Result.{err_from_is_err_and}
 use Rattle.disk.specs.Slots.{Slots, with_slot}
 use Rattle.disk.specs.declared.slot.Slot.TheVariants.{Segment0}
 use Rattle.recover.specs.Fronts.{four_slots, fronts_of}
-use Rattle.recover.specs.Recovered.{IsOtherVersion, IsDamaged, Follows, HoldsOpeningImage}
-use Rattle.recover.proofs.Surveys.{some_of, none_of, if_ok, if_ok_all, other_of_fronts, fronts_of_other, damaged_by_fronts, stored_by_fronts, new_by_fronts, image_by_fronts, follows_of}
+use Rattle.recover.specs.Recovered.{IsOtherVersion, Follows, HoldsOpeningImage}
+use Rattle.recover.specs.Surveyed.{HasBatchesAt}
+use Rattle.recover.proofs.Surveys.{some_is, batches_by_fronts, some_of, none_of, if_ok, if_ok_all, other_of_fronts, fronts_of_other, damaged_by_fronts, stored_by_fronts, new_by_fronts, image_by_fronts, follows_of}
 use Rattle.recover.proofs.Ends.{still_stored, made, made_ready, made_stands}
 use Rattle.recover.proofs.Lengths.{on_ok}
 use Rattle.recover.proofs.opening.load.Goals as goal
+
+pub load_stored-requires : goal.load_stored-requires
+load_stored-requires g c = λ honest.
+    let first = (g.D.Disk.view c.args.disk.now).seen in
+    let same : four_slots c.deref.result.now c.deref-2.result.now c.deref-3.result.now c.deref-4.result.now ≡ fronts_of first =
+    (λ i. four_slots (c.deref.ensures.value i) (c.deref-2.ensures.value i) (c.deref-3.ensures.value i) (c.deref-4.ensures.value i)) ∙ c.in_ok-fronts.ensures.fronts honest in
+    subst (λ (s : Slots). HasBatchesAt s.segment0 c.in-Some.batches) (sym (c.in_ok-fronts.ensures.seen honest))
+    (batches_by_fronts first _ c.in-Some.batches same (some_is _ c.in_ok-batches.field-0 _ c.in-Some.is c.in_ok-batches.ensures.stored))
 
 pub returns-in_err-batches-clause-version : goal.returns-in_err-batches-clause-version
 returns-in_err-batches-clause-version g c = λ honest is.
@@ -23,7 +32,7 @@ returns-in_err-batches-clause-damaged g c = λ honest is.
     let first = (g.D.Disk.view c.args.disk.now).seen in
     let same : four_slots c.deref.result.now c.deref-2.result.now c.deref-3.result.now c.deref-4.result.now ≡ fronts_of first =
     (λ i. four_slots (c.deref.ensures.value i) (c.deref-2.ensures.value i) (c.deref-3.ensures.value i) (c.deref-4.ensures.value i)) ∙ c.in_ok-fronts.ensures.fronts honest in
-    damaged_by_fronts first (subst IsDamaged same (c.in_err-batches.ensures.damaged (cc (p.1, p.2, is))))
+    damaged_by_fronts first _ same (c.in_err-batches.ensures.no_other (cc (p.1, p.2, is))) (c.in_err-batches.ensures.damaged (cc (p.1, p.2, is)))
 
 pub returns-in-Some-clause-state : goal.returns-in-Some-clause-state
 returns-in-Some-clause-state g c = λ honest.

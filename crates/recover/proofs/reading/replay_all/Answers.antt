@@ -1,27 +1,56 @@
-use Rattle.std.proofs.Common.{◌≡◌, take, get_or, subst, sym}
-use Rattle.std.proofs.lemmas.List.{take_more}
-use Rattle.ipc_model.specs.state.State.{State}
-use Rattle.ipc_model.specs.declared.record.Record.{Record}
-use Rattle.ipc_model.specs.calls.Step.{Step}
-use Rattle.recover.proofs.Replays.{LeadsTo, led_on, no_run}
+use Rattle.std.proofs.Common.{◌≡◌, ◌∙◌, subst}
+use Rattle.std.proofs.lemmas.Result.{err_from_is_err_and}
+use Rattle.disk.specs.Slots.{slot_of}
+use Rattle.journal.specs.Readers.{place_of}
+use Rattle.journal.specs.Reading.{Leads, IsNothing}
+use Rattle.journal.specs.Windows.{IsOver}
+use Rattle.recover.proofs.Rest.{rest_kept}
+use Rattle.recover.proofs.Streams.{left_on, none_left, unread}
+use Rattle.recover.proofs.Surveys.{some_is}
 use Rattle.recover.proofs.reading.replay_all.Goals as goal
 
-pub loop-entry-preserved : goal.loop-entry-preserved
-loop-entry-preserved c =
-    let records = c.args.records.now in
-    let i = c.loop-entry.entry-index in
-    let entry = c.entry-item.result in
-    let state = c.loop-entry.state in
-    subst (λ l. LeadsTo c.args.kernel l c.in-Ok.next) (sym (take_more records i entry c.loop-entry-test.true))
-    (led_on c.args.kernel state c.in-Ok.next (take i records) (get_or records i entry) c.loop-entry.invariant
-    (subst (λ (r : Record). Step state r.space r.call r.reply c.in-Ok.next) c.entry-item.is c.in-Ok.ensures.step)
-    (subst (λ (r : Record). (other : State) → Step state r.space r.call r.reply other → other ≡ c.in-Ok.next) c.entry-item.is c.in-Ok.ensures.only))
+-- nothing is spelled from here on
+pub returns-in_err-entry-clause-damaged : goal.returns-in_err-entry-clause-damaged
+returns-in_err-entry-clause-damaged g c = λ honest told.
+    let inv = c.loop-state.invariant in
+    let p = err_from_is_err_and c.from_residual.result c.from_residual.ensures.1 in
+    let segment = (g.D.Disk.view c.args.disk.now).seen.segment0 in
+    let same : slot_of (g.D.Disk.view c.loop-state.disk).seen c.loop-state.reader.window.slot ≡ segment = λ i. slot_of (inv.seen honest i) (inv.slot i) in
+    unread segment (place_of c.args.reader.now) (place_of c.loop-state.reader) c.args.kernel c.loop-state.state (inv.left honest)
+    (subst (λ l. IsNothing l (place_of c.loop-state.reader)) same (c.in_err-entry.ensures.damaged honest (cc (p.1, p.2, told))))
 
-pub returns-in-Err-Mismatch-clause-damaged : goal.returns-in-Err-Mismatch-clause-damaged
-returns-in-Err-Mismatch-clause-damaged c = λ _ last run.
-    let records = c.args.records.now in
-    let i = c.loop-entry.entry-index in
-    let entry = c.entry-item.result in
-    let state = c.loop-entry.state in
-    no_run c.args.kernel state records i entry c.loop-entry-test.true c.loop-entry.invariant
-    (subst (λ (r : Record). (new : State) → Step state r.space r.call r.reply new → ⊥) c.entry-item.is (c.in-Err-Mismatch.ensures.mismatch (cc c.in-Err-Mismatch.field-0-is))) last run
+-- the record is no step
+pub returns-in_err-state-clause-damaged : goal.returns-in_err-state-clause-damaged
+returns-in_err-state-clause-damaged g c = λ honest told.
+    let inv = c.loop-state.invariant in
+    let p = err_from_is_err_and c.from_residual-in_err-state.result c.from_residual-in_err-state.ensures.1 in
+    let segment = (g.D.Disk.view c.args.disk.now).seen.segment0 in
+    let same : slot_of (g.D.Disk.view c.loop-state.disk).seen c.loop-state.reader.window.slot ≡ segment = λ i. slot_of (inv.seen honest i) (inv.slot i) in
+    let leads = some_is _ c.in_ok-entry.field-0 c.in-Some.entry c.in-Some.is (c.in_ok-entry.ensures.leads honest) in
+    none_left segment (place_of c.args.reader.now) (place_of c.loop-state.reader) (place_of c.next.new.self) c.in-Some.entry c.args.kernel c.loop-state.state (inv.left honest)
+    (subst (λ l. Leads l (place_of c.loop-state.reader) c.in-Some.entry (place_of c.next.new.self)) same leads) (c.in_err-state.ensures.damaged (cc (p.1, p.2, told)))
+
+pub loop-state-preserved : goal.loop-state-preserved
+loop-state-preserved g c =
+    let inv = c.loop-state.invariant in
+    let segment = (g.D.Disk.view c.args.disk.now).seen.segment0 in
+    record {
+      left = λ honest.
+          let same : slot_of (g.D.Disk.view c.loop-state.disk).seen c.loop-state.reader.window.slot ≡ segment = λ i. slot_of (inv.seen honest i) (inv.slot i) in
+          let leads = some_is _ c.in_ok-entry.field-0 c.in-Some.entry c.in-Some.is (c.in_ok-entry.ensures.leads honest) in
+          let counted = some_is _ c.in_ok-entry.field-0 c.in-Some.entry c.in-Some.is c.in_ok-entry.ensures.counted in
+          left_on segment (place_of c.args.reader.now) (place_of c.loop-state.reader) (place_of c.next.new.self) c.in-Some.entry c.args.kernel c.loop-state.state c.in_ok-state.state (inv.left honest)
+          (subst (λ l. Leads l (place_of c.loop-state.reader) c.in-Some.entry (place_of c.next.new.self)) same leads) counted.0 c.in_ok-state.ensures.step c.in_ok-state.ensures.only;
+      over = λ honest.
+          let same : slot_of (g.D.Disk.view c.loop-state.disk).seen c.loop-state.reader.window.slot ≡ segment = λ i. slot_of (inv.seen honest i) (inv.slot i) in
+          subst (λ l. IsOver l c.next.new.self.window) same (c.in_ok-entry.ensures.over honest);
+      slot = c.in_ok-entry.ensures.slot ∙ inv.slot;
+      seen = λ honest. c.in_ok-entry.ensures.seen honest ∙ inv.seen honest;
+      rest = λ honest rest.
+          rest_kept (g.D.Disk.view c.loop-state.disk) (g.D.Disk.view c.next.new.disk) (c.in_ok-entry.ensures.time honest) (c.in_ok-entry.ensures.seen honest) (inv.rest honest rest);
+      quiet = c.in_ok-entry.ensures.quiet ∙ inv.quiet;
+    }
+
+pub returns-clause-rest : goal.returns-clause-rest
+returns-clause-rest g c = λ honest rest.
+    rest_kept (g.D.Disk.view c.loop-state.disk) (g.D.Disk.view c.next.new.disk) (c.in_ok-entry.ensures.time honest) (c.in_ok-entry.ensures.seen honest) (c.loop-state.invariant.rest honest rest)

@@ -1,7 +1,22 @@
-use Rattle.std.proofs.Common.{take}
-use Rattle.recover.proofs.Replays.{LeadsTo}
+use Rattle.std.proofs.Common.{◌≡◌, ◌-◌}
+use Rattle.disk.specs.declared.slot.Slot.TheVariants.{Segment0}
+use Rattle.journal.specs.Readers.{place_of}
+use Rattle.journal.specs.Reading.{MAX_RECORDS}
+use Rattle.journal.specs.Windows.{IsOver}
+use Rattle.recover.specs.AtRest.{IsAtRest}
+use Rattle.recover.proofs.Streams.{IsLeft}
 use Rattle.recover.proofs.reading.replay_all.Given as goal
 
--- the records so far lead to the state
-abbrev pub invariant-loop-entry : goal.invariant-loop-entry
-invariant-loop-entry l = LeadsTo l.fn.kernel (take l.entry-index l.records) l.state
+-- what is left to be replayed is what was to be replayed, and the disk is as it was
+abbrev pub invariant-loop-state : goal.invariant-loop-state
+invariant-loop-state g l = record {
+  left : g.D.Disk.honest → IsLeft (g.D.Disk.view l.fn.disk).seen.segment0 (place_of l.fn.reader) (place_of l.reader) l.fn.kernel l.state;
+  over : g.D.Disk.honest → IsOver (g.D.Disk.view l.fn.disk).seen.segment0 l.reader.window;
+  slot : l.reader.window.slot ≡ Segment0;
+  seen : g.D.Disk.honest → (g.D.Disk.view l.disk).seen ≡ (g.D.Disk.view l.fn.disk).seen;
+  rest : g.D.Disk.honest → IsAtRest (g.D.Disk.view l.fn.disk) → IsAtRest (g.D.Disk.view l.disk);
+  quiet : g.D.Disk.failed_calls l.disk ≡ g.D.Disk.failed_calls l.fn.disk;
+}
+
+abbrev pub decreases-loop-state : goal.decreases-loop-state
+decreases-loop-state g l = MAX_RECORDS - l.reader.number

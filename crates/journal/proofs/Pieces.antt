@@ -1,0 +1,77 @@
+-- What a front of bytes tells of all of them.
+use Rattle.std.proofs.Common.{◌≡◌, ◌⊎◌, inl, inr, ℕ, ◌+◌, ◌≤◌, List, [], ◌++◌, length, take, drop, refl, sym, ap, ◌∙◌, subst, arith, append_assoc, take-append-drop, length-append, length-drop}
+use Rattle.std.proofs.lemmas.List.{take_all, take_at, take-take, drop_at, drop-drop, drop-take}
+use Rattle.journal.specs.declared.window.TheConstants.{LONGEST_STEP}
+use Rattle.journal.specs.Windows.{WindowValue, IsOver, IsFull}
+
+-- the front of some bytes: so many of them at least, or all
+pub record IsFrontOf (most : ℕ) (front whole : List ℕ) : Type 0 where
+  pub shown : front ≡ take (length front) whole
+  pub enough : (most ≤ length front) ⊎ (front ≡ whole)
+
+-- what the front begins with, the whole does
+pub whole_begins : (most : ℕ) (front whole text content : List ℕ) → IsFrontOf most front whole → front ≡ text ++ content → whole ≡ text ++ drop (length text) whole
+whole_begins most front whole text content is begins =
+    let rest : List ℕ = drop (length front) whole in
+    let joined : whole ≡ text ++ (content ++ rest) = sym (take-append-drop (length front) whole) ∙ ap (λ l. l ++ rest) (sym is.shown ∙ begins) ∙ append_assoc text content rest in
+    let behind : drop (length text) whole ≡ content ++ rest = ap (drop (length text)) joined ∙ drop_at text (content ++ rest) (length text) refl in
+    joined ∙ ap (λ l. text ++ l) (sym behind)
+
+-- and behind that stands the front of what is left
+pub front_behind : (most less : ℕ) (front whole text content : List ℕ) → IsFrontOf most front whole → front ≡ text ++ content → most ≡ length text + less → IsFrontOf less content (drop (length text) whole)
+front_behind most less front whole text content is begins fits =
+    let rest : List ℕ = drop (length front) whole in
+    let joined : whole ≡ text ++ (content ++ rest) = sym (take-append-drop (length front) whole) ∙ ap (λ l. l ++ rest) (sym is.shown ∙ begins) ∙ append_assoc text content rest in
+    let behind : drop (length text) whole ≡ content ++ rest = ap (drop (length text)) joined ∙ drop_at text (content ++ rest) (length text) refl in
+    let long : length front ≡ length text + length content = ap length begins ∙ length-append text content in
+    record {
+      shown = sym (take_at content rest (length content) refl) ∙ ap (take (length content)) (sym behind);
+      enough = elim is.enough [
+        | inl many ↦ inl (omega arith)
+        | inr all ↦ inr (sym (drop_at text content (length text) refl) ∙ ap (drop (length text)) (sym begins ∙ all))
+      ];
+    }
+
+-- what the whole begins with, the front does, where that isn't too long
+pub front_begins : (most : ℕ) (front whole text rest : List ℕ) → IsFrontOf most front whole → whole ≡ text ++ rest → length text ≤ most → front ≡ text ++ drop (length text) front
+front_begins most front whole text rest is begins fits = elim is.enough [
+  | inl many ↦
+      let first : take (length text) front ≡ text =
+      ap (take (length text)) is.shown ∙ take-take (length text) (length front) whole (omega arith) ∙ ap (take (length text)) begins ∙ take_at text rest (length text) refl in
+      sym (take-append-drop (length text) front) ∙ ap (λ l. l ++ drop (length text) front) first
+  | inr all ↦
+      let same : front ≡ text ++ rest = all ∙ begins in
+      same ∙ ap (λ l. text ++ l) (sym (ap (drop (length text)) same ∙ drop_at text rest (length text) refl))
+]
+
+-- a full window shows a front of what stands from its place on
+pub window_front : (bytes : List ℕ) (window : WindowValue) → IsOver bytes window → IsFull window → IsFrontOf LONGEST_STEP window.front (drop window.at bytes)
+window_front bytes window over full = record {
+  shown = over.shown;
+  enough = elim full [
+    | inl many ↦ inl many
+    | inr all ↦ inr (over.shown ∙ take_all (length window.front) (drop window.at bytes) (omega (arith, length-drop window.at bytes, over.ended)))
+  ];
+}
+
+-- a window that moves on shows the same slot
+pub window_on : (bytes : List ℕ) (old new : WindowValue) (count : ℕ) → IsOver bytes old → count ≤ length old.front → new.at ≡ old.at + count → new.front ≡ drop count old.front → new.room ≡ old.room → new.end ≡ old.end → IsOver bytes new
+window_on bytes old new count over fits moved left room end =
+    let shorter : length new.front + count ≡ length old.front = omega (arith, ap length left, length-drop count old.front) in
+    let from : drop new.at bytes ≡ drop count (drop old.at bytes) = ap (λ n. drop n bytes) moved ∙ sym (drop-drop count old.at bytes) in
+    record {
+      ended = end ∙ over.ended;
+      inside = omega (arith, over.inside);
+      shown = left ∙ ap (drop count) over.shown ∙ ap (λ n. drop count (take n (drop old.at bytes))) (omega arith)
+          ∙ drop-take count (length new.front) (drop old.at bytes) ∙ ap (take (length new.front)) (sym from);
+      room = subst (λ n. (LONGEST_STEP ≤ n) ⊎ (length bytes ≤ n)) (sym room) over.room;
+    }
+
+-- a window that shows nothing
+pub window_opens : (bytes : List ℕ) (window : WindowValue) → window.end ≡ length bytes → window.front ≡ [] → window.at ≤ length bytes → (LONGEST_STEP ≤ window.room) ⊎ (length bytes ≤ window.room) → IsOver bytes window
+window_opens bytes window end none inside room = record {
+  ended = end;
+  inside = omega (arith, ap length none);
+  shown = none ∙ sym (ap (λ (l : List ℕ). take (length l) (drop window.at bytes)) none);
+  room = room;
+}

@@ -1,0 +1,124 @@
+-- Records that are replayed as they are read.
+use Rattle.std.proofs.Common.{◌≡◌, ◌∙◌, ℕ, ◌+◌, ◌-◌, ◌≤◌, List, [], ◌∷◌, ◌++◌, length, drop, refl, sym, ap, subst, arith, length-append, length-drop}
+use Rattle.std.specs.Prelude.{◌↔◌}
+use Rattle.ipc_model.specs.declared.record.Record.{Record}
+use Rattle.ipc_model.specs.state.State.{State, opening_state}
+use Rattle.ipc_model.specs.calls.Step.{Step, Run}
+use Rattle.ipc_model.specs.store.Store.{batches_text, all_records, IsClosed, NoneEmpty, AreRecords, SpellsBatches, SpellsSegment}
+use Rattle.ipc_model.specs.texts.Texts.{records_text}
+use Rattle.ipc_laws.specs.Counted.{SpellsCounted}
+use Rattle.journal.specs.Reading.{MAX_RECORDS, Place, SpellsFrom, Leads, IsLast, IsNothing}
+use Rattle.recover.specs.Replayed.{Replays}
+use Rattle.recover.specs.Surveyed.{HasBatchesAt}
+
+-- What is left to be replayed from here on, in this state, is what was to be replayed at first.
+pub record IsLeft (segment : List ℕ) (first place : Place) (old now : State) : Type 0 where
+  pub same : (state : State) (count end : ℕ) → Replays segment place now state count end ↔ Replays segment first old state count end
+
+pub all_left : (segment : List ℕ) (first : Place) (old : State) → IsLeft segment first first old old
+all_left segment first old = record { same = λ state count end. (λ r. r, λ r. r) }
+
+-- the records behind the first, from the state after it
+behind : (segment : List ℕ) (place next : Place) (entry : Record) (now mid state : State) (records more : List Record) (count end : ℕ) → records ≡ entry ∷ more → SpellsFrom segment next more end
+    → ((other : State) → Step now entry.space entry.call entry.reply other → other ≡ mid) → next.number ≡ place.number + 1 → Run now records state → count ≡ place.number + length records → Replays segment next mid state count end
+behind segment place next entry now mid state records more count end are spelled only numbered run counted =
+    let first : Run now (entry ∷ more) state = subst (λ (l : List Record). Run now l state) are run in
+    record {
+      records = more;
+      spelled = spelled;
+      run = subst (λ (s : State). Run s more state) (only first.0 first.1) first.2;
+      counted = omega (arith, ap length are);
+    }
+
+pub left_on : (segment : List ℕ) (first place next : Place) (entry : Record) (old now mid : State) → IsLeft segment first place old now → Leads segment place entry next → next.number ≡ place.number + 1
+    → Step now entry.space entry.call entry.reply mid → ((other : State) → Step now entry.space entry.call entry.reply other → other ≡ mid) → IsLeft segment first next old mid
+left_on segment first place next entry old now mid so_far leads numbered step only = record {
+  same = λ state count end. (
+    λ r. (so_far.same state count end).0 (record {
+      records = entry ∷ r.records;
+      spelled = (leads.on (entry ∷ r.records) end).1 (r.records, refl, r.spelled);
+      run = (mid, step, r.run);
+      counted = omega (arith, r.counted);
+    }),
+    λ r.
+        let here = (so_far.same state count end).1 r in
+        let apart = (leads.on here.records end).0 here.spelled in
+        behind segment place next entry now mid state here.records apart.0 count end apart.1 apart.2 only numbered here.run here.counted,
+  );
+}
+
+-- a record that is no step
+pub none_left : (segment : List ℕ) (first place next : Place) (entry : Record) (old now : State) → IsLeft segment first place old now → Leads segment place entry next
+    → ((new : State) → Step now entry.space entry.call entry.reply new → ⊥) → (state : State) (count end : ℕ) → Replays segment first old state count end → ⊥
+none_left segment first place next entry old now so_far leads fails state count end r =
+    let here = (so_far.same state count end).1 r in
+    let apart = (leads.on here.records end).0 here.spelled in
+    let run : Run now (entry ∷ apart.0) state = subst (λ (l : List Record). Run now l state) apart.1 here.run in
+    fails run.0 run.1
+
+-- bytes that spell nothing
+pub unread : (segment : List ℕ) (first place : Place) (old now : State) → IsLeft segment first place old now → IsNothing segment place → (state : State) (count end : ℕ) → Replays segment first old state count end → ⊥
+unread segment first place old now so_far nothing state count end r =
+    let here = (so_far.same state count end).1 r in nothing here.records end here.spelled
+
+-- no record is left
+pub all_replayed : (segment : List ℕ) (first place : Place) (old now : State) → IsLeft segment first place old now → IsLast segment place → Replays segment first old now place.number place.at
+all_replayed segment first place old now so_far last =
+    (so_far.same now place.number place.at).0 (record { records = []; spelled = last; run = refl; counted = omega arith })
+
+-- where a reader begins
+abbrev pub first_place : ℕ → Place
+first_place batches = record { at = batches; number = 0; left = 0; size = 0 }
+
+counted_from : (segment : List ℕ) (batches end : ℕ) (records batch : List Record) (all : List (List Record)) (tail : List ℕ) → batches ≤ length segment → length batch ≡ 0 → drop batches segment ≡ records_text 0 batch ++ (batches_text (0 + length batch) all ++ tail)
+    → IsClosed tail → NoneEmpty all → records ≡ batch ++ all_records all → AreRecords records → length records ≤ MAX_RECORDS → end + length tail ≡ length segment
+    → SpellsCounted (drop batches segment) records (end - batches) × (batches ≤ end) × (end ≤ length segment)
+counted_from segment batches end records (first ∷ batch) all tail inside none text closed some flat are room ended = absurd (omega arith)
+counted_from segment batches end records [] all tail inside none text closed some flat are room ended =
+    let long : length (drop batches segment) ≡ length (batches_text 0 all) + length tail = ap length text ∙ length-append (batches_text 0 all) tail in
+    let left : length (drop batches segment) ≡ length segment - batches = length-drop batches segment in (
+      record {
+        spelled = record { batches = all; rest = tail; text = text; closed = closed; none_empty = some; flat = flat; canonical = are; bounded = room };
+        sized = omega arith;
+      },
+      omega arith,
+      omega arith,
+    )
+
+pub counted_first : (segment : List ℕ) (batches end : ℕ) (records : List Record) → batches ≤ length segment → SpellsFrom segment (first_place batches) records end
+    → SpellsCounted (drop batches segment) records (end - batches) × (batches ≤ end) × (end ≤ length segment)
+counted_first segment batches end records inside spells =
+    counted_from segment batches end records spells.batch spells.batches spells.tail inside spells.counted spells.text spells.closed spells.none_empty spells.flat spells.canonical (omega (arith, spells.bounded)) spells.ended
+
+pub first_spells : (segment : List ℕ) (batches : ℕ) (records : List Record) → batches ≤ length segment → (spelled : SpellsBatches (drop batches segment) records)
+    → SpellsFrom segment (first_place batches) records (length segment - length spelled.rest)
+first_spells segment batches records inside spelled =
+    let long : length (drop batches segment) ≡ length (batches_text 0 spelled.batches) + length spelled.rest = ap length spelled.text ∙ length-append (batches_text 0 spelled.batches) spelled.rest in
+    record {
+      batch = [];
+      batches = spelled.batches;
+      tail = spelled.rest;
+      text = spelled.text;
+      counted = refl;
+      sized = refl;
+      closed = spelled.closed;
+      none_empty = spelled.none_empty;
+      flat = spelled.flat;
+      canonical = spelled.canonical;
+      bounded = omega (arith, spelled.bounded);
+      ended = omega (arith, length-drop batches segment);
+    }
+
+pub never_replayed : (segment : List ℕ) (batches : ℕ) → batches ≤ length segment → ((state : State) (count end : ℕ) → Replays segment (first_place batches) opening_state state count end → ⊥)
+    → (records : List Record) (state : State) → SpellsBatches (drop batches segment) records → Run opening_state records state → ⊥
+never_replayed segment batches inside none records state spelled run =
+    none state (length records) (length segment - length spelled.rest) (record { records = records; spelled = first_spells segment batches records inside spelled; run = run; counted = omega arith })
+
+-- the batches of a segment, behind its header
+pub segment_spelled : (segment : List ℕ) (batches : ℕ) (records : List Record) (size : ℕ) → HasBatchesAt segment batches → SpellsCounted (drop batches segment) records size → SpellsSegment 0 segment records
+segment_spelled segment batches records size has counted = record { content = drop batches segment; text = has.1; spelled = counted.spelled }
+
+pub batches_spelled : (segment : List ℕ) (batches : ℕ) (records : List Record) → HasBatchesAt segment batches → SpellsSegment 0 segment records → SpellsBatches (drop batches segment) records
+batches_spelled segment batches records has spelled =
+    let same : spelled.content ≡ drop batches segment = ap (drop 16) (sym spelled.text ∙ has.1) in
+    subst (λ (l : List ℕ). SpellsBatches l records) same spelled.spelled

@@ -1,0 +1,14 @@
+-- What is left of a segment to be replayed, from a place on.
+use Rattle.std.specs.Prelude.{◌≡◌, ℕ, ◌+◌, List, length}
+use Rattle.ipc_model.specs.declared.record.Record.{Record}
+use Rattle.ipc_model.specs.state.State.{State}
+use Rattle.ipc_model.specs.calls.Step.{Run}
+use Rattle.journal.specs.Reading.{Place, SpellsFrom}
+
+-- The records that the segment spells from this place on lead from one state to another. So many are read by then,
+-- and the last batch ends at `end`.
+pub record Replays (segment : List ℕ) (place : Place) (old new : State) (count end : ℕ) : Type 0 where
+  pub records : List Record
+  pub spelled : SpellsFrom segment place records end
+  pub run : Run old records new
+  pub counted : count ≡ place.number + length records
