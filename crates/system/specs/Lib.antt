@@ -1,6 +1,8 @@
+pub mod Calling
 pub mod Changes
 pub mod Core
 pub mod Events
+pub mod Faults
 pub mod Halves
 pub mod Phases
 pub mod SystemCode

@@ -75,7 +75,6 @@ impl KernelHalf {
     /// Makes a call of a task of this space. Its record, if it has one, waits then to be taken.
     pub fn submit(&mut self, space: u32, call: &Call) -> Result<Ticket, SubmitFault>
         ensures given { IfOk result (λ ticket. Gives self.old space call.now ticket self.new) }
-        ensures fits { IfOk result (λ ticket. length (reply_text ticket.answer) ≤ MAX_FRAME_CONTENT) }
         ensures full { IsErrOf result SubmitFault.EpochFull → IsFullFor self.old space call.now }
         ensures err { OnErr result (self.new ≡ self.old) }
     {
@@ -92,7 +91,6 @@ impl KernelHalf {
     fn submit_without_room(&mut self, space: u32, call: &Call) -> Result<Ticket, SubmitFault>
         requires { MAX_RECORDS ≤ self.old.row.length }
         ensures given { IfOk result (λ ticket. Gives self.old space call.now ticket self.new) }
-        ensures fits { IfOk result (λ ticket. length (reply_text ticket.answer) ≤ MAX_FRAME_CONTENT) }
         ensures full { IsErrOf result SubmitFault.EpochFull → IsFullFor self.old space call.now }
         ensures err { OnErr result (self.new ≡ self.old) }
     {
@@ -138,11 +136,12 @@ impl KernelHalf {
     /// The reply that a ticket keeps, once all records that it saw are stored; else the ticket comes back.
     pub fn reply(&self, ticket: Ticket) -> Result<Reply, Ticket>
         ensures ok { IfOk result (λ reply. (ticket.seen ≤ self.now.handed) × (reply ≡ ticket.answer)) }
+        ensures frame { IfOk result (λ reply. length (reply_text reply) ≤ MAX_FRAME_CONTENT) }
         ensures err { IfErr result (λ kept. (self.now.handed < ticket.seen) × (kept ≡ ticket)) }
     {
         if self.handed < ticket.seen {
             return Err(ticket);
         }
-        Ok(ticket.reply)
+        Ok(ticket.into_reply())
     }
 }

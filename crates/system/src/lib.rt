@@ -11,5 +11,5 @@ mod ticket;
 pub use event::{Event, Outcome};
 pub use kernel_half::{KernelHalf, SubmitFault};
 pub use store_half::{Receipt, StoreHalf};
-pub use system::System;
+pub use system::{CallFault, System};
 pub use ticket::Ticket;

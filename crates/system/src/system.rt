@@ -3,6 +3,10 @@ ghost use Rattle.std.specs.FinMap as map;
 ghost use Rattle.disk.specs.Moments.{one_more};
 ghost use Rattle.system.specs.Core.{first_system};
 ghost use Rattle.system.specs.Halves.{TicketValue};
+ghost use Rattle.codes.specs.declared.limits.TheConstants.{MAX_FRAME_CONTENT};
+ghost use Rattle.ipc_model.specs.texts.Texts.{reply_text};
+ghost use Rattle.system.specs.Calling.{Calls, FailsToStoreAll, IsResting, StoresAll};
+ghost use Rattle.system.specs.Faults.{NotCalled};
 ghost use Rattle.system.specs.Changes.{Answers, FailsToStore, HandsIn, IsFullNow, IsNotDue, Stores, Submits, Takes};
 
 use crate::kernel_half::{KernelHalf, SubmitFault};
@@ -14,6 +18,37 @@ use journal::{Batch, StoreFault};
 use recover::Opened;
 use std::alloc::Global;
 use std::marker::Model;
+
+/// Why a call of a lone caller wasn't answered.
+#[derive(Clone, Copy, Debug, PartialEq, Eq)]
+pub enum CallFault {
+    /// It wasn't made, and nothing changed.
+    Submit(SubmitFault),
+    /// Its record wasn't stored.
+    Store(StoreFault),
+}
+
+impl From<SubmitFault> for CallFault {
+    ghost use Rattle.std.specs.Prelude.{◌≡◌};
+    ghost use Rattle.system.specs.declared.system.CallFault.TheVariants.{Submit};
+
+    ghost from_gives = { λ fault e. e ≡ Submit fault };
+
+    fn from(fault: SubmitFault) -> Self {
+        CallFault::Submit(fault)
+    }
+}
+
+impl From<StoreFault> for CallFault {
+    ghost use Rattle.std.specs.Prelude.{◌≡◌};
+    ghost use Rattle.system.specs.declared.system.CallFault.TheVariants.{Store};
+
+    ghost from_gives = { λ fault e. e ≡ Store fault };
+
+    fn from(fault: StoreFault) -> Self {
+        CallFault::Store(fault)
+    }
+}
 
 /// The core of the server, for one thread: the two halves, and what goes between them. A ticket is known by its number, the
 /// first by 0.
@@ -155,6 +190,7 @@ impl<D: Disk> System<D> {
     /// The reply that a ticket keeps, where all that it saw is stored; it is given once.
     pub fn reply(&mut self, number: u64) -> Option<Reply>
         ensures answered { IfSome result (λ answer. Answers self.old number answer self.new) }
+        ensures frame { IfSome result (λ answer. length (reply_text answer) ≤ MAX_FRAME_CONTENT) }
         ensures none { IfNone result (IsNotDue self.old number × (self.new ≡ self.old)) }
     {
         if !self.is_due(number) {
@@ -162,6 +198,45 @@ impl<D: Disk> System<D> {
         }
         let ticket = self.tickets.take(number)?;
         Some(ticket.into_reply())
+    }
+
+    /// Makes a call of a task of this space, where nothing waits: its record, if it has one, is taken and stored, and the
+    /// receipt handed in, before it is answered. With a fault of the submit nothing changed.
+    ///
+    /// Of the store's faults only `Device` comes: whether the record is stored isn't known then until the store is opened
+    /// again.
+    pub fn call(&mut self, space: u32, call: &Call) -> Result<Reply, CallFault>
+        requires { IsResting self.old }
+        ensures answered { IfOk result (λ answer. Calls D.honest D.view self.old space call.now answer self.new) }
+        ensures frame { IfOk result (λ answer. length (reply_text answer) ≤ MAX_FRAME_CONTENT) }
+        ensures faults { IfErr result (λ fault. NotCalled D.honest D.view self.old space call.now fault self.new) }
+    {
+        let number = self.submit(space, call)?;
+        self.store_waiting()?;
+        let Some(reply) = self.reply(number) else {
+            unreachable!()
+        };
+        Ok(reply)
+    }
+
+    /// Takes the records that wait, stores them, and hands their receipt in.
+    fn store_waiting(&mut self) -> Result<(), StoreFault>
+        requires out { self.old.core.is_out ≡ false }
+        requires unfailed { self.old.journal.failed ≡ false }
+        ensures none { OnOk result (self.old.core.row.waiting.count ≡ 0 → self.new ≡ self.old) }
+        ensures stored { OnOk result (0 < self.old.core.row.waiting.count → StoresAll D.honest D.view self.old self.new) }
+        ensures faults { IfErr result (λ fault. (fault ≡ StoreFault.Device) × FailsToStoreAll D.honest D.view self.old self.new) }
+    {
+        if !self.take() {
+            return Ok(());
+        }
+        if !self.append()? {
+            unreachable!()
+        }
+        if !self.durable() {
+            unreachable!()
+        }
+        Ok(())
     }
 
     /// Whether there is a ticket of this number, and all that it saw is stored.

@@ -1,5 +1,7 @@
-ghost use Rattle.std.specs.Prelude.{◌≡◌, ℕ, ◌+◌, ◌-◌, ◌<◌, ◌^◌, None, Some, MatchOption, IfSome, IfNone, IsSome, OnOk, OnErr, option_copied};
+ghost use Rattle.std.specs.Prelude.{◌≡◌, ℕ, ◌+◌, ◌-◌, ◌<◌, ◌≤◌, ◌^◌, length, None, Some, MatchOption, IfSome, IfNone, IsSome, OnOk, OnErr, option_copied};
 ghost use Rattle.std.specs.FinMap as map;
+ghost use Rattle.codes.specs.declared.limits.TheConstants.{MAX_FRAME_CONTENT};
+ghost use Rattle.ipc_model.specs.texts.Texts.{reply_text};
 ghost use Rattle.system.specs.Core.{TicketsValue};
 ghost use Rattle.system.specs.Halves.{TicketValue};
 
@@ -16,6 +18,9 @@ pub struct Ticket {
 }
 
 impl Model for Ticket {
+    ghost use Rattle.std.specs.Prelude.{◌≤◌, length};
+    ghost use Rattle.codes.specs.declared.limits.TheConstants.{MAX_FRAME_CONTENT};
+    ghost use Rattle.ipc_model.specs.texts.Texts.{reply_text};
     ghost use Rattle.system.specs.Halves.{TicketValue};
     ghost use Rattle.system.specs.TicketCode.{ticket_code};
 
@@ -24,12 +29,16 @@ impl Model for Ticket {
     ghost coded = { ticket_code };
 
     ghost view = { λ t. record { answer = t.reply; seen = t.seen } };
+
+    // The reply fits in a frame.
+    ghost invariant = { λ t. length (reply_text t.reply) ≤ MAX_FRAME_CONTENT };
 }
 
 impl Ticket {
     /// The reply that it keeps.
     pub(crate) fn into_reply(self) -> Reply
-        ensures { result ≡ self.answer }
+        ensures reply { result ≡ self.answer }
+        ensures frame { length (reply_text result) ≤ MAX_FRAME_CONTENT }
     {
         self.reply
     }
