@@ -1,4 +1,5 @@
 pub mod Batch
+pub mod BatchLaws
 pub mod Fault
 pub mod Journal
 pub mod Readers

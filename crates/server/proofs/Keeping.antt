@@ -16,13 +16,12 @@ use Rattle.ipc_laws.specs.BatchLaws.{kept_batch}
 use Rattle.ipc_laws.specs.KeptLaws.{made_as_kept}
 use Rattle.ipc_laws.specs.RunLaws.{run-push}
 use Rattle.ipc_model.specs.texts.Texts.{FitsCall, kept_record, IsRecord}
+use Rattle.journal.specs.Batch.{BatchValue, Holds, content_of}
+use Rattle.journal.specs.BatchLaws.{batch_of_records}
 use Rattle.recover.specs.Kept.{IsKept}
 use Rattle.recover.specs.Recovered.{IsOpen, HoldsOpeningImage, Recovers}
 use Rattle.server.specs.Keeping.{IsBeforeOrAfter}
-
--- the record of a call of a task of this space
-abbrev pub entry_of : ℕ → Call → Reply → Record
-entry_of space c answer = record { space = space; call = c; reply = answer }
+use Rattle.system.specs.Halves.{entry_of}
 
 -- slots as those of a kept store but for segment 0, which spells other records
 recovers_from : (disk : View) (before state : State) (count number : ℕ) → IsKept disk before count → (c : Slots) (bytes : List ℕ) → c ≡ with_slot disk.seen Segment0 bytes → (records : List Record) → SpellsSegment 0 bytes records → Run opening_state records state
@@ -128,3 +127,23 @@ since_kept old new before after count space call kept time c left = elim (later_
 pub no_time : {D : Type 0} (view : D → View) (old new : D) (P : Slots → Type 0) → new ≡ old → Passes (view old) (view new) P
 no_time view old new P same =
     subst (λ d. Passes (view old) (view d) P) (sym same) (record { later = omega arith; past = λ k c _. (λ left. left, λ left. left); since = λ k c later until _. absurd (omega arith) })
+
+-- The same of a record as a batch of its own, as it is spelled.
+
+abbrev Text : View → View → List ℕ → Type 0
+Text old new text = Passes old new (Follows old Segment0 (λ was is. IsMidAppend was text is))
+
+pub batch_stands : (old new : View) (before after : State) (count space : ℕ) (c : Call) (answer : Reply) (batch : BatchValue) → IsKept old before count → FitsCall c → Step before space c answer after → IsRecord (kept_record (entry_of space c answer)) → has_record c answer ≡ true → count < MAX_RECORDS
+    → Holds count (entry_of space c answer ∷ []) batch → (IsSynced old Segment0 → Text old new (content_of batch)) → Passes old new (IsBeforeOrAfter before count space c after)
+batch_stands old new before after count space c answer batch kept in_range step fits recorded room holds passes =
+    let text : content_of batch ≡ batch_text count (entry_of space c answer ∷ []) = batch_of_records count (entry_of space c answer ∷ []) batch holds in
+    passes_so old new _ _ (subst (Text old new) text (passes (λ left may. ap (λ (s : Slots). s.segment0) (kept.at_rest left may))))
+    (mid_append_stands old before after count space c answer kept in_range step fits recorded room)
+
+pub batch_kept : (old new : View) (before after : State) (count space : ℕ) (c : Call) (answer : Reply) (batch : BatchValue) → IsKept old before count → FitsCall c → Step before space c answer after → IsRecord (kept_record (entry_of space c answer)) → count < MAX_RECORDS
+    → Holds count (entry_of space c answer ∷ []) batch → new.seen ≡ with_slot old.seen Segment0 (with_batch old.seen.segment0 (content_of batch)) → IsSynced new Segment0 → (IsSynced old Segment0 → Text old new (content_of batch)) → IsKept new after (count + 1)
+batch_kept old new before after count space c answer batch kept in_range step fits room holds stored synced passes =
+    let text : content_of batch ≡ batch_text count (entry_of space c answer ∷ []) = batch_of_records count (entry_of space c answer ∷ []) batch holds in
+    appended_kept old new before after count space c answer kept in_range step fits room
+    (subst (λ (t : List ℕ). new.seen ≡ with_slot old.seen Segment0 (with_batch old.seen.segment0 t)) text stored) synced
+    (subst (Text old new) text (passes (λ left may. ap (λ (s : Slots). s.segment0) (kept.at_rest left may))))

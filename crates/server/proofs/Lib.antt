@@ -2,4 +2,5 @@ mod Answered
 mod Ended
 mod Going
 mod Keeping
+mod Making
 mod Stopping

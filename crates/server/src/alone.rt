@@ -3,6 +3,7 @@ ghost use Rattle.disk.specs.Moments.{LeftSince, MayLeave, Passes};
 ghost use Rattle.disk.specs.Slots.{Slots};
 ghost use Rattle.recover.specs.Kept.{IsKept};
 ghost use Rattle.recover.specs.Recovered.{Recovers};
+ghost use Rattle.system.specs.Calling.{IsResting};
 ghost use Rattle.server.specs.Keeping.{AnswersKept, FailsKept, IsBeforeOrAfter, IsMoved, attached_by, records_of};
 ghost use Rattle.server.specs.Serving.{StepOrShortage, shortage_of};
 ghost use Rattle.ipc_model.specs.calls.Step.{has_record, succeeded};
@@ -11,13 +12,14 @@ ghost use Rattle.ipc_model.specs.declared.call.Call.{Call};
 ghost use Rattle.ipc_model.specs.declared.call.Reply.{Reply};
 ghost use Rattle.journal.specs.declared.fault.StoreFault.{StoreFault};
 
-use codes::{FIRST_SPACE, KernReturn, MACH_PORT_NULL, MAX_FRAME_CONTENT, MAX_RECORDS};
+use codes::{FIRST_SPACE, KernReturn, MACH_PORT_NULL, MAX_FRAME_CONTENT};
 use disk::Disk;
-use ipc_model::{Call, Record, Reply, call_in_range};
-use journal::{Journal, StoreFault};
-use recover::{Kernel, Opened};
+use ipc_model::{Call, Reply};
+use journal::StoreFault;
+use recover::Opened;
 use std::alloc::Global;
 use std::marker::Model;
+use system::{CallFault, System};
 
 /// Who makes the calls of a connection.
 pub trait Caller {
@@ -35,12 +37,11 @@ pub trait Caller {
         ensures fails { IfErr result (λ fault. fails self.old call fault self.new) };
 }
 
-/// The caller of a lone connection: an opened store that nobody else uses.
+/// The caller of a lone connection: the core over an opened store that nobody else uses.
 #[derive(Drop)]
 pub struct Alone<D: Disk> {
     alloc: Global,
-    kernel: Kernel,
-    journal: Journal<D>,
+    system: System<D>,
     space: u32,
     failed: bool,
 }
@@ -49,15 +50,16 @@ impl<D: Disk> Model for Alone<D> {
     ghost use Rattle.std.specs.Prelude.{◌≡◌, false};
     ghost use Rattle.recover.specs.Kept.{IsKept};
     ghost use Rattle.server.specs.Keeping.{AloneValue, alone_code};
+    ghost use Rattle.system.specs.Calling.{IsResting};
 
     ghost Value = { AloneValue D };
 
     ghost coded = { alone_code D.code };
 
-    ghost view = { λ a. record { kernel = a.kernel; disk = a.journal.disk; records = a.journal.records; space = a.space; failed = a.failed } };
+    ghost view = { λ a. record { kernel = a.system.core.kernel; disk = a.system.journal.disk; records = a.system.journal.records; space = a.space; failed = a.failed } };
 
-    // Until a call fails, the store holds what the kernel holds.
-    ghost invariant = { λ a. a.failed ≡ false → D.honest → IsKept (D.view a.journal.disk) a.kernel a.journal.records };
+    // Until a call fails, nothing waits between calls, and the store holds what the kernel holds.
+    ghost invariant = { λ a. a.failed ≡ false → IsResting a.system × (D.honest → IsKept (D.view a.system.journal.disk) a.system.core.kernel a.system.journal.records) };
 }
 
 impl<D: Disk> Alone<D> {
@@ -67,15 +69,14 @@ impl<D: Disk> Alone<D> {
         ensures disk { result.disk ≡ opened.journal.disk }
         ensures records { result.records ≡ opened.journal.records }
         ensures space { result.space ≡ 1 }
-        ensures failed { result.failed ≡ false }
+        ensures failed { result.failed ≡ opened.journal.failed }
     {
-        let Opened { kernel, journal } = opened;
+        let failed = opened.journal.has_failed();
         Alone {
             alloc,
-            kernel,
-            journal,
+            system: System::new(alloc, opened),
             space: FIRST_SPACE,
-            failed: false,
+            failed,
         }
     }
 
@@ -87,12 +88,11 @@ impl<D: Disk> Alone<D> {
     {
         let Alone {
             alloc: _,
-            kernel: _,
-            journal,
+            system,
             space: _,
             failed: _,
         } = self;
-        journal.into_disk()
+        system.into_disk()
     }
 }
 
@@ -128,13 +128,7 @@ impl<D: Disk> Caller for Alone<D> {
             return Err(StoreFault::Failed);
         }
         let attached = attached_by(self.space, &call);
-        match make_call(
-            self.alloc,
-            &mut self.kernel,
-            &mut self.journal,
-            self.space,
-            call,
-        ) {
+        match make_call(self.alloc, &mut self.system, self.space, &call) {
             Ok(reply) => {
                 self.space = space_after(self.space, attached, &reply);
                 Ok(reply)
@@ -164,72 +158,30 @@ fn space_after(space: u32, attached: u32, reply: &Reply) -> u32
     if reply.is_success() { attached } else { space }
 }
 
-/// Makes a call, and stores its record before it is answered.
+/// Makes a call, and stores its record before it is answered. One that memory or room is wanted for isn't made.
 fn make_call<D: Disk>(
     alloc: Global,
-    kernel: &mut Kernel,
-    journal: &mut Journal<D>,
+    system: &mut System<D>,
     space: u32,
-    call: Call,
+    call: &Call,
 ) -> Result<Reply, StoreFault>
-    ensures answers { IfOk result (λ reply. StepOrShortage kernel.old space call reply kernel.new) }
+    requires { IsResting system.old }
+    ensures answers { IfOk result (λ reply. StepOrShortage system.old.core.kernel space call.now reply system.new.core.kernel) }
     ensures frame { IfOk result (λ reply. length (reply_text reply) ≤ MAX_FRAME_CONTENT) }
-    ensures passes { D.honest → IsKept (D.view journal.old.disk) kernel.old journal.old.records
-        → Passes (D.view journal.old.disk) (D.view journal.new.disk) (IsBeforeOrAfter kernel.old journal.old.records space call kernel.new) }
-    ensures kept { D.honest → IsKept (D.view journal.old.disk) kernel.old journal.old.records
-        → OnOk result (IsKept (D.view journal.new.disk) kernel.new journal.new.records) }
-    ensures counted { IfOk result (λ reply. journal.new.records ≡ journal.old.records + records_of call reply) }
-    ensures unrecorded { IfOk result (λ reply. has_record call reply ≡ false → (kernel.new ≡ kernel.old) × (journal.new ≡ journal.old)) }
+    ensures passes { D.honest → IsKept (D.view system.old.journal.disk) system.old.core.kernel system.old.journal.records
+        → Passes (D.view system.old.journal.disk) (D.view system.new.journal.disk)
+        (IsBeforeOrAfter system.old.core.kernel system.old.journal.records space call.now system.new.core.kernel) }
+    ensures kept { D.honest → IsKept (D.view system.old.journal.disk) system.old.core.kernel system.old.journal.records
+        → OnOk result (IsKept (D.view system.new.journal.disk) system.new.core.kernel system.new.journal.records) }
+    ensures counted { IfOk result (λ reply. system.new.journal.records ≡ system.old.journal.records + records_of call.now reply) }
+    ensures unrecorded { IfOk result (λ reply. has_record call.now reply ≡ false
+        → (system.new.core.kernel ≡ system.old.core.kernel) × (system.new.journal ≡ system.old.journal)) }
+    ensures rests { OnOk result (IsResting system.new) }
 {
-    if journal.records() >= MAX_RECORDS {
-        let reply = call_without_room(alloc, kernel, space, &call);
-        return Ok(reply);
-    }
-    let reply = call_with_room(alloc, kernel, journal, space, call)?;
-    Ok(reply)
-}
-
-/// Makes a call while the segment has room for its record.
-fn call_with_room<D: Disk>(
-    alloc: Global,
-    kernel: &mut Kernel,
-    journal: &mut Journal<D>,
-    space: u32,
-    call: Call,
-) -> Result<Reply, StoreFault>
-    requires room { journal.old.records < MAX_RECORDS }
-    ensures answers { IfOk result (λ reply. StepOrShortage kernel.old space call reply kernel.new) }
-    ensures frame { IfOk result (λ reply. length (reply_text reply) ≤ MAX_FRAME_CONTENT) }
-    ensures passes { D.honest → IsKept (D.view journal.old.disk) kernel.old journal.old.records
-        → Passes (D.view journal.old.disk) (D.view journal.new.disk) (IsBeforeOrAfter kernel.old journal.old.records space call kernel.new) }
-    ensures kept { D.honest → IsKept (D.view journal.old.disk) kernel.old journal.old.records
-        → OnOk result (IsKept (D.view journal.new.disk) kernel.new journal.new.records) }
-    ensures counted { IfOk result (λ reply. journal.new.records ≡ journal.old.records + records_of call reply) }
-    ensures unrecorded { IfOk result (λ reply. has_record call reply ≡ false → (kernel.new ≡ kernel.old) × (journal.new ≡ journal.old)) }
-{
-    call_in_range(&call);
-    let Ok(reply) = kernel.apply(space, &call) else {
-        return Ok(shortage(alloc, &call));
-    };
-    if !call.has_record(&reply) {
-        return Ok(reply);
-    }
-    let stored = Record { space, call, reply };
-    journal.append(&stored)?;
-    Ok(stored.reply)
-}
-
-/// The answer to a call while the segment has no room for a record: one that would have a record is refused. Nothing
-/// changes, and the state isn't copied.
-fn call_without_room(alloc: Global, kernel: &mut Kernel, space: u32, call: &Call) -> Reply
-    ensures answers { StepOrShortage kernel.old space call.now result kernel.old }
-    ensures frame { length (reply_text result) ≤ MAX_FRAME_CONTENT }
-    ensures unrecorded { has_record call.now result ≡ false }
-    ensures same { kernel.new ≡ kernel.old }
-{
-    match kernel.answer_in_place(space, call) {
-        Ok(Some(reply)) => reply,
-        Ok(None) | Err(_) => shortage(alloc, call),
+    match system.call(space, call) {
+        Ok(reply) => Ok(reply),
+        Err(CallFault::Submit(_)) => Ok(shortage(alloc, call)),
+        Err(CallFault::Store(fault)) => Err(fault),
     }
 }
 

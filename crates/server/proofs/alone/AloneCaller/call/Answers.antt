@@ -4,27 +4,12 @@ use Rattle.ipc_model.specs.calls.Step.{succeeded}
 use Rattle.server.proofs.Keeping.{kept_recovers, no_time, since_kept}
 use Rattle.server.proofs.alone.AloneCaller.call.Goals as goal
 
-pub returns-in-Err-clause-any_moment : goal.returns-in-Err-clause-any_moment
-returns-in-Err-clause-any_moment g c = λ honest _.
-    let old = g.D.Disk.view c.self.inside.journal.disk in
-    let made = c.make_call in
-    let kept = c.self.invariant c.if-self.false honest in
-    rw (← c.self.view_is) (since_kept old (g.D.Disk.view made.new.journal.disk) c.self.inside.kernel made.new.kernel c.self.inside.journal.records c.self.inside.space c.args.call kept (made.ensures.passes honest kept))
-
 pub returns-then-self-clause-fails : goal.returns-then-self-clause-fails
 returns-then-self-clause-fails g c =
     rw (← c.self.view_is) (record {
       failed = c.if-self.true;
       failed_before = λ _. (refl, refl);
-      passes = λ _ _. no_time g.D.Disk.view c.self.inside.journal.disk c.self.inside.journal.disk _ refl;
-    })
-
-pub returns-in-Err-clause-fails : goal.returns-in-Err-clause-fails
-returns-in-Err-clause-fails g c =
-    rw (← c.self.view_is) (record {
-      failed = refl;
-      failed_before = λ before. absurd (cc (sym c.if-self.false ∙ before));
-      passes = λ honest kept. c.make_call.ensures.passes honest kept;
+      passes = λ _ _. no_time g.D.Disk.view c.self.inside.system.journal.disk c.self.inside.system.journal.disk _ refl;
     })
 
 pub returns-in-Ok-clause-answers : goal.returns-in-Ok-clause-answers
@@ -42,11 +27,18 @@ returns-in-Ok-clause-answers g c =
 
 pub returns-in-Ok-clause-any_moment : goal.returns-in-Ok-clause-any_moment
 returns-in-Ok-clause-any_moment g c = λ honest _.
-    let old = g.D.Disk.view c.self.inside.journal.disk in
+    let old = g.D.Disk.view c.self.inside.system.journal.disk in
     let made = c.make_call in
-    let kept = c.self.invariant c.if-self.false honest in
-    rw (← c.self.view_is) (since_kept old (g.D.Disk.view made.new.journal.disk) c.self.inside.kernel made.new.kernel c.self.inside.journal.records c.self.inside.space c.args.call kept (made.ensures.passes honest kept))
+    let kept = (c.self.invariant c.if-self.false).1 honest in
+    rw (← c.self.view_is) (since_kept old (g.D.Disk.view made.new.system.journal.disk) c.self.inside.system.core.kernel made.new.system.core.kernel c.self.inside.system.journal.records c.self.inside.space c.args.call kept (made.ensures.passes honest kept))
 
 pub returns-in-Ok-clause-stored : goal.returns-in-Ok-clause-stored
 returns-in-Ok-clause-stored g c = λ honest.
-    kept_recovers (g.D.Disk.view c.make_call.new.journal.disk) c.make_call.new.kernel c.make_call.new.journal.records (c.in-Ok.ensures.kept honest (c.self.invariant c.if-self.false honest))
+    kept_recovers (g.D.Disk.view c.make_call.new.system.journal.disk) c.make_call.new.system.core.kernel c.make_call.new.system.journal.records (c.in-Ok.ensures.kept honest ((c.self.invariant c.if-self.false).1 honest))
+
+pub returns-clause-any_moment : goal.returns-clause-any_moment
+returns-clause-any_moment g c = λ honest _.
+    let old = g.D.Disk.view c.self.inside.system.journal.disk in
+    let made = c.make_call in
+    let kept = (c.self.invariant c.if-self.false).1 honest in
+    rw (← c.self.view_is) (since_kept old (g.D.Disk.view made.new.system.journal.disk) c.self.inside.system.core.kernel made.new.system.core.kernel c.self.inside.system.journal.records c.self.inside.space c.args.call kept (made.ensures.passes honest kept))
