@@ -1,5 +1,10 @@
+use disk::FileDisk;
 use inspect::{show, show_drawing};
+use server::open;
+use std::fs::Permissions;
+use std::os::unix::fs::PermissionsExt;
 use std::test::Fail;
+use std::time::SystemTime;
 use std::{env, fs};
 
 /// What a run of a program gave.
@@ -70,6 +75,63 @@ fn an_empty_folder_stays_empty(rt: HostRuntime) -> Result<(), Fail> {
     // A folder with something in it isn't removed so.
     for path in &words {
         fs::remove_dir(&rt, path.as_str())?;
+    }
+    Ok(())
+}
+
+/// Makes a store in a folder.
+fn make_store(rt: &HostRuntime, folder: &str) -> Result<(), Fail> {
+    if open(rt.alloc(), FileDisk::at(rt.alloc(), rt, folder)?).is_err() {
+        return Err(Fail::from("the store is made"));
+    }
+    Ok(())
+}
+
+/// Gives the two files of a store one mode, and its folder another.
+fn set_modes(rt: &HostRuntime, folder: &str, files: u32, mode: u32) -> Result<(), Fail> {
+    for name in ["image0", "segment0"] {
+        let path = format!(in rt.alloc(); "{folder}/{name}")?;
+        fs::set_permissions(rt, path.as_str(), Permissions::from_mode(files))?;
+    }
+    Ok(fs::set_permissions(rt, folder, Permissions::from_mode(mode))?)
+}
+
+/// The bytes of a file of a folder, and when it and the folder were changed last.
+fn seen(
+    rt: &HostRuntime,
+    folder: &str,
+    name: &str,
+) -> Result<(Vec<u8>, SystemTime, SystemTime), Fail> {
+    let path = format!(in rt.alloc(); "{folder}/{name}")?;
+    let bytes = fs::read(rt, path.as_str())?;
+    let file = fs::metadata(rt, path.as_str())?.modified()?;
+    let parent = fs::metadata(rt, folder)?.modified()?;
+    Ok((bytes, file, parent))
+}
+
+/// Lists a store that can only be read, and tells whether its files and its folder are as before.
+fn list_read_only(rt: &HostRuntime, words: &[String], folder: &str) -> Result<(Ended, bool), Fail> {
+    make_store(rt, folder)?;
+    set_modes(rt, folder, 0o444, 0o555)?;
+    let before = (seen(rt, folder, "image0")?, seen(rt, folder, "segment0")?);
+    let ended = run(rt, words)?;
+    let after = (seen(rt, folder, "image0")?, seen(rt, folder, "segment0")?);
+    set_modes(rt, folder, 0o644, 0o755)?;
+    Ok((ended, before == after))
+}
+
+#[test]
+fn a_folder_that_can_only_be_read_is_listed(rt: HostRuntime) -> Result<(), Fail> {
+    let words = folder(&rt, "machls_read_only")?;
+    for path in &words {
+        let (ended, is_same) = list_read_only(&rt, &words, path.as_str())?;
+        assert!(rt;
+            is_same
+                && ended.status == 0
+                && ended.errors.is_empty()
+                && ended.output.as_str() == "epoch 0 records 0\nspace 1\n"
+        );
+        fs::remove_dir_all(&rt, path.as_str())?;
     }
     Ok(())
 }

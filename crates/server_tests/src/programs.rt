@@ -1,5 +1,9 @@
+ghost use Rattle.std.specs.Io.{WritesAtMost};
+
 use crate::frames::{ALLOCATE, ALLOCATED, TYPE};
 use server::lone;
+use std::env::FillError;
+use std::rt::Env;
 use std::test::Fail;
 use std::{env, fs};
 
@@ -67,6 +71,55 @@ fn words_have_a_status_and_a_line(rt: HostRuntime) -> Result<(), Fail> {
     words.push(String::from_str(alloc, "/")?)?;
     let three = told(&rt, &words, &ALLOCATE)?;
     assert!(rt; three.0 == 2 && three.1.as_str() == "machipcd: command line\n");
+    Ok(())
+}
+
+/// The words of a command line, of any bytes.
+#[derive(Clone, Copy)]
+struct Words<'a> {
+    words: &'a [&'a [u8]],
+}
+
+/// Copies a word to the front of a buffer.
+fn fill(word: &[u8], buffer: &mut [u8]) -> Result<usize, FillError>
+    ensures bound { WritesAtMost result buffer.new }
+{
+    match buffer.get_mut(..word.len()) {
+        Some(front) => {
+            front.copy_from_slice(word);
+            Ok(word.len())
+        }
+        None => Err(FillError::TooLong),
+    }
+}
+
+impl<'a> Env for Words<'a> {
+    fn arg(&self, i: usize, buffer: &mut [u8]) -> Result<usize, FillError> {
+        match self.words.get(i) {
+            Some(word) => fill(word, buffer),
+            None => Err(FillError::NotPresent),
+        }
+    }
+
+    fn var(&self, _name: &str, _buffer: &mut [u8]) -> Result<usize, FillError> {
+        Err(FillError::NotPresent)
+    }
+
+    fn var_at(&self, _i: usize, _buffer: &mut [u8]) -> Result<usize, FillError> {
+        Err(FillError::NotPresent)
+    }
+}
+
+// The program's `main` reads its words so, and where they can't be read it tells the line of the test above and ends with
+// the same status. It can't be run with such words here.
+#[test]
+fn a_word_that_is_no_text_cannot_be_read(rt: HostRuntime) -> Result<(), Fail> {
+    for (word, is_read) in [(b"store".as_slice(), true), (b"st\xffre".as_slice(), false)] {
+        let words = Words {
+            words: &[b"machipcd".as_slice(), word],
+        };
+        assert!(rt; env::args(&(words, rt.alloc())).is_ok() == is_read);
+    }
     Ok(())
 }
 
