@@ -1,3 +1,5 @@
 mod Calls
+mod Lists
 mod PhaseLaws
+mod Stored
 mod Tickets
