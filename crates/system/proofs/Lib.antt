@@ -1,5 +1,6 @@
 mod Calls
 mod Lists
 mod PhaseLaws
+mod Simulation
 mod Stored
 mod Tickets

@@ -92,6 +92,13 @@ Stands base world k c = (state : State) × Run base (take k world.applied) state
 abbrev pub StandsFrom : State → ℕ → World → Slots → Type 0
 StandsFrom base least world c = (k : ℕ) × (least ≤ k) × (k ≤ length world.applied) × Stands base world k c
 
+-- A store that is kept with what is stored, in a state from which the rest of what was applied leads to the core's.
+pub record KeepsStored (disk : View) (base kernel : State) (world : World) : Type 0 where
+  pub state : State
+  pub before : Run base (take world.stored world.applied) state
+  pub after : Run state (drop world.stored world.applied) kernel
+  pub kept : IsKept disk state (world.opened + world.stored)
+
 -- The core stands for a world of events, where the store's records began from this base: its state is the one after all that
 -- was applied, and its store is kept with what is stored.
 pub record StandsFor {D : Type 0} (honest : Type 0) (view : D → View) (base : State) (world : World) (system : SystemValue D) : Type 0 where
@@ -104,6 +111,7 @@ pub record StandsFor {D : Type 0} (honest : Type 0) (view : D → View) (base : 
   pub row : system.core.row.length ≡ world.opened + length world.applied
   pub waiting : Holds (world.opened + world.taken) (drop world.taken world.applied) system.core.row.waiting
   pub taken : world.taken ≤ length world.applied
+  pub room : 0 < length world.applied → world.opened + length world.applied ≤ MAX_RECORDS
   pub handed : system.core.handed ≡ world.opened + world.handed
   pub stored : system.journal.records ≡ world.opened + world.stored
   pub between : Between world system.out system.receipt system.core.is_out
@@ -112,7 +120,7 @@ pub record StandsFor {D : Type 0} (honest : Type 0) (view : D → View) (base : 
   pub seen : greatest_seen world.tickets ≤ world.handed
   pub failed : system.journal.failed ≡ world.failed
   -- until the device fails, the store is kept; then, a stop leaves the state after the stored records at least
-  pub kept : honest → world.failed ≡ false → (state : State) × Run base (take world.stored world.applied) state × IsKept (view system.journal.disk) state (world.opened + world.stored)
+  pub kept : honest → world.failed ≡ false → KeepsStored (view system.journal.disk) base system.core.kernel world
   pub left : honest → world.failed ≡ true → (c : Slots) → MayLeave (view system.journal.disk) c → StandsFrom base world.stored world c
 
 -- One event: what it answered is what the written machine allows, with the world after it, for which the core stands then. A
