@@ -34,6 +34,10 @@ pub match_true : (P Q : Type 0) (b : Bool) → b ≡ true → MatchBool b P Q �
 match_true P Q true is p = p
 match_true P Q false is p = absurd (cc is)
 
+pub match_false : (P Q : Type 0) (b : Bool) → b ≡ false → MatchBool b P Q → Q
+match_false P Q false is q = q
+match_false P Q true is q = absurd (cc is)
+
 some_same : {A : Type 0} (o : Option A) (a b : A) → o ≡ Some a → o ≡ Some b → a ≡ b
 some_same o a b one two = cc (one, two)
 

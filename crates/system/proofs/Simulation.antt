@@ -21,16 +21,20 @@ use Rattle.ipc_model.specs.store.Store.{AreRecords, IsMidAppend}
 use Rattle.ipc_model.specs.texts.Texts.{kept_record, record_text, records_text, IsRecord}
 use Rattle.ipc_model.specs.store.Faults as fault
 use Rattle.ipc_model.specs.world.World as world
-use Rattle.ipc_model.specs.world.World.{World, Ticket, After, CanAppend, IsPossible, IsSegmentOpen, after_append, after_durable, after_submit, after_take, greatest_seen, is_behind, next_batch, of_append, record_of, told, with_answered}
+use Rattle.ipc_model.specs.world.World.{World, Ticket, After, CanAppend, IsPossible, IsSegmentOpen, after_append, after_durable, after_submit, after_take, first_world, greatest_seen, is_behind, next_batch, of_append, record_of, told, with_answered}
 use Rattle.journal.specs.Batch.{BatchValue, Holds, content_of, empty_batch, with_text}
 use Rattle.journal.specs.Journal.{JournalValue}
 use Rattle.recover.specs.Kept.{IsKept}
 use Rattle.recover.specs.Recovered.{Recovers}
 use Rattle.recover.specs.Steps.{unrecorded_step}
 use Rattle.system.specs.Changes.{Answers, FailsToStore, HandsIn, IsFullNow, IsNotDue, Stores, Submits, Takes}
-use Rattle.system.specs.Core.{BatchBetween, Between, KeepsStored, NothingBetween, ReceiptBetween, Stands, StandsFor, StandsFrom, SystemValue, TicketsValue, kept_ticket, unanswered}
+use Rattle.system.specs.Core.{AreBounded, BatchBetween, Between, KeepsStored, NothingBetween, ReceiptBetween, Runs, Stands, StandsFor, StandsFrom, Steps, SystemValue, TicketsValue, first_system, kept_ticket, unanswered}
+use Rattle.system.specs.Events.{event_of, outcome_of}
+use Rattle.system.specs.declared.event.Event.{Event}
+use Rattle.system.specs.declared.event.Outcome.{Outcome}
 use Rattle.system.specs.Halves.{Gives, KernelValue, RowValue, TicketValue, entry_of, with_receipt, with_record, without_waiting}
 use Rattle.system.proofs.Lists.{answered_here, answered_long, answered_other, drop_end, drop_long, drop_more, drop_sum, got_last, got_other, seen_answered, seen_given, take_end, take_long, take_more, take_sum}
+use Rattle.system.proofs.Tickets.{none_fresh}
 use Rattle.system.proofs.Stored.{IsReadyBatch, kept_stands, left_now, mid_stands, run_join, store_kept}
 
 -- records, and parts of them
@@ -712,3 +716,90 @@ module _ {D : Type 0} (honest : Type 0) (view : D → View) (base : State) where
         λ can. none_to_append w old.receipt old.core.is_out (subst (λ (o : Option BatchValue). Between w o old.receipt old.core.is_out) none stands.between) can,
         refl,
       )
+
+  pub shows_no_memory : (w : World) (old new : SystemValue D) (space : ℕ) (c : Call) → StandsFor honest view base w old → new ≡ old → Shows w (world.submit space c) world.no_memory old new
+  shows_no_memory w old new space c stands same = unmoved w (world.submit space c) world.no_memory old new stands same (and_false w.failed, tt, (refl, refl))
+
+  -- what is shown of an event is what its contract says
+  pub steps_of : (w : World) (event : Event) (answered : Outcome) (kept : Reply) (old new : SystemValue D) → Shows w (event_of event) (outcome_of answered kept) old new → Steps honest view base w event answered old new
+  steps_of w event answered kept old new shows = record {
+    kept = kept;
+    next = shows.next;
+    after = shows.after;
+    stands = shows.stands;
+    passes = shows.passes;
+    left = left_told shows.next new shows.stands;
+  }
+
+  -- A core that goes on from an opened store.
+  pub first_stands : (kernel : State) (journal : JournalValue D) → kernel ≡ base → journal.failed ≡ false → (honest → IsKept (view journal.disk) kernel journal.records) → StandsFor honest view base (first_world 0 journal.records) (first_system kernel journal)
+  first_stands kernel journal is unfailed kept = record {
+    epoch = refl;
+    earlier = refl;
+    checkpoint = refl;
+    run = is;
+    fit = tt;
+    records = tt;
+    row = omega arith;
+    waiting = record { counted = refl; text = refl };
+    taken = omega arith;
+    room = λ some. absurd (omega (arith, some));
+    handed = omega arith;
+    stored = omega arith;
+    between = record { batch = refl; receipts = refl; taken = refl; handed = refl };
+    given = refl;
+    tickets = λ n. none_fresh n ∙ refl;
+    seen = omega arith;
+    failed = unfailed;
+    kept = λ is_honest _. record {
+      state = base;
+      before = refl;
+      after = is;
+      kept = subst (λ (s : State). IsKept (view journal.disk) s (journal.records + 0)) is (subst (λ (n : ℕ). IsKept (view journal.disk) kernel n) (omega arith) (kept is_honest));
+    };
+    left = λ _ failed _ _. absurd (cc failed);
+  }
+
+-- Events one after another.
+
+module _ (honest : Type 0) (base : State) where
+  runs_within : (w : World) (events : List Event) (outcomes : List Outcome) (from : ℕ) (last : View) (end : World) → Runs honest base w events outcomes from last end → honest → from ≤ last.moment
+  runs_within w [] [] from last end runs is_honest = omega (arith, runs.1 is_honest)
+  runs_within w [] (answered ∷ outcomes) from last end runs is_honest = absurd runs
+  runs_within w (event ∷ events) [] from last end runs is_honest = absurd runs
+  runs_within w (event ∷ events) (answered ∷ outcomes) from last end runs is_honest =
+      let rest = runs_within runs.1 events outcomes runs.2 last end runs.5 is_honest in
+      omega (arith, rest, (runs.4 is_honest).later)
+
+  pub runs_push : (w : World) (events : List Event) (outcomes : List Outcome) (from : ℕ) (last later : View) (end next : World) (event : Event) (answered : Outcome) (kept : Reply) → Runs honest base w events outcomes from last end
+      → After base end (event_of event) (outcome_of answered kept) next → (honest → Passes last later (StandsFrom base (told end) next)) → (honest → (c : Slots) → MayLeave later c → StandsFrom base (told next) next c)
+      → Runs honest base w (events ++ event ∷ []) (outcomes ++ answered ∷ []) from later next
+  runs_push w [] [] from last later end next event answered kept runs after passes left = (
+    kept,
+    next,
+    later.moment,
+    subst (λ (v : World). After base v (event_of event) (outcome_of answered kept) next) runs.0 after,
+    λ is_honest. record {
+      later = omega (arith, runs.1 is_honest, (passes is_honest).later);
+      during = λ k c after_from until left_at. subst (λ (v : World). StandsFrom base (told v) next c) runs.0 ((passes is_honest).since k c (omega (arith, runs.1 is_honest, after_from)) until left_at);
+      after = λ c left_at. left is_honest c left_at;
+    },
+    (refl, λ _. refl),
+  )
+  runs_push w [] (other ∷ outcomes) from last later end next event answered kept runs after passes left = absurd runs
+  runs_push w (first ∷ events) [] from last later end next event answered kept runs after passes left = absurd runs
+  runs_push w (first ∷ events) (other ∷ outcomes) from last later end next event answered kept runs after passes left = (
+    runs.0,
+    runs.1,
+    runs.2,
+    runs.3,
+    λ is_honest.
+        let bounded = runs.4 is_honest in
+        let within = runs_within runs.1 events outcomes runs.2 last end runs.5 is_honest in
+        record {
+          later = bounded.later;
+          during = λ k c after_from until left_at. bounded.during k c after_from until (((passes is_honest).past k c (omega (arith, until, within))).0 left_at);
+          after = λ c left_at. bounded.after c (((passes is_honest).past runs.2 c within).0 left_at);
+        },
+    runs_push runs.1 events outcomes runs.2 last later end next event answered kept runs.5 after passes left,
+  )

@@ -20,6 +20,7 @@ use Rattle.system.specs.Events.{event_of, outcome_of}
 use Rattle.system.specs.Halves.{KernelValue, TicketValue}
 use Rattle.system.specs.declared.event.Event.{Event}
 use Rattle.system.specs.declared.event.Outcome.{Outcome}
+use Rattle.system.specs.declared.event.Outcome.TheVariants as outcome
 
 -- The tickets that weren't answered, by number, and how many were given. (A number whose ticket is still being made stands
 -- for none.)
@@ -133,3 +134,34 @@ pub record Steps {D : Type 0} (honest : Type 0) (view : D → View) (base : Stat
   pub stands : StandsFor honest view base next new
   pub passes : honest → Passes (view old.journal.disk) (view new.journal.disk) (StandsFrom base (told world) next)
   pub left : honest → (c : Slots) → MayLeave (view new.journal.disk) c → StandsFrom base (told next) next c
+
+-- An event of a core, whatever world it stands for.
+abbrev pub Simulates : {D : Type 0} → Type 0 → (D → View) → Event → Outcome → SystemValue D → SystemValue D → Type 0
+Simulates honest view event answered old new =
+    (base : State) (world : World) → StandsFor honest view base world old → Steps honest view base world event answered old new
+
+-- the number of a ticket is how many were given before
+abbrev pub IsNumbered : {D : Type 0} → SystemValue D → Outcome → Type 0
+IsNumbered old (outcome.Ticket number) = number ≡ old.tickets.given
+IsNumbered old answered = Unit {0}
+
+-- Slots that a stop may have left between two moments of an event, and at the last of these: those of the crash set of an event.
+pub record AreBounded (base : State) (least_before least_after : ℕ) (next : World) (from until : ℕ) (last : View) : Type 0 where
+  pub later : from ≤ until
+  pub during : (k : ℕ) (c : Slots) → from < k → k ≤ until → last.left_at k c → StandsFrom base least_before next c
+  pub after : (c : Slots) → last.left_at until c → StandsFrom base least_after next c
+
+-- Events one after another, with what they answered. There are moments of the disk's clock, one before the events and one after
+-- each of them, between which a stop leaves what it may leave within that event.
+abbrev pub Runs : Type 0 → State → World → List Event → List Outcome → ℕ → View → World → Type 0
+Runs honest base world [] [] from last end = (end ≡ world) × (honest → from ≡ last.moment)
+Runs honest base world (event ∷ events) (answered ∷ outcomes) from last end =
+    (kept : Reply) × (next : World) × (until : ℕ) × After base world (event_of event) (outcome_of answered kept) next
+    × (honest → AreBounded base (told world) (told next) next from until last) × Runs honest base next events outcomes until last end
+Runs honest base world _ _ from last end = ⊥
+
+-- A list of events of a core that stands for a world.
+pub record RunsThrough {D : Type 0} (honest : Type 0) (view : D → View) (base : State) (world : World) (events : List Event) (outcomes : List Outcome) (old new : SystemValue D) : Type 0 where
+  pub end : World
+  pub stands : StandsFor honest view base end new
+  pub runs : Runs honest base world events outcomes (view old.journal.disk).moment (view new.journal.disk) end

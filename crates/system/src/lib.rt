@@ -4,6 +4,7 @@
 mod event;
 mod kernel_half;
 mod row;
+mod stepping;
 mod store_half;
 mod system;
 mod ticket;

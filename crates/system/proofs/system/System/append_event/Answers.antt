@@ -1,0 +1,32 @@
+use Rattle.ipc_model.specs.declared.call.Reply.TheVariants as reply
+use Rattle.system.specs.declared.event.Event.TheVariants as event
+use Rattle.system.specs.declared.event.Outcome.TheVariants as outcome
+use Rattle.std.proofs.Common.{◌⊎◌, inl, inr, sym, subst}
+use Rattle.journal.specs.declared.fault.StoreFault.{StoreFault}
+use Rattle.journal.specs.declared.fault.StoreFault.TheVariants.{Device, Failed}
+use Rattle.system.specs.Core.{Steps}
+use Rattle.system.proofs.Calls.{match_false, match_true}
+use Rattle.system.proofs.Simulation.{shows_append, shows_append_fails, shows_failed, shows_no_append, steps_of}
+use Rattle.system.proofs.system.System.append_event.Goals as goal
+
+pub returns-in-Ok-true-clause-steps : goal.returns-in-Ok-true-clause-steps
+returns-in-Ok-true-clause-steps g c = λ base w stands.
+    steps_of g.D.Disk.honest g.D.Disk.view base w event.Append outcome.Done (reply.Done 0) c.args.self.now c.append.new.self
+    (shows_append g.D.Disk.honest g.D.Disk.view base w c.args.self.now c.append.new.self stands (match_true _ _ c.in-Ok-true.field-0 c.in-Ok-true.field-0-test c.in-Ok-true.ensures.done))
+
+pub returns-in-Ok-false-clause-steps : goal.returns-in-Ok-false-clause-steps
+returns-in-Ok-false-clause-steps g c = λ base w stands.
+    let none = match_false _ _ c.in-Ok-false.field-0 c.in-Ok-false.field-0-test c.in-Ok-false.ensures.done in
+    steps_of g.D.Disk.honest g.D.Disk.view base w event.Append outcome.NotNow (reply.Done 0) c.args.self.now c.append.new.self
+    (shows_no_append g.D.Disk.honest g.D.Disk.view base w c.args.self.now c.append.new.self stands none.0 none.1 none.2)
+
+pub returns-in-Err-clause-steps : goal.returns-in-Err-clause-steps
+returns-in-Err-clause-steps g c = λ base w stands.
+    elim c.in-Err.ensures.faults [
+      | inl failed ↦ subst (λ (f : StoreFault). Steps g.D.Disk.honest g.D.Disk.view base w event.Append (outcome.Store f) c.args.self.now c.append.new.self) (sym failed.0)
+          (steps_of g.D.Disk.honest g.D.Disk.view base w event.Append (outcome.Store Failed) (reply.Done 0) c.args.self.now c.append.new.self
+          (shows_failed g.D.Disk.honest g.D.Disk.view base w c.args.self.now c.append.new.self stands failed.1 failed.2))
+      | inr device ↦ subst (λ (f : StoreFault). Steps g.D.Disk.honest g.D.Disk.view base w event.Append (outcome.Store f) c.args.self.now c.append.new.self) (sym device.0)
+          (steps_of g.D.Disk.honest g.D.Disk.view base w event.Append (outcome.Store Device) (reply.Done 0) c.args.self.now c.append.new.self
+          (shows_append_fails g.D.Disk.honest g.D.Disk.view base w c.args.self.now c.append.new.self stands device.1))
+    ]

@@ -1,0 +1,97 @@
+//! The events of a core, one by one and in lists.
+ghost use Rattle.std.specs.Prelude.{◌≡◌, IfOk, OnErr};
+ghost use Rattle.ipc_model.specs.state.State.{State};
+ghost use Rattle.ipc_model.specs.world.World.{World};
+ghost use Rattle.system.specs.Core.{IsNumbered, RunsThrough, Simulates, StandsFor};
+
+use crate::event::{Event, Outcome};
+use crate::kernel_half::SubmitFault;
+use crate::system::System;
+use disk::Disk;
+use ipc_model::Call;
+use std::alloc::{AllocError, Global};
+
+impl<D: Disk> System<D> {
+    /// One event, which is one of the written world of events (`Simulates`): what it answers is what that allows, and the
+    /// core stands for the world after it. On an honest disk, a stop at any moment of it leaves the state after some first
+    /// ones of the calls that are applied after it, and no fewer than were told before it; a stop after it, no fewer than
+    /// were told after it.
+    pub fn step(&mut self, event: &Event) -> Outcome
+        ensures steps { Simulates D.honest D.view event.now result self.old self.new }
+        ensures number { IsNumbered self.old result }
+    {
+        match event {
+            Event::Submit { space, call } => self.submit_event(*space, call),
+            Event::Take => self.take_event(),
+            Event::Append => self.append_event(),
+            Event::Durable => self.durable_event(),
+            Event::Reply { ticket } => self.reply_event(*ticket),
+        }
+    }
+
+    /// Events one after another (`RunsThrough`). Room for what they answer is made first: where memory is wanted, none of them
+    /// was done.
+    pub fn run(&mut self, alloc: Global, events: &[Event]) -> Result<Vec<Outcome>, AllocError>
+        ensures runs { IfOk result (λ outcomes. (base : State) (world : World) → StandsFor D.honest D.view base world self.old
+            → RunsThrough D.honest D.view base world events.now outcomes.items self.old self.new) }
+        ensures err { OnErr result (self.new ≡ self.old) }
+    {
+        let mut outcomes = Vec::with_capacity(alloc, events.len())?;
+        for event in events {
+            outcomes.push_reserved(self.step(event));
+        }
+        Ok(outcomes)
+    }
+
+    fn submit_event(&mut self, space: u32, call: &Call) -> Outcome
+        ensures steps { Simulates D.honest D.view (Event.Submit space call.now) result self.old self.new }
+        ensures number { IsNumbered self.old result }
+    {
+        match self.submit(space, call) {
+            Ok(number) => Outcome::Ticket(number),
+            Err(SubmitFault::EpochFull) => Outcome::EpochFull,
+            Err(SubmitFault::NoMemory) => Outcome::NoMemory,
+        }
+    }
+
+    fn take_event(&mut self) -> Outcome
+        ensures steps { Simulates D.honest D.view Event.Take result self.old self.new }
+        ensures number { IsNumbered self.old result }
+    {
+        if self.take() {
+            return Outcome::Done;
+        }
+        Outcome::NotNow
+    }
+
+    fn append_event(&mut self) -> Outcome
+        ensures steps { Simulates D.honest D.view Event.Append result self.old self.new }
+        ensures number { IsNumbered self.old result }
+    {
+        match self.append() {
+            Ok(true) => Outcome::Done,
+            Ok(false) => Outcome::NotNow,
+            Err(fault) => Outcome::Store(fault),
+        }
+    }
+
+    fn durable_event(&mut self) -> Outcome
+        ensures steps { Simulates D.honest D.view Event.Durable result self.old self.new }
+        ensures number { IsNumbered self.old result }
+    {
+        if self.durable() {
+            return Outcome::Done;
+        }
+        Outcome::NotNow
+    }
+
+    fn reply_event(&mut self, ticket: u64) -> Outcome
+        ensures steps { Simulates D.honest D.view (Event.Reply ticket) result self.old self.new }
+        ensures number { IsNumbered self.old result }
+    {
+        match self.reply(ticket) {
+            Some(reply) => Outcome::Reply(reply),
+            None => Outcome::NotNow,
+        }
+    }
+}
