@@ -28,7 +28,7 @@ use Rattle.recover.specs.Kept.{IsKept}
 use Rattle.recover.specs.Recovered.{Recovers}
 use Rattle.recover.specs.Steps.{unrecorded_step}
 use Rattle.system.specs.Changes.{Answers, FailsToStore, HandsIn, IsFullNow, IsNotDue, Stores, Submits, Takes}
-use Rattle.system.specs.Core.{AreBounded, BatchBetween, Between, KeepsStored, NothingBetween, ReceiptBetween, Runs, Stands, StandsFor, StandsFrom, Steps, SystemValue, TicketsValue, first_system, kept_ticket, unanswered}
+use Rattle.system.specs.Core.{AreBounded, BatchBetween, Between, KeepsStored, NothingBetween, ReceiptBetween, Runs, RunsThrough, Stands, StandsFor, StandsFrom, Steps, SystemValue, TicketsValue, first_system, kept_ticket, unanswered}
 use Rattle.system.specs.Events.{event_of, outcome_of}
 use Rattle.system.specs.declared.event.Event.{Event}
 use Rattle.system.specs.declared.event.Outcome.{Outcome}
@@ -371,7 +371,7 @@ module _ {D : Type 0} (honest : Type 0) (view : D → View) (base : State) where
       let w2 : World = record w { batch = Some (record { epoch = w.epoch; size = size; appended = false }); taken = w.taken + size } in
       let behind : is_behind w ≡ false = ap (λ (n : ℕ). nat_lt w.taken n) stands.earlier ∙ none_less w.taken in
       let next : after_take w ≡ w2 = ap (λ (b : Bool). let batch : world.Batch = (if b then record { epoch = w.epoch - 1; size = w.earlier - w.taken; appended = false } else record { epoch = w.epoch; size = size; appended = false }) in
-          record w { batch = Some batch; taken = w.taken + batch.size }) behind in
+      record w { batch = Some batch; taken = w.taken + batch.size }) behind in
       let stands2 : StandsFor honest view base w2 (record old { core = without_waiting old.core; out = Some old.core.row.waiting }) = record {
         epoch = stands.epoch;
         earlier = stands.earlier;
@@ -803,3 +803,14 @@ module _ (honest : Type 0) (base : State) where
         },
     runs_push runs.1 events outcomes runs.2 last later end next event answered kept runs.5 after passes left,
   )
+
+pub through_push : {D : Type 0} (honest : Type 0) (view : D → View) (base : State) (w : World) (events : List Event) (outcomes : List Outcome) (old mid new : SystemValue D) (event : Event) (answered : Outcome) (through : RunsThrough honest view base w events outcomes old mid)
+    → Steps honest view base through.end event answered mid new → RunsThrough honest view base w (events ++ event ∷ []) (outcomes ++ answered ∷ []) old new
+through_push honest view base w events outcomes old mid new event answered through steps = record {
+  end = steps.next;
+  stands = steps.stands;
+  runs = runs_push honest base w events outcomes (view old.journal.disk).moment (view mid.journal.disk) (view new.journal.disk) through.end steps.next event answered steps.kept through.runs steps.after steps.passes steps.left;
+}
+
+pub through_none : {D : Type 0} (honest : Type 0) (view : D → View) (base : State) (w : World) (old : SystemValue D) → StandsFor honest view base w old → RunsThrough honest view base w [] [] old old
+through_none honest view base w old stands = record { end = w; stands = stands; runs = (refl, λ _. refl) }

@@ -193,7 +193,7 @@ store_kept old new before after count records batch kept is written synced time 
     let segment : List ℕ = with_batch old.seen.segment0 (content_of batch) in
     let more_records : List Record = kept.ready.0 ++ map kept_record records in
     let in_use : IsInUse 0 segment more_records = subst (λ (t : List ℕ). IsInUse 0 (with_batch old.seen.segment0 t) more_records) (sym text)
-        (in_use_with old.seen.segment0 kept.ready.0 (map kept_record records) kept.ready.1 is.are (omega (arith, is.some, map_long records)) (omega (arith, is.room, kept.ready.3, map_long records))) in
+    (in_use_with old.seen.segment0 kept.ready.0 (map kept_record records) kept.ready.1 is.are (omega (arith, is.some, map_long records)) (omega (arith, is.room, kept.ready.3, map_long records))) in
     record {
       at_rest = λ left may.
           elim (left_now old new (Follows old Segment0 (λ was now. IsMidAppend was (content_of batch) now)) time left may) [

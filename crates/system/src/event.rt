@@ -5,10 +5,7 @@ use journal::StoreFault;
 #[derive(Debug, Drop)]
 pub enum Event {
     /// A task of this space makes a call.
-    Submit {
-        space: u32,
-        call: Call,
-    },
+    Submit { space: u32, call: Call },
     /// The records that wait are taken as a batch.
     Take,
     /// The batch is stored.
@@ -16,9 +13,7 @@ pub enum Event {
     /// The receipt of the batch that was stored is handed in.
     Durable,
     /// The reply that a ticket keeps is asked for.
-    Reply {
-        ticket: u64,
-    },
+    Reply { ticket: u64 },
 }
 
 /// What an event answered.

@@ -1,7 +1,8 @@
 ghost use Rattle.std.specs.Prelude.{◌≡◌, ◌⊎◌, ℕ, ◌+◌, ◌-◌, ◌<◌, ◌≤◌, ◌^◌, None, Some, true, false, length, MatchBool, IfOk, IfErr, IfSome, IfNone, OnErr, OnOk, IsErrOf};
 ghost use Rattle.std.specs.FinMap as map;
 ghost use Rattle.disk.specs.Moments.{one_more};
-ghost use Rattle.system.specs.Core.{first_system};
+ghost use Rattle.ipc_model.specs.world.World.{first_world};
+ghost use Rattle.system.specs.Core.{StandsFor, first_system};
 ghost use Rattle.system.specs.Halves.{TicketValue};
 ghost use Rattle.codes.specs.declared.limits.TheConstants.{MAX_FRAME_CONTENT};
 ghost use Rattle.ipc_model.specs.texts.Texts.{reply_text};
@@ -79,9 +80,11 @@ impl<D: Disk> Model for System<D> {
 }
 
 impl<D: Disk> System<D> {
-    /// Goes on from an opened store. It takes no memory.
+    /// Goes on from an opened store. It takes no memory. Until an event, the core stands for the world in which none was.
     pub fn new(alloc: Global, opened: Opened<D>) -> Self
-        ensures { result ≡ first_system opened.kernel opened.journal }
+        ensures value { result ≡ first_system opened.kernel opened.journal }
+        ensures stands { opened.journal.failed ≡ false
+            → StandsFor D.honest D.view opened.kernel (first_world 0 opened.journal.records) result }
     {
         let Opened { kernel, journal } = opened;
         let records = journal.records();
