@@ -1,5 +1,7 @@
 mod Ends
 mod Lengths
+mod Moments
 mod Replays
 mod Rest
+mod Stages
 mod Surveys

@@ -2,8 +2,10 @@ pub mod AsWritten
 pub mod AtRest
 pub mod Fronts
 pub mod Kept
+pub mod Looked
+pub mod Making
 pub mod Opened
 pub mod Recovered
 pub mod RecoveredLaws
 pub mod Steps
-pub mod Looked
+pub mod Stopping
