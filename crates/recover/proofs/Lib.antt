@@ -1,4 +1,5 @@
 mod Ends
+mod Gates
 mod Lengths
 mod Moments
 mod Replays

@@ -8,9 +8,9 @@ use Rattle.ipc_model.specs.store.Store.{IsClosed}
 use Rattle.recover.specs.AtRest.{IsShut}
 use Rattle.recover.specs.Making.{DiffersIn, IsMaking}
 use Rattle.recover.specs.Recovered.{IsOpen, HoldsOpeningImage}
-use Rattle.recover.specs.Stopping.{FollowsSame, LeavesSame}
+use Rattle.recover.specs.Stopping.{HasLastGate, FollowsSame, LeavesSame}
 use Rattle.recover.proofs.Rest.{passes_then, passes_as, differs_then, shut_called, still_closed}
-use Rattle.recover.proofs.Stages.{making_stands, cut_stands}
+use Rattle.recover.proofs.Stages.{making_stands, making_keeps_gate, cut_stands}
 
 -- behind a closed gate
 
@@ -31,12 +31,16 @@ shut_unchanged slot old new shut time = passes_as old new (MayLeave old) (Differ
 pub read_leaves_same : (old read : View) → Passes old read (MayLeave old) → Passes old read (LeavesSame old)
 read_leaves_same old read time = passes_as old read (MayLeave old) (LeavesSame old) time (λ c left. inl left)
 
-pub making_leaves_same : (old read new : View) → Passes old read (MayLeave old) → read.seen ≡ old.seen → ¬ IsOpen 24 old.seen.image0 → Passes read new (IsMaking read.seen) → Passes old new (LeavesSame old)
-making_leaves_same old read new time same shut making =
+pub making_leaves_same : (old read new : View) → Passes old read (MayLeave old) → read.seen ≡ old.seen → ¬ IsOpen 24 old.seen.image0 → HasLastGate old.seen.segment0 → Passes read new (IsMaking read.seen) → Passes old new (LeavesSame old)
+making_leaves_same old read new time same shut has making =
     passes_then old read new (MayLeave old) (IsMaking read.seen) (LeavesSame old) time making (λ c left. inl left)
-    (λ c made. inr (λ state count recovers. making_stands old.seen c state count shut (subst (λ (s : Slots). IsMaking s c) same made) recovers))
+    (λ c made.
+    let at_old = subst (λ (s : Slots). IsMaking s c) same made in
+    inr ((λ state count recovers. making_stands old.seen c state count shut at_old recovers), making_keeps_gate old.seen c has at_old))
 
 pub ending_leaves_same : (old read new : View) → Passes old read (MayLeave old) → read.seen ≡ old.seen → HoldsOpeningImage old.seen.image0 → Passes read new (DiffersIn read.seen Segment0 (FollowsSame read.seen.segment0)) → Passes old new (LeavesSame old)
 ending_leaves_same old read new time same image ending =
     passes_then old read new (MayLeave old) (DiffersIn read.seen Segment0 (FollowsSame read.seen.segment0)) (LeavesSame old) time ending (λ c left. inl left)
-    (λ c differs. inr (λ state count recovers. cut_stands old.seen c state count image (subst (λ (s : Slots). DiffersIn s Segment0 (FollowsSame s.segment0) c) same differs) recovers))
+    (λ c differs.
+    let at_old = subst (λ (s : Slots). DiffersIn s Segment0 (FollowsSame s.segment0) c) same differs in
+    inr ((λ state count recovers. cut_stands old.seen c state count image at_old recovers), at_old.0.1))

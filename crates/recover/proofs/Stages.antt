@@ -14,6 +14,7 @@ use Rattle.ipc_laws.specs.Counted.{SpellsCounted}
 use Rattle.recover.specs.Making.{DiffersIn, HasSomeGate, IsClosing, IsRemade, IsMaking, empty_segment, open_image}
 use Rattle.recover.specs.Recovered.{IsOpen, HoldsOpeningImage, WasNeverUsed, Recovers, IsNew, opening_text}
 use Rattle.recover.specs.Stopping.{HasLastGate, FollowsSame}
+use Rattle.recover.proofs.Gates.{has_gate, shut_has_gate, empty_has_gate}
 use Rattle.recover.proofs.Surveys.{closed, image_is_open, follows_of}
 
 -- an open gate, and what stands behind it
@@ -143,14 +144,28 @@ making_stands old c state count shut making recovers = elim recovers.stands [
   ]
 ]
 
+-- and its segment has its last gate
+pub making_keeps_gate : (old c : Slots) → HasLastGate old.segment0 → IsMaking old c → HasLastGate c.segment0
+making_keeps_gate old c has making = elim making [
+  | inl segment ↦ elim segment.0 [
+    | inl closing ↦ elim closing [ inl same ↦ subst HasLastGate (sym same) has | inr shut ↦ shut_has_gate c.segment0 shut ]
+    | inr whole ↦ empty_has_gate c.segment0 whole
+  ]
+  | inr image ↦ empty_has_gate c.segment0 (ap (λ (s : Slots). s.segment0) image.1)
+]
+
 -- a segment that is cut behind its last gate
+
+some_with_tail : (rest tail : List ℕ) → 0 < length rest → 0 < length (take 1 rest ++ tail)
+some_with_tail [] tail some = absurd (omega (arith, some))
+some_with_tail (gate ∷ rest) tail some = omega arith
 
 gate_and_tail : (rest tail : List ℕ) → 0 < length rest → IsClosed rest → IsClosed (take 1 rest ++ tail)
 gate_and_tail [] tail some shut = absurd (omega (arith, some))
 gate_and_tail (gate ∷ rest) tail some shut = shut
 
 pub cut_spells : (segment batches after : List ℕ) (records : List Record) (size end : ℕ) → segment ≡ segment_header open_gate 0 ++ batches → (counted : SpellsCounted batches records size) → end ≡ 16 + size → 0 < length counted.spelled.rest
-    → take (end + 1) after ≡ take (end + 1) segment → SpellsSegment 0 after records
+    → take (end + 1) after ≡ take (end + 1) segment → (known : SpellsSegment 0 after records) × (0 < length known.spelled.rest)
 cut_spells segment batches after records size end is counted placed some same =
     let spelled = counted.spelled in
     let header : List ℕ = segment_header open_gate 0 in
@@ -162,21 +177,23 @@ cut_spells segment batches after records size end is counted placed some same =
     let front : take (end + 1) after ≡ (header ++ text) ++ take 1 spelled.rest =
     same ∙ (λ i. take (long i) (joined i)) ∙ take-append-add (header ++ text) spelled.rest 1 in
     let whole : after ≡ header ++ (text ++ (take 1 spelled.rest ++ tail)) =
-    sym (take-append-drop (end + 1) after) ∙ ap (λ l. l ++ tail) front ∙ append_assoc (header ++ text) (take 1 spelled.rest) tail ∙ append_assoc header text (take 1 spelled.rest ++ tail) in
-    record {
-      content = text ++ (take 1 spelled.rest ++ tail);
-      text = whole;
-      spelled = record {
-        batches = spelled.batches;
-        rest = take 1 spelled.rest ++ tail;
-        text = refl;
-        closed = gate_and_tail spelled.rest tail some spelled.closed;
-        none_empty = spelled.none_empty;
-        flat = spelled.flat;
-        canonical = spelled.canonical;
-        bounded = spelled.bounded;
-      };
-    }
+    sym (take-append-drop (end + 1) after) ∙ ap (λ l. l ++ tail) front ∙ append_assoc (header ++ text) (take 1 spelled.rest) tail ∙ append_assoc header text (take 1 spelled.rest ++ tail) in (
+      record {
+        content = text ++ (take 1 spelled.rest ++ tail);
+        text = whole;
+        spelled = record {
+          batches = spelled.batches;
+          rest = take 1 spelled.rest ++ tail;
+          text = refl;
+          closed = gate_and_tail spelled.rest tail some spelled.closed;
+          none_empty = spelled.none_empty;
+          flat = spelled.flat;
+          canonical = spelled.canonical;
+          bounded = spelled.bounded;
+        };
+      },
+      some_with_tail spelled.rest tail some,
+    )
 
 -- its last gate
 pub gate_behind_batches : (segment batches : List ℕ) (records : List Record) (size : ℕ) → segment ≡ segment_header open_gate 0 ++ batches → (counted : SpellsCounted batches records size) → HasLastGate segment → 0 < length counted.spelled.rest
@@ -189,15 +206,14 @@ gate_inside segment batches records size end is counted placed some =
 
 pub cut_follows : (segment batches after : List ℕ) (records : List Record) (size end : ℕ) → segment ≡ segment_header open_gate 0 ++ batches → (counted : SpellsCounted batches records size) → end ≡ 16 + size → 0 < length counted.spelled.rest
     → take (end + 1) after ≡ take (end + 1) segment → FollowsSame segment after
-cut_follows segment batches after records size end is counted placed some same state count follows =
-    let content : follows.spelled.content ≡ batches = ap (drop 16) (sym follows.spelled.text ∙ is) in
-    let one : records ≡ follows.records = one_reading batches records follows.records counted.spelled (subst (λ l. SpellsBatches l follows.records) content follows.spelled.spelled) in
-    record {
-      records = records;
-      spelled = cut_spells segment batches after records size end is counted placed some same;
-      run = subst (λ l. Run opening_state l state) (sym one) follows.run;
-      counted = follows.counted ∙ ap length (sym one);
-    }
+cut_follows segment batches after records size end is counted placed some same =
+    let known = cut_spells segment batches after records size end is counted placed some same in (
+      λ state count follows.
+          let content : follows.spelled.content ≡ batches = ap (drop 16) (sym follows.spelled.text ∙ is) in
+          let one : records ≡ follows.records = one_reading batches records follows.records counted.spelled (subst (λ l. SpellsBatches l follows.records) content follows.spelled.spelled) in
+          record { records = records; spelled = known.0; run = subst (λ l. Run opening_state l state) (sym one) follows.run; counted = follows.counted ∙ ap length (sym one) },
+      has_gate after records known.0 known.1,
+    )
 
 -- a store in use whose segment is cut so
 pub cut_stands : (old c : Slots) (state : State) (count : ℕ) → HoldsOpeningImage old.image0 → DiffersIn old Segment0 (FollowsSame old.segment0) c → Recovers old state count → Recovers c state count
@@ -208,5 +224,5 @@ cut_stands old c state count image differs recovers =
     record {
       second_image = λ is_open. recovers.second_image (subst (IsOpen 24) image1 is_open);
       second_segment = λ is_open. recovers.second_segment (subst (IsOpen 16) segment1 is_open);
-      stands = inl (record { image = subst HoldsOpeningImage (sym image0) image; follows = differs.0 state count (follows_of old state count recovers image) });
+      stands = inl (record { image = subst HoldsOpeningImage (sym image0) image; follows = differs.0.0 state count (follows_of old state count recovers image) });
     }

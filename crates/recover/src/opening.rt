@@ -233,8 +233,8 @@ pub fn open<D: Disk>(alloc: Global, disk: D) -> Result<Opened<D>, (StoreFault, D
     ensures untouched { D.honest → IfErr result (λ fault. fault.0 ≢ StoreFault.Device
         → Passes (D.view disk) (D.view fault.1) (MayLeave (D.view disk))) }
     // Whatever a stop leaves, at any moment of the call and also where it fails, it might have left before, or it stands
-    // for what the store stood for. Of a segment with no gate behind its batches, which no server leaves, nothing is said:
-    // a stop within the write of that gate could leave an open one.
+    // for what the store stood for, with a gate behind its batches. Of a segment that has none, which no server leaves,
+    // nothing is said: a stop within the write of that gate could leave an open one.
     ensures any_moment { D.honest → HasLastGate (D.view disk).seen.segment0
         → IfOk result (λ opened. Passes (D.view disk) (D.view opened.journal.disk) (LeavesSame (D.view disk))) }
     ensures any_moment_of_fault { D.honest → HasLastGate (D.view disk).seen.segment0

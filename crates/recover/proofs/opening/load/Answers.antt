@@ -117,7 +117,7 @@ returns-in_err-make_store-in-None-clause-any_moment g c = λ honest has.
     let same : four_slots c.deref.result.now c.deref-2.result.now c.deref-3.result.now c.deref-4.result.now ≡ fronts_of first.seen =
     (λ i. four_slots (c.deref.ensures.value i) (c.deref-2.ensures.value i) (c.deref-3.ensures.value i) (c.deref-4.ensures.value i)) ∙ c.in_ok-fronts.ensures.fronts honest in
     let new = none_of c.in_ok-batches.field-0 c.in-None.is c.in_ok-batches.ensures.new in
-    making_leaves_same first read (g.D.Disk.view c.make_store.new.disk) (c.in_ok-fronts.ensures.time honest) (c.in_ok-fronts.ensures.seen honest) (shut_by_fronts first.seen _ same new.0)
+    making_leaves_same first read (g.D.Disk.view c.make_store.new.disk) (c.in_ok-fronts.ensures.time honest) (c.in_ok-fronts.ensures.seen honest) (shut_by_fronts first.seen _ same new.0) has
     (c.make_store.ensures.any_moment honest (c.in_ok-fronts.ensures.rest honest))
 
 pub returns-clause-any_moment : goal.returns-clause-any_moment
@@ -127,7 +127,7 @@ returns-clause-any_moment g c = λ honest has.
     let same : four_slots c.deref.result.now c.deref-2.result.now c.deref-3.result.now c.deref-4.result.now ≡ fronts_of first.seen =
     (λ i. four_slots (c.deref.ensures.value i) (c.deref-2.ensures.value i) (c.deref-3.ensures.value i) (c.deref-4.ensures.value i)) ∙ c.in_ok-fronts.ensures.fronts honest in
     let new = none_of c.in_ok-batches.field-0 c.in-None.is c.in_ok-batches.ensures.new in
-    making_leaves_same first read (g.D.Disk.view c.make_store.new.disk) (c.in_ok-fronts.ensures.time honest) (c.in_ok-fronts.ensures.seen honest) (shut_by_fronts first.seen _ same new.0)
+    making_leaves_same first read (g.D.Disk.view c.make_store.new.disk) (c.in_ok-fronts.ensures.time honest) (c.in_ok-fronts.ensures.seen honest) (shut_by_fronts first.seen _ same new.0) has
     (c.make_store.ensures.any_moment honest (c.in_ok-fronts.ensures.rest honest))
 
 pub returns-in_err-make_store-in-None-clause-unchanged : goal.returns-in_err-make_store-in-None-clause-unchanged
