@@ -25,7 +25,8 @@ StandForSame before after = (state : State) → (count : ℕ) → Recovers befor
 abbrev pub LeavesSame : View → Slots → Type 0
 LeavesSame before c = MayLeave before c ⊎ (StandForSame before.seen c × HasLastGate c.segment0)
 
--- Whatever a stop leaves while a batch is appended to a segment in use has its last gate too.
+-- Whatever a stop leaves while a batch is appended to a segment in use, which holds at most 65,536 records, has its last
+-- gate too.
 abbrev pub AppendKeepsGate : Type 0
 AppendKeepsGate =
     (old new : List ℕ) (records batch : List Record) → IsInUse 0 old records → 0 < length batch → AreRecords batch → length records + length batch ≤ 65536
