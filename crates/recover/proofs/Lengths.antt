@@ -67,3 +67,14 @@ image_written slot old mid new after text header long fits first second last =
     let own : slot_of mid slot ≡ bytes = ap (λ (s : Slots). slot_of s slot) first ∙ own_bytes slot old bytes in
     last ∙ second ∙ (λ i. with_slot (first i) slot (written_at (own i) 1 header)) ∙ with_twice slot old bytes (written_at bytes 1 header)
     ∙ ap (λ (b : List ℕ). with_slot old slot b) (written_twice (slot_of old slot) text header 24 long (omega arith))
+
+-- behind the gate alone, which is all that was left of a slot
+pub segment_written : (slot : Slot) (old mid new after : Slots) (start : List ℕ) → 0 < length (slot_of old slot) → mid ≡ with_slot old slot (take 1 (slot_of old slot)) → new ≡ with_slot mid slot (written_at (slot_of mid slot) 1 start) → after ≡ new
+    → after ≡ with_slot old slot (take 1 (slot_of old slot) ++ start)
+segment_written slot old mid new after start some first second last =
+    let gate : List ℕ = take 1 (slot_of old slot) in
+    let own : slot_of mid slot ≡ gate = ap (λ (s : Slots). slot_of s slot) first ∙ own_bytes slot old gate in
+    let one : length gate ≡ 1 = cut_length (slot_of old slot) 1 (omega arith) in
+    let whole : written_at gate 1 start ≡ gate ++ start =
+    (λ i. take_all 1 gate (omega arith) i ++ start ++ drop_all (1 + length start) gate (omega arith) i) ∙ append-nil (gate ++ start) in
+    last ∙ second ∙ (λ i. with_slot (first i) slot (written_at (own i) 1 start)) ∙ with_twice slot old gate (written_at gate 1 start) ∙ ap (λ (b : List ℕ). with_slot old slot b) whole

@@ -1,16 +1,16 @@
 -- What a stop may leave at the moments of an opening, call by call.
-use Rattle.std.proofs.Common.{◌≡◌, inl, inr, ℕ, ◌<◌, List, subst}
+use Rattle.std.proofs.Common.{◌≡◌, inl, inr, ℕ, ◌<◌, List, ◌∷◌, ◌++◌, length, take, drop, ap, subst, ◌∙◌}
 use Rattle.disk.specs.declared.slot.Slot.{Slot}
 use Rattle.disk.specs.declared.slot.Slot.TheVariants.{Segment0}
 use Rattle.disk.specs.Moments.{View, MayLeave, Passes, Follows}
-use Rattle.disk.specs.Slots.{Slots, with_slot, TornWrite, TornCut}
-use Rattle.ipc_model.specs.store.Store.{IsClosed}
+use Rattle.disk.specs.Slots.{Slots, slot_of, with_slot, TornWrite, TornCut}
+use Rattle.ipc_model.specs.store.Store.{IsClosed, open_gate}
 use Rattle.recover.specs.AtRest.{IsShut}
-use Rattle.recover.specs.Making.{DiffersIn, IsMaking}
+use Rattle.recover.specs.Making.{DiffersIn, HasSomeGate, IsClosing, IsRemade, IsMaking}
 use Rattle.recover.specs.Recovered.{IsOpen, HoldsOpeningImage}
 use Rattle.recover.specs.Stopping.{HasLastGate, FollowsSame, LeavesSame}
-use Rattle.recover.proofs.Rest.{passes_then, passes_as, differs_then, shut_called, still_closed}
-use Rattle.recover.proofs.Stages.{making_stands, making_keeps_gate, cut_stands}
+use Rattle.recover.proofs.Rest.{passes_then, passes_as, differs_then, own_bytes, shut_called, still_closed}
+use Rattle.recover.proofs.Stages.{behind_first, gate_opening, closing_remade, shut_closing, making_stands, making_keeps_gate, cut_stands}
 
 -- behind a closed gate
 
@@ -25,6 +25,23 @@ shut_then slot first mid new bytes sooner is later = differs_then first mid new 
 
 pub shut_unchanged : (slot : Slot) (old new : View) → IsShut slot old → Passes old new (MayLeave old) → Passes old new (DiffersIn old.seen slot IsClosed)
 shut_unchanged slot old new shut time = passes_as old new (MayLeave old) (DiffersIn old.seen slot IsClosed) time shut
+
+-- A slot gets a new content: it is closed, its content is written behind the gate, and the gate is opened.
+
+pub closing_then : (slot : Slot) (first mid new : View) (header : ℕ) (bytes : List ℕ) → Passes first mid (DiffersIn first.seen slot (IsClosing header (slot_of first.seen slot))) → mid.seen ≡ with_slot first.seen slot bytes → Passes mid new (DiffersIn mid.seen slot IsClosed)
+    → Passes first new (DiffersIn first.seen slot (IsClosing header (slot_of first.seen slot)))
+closing_then slot first mid new header bytes sooner is later =
+    let s = slot_of first.seen slot in
+    differs_then first mid new slot bytes (IsClosing header s) IsClosed (IsClosing header s) sooner is later (λ l closing. closing) (shut_closing header s)
+
+pub remade_opening : (slot : Slot) (first shut new : View) (header : ℕ) (behind before : List ℕ) → 0 < length before → Passes first shut (DiffersIn first.seen slot (IsClosing header (slot_of first.seen slot))) → shut.seen ≡ with_slot first.seen slot (take 1 before ++ behind)
+    → Passes shut new (DiffersIn shut.seen slot (HasSomeGate (slot_of shut.seen slot))) → Passes first new (DiffersIn first.seen slot (IsRemade header (open_gate ∷ behind) (slot_of first.seen slot)))
+remade_opening slot first shut new header behind before some closing is opening =
+    let s = slot_of first.seen slot in
+    let own : slot_of shut.seen slot ≡ take 1 before ++ behind = ap (λ (d : Slots). slot_of d slot) is ∙ own_bytes slot first.seen (take 1 before ++ behind) in
+    let stands : drop 1 (slot_of shut.seen slot) ≡ behind = ap (λ (l : List ℕ). drop 1 l) own ∙ behind_first before behind some in
+    differs_then first shut new slot (take 1 before ++ behind) (IsClosing header s) (HasSomeGate (slot_of shut.seen slot)) (IsRemade header (open_gate ∷ behind) s) closing is opening (closing_remade header (open_gate ∷ behind) s)
+    (λ after gate. gate_opening header behind s (slot_of shut.seen slot) after stands gate)
 
 -- moments of an opening: the slots are read, and then a store is made or a segment ended
 

@@ -6,7 +6,7 @@ use Rattle.disk.specs.declared.slot.Slot.TheVariants.{Image0, Image1, Segment0, 
 use Rattle.disk.specs.Moments.{View, MayLeave, Passes, Follows, IsSynced}
 use Rattle.disk.specs.Slots.{Slots, slot_of, with_slot}
 use Rattle.ipc_model.specs.store.Store.{IsClosed}
-use Rattle.recover.specs.AtRest.{IsAtRest, IsShut}
+use Rattle.recover.specs.AtRest.{IsAtRest, IsAtRestBut, IsShut}
 use Rattle.recover.specs.Making.{DiffersIn}
 
 later_or_now : (m n : ℕ) → m ≤ n → (m < n) ⊎ (n ≡ m)
@@ -113,9 +113,7 @@ called_synced slot old mid new P rest holds first second =
       | inr since ↦ since
     ])
 
--- a disk of which a stop leaves what a read gives, but for one slot, of which it may leave anything
-abbrev pub IsAtRestBut : Slot → View → Type 0
-IsAtRestBut slot disk = (c : Slots) → MayLeave disk c → c ≡ with_slot disk.seen slot (slot_of c slot)
+-- a disk that is synced but for one slot
 
 pub rest_but : (slot : Slot) (disk : View) → IsAtRest disk → IsAtRestBut slot disk
 rest_but slot disk rest c left = sym (with_own slot c) ∙ ap (λ (s : Slots). with_slot s slot (slot_of c slot)) (rest c left)
@@ -159,9 +157,8 @@ pub still_shut : (slot : Slot) (old new : View) (bytes : List ℕ) → IsShut sl
 still_shut slot old new bytes shut time is c left = differs_from_last old.seen new.seen slot bytes IsClosed c is
     (elim (left_now old new (DiffersIn old.seen slot IsClosed) time c left) [ inl before ↦ shut c before | inr since ↦ since ])
 
--- and its sync
-pub shut_synced : (slot : Slot) (old new : View) → Passes old new (MayLeave old) → new.seen ≡ old.seen → IsSynced new slot → IsShut slot old → IsAtRest new
-shut_synced slot old new time same synced shut = rest_synced slot old new time same synced (λ c left. (shut c left).1)
+pub shut_but : (slot : Slot) (disk : View) → IsShut slot disk → IsAtRestBut slot disk
+shut_but slot disk shut c left = (shut c left).1
 
 pub synced_kept : (slot : Slot) (old new : View) → Passes old new (MayLeave old) → new.seen ≡ old.seen → IsSynced old slot → IsSynced new slot
 synced_kept slot old new time same synced c left = synced c (left_before old new time c left) ∙ ap (λ (s : Slots). slot_of s slot) (sym same)

@@ -3,7 +3,7 @@ ghost use Rattle.disk.specs.Slots.{slot_of, with_slot, written_at};
 ghost use Rattle.disk.specs.Moments.{CountsFailure, MayLeave, Passes};
 ghost use Rattle.words.specs.Words.{long_word};
 ghost use Rattle.ipc_model.specs.store.Store.{epoch_text, image_content, open_gate, closed_gate, IsClosed};
-ghost use Rattle.recover.specs.AtRest.{IsAtRest, IsShut};
+ghost use Rattle.recover.specs.AtRest.{IsAtRest, IsAtRestBut, IsShut};
 ghost use Rattle.recover.specs.Making.{DiffersIn, HasSomeGate, IsClosing, IsRemade, IsMaking, empty_segment, open_image};
 ghost use Rattle.recover.specs.Recovered.{opening_text};
 
@@ -65,8 +65,7 @@ fn write_gate<D: Disk>(disk: &mut D, slot: Slot, gate: u8) -> Result<(), DiskFau
 
 /// Whether a slot has its gate open, or not even its whole header.
 fn needs_closing<D: Disk>(disk: &mut D, slot: Slot, header: usize) -> Result<bool, DiskFault>
-    requires { 0 < header }
-    ensures needs { D.honest → IfOk result (λ needs. IsTrue needs ↔ ((length (slot_of (D.view disk.old).seen slot) < header)
+    ensures needs { D.honest → 0 < header → IfOk result (λ needs. IsTrue needs ↔ ((length (slot_of (D.view disk.old).seen slot) < header)
         ⊎ (take 1 (slot_of (D.view disk.old).seen slot) ≡ open_gate ∷ []))) }
     ensures seen { D.honest → (D.view disk.new).seen ≡ (D.view disk.old).seen }
     ensures time { D.honest → Passes (D.view disk.old) (D.view disk.new) (MayLeave (D.view disk.old)) }
@@ -84,12 +83,12 @@ fn needs_closing<D: Disk>(disk: &mut D, slot: Slot, header: usize) -> Result<boo
 /// Has a closed gate stand at the front of a slot, on the disk. It isn't written over a closed gate with a whole
 /// header: a stop within that write could leave an open gate before an old header.
 fn close_slot<D: Disk>(disk: &mut D, slot: Slot, header: usize) -> Result<(), DiskFault>
-    requires { 1 < header }
+    requires { 0 < header }
     ensures begun { D.honest → OnOk result (0 < length (slot_of (D.view disk.new).seen slot)) }
     ensures closed { D.honest → OnOk result (IsClosed (slot_of (D.view disk.new).seen slot)) }
     ensures others { D.honest → OnOk result ((D.view disk.new).seen ≡ with_slot (D.view disk.old).seen slot (slot_of (D.view disk.new).seen slot)) }
     ensures rest { D.honest → IsAtRest (D.view disk.old) → OnOk result (IsAtRest (D.view disk.new)) }
-    ensures any_moment { D.honest → IsAtRest (D.view disk.old) → Passes (D.view disk.old) (D.view disk.new)
+    ensures any_moment { D.honest → IsAtRest (D.view disk.old) → 1 < header → Passes (D.view disk.old) (D.view disk.new)
         (DiffersIn (D.view disk.old).seen slot (IsClosing header (slot_of (D.view disk.old).seen slot))) }
     ensures failures { CountsFailure (D.failed_calls disk.old) (D.failed_calls disk.new) result }
 {
@@ -105,6 +104,7 @@ fn write_behind<D: Disk>(disk: &mut D, slot: Slot, at: u64, bytes: &[u8]) -> Res
     requires inside { D.honest → at ≤ length (slot_of (D.view disk.old).seen slot) }
     ensures written { D.honest → OnOk result ((D.view disk.new).seen
         ≡ with_slot (D.view disk.old).seen slot (written_at (slot_of (D.view disk.old).seen slot) at bytes.now)) }
+    ensures rest { D.honest → IsAtRestBut slot (D.view disk.old) → OnOk result (IsAtRestBut slot (D.view disk.new)) }
     ensures shut { D.honest → IsShut slot (D.view disk.old) → OnOk result (IsShut slot (D.view disk.new)) }
     ensures any_moment { D.honest → IsShut slot (D.view disk.old)
         → Passes (D.view disk.old) (D.view disk.new) (DiffersIn (D.view disk.old).seen slot IsClosed) }
@@ -119,6 +119,7 @@ fn cut_behind<D: Disk>(disk: &mut D, slot: Slot, len: u64) -> Result<(), DiskFau
     requires inside { D.honest → len ≤ length (slot_of (D.view disk.old).seen slot) }
     ensures cut { D.honest → OnOk result ((D.view disk.new).seen
         ≡ with_slot (D.view disk.old).seen slot (take len (slot_of (D.view disk.old).seen slot))) }
+    ensures rest { D.honest → IsAtRestBut slot (D.view disk.old) → OnOk result (IsAtRestBut slot (D.view disk.new)) }
     ensures shut { D.honest → IsShut slot (D.view disk.old) → OnOk result (IsShut slot (D.view disk.new)) }
     ensures any_moment { D.honest → IsShut slot (D.view disk.old)
         → Passes (D.view disk.old) (D.view disk.new) (DiffersIn (D.view disk.old).seen slot IsClosed) }
@@ -130,7 +131,7 @@ fn cut_behind<D: Disk>(disk: &mut D, slot: Slot, len: u64) -> Result<(), DiskFau
 /// Syncs what stands behind a slot's gate.
 fn sync_behind<D: Disk>(disk: &mut D, slot: Slot) -> Result<(), DiskFault>
     ensures seen { D.honest → (D.view disk.new).seen ≡ (D.view disk.old).seen }
-    ensures rest { D.honest → IsShut slot (D.view disk.old) → OnOk result (IsAtRest (D.view disk.new)) }
+    ensures rest { D.honest → IsAtRestBut slot (D.view disk.old) → OnOk result (IsAtRest (D.view disk.new)) }
     ensures any_moment { D.honest → IsShut slot (D.view disk.old)
         → Passes (D.view disk.old) (D.view disk.new) (DiffersIn (D.view disk.old).seen slot IsClosed) }
     ensures failures { CountsFailure (D.failed_calls disk.old) (D.failed_calls disk.new) result }
@@ -143,7 +144,7 @@ fn write_segment_header<D: Disk>(disk: &mut D, slot: Slot, epoch: u64) -> Result
     requires { D.honest → 0 < length (slot_of (D.view disk.old).seen slot) }
     ensures header { D.honest → OnOk result ((D.view disk.new).seen ≡ with_slot (D.view disk.old).seen slot
         (take 1 (slot_of (D.view disk.old).seen slot) ++ (epoch_text epoch ++ closed_gate ∷ []))) }
-    ensures rest { D.honest → IsShut slot (D.view disk.old) → OnOk result (IsAtRest (D.view disk.new)) }
+    ensures rest { D.honest → IsAtRestBut slot (D.view disk.old) → OnOk result (IsAtRest (D.view disk.new)) }
     ensures any_moment { D.honest → IsShut slot (D.view disk.old)
         → Passes (D.view disk.old) (D.view disk.new) (DiffersIn (D.view disk.old).seen slot IsClosed) }
     ensures failures { CountsFailure (D.failed_calls disk.old) (D.failed_calls disk.new) result }
@@ -171,6 +172,7 @@ fn write_zeros<D: Disk>(disk: &mut D, slot: Slot) -> Result<(), DiskFault>
     requires { D.honest → 0 < length (slot_of (D.view disk.old).seen slot) }
     ensures long { D.honest → OnOk result (24 ≤ length (slot_of (D.view disk.new).seen slot)) }
     ensures others { D.honest → OnOk result ((D.view disk.new).seen ≡ with_slot (D.view disk.old).seen slot (slot_of (D.view disk.new).seen slot)) }
+    ensures rest { D.honest → IsAtRestBut slot (D.view disk.old) → OnOk result (IsAtRestBut slot (D.view disk.new)) }
     ensures shut { D.honest → IsShut slot (D.view disk.old) → OnOk result (IsShut slot (D.view disk.new)) }
     ensures any_moment { D.honest → IsShut slot (D.view disk.old)
         → Passes (D.view disk.old) (D.view disk.new) (DiffersIn (D.view disk.old).seen slot IsClosed) }
@@ -198,7 +200,7 @@ fn write_image<D: Disk>(disk: &mut D, slot: Slot, epoch: u64, text: &[u8]) -> Re
     requires { D.honest → length (slot_of (D.view disk.old).seen slot) ≡ 24 }
     ensures written { D.honest → OnOk result ((D.view disk.new).seen ≡ with_slot (D.view disk.old).seen slot
         (take 1 (slot_of (D.view disk.old).seen slot) ++ image_content epoch text.now)) }
-    ensures rest { D.honest → IsShut slot (D.view disk.old) → OnOk result (IsAtRest (D.view disk.new)) }
+    ensures rest { D.honest → IsAtRestBut slot (D.view disk.old) → OnOk result (IsAtRest (D.view disk.new)) }
     ensures any_moment { D.honest → IsShut slot (D.view disk.old)
         → Passes (D.view disk.old) (D.view disk.new) (DiffersIn (D.view disk.old).seen slot IsClosed) }
     ensures failures { CountsFailure (D.failed_calls disk.old) (D.failed_calls disk.new) result }
