@@ -205,6 +205,7 @@ impl RecordReader {
         ensures seen { D.honest → (D.view disk.new).seen ≡ (D.view disk.old).seen }
         ensures time { D.honest → Passes (D.view disk.old) (D.view disk.new) (MayLeave (D.view disk.old)) }
         ensures quiet { OnOk result (D.failed_calls disk.new ≡ D.failed_calls disk.old) }
+        ensures still { OnErr result ((result ≡ Err StoreFault.Device) ⊎ (D.failed_calls disk.new ≡ D.failed_calls disk.old)) }
         ensures device { IsErrOf result StoreFault.Device → D.failed_calls disk.new ≡ one_more (D.failed_calls disk.old) }
         ensures faults { OnErr result ((result ≡ Err StoreFault.Device) ⊎ ((result ≡ Err StoreFault.Damaged) ⊎ (result ≡ Err StoreFault.NoMemory))) }
     {

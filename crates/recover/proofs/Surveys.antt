@@ -38,7 +38,7 @@ no_batches : (batches : List (List Record)) → NoneEmpty batches → [] ≡ all
 no_batches [] none e = refl
 no_batches (batch ∷ batches) none e = absurd (omega (arith, none.0, ap length e, length-append batch (all_records batches)))
 
-closed : (bytes : List ℕ) → IsClosed bytes → take 1 bytes ≡ open_gate ∷ [] → ⊥
+pub closed : (bytes : List ℕ) → IsClosed bytes → take 1 bytes ≡ open_gate ∷ [] → ⊥
 closed [] is e = cc
 closed (gate ∷ rest) is e = is (cc)
 
@@ -212,6 +212,9 @@ new_by_fronts slots fronts state same second first is =
         counted = refl;
       });
     }
+
+pub shut_by_fronts : (slots fronts : Slots) → fronts ≡ fronts_of slots → ¬ IsOpen 24 fronts.image0 → ¬ IsOpen 24 slots.image0
+shut_by_fronts slots fronts same shut = λ is_open. shut (subst (IsOpen 24) (sym (ap (λ (s : Slots). s.image0) same)) (front_open 24 48 slots.image0 (omega arith) (omega arith) is_open))
 
 pub image_by_fronts : (slots fronts : Slots) → fronts ≡ fronts_of slots → HoldsOpeningImage fronts.image0 → HoldsOpeningImage slots.image0
 image_by_fronts slots fronts same image = image_of_front slots.image0 (subst HoldsOpeningImage (ap (λ (s : Slots). s.image0) same) image)

@@ -8,6 +8,6 @@ mod opening;
 mod reading;
 
 pub use kernel::Kernel;
-pub use laws::stands_as_written;
+pub use laws::{append_keeps_gate, stands_as_written};
 pub use looking::{Looked, look};
 pub use opening::{Opened, open};

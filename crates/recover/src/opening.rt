@@ -1,6 +1,6 @@
 ghost use Rattle.std.specs.Prelude.{◌≡◌, ◌≢◌, ◌-◌, ◌<◌, ◌≤◌, ◌++◌, ℕ, List, false, length, take, drop, IfOk, IfErr, OnOk, OnErr, IsErrOf, ◌⊎◌, Err};
 ghost use Rattle.disk.specs.Slots.{Slots, slot_of, with_slot};
-ghost use Rattle.disk.specs.Moments.{one_more, MayLeave};
+ghost use Rattle.disk.specs.Moments.{one_more, MayLeave, Passes};
 ghost use Rattle.ipc_model.specs.declared.record.Record.{Record};
 ghost use Rattle.ipc_model.specs.state.State.{State, opening_state};
 ghost use Rattle.ipc_model.specs.calls.Step.{Run};
@@ -9,6 +9,8 @@ ghost use Rattle.ipc_model.specs.store.Store.{SpellsBatches, IsInUse};
 ghost use Rattle.recover.specs.AtRest.{IsAtRest};
 ghost use Rattle.recover.specs.Fronts.{four_slots, fronts_of};
 ghost use Rattle.recover.specs.Kept.{IsKept};
+ghost use Rattle.recover.specs.Making.{DiffersIn};
+ghost use Rattle.recover.specs.Stopping.{HasLastGate, FollowsSame, LeavesSame};
 ghost use Rattle.recover.specs.Recovered.{Follows, Recovers, HoldsOpeningImage, IsReady, IsDamaged, IsOtherVersion};
 ghost use Rattle.recover.specs.Surveyed.{HasBatchesAt};
 
@@ -59,8 +61,10 @@ fn front_of<D: Disk>(
 ) -> Result<Vec<u8>, StoreFault>
     ensures bytes { D.honest → IfOk result (λ bytes. bytes.items ≡ take most (slot_of (D.view disk.old).seen slot)) }
     ensures seen { D.honest → (D.view disk.new).seen ≡ (D.view disk.old).seen }
+    ensures time { D.honest → Passes (D.view disk.old) (D.view disk.new) (MayLeave (D.view disk.old)) }
     ensures rest { D.honest → IsAtRest (D.view disk.old) → OnOk result (IsAtRest (D.view disk.new)) }
     ensures quiet { OnOk result (D.failed_calls disk.new ≡ D.failed_calls disk.old) }
+    ensures still { OnErr result ((result ≡ Err StoreFault.Device) ⊎ (D.failed_calls disk.new ≡ D.failed_calls disk.old)) }
     ensures device { IsErrOf result StoreFault.Device → D.failed_calls disk.new ≡ one_more (D.failed_calls disk.old) }
     ensures faults { OnErr result ((result ≡ Err StoreFault.Device) ⊎ (result ≡ Err StoreFault.NoMemory)) }
 {
@@ -75,8 +79,10 @@ pub(crate) fn read_slots<D: Disk>(alloc: Global, disk: &mut D) -> Result<Fronts,
     ensures fronts { D.honest → IfOk result (λ fronts. four_slots fronts.image0.items fronts.image1.items fronts.segment0.items fronts.segment1.items
         ≡ fronts_of (D.view disk.old).seen) }
     ensures seen { D.honest → (D.view disk.new).seen ≡ (D.view disk.old).seen }
+    ensures time { D.honest → Passes (D.view disk.old) (D.view disk.new) (MayLeave (D.view disk.old)) }
     ensures rest { D.honest → IsAtRest (D.view disk.old) → OnOk result (IsAtRest (D.view disk.new)) }
     ensures quiet { OnOk result (D.failed_calls disk.new ≡ D.failed_calls disk.old) }
+    ensures still { OnErr result ((result ≡ Err StoreFault.Device) ⊎ (D.failed_calls disk.new ≡ D.failed_calls disk.old)) }
     ensures device { IsErrOf result StoreFault.Device → D.failed_calls disk.new ≡ one_more (D.failed_calls disk.old) }
     ensures faults { OnErr result ((result ≡ Err StoreFault.Device) ⊎ (result ≡ Err StoreFault.NoMemory)) }
 {
@@ -97,8 +103,10 @@ fn read_fronts<D: Disk>(alloc: Global, disk: &mut D) -> Result<Fronts, StoreFaul
     ensures fronts { D.honest → IfOk result (λ fronts. four_slots fronts.image0.items fronts.image1.items fronts.segment0.items fronts.segment1.items
         ≡ fronts_of (D.view disk.old).seen) }
     ensures seen { D.honest → (D.view disk.new).seen ≡ (D.view disk.old).seen }
+    ensures time { D.honest → Passes (D.view disk.old) (D.view disk.new) (MayLeave (D.view disk.old)) }
     ensures rest { D.honest → OnOk result (IsAtRest (D.view disk.new)) }
     ensures quiet { OnOk result (D.failed_calls disk.new ≡ D.failed_calls disk.old) }
+    ensures still { OnErr result ((result ≡ Err StoreFault.Device) ⊎ (D.failed_calls disk.new ≡ D.failed_calls disk.old)) }
     ensures device { IsErrOf result StoreFault.Device → D.failed_calls disk.new ≡ one_more (D.failed_calls disk.old) }
     ensures faults { OnErr result ((result ≡ Err StoreFault.Device) ⊎ (result ≡ Err StoreFault.NoMemory)) }
 {
@@ -122,8 +130,10 @@ pub(crate) fn replay_batches<D: Disk>(
     ensures damaged { D.honest → IsErrOf result StoreFault.Damaged → (records : List Record) → (state : State)
         → SpellsBatches (drop batches (D.view disk.old).seen.segment0) records → Run opening_state records state → ⊥ }
     ensures seen { D.honest → (D.view disk.new).seen ≡ (D.view disk.old).seen }
+    ensures time { D.honest → Passes (D.view disk.old) (D.view disk.new) (MayLeave (D.view disk.old)) }
     ensures rest { D.honest → IsAtRest (D.view disk.old) → OnOk result (IsAtRest (D.view disk.new)) }
     ensures quiet { OnOk result (D.failed_calls disk.new ≡ D.failed_calls disk.old) }
+    ensures still { OnErr result ((result ≡ Err StoreFault.Device) ⊎ (D.failed_calls disk.new ≡ D.failed_calls disk.old)) }
     ensures device { IsErrOf result StoreFault.Device → D.failed_calls disk.new ≡ one_more (D.failed_calls disk.old) }
     ensures faults { OnErr result ((result ≡ Err StoreFault.Device) ⊎ ((result ≡ Err StoreFault.Damaged) ⊎ (result ≡ Err StoreFault.NoMemory))) }
 {
@@ -146,14 +156,21 @@ fn load_stored<D: Disk>(
     ensures others { D.honest → OnOk result ((D.view disk.new).seen
         ≡ with_slot (D.view disk.old).seen Slot.Segment0 (D.view disk.new).seen.segment0) }
     ensures rest { D.honest → IsAtRest (D.view disk.old) → OnOk result (IsAtRest (D.view disk.new)) }
+    ensures unchanged { D.honest → OnErr result ((result ≡ Err StoreFault.Device) ⊎ ((D.view disk.new).seen ≡ (D.view disk.old).seen)) }
+    ensures untouched { D.honest → OnErr result ((result ≡ Err StoreFault.Device)
+        ⊎ Passes (D.view disk.old) (D.view disk.new) (MayLeave (D.view disk.old))) }
+    ensures any_moment { D.honest → IsAtRest (D.view disk.old) → HasLastGate (D.view disk.old).seen.segment0
+        → Passes (D.view disk.old) (D.view disk.new)
+        (DiffersIn (D.view disk.old).seen Slot.Segment0 (FollowsSame (D.view disk.old).seen.segment0)) }
     ensures damaged { D.honest → IsErrOf result StoreFault.Damaged
         → (state : State) → (count : ℕ) → Follows (D.view disk.old).seen.segment0 state count → ⊥ }
     ensures faults { OnErr result ((result ≡ Err StoreFault.Device) ⊎ ((result ≡ Err StoreFault.Damaged) ⊎ (result ≡ Err StoreFault.NoMemory))) }
     ensures quiet { OnOk result (D.failed_calls disk.new ≡ D.failed_calls disk.old) }
+    ensures still { OnErr result ((result ≡ Err StoreFault.Device) ⊎ (D.failed_calls disk.new ≡ D.failed_calls disk.old)) }
     ensures device { IsErrOf result StoreFault.Device → D.failed_calls disk.new ≡ one_more (D.failed_calls disk.old) }
 {
     let (kernel, count, end) = replay_batches(alloc, disk, batches)?;
-    end_segment(disk, end)?;
+    end_segment(disk, Slot::Segment0, end)?;
     Ok((kernel, count))
 }
 
@@ -164,11 +181,17 @@ fn load<D: Disk>(alloc: Global, disk: &mut D) -> Result<(Kernel, u64), StoreFaul
     ensures ready { D.honest → IfOk result (λ r. IsReady (D.view disk.new).seen r.0 r.1) }
     ensures image { D.honest → OnOk result (HoldsOpeningImage (D.view disk.new).seen.image0) }
     ensures rest { D.honest → OnOk result (IsAtRest (D.view disk.new)) }
+    ensures unchanged { D.honest → OnErr result ((result ≡ Err StoreFault.Device) ⊎ ((D.view disk.new).seen ≡ (D.view disk.old).seen)) }
+    ensures untouched { D.honest → OnErr result ((result ≡ Err StoreFault.Device)
+        ⊎ Passes (D.view disk.old) (D.view disk.new) (MayLeave (D.view disk.old))) }
+    ensures any_moment { D.honest → HasLastGate (D.view disk.old).seen.segment0
+        → Passes (D.view disk.old) (D.view disk.new) (LeavesSame (D.view disk.old)) }
     ensures version { D.honest → IsErrOf result StoreFault.Version → IsOtherVersion (D.view disk.old).seen }
     ensures damaged { D.honest → IsErrOf result StoreFault.Damaged → IsDamaged (D.view disk.old).seen }
     ensures faults { OnErr result ((result ≡ Err StoreFault.Device) ⊎ ((result ≡ Err StoreFault.Damaged)
         ⊎ ((result ≡ Err StoreFault.NoMemory) ⊎ (result ≡ Err StoreFault.Version)))) }
     ensures quiet { OnOk result (D.failed_calls disk.new ≡ D.failed_calls disk.old) }
+    ensures still { OnErr result ((result ≡ Err StoreFault.Device) ⊎ (D.failed_calls disk.new ≡ D.failed_calls disk.old)) }
     ensures device { IsErrOf result StoreFault.Device → D.failed_calls disk.new ≡ one_more (D.failed_calls disk.old) }
 {
     let fronts = read_fronts(alloc, disk)?;
@@ -198,7 +221,20 @@ pub fn open<D: Disk>(alloc: Global, disk: D) -> Result<Opened<D>, (StoreFault, D
     ensures damaged { D.honest → IfErr result (λ fault. fault.0 ≡ StoreFault.Damaged → IsDamaged (D.view disk).seen) }
     ensures faults { IfErr result (λ fault. (fault.0 ≡ StoreFault.Device) ⊎ ((fault.0 ≡ StoreFault.Damaged)
         ⊎ ((fault.0 ≡ StoreFault.NoMemory) ⊎ (fault.0 ≡ StoreFault.Version)))) }
+    ensures quiet { IfOk result (λ opened. D.failed_calls opened.journal.disk ≡ D.failed_calls disk) }
+    ensures still { IfErr result (λ fault. fault.0 ≢ StoreFault.Device → D.failed_calls fault.1 ≡ D.failed_calls disk) }
     ensures device { IfErr result (λ fault. fault.0 ≡ StoreFault.Device → D.failed_calls fault.1 ≡ one_more (D.failed_calls disk)) }
+    // A fault that isn't the device's leaves the slots as they were, and a stop leaves of them what it left before.
+    ensures unchanged { D.honest → IfErr result (λ fault. fault.0 ≢ StoreFault.Device → (D.view fault.1).seen ≡ (D.view disk).seen) }
+    ensures untouched { D.honest → IfErr result (λ fault. fault.0 ≢ StoreFault.Device
+        → Passes (D.view disk) (D.view fault.1) (MayLeave (D.view disk))) }
+    // Whatever a stop leaves, at any moment of the call and also where it fails, it might have left before, or it stands
+    // for what the store stood for, with a gate behind its batches. Of a segment that has none, which no server leaves,
+    // nothing is said: a stop within the write of that gate could leave an open one.
+    ensures any_moment { D.honest → HasLastGate (D.view disk).seen.segment0
+        → IfOk result (λ opened. Passes (D.view disk) (D.view opened.journal.disk) (LeavesSame (D.view disk))) }
+    ensures any_moment_of_fault { D.honest → HasLastGate (D.view disk).seen.segment0
+        → IfErr result (λ fault. Passes (D.view disk) (D.view fault.1) (LeavesSame (D.view disk))) }
     ensures in_use { D.honest → IfOk result (λ opened. IsReady (D.view opened.journal.disk).seen opened.kernel opened.journal.records) }
     ensures synced { D.honest → IfOk result (λ opened. IsAtRest (D.view opened.journal.disk)) }
     ensures stands { D.honest → IfOk result (λ opened. (c : Slots) → MayLeave (D.view opened.journal.disk) c

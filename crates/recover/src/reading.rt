@@ -1,5 +1,5 @@
 ghost use Rattle.std.specs.Prelude.{◌≡◌, ◌≢◌, ◌↔◌, ◌⊎◌, ℕ, ◌++◌, List, IsTrue, IfOk, IfSome, IfNone, OnOk, OnErr, IsErrOf};
-ghost use Rattle.disk.specs.Moments.{one_more};
+ghost use Rattle.disk.specs.Moments.{one_more, MayLeave, Passes};
 ghost use Rattle.disk.specs.declared.slot.Slot.TheVariants.{Segment0};
 ghost use Rattle.ipc_model.specs.state.State.{State};
 ghost use Rattle.ipc_model.specs.store.Store.{segment_header, open_gate};
@@ -181,8 +181,10 @@ pub fn replay_all<D: Disk>(
     ensures damaged { D.honest → IsErrOf result StoreFault.Damaged → (state : State) → (count end : ℕ)
         → Replays (D.view disk.old).seen.segment0 (place_of reader.old) kernel state count end → ⊥ }
     ensures seen { D.honest → (D.view disk.new).seen ≡ (D.view disk.old).seen }
+    ensures time { D.honest → Passes (D.view disk.old) (D.view disk.new) (MayLeave (D.view disk.old)) }
     ensures rest { D.honest → IsAtRest (D.view disk.old) → OnOk result (IsAtRest (D.view disk.new)) }
     ensures quiet { OnOk result (D.failed_calls disk.new ≡ D.failed_calls disk.old) }
+    ensures still { OnErr result ((result ≡ Err StoreFault.Device) ⊎ (D.failed_calls disk.new ≡ D.failed_calls disk.old)) }
     ensures device { IsErrOf result StoreFault.Device → D.failed_calls disk.new ≡ one_more (D.failed_calls disk.old) }
     ensures faults { OnErr result ((result ≡ Err StoreFault.Device) ⊎ ((result ≡ Err StoreFault.Damaged) ⊎ (result ≡ Err StoreFault.NoMemory))) }
 {

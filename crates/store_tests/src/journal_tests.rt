@@ -1,6 +1,6 @@
 use crate::expect::{same, same_in_row};
 use crate::making::{
-    NEW_SEGMENT, SEGMENT, append_allocation, disk_with, journal_on, planned, slot,
+    NEW_SEGMENT, SEGMENT, append_allocations, disk_with, journal_of, planned, slot,
 };
 use crate::streams::{Read, long_segment, records_of};
 use disk::{Slot, Torn};
@@ -12,8 +12,8 @@ use std::test::Fail;
 #[test]
 fn a_batch_is_stored(rt: HostRuntime) -> Result<(), Fail> {
     let disk = disk_with(rt.alloc(), &[], &NEW_SEGMENT)?;
-    let mut journal = journal_on(rt.alloc(), disk)?;
-    append_allocation(&mut journal)?;
+    let mut journal = journal_of(disk, 0)?;
+    append_allocations(rt.alloc(), &mut journal, 1)?;
     same(&rt, journal.records(), 1);
     same(
         &rt,
@@ -23,15 +23,79 @@ fn a_batch_is_stored(rt: HostRuntime) -> Result<(), Fail> {
     Ok(())
 }
 
+// A segment of epoch 0 with two batches: one of two records, and then one of a single record.
+static TWO_BATCHES: [u8; 163] = [
+    0x5a, 1, 0, 0, 0, 0, 0, 0, 0, 0, 0, 0, 0, 0, 0, 0, // the header
+    0x5a, 2, 0, 0, 0, 80, 0, 0, 0, 0, 0, 0, 0, // two records of 80 bytes
+    0, 0, 0, 0, 0, 0, 0, 0, 1, 0, 0, 0, // the first, of space 1
+    8, 0, 0, 0, 5, 0, 0, 0, 1, 0, 0, 0, // allocate a receive right
+    12, 0, 0, 0, 5, 0, 0, 0, 0, 0, 0, 0, 0, 1, 0, 0, // done, as 0x100
+    1, 0, 0, 0, 0, 0, 0, 0, 1, 0, 0, 0, //
+    8, 0, 0, 0, 5, 0, 0, 0, 1, 0, 0, 0, //
+    12, 0, 0, 0, 5, 0, 0, 0, 0, 0, 0, 0, 1, 1, 0, 0, //
+    0x5a, 1, 0, 0, 0, 40, 0, 0, 0, 0, 0, 0, 0, //
+    2, 0, 0, 0, 0, 0, 0, 0, 1, 0, 0, 0, //
+    8, 0, 0, 0, 5, 0, 0, 0, 1, 0, 0, 0, //
+    12, 0, 0, 0, 5, 0, 0, 0, 0, 0, 0, 0, 2, 1, 0, 0, //
+    0,
+];
+
+#[test]
+fn a_batch_has_one_gate(rt: HostRuntime) -> Result<(), Fail> {
+    let disk = disk_with(rt.alloc(), &[], &NEW_SEGMENT)?;
+    let mut journal = journal_of(disk, 0)?;
+    append_allocations(rt.alloc(), &mut journal, 2)?;
+    append_allocations(rt.alloc(), &mut journal, 1)?;
+    same(&rt, journal.records(), 3);
+    same(
+        &rt,
+        slot(&journal.into_disk(), Slot::Segment0),
+        &TWO_BATCHES[..],
+    );
+    Ok(())
+}
+
+// What an append answers, and how many records the journal and how many bytes its segment has then.
+type Appended = (Result<(), StoreFault>, u64, usize);
+
+// Appends a batch of so many records to a journal of so many.
+fn appended(alloc: Global, records: u64, count: u8) -> Result<Appended, Fail> {
+    let disk = disk_with(alloc, &[], &NEW_SEGMENT)?;
+    let mut journal = journal_of(disk, records)?;
+    let answer = append_allocations(alloc, &mut journal, count);
+    let records = journal.records();
+    let length = slot(&journal.into_disk(), Slot::Segment0).len();
+    Ok((answer, records, length))
+}
+
+// A batch fits as a whole, or nothing of it is stored.
+#[test]
+fn a_segment_holds_65536_records(rt: HostRuntime) -> Result<(), Fail> {
+    for (records, count, wanted) in [
+        (65_535, 1, (Ok(()), 65_536, 70)),
+        (65_535, 2, (Err(StoreFault::Full), 65_535, 17)),
+        (65_534, 2, (Ok(()), 65_536, 110)),
+        (65_536, 1, (Err(StoreFault::Full), 65_536, 17)),
+    ] {
+        same_in_row(
+            &rt,
+            (records, count),
+            appended(rt.alloc(), records, count)?,
+            wanted,
+        );
+    }
+    Ok(())
+}
+
 #[test]
 fn a_failure_is_remembered(rt: HostRuntime) -> Result<(), Fail> {
     for call in 1..5u64 {
         let disk = disk_with(rt.alloc(), &[], &NEW_SEGMENT)?;
         let disk = planned(disk, None, Some(call), Torn::Old);
-        let mut journal = journal_on(rt.alloc(), disk)?;
+        let mut journal = journal_of(disk, 0)?;
         let seen = [
-            append_allocation(&mut journal),
-            append_allocation(&mut journal),
+            append_allocations(rt.alloc(), &mut journal, 1),
+            append_allocations(rt.alloc(), &mut journal, 1),
         ];
         same_in_row(
             &rt,

@@ -5,7 +5,8 @@ ghost use Rattle.ipc_model.specs.texts.Texts.{call_text, reply_text};
 
 use disk::{Disk, MemDisk, Slot, Torn};
 use ipc_model::{Call, Record, Reply};
-use journal::{Journal, StoreFault};
+use journal::{Batch, Journal, StoreFault};
+use record::push_record;
 use std::alloc::Global;
 use std::test::Fail;
 
@@ -19,29 +20,64 @@ pub(crate) const SEGMENT: [u8; 70] = [
 /// A segment of epoch 0 with no batch.
 pub(crate) const NEW_SEGMENT: [u8; 17] = [0x5a, 1, 0, 0, 0, 0, 0, 0, 0, 0, 0, 0, 0, 0, 0, 0, 0];
 
+/// The allocation of a name, done.
 #[tactic(auto, unfolding(ipc_model::specs::texts::Texts::call_text, ipc_model::specs::texts::Texts::reply_text))]
-fn allocation() -> Record
+fn allocation(name: u32) -> Record
     ensures call { length (call_text result.call) < 2 ^ 32 }
     ensures reply { length (reply_text result.reply) < 2 ^ 32 }
 {
     Record {
         space: 1,
         call: Call::Allocate { right: 1 },
-        reply: Reply::Allocate { name: 0x100 },
+        reply: Reply::Allocate { name },
     }
 }
 
-/// A journal of epoch 0 with no record on a disk with a segment.
-pub(crate) fn journal_on(alloc: Global, disk: MemDisk) -> Result<Journal<MemDisk>, Fail> {
+/// Adds the record of this number, the allocation of the name 0x100 and the number's lowest byte.
+fn add_allocation(alloc: Global, batch: &mut Batch, number: u64) -> Result<(), StoreFault> {
+    if batch.count() == u32::MAX {
+        return Err(StoreFault::Full);
+    }
+    let [low, ..] = number.to_le_bytes();
+    let mut text = Vec::new(alloc);
+    push_record(
+        alloc,
+        &mut text,
+        number,
+        &allocation(0x100 + u32::from(low)),
+    )?;
+    batch.add(&text)?;
+    Ok(())
+}
+
+/// A batch of so many records, numbered on from this number.
+fn batch_of(alloc: Global, number: u64, count: u8) -> Result<Batch, StoreFault> {
+    let mut batch = Batch::new(alloc);
+    for at in 0..count {
+        add_allocation(alloc, &mut batch, number.saturating_add(u64::from(at)))?;
+    }
+    Ok(batch)
+}
+
+/// A journal of so many records on a disk with a segment.
+pub(crate) fn journal_of(disk: MemDisk, records: u64) -> Result<Journal<MemDisk>, Fail> {
     if disk.length(Slot::Segment0) == 0 {
         return Err(Fail::from("the disk has a segment"));
     }
-    Ok(Journal::new(alloc, disk, 0))
+    Ok(Journal::new(disk, records))
 }
 
-/// Appends the record of [`SEGMENT`].
-pub(crate) fn append_allocation(journal: &mut Journal<MemDisk>) -> Result<(), StoreFault> {
-    journal.append(&allocation())
+/// Appends a batch of so many records.
+pub(crate) fn append_allocations(
+    alloc: Global,
+    journal: &mut Journal<MemDisk>,
+    count: u8,
+) -> Result<(), StoreFault> {
+    let batch = batch_of(alloc, journal.records(), count)?;
+    if batch.count() == 0 {
+        return Ok(());
+    }
+    journal.append(&batch)
 }
 
 /// A disk with these bytes in the image 0 and the segment 0.

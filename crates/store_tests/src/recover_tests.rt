@@ -1,11 +1,11 @@
 use crate::expect::{same, same_in_row};
 use crate::making::{
-    NEW_SEGMENT, SEGMENT, append_allocation, disk_with, journal_on, planned, slot,
+    NEW_SEGMENT, SEGMENT, append_allocations, disk_with, journal_of, planned, slot,
 };
 use crate::streams::long_segment;
 use disk::{MemDisk, Slot, Torn};
 use ipc_model::Reply;
-use journal::StoreFault;
+use journal::{OPEN_GATE, StoreFault};
 use recover::{Opened, open};
 use std::alloc::Global;
 use std::test::Fail;
@@ -16,24 +16,30 @@ const IMAGE: [u8; 48] = [
     0, 0, 1, 0, 0, 0, 1, 0, 0, 0, 0, 0, 0, 0, 0, 0, 0, 0,
 ];
 
-// What opening a store gave: how many records it holds, the type bits of the name 0x100, 0 where it isn't in use,
-// and how long segment 0 is now.
-type Found = Result<(u64, u32, usize), StoreFault>;
+// What opening a store gave: how many records it holds, the type bits of the names 0x100, 0x163 and 0x164, 0 where
+// one isn't in use, and how long segment 0 is now.
+type Found = Result<(u64, [u32; 3], usize), StoreFault>;
 
-const EMPTY: Found = Ok((0, 0, 17));
+const EMPTY: Found = Ok((0, [0, 0, 0], 17));
 
-const STORED: Found = Ok((1, 0x20000, 70));
+const STORED: Found = Ok((1, [0x20000, 0, 0], 70));
+
+// A batch of two records, of the names 0x100 and 0x101.
+const PAIR: Found = Ok((2, [0x20000, 0, 0], 110));
+
+// A hundred records of allocations, of the names from 0x100 on.
+const HUNDRED: Found = Ok((100, [0x20000, 0x20000, 0], 5_317));
 
 // Opens a store. It has no clause, so that a test's proof carries nothing of it.
 fn opened(alloc: Global, disk: MemDisk) -> Result<Opened<MemDisk>, (StoreFault, MemDisk)> {
     open(alloc, disk)
 }
 
-// Opens a store, and gives its disk, whether it was opened or not.
-fn disk_of_opened(alloc: Global, disk: MemDisk) -> MemDisk {
+// Opens a store, and gives the fault and the disk.
+fn fault_of_opening(alloc: Global, disk: MemDisk) -> (Option<StoreFault>, MemDisk) {
     match opened(alloc, disk) {
-        Ok(opened) => opened.journal.into_disk(),
-        Err((_, disk)) => disk,
+        Ok(opened) => (None, opened.journal.into_disk()),
+        Err((fault, disk)) => (Some(fault), disk),
     }
 }
 
@@ -41,9 +47,9 @@ fn after_stop(disk: MemDisk) -> Result<MemDisk, Fail> {
     Ok(disk.after_stop()?)
 }
 
-// The type bits of the name 0x100.
-fn type_bits(opened: &Opened<MemDisk>) -> u32 {
-    match opened.kernel.port_type(1, 0x100) {
+// The type bits of a name.
+fn type_bits(opened: &Opened<MemDisk>, name: u32) -> u32 {
+    match opened.kernel.port_type(1, name) {
         Reply::Type { bits } => bits,
         _ => 0,
     }
@@ -52,7 +58,11 @@ fn type_bits(opened: &Opened<MemDisk>) -> u32 {
 fn reopened(alloc: Global, disk: MemDisk) -> Found {
     match opened(alloc, disk) {
         Ok(opened) => {
-            let bits = type_bits(&opened);
+            let bits = [
+                type_bits(&opened, 0x100),
+                type_bits(&opened, 0x163),
+                type_bits(&opened, 0x164),
+            ];
             let records = opened.journal.records();
             let length = slot(&opened.journal.into_disk(), Slot::Segment0).len();
             Ok((records, bits, length))
@@ -71,7 +81,7 @@ fn stored(alloc: Global) -> Result<MemDisk, Fail> {
         return Err("it is made".into());
     };
     let mut journal = opened.journal;
-    append_allocation(&mut journal)?;
+    append_allocations(alloc, &mut journal, 1)?;
     Ok(journal.into_disk())
 }
 
@@ -152,7 +162,7 @@ fn stores_of_many_records(rt: HostRuntime) -> Result<(), Fail> {
         &rt,
         [whole, bent],
         [
-            Ok((20_000, 0x20000, 16 + 20_000 * 53 + 1)),
+            Ok((20_000, [0x20000, 0, 0], 16 + 20_000 * 53 + 1)),
             Err(StoreFault::Damaged),
         ],
     );
@@ -181,11 +191,11 @@ fn second_slots(rt: HostRuntime) -> Result<(), Fail> {
     Ok(())
 }
 
-// Stores a record, and opens what a stop at a device call leaves.
-fn stopped(alloc: Global, stop_at: u64, torn: Torn) -> Result<Found, Fail> {
+// Stores a batch of so many records, and opens what a stop at a device call leaves.
+fn stopped(alloc: Global, count: u8, stop_at: u64, torn: Torn) -> Result<Found, Fail> {
     let disk = disk_with(alloc, &IMAGE, &NEW_SEGMENT)?;
-    let mut journal = journal_on(alloc, planned(disk, Some(stop_at), None, torn))?;
-    let _ = append_allocation(&mut journal);
+    let mut journal = journal_of(planned(disk, Some(stop_at), None, torn), 0)?;
+    let _ = append_allocations(alloc, &mut journal, count);
     Ok(reopened(alloc, after_stop(journal.into_disk())?))
 }
 
@@ -201,40 +211,138 @@ fn stops_within_an_append(rt: HostRuntime) -> Result<(), Fail> {
     ] {
         for stop_at in 1..6u64 {
             let is_stored = stop_at == 5 || stop_at >= 3 && opens;
-            let found = if is_stored { STORED } else { EMPTY };
-            same_in_row(
-                &rt,
-                (torn, stop_at),
-                stopped(rt.alloc(), stop_at, torn)?,
-                found,
-            );
+            let wanted = if is_stored {
+                [STORED, PAIR]
+            } else {
+                [EMPTY, EMPTY]
+            };
+            let found = [
+                stopped(rt.alloc(), 1, stop_at, torn)?,
+                stopped(rt.alloc(), 2, stop_at, torn)?,
+            ];
+            same_in_row(&rt, (torn, stop_at), found, wanted);
         }
     }
     Ok(())
 }
 
-// Makes a store, and opens what a stop at a device call leaves.
-fn stopped_in_making(alloc: Global, stop_at: u64, torn: Torn) -> Result<Found, Fail> {
-    let disk = planned(MemDisk::new(alloc), Some(stop_at), None, torn);
-    Ok(reopened(alloc, after_stop(disk_of_opened(alloc, disk))?))
+// Stores: whether the image is there, how many batches the segment has, how many bytes are left of it, how many device
+// calls an opening makes (four syncs and four reads of fronts, a read of what stands behind the segment's header, and
+// then the making or the segment's end), and what it finds.
+type Store = (bool, u8, usize, u64, Found);
+
+static STORES: [Store; 3] = [
+    (false, 0, 0, 24, EMPTY),
+    (true, 1, 70, 11, STORED),
+    (true, 100, 5_317, 11, HUNDRED),
+];
+
+// Segments with no gate behind their batches, which no server leaves.
+static FOREIGN: [Store; 2] = [(true, 1, 69, 11, STORED), (true, 0, 16, 10, EMPTY)];
+
+static TORN: [Torn; 6] = [
+    Torn::Old,
+    Torn::New,
+    Torn::Half,
+    Torn::Fill(0),
+    Torn::Fill(0x5a),
+    Torn::Fill(0xff),
+];
+
+// A segment of epoch 0 with so many batches. Each is that of `SEGMENT`, with a number and a name of its own.
+fn segment_of(alloc: Global, batches: u8) -> Result<Vec<u8>, Fail> {
+    let mut segment = SEGMENT[..16].to_vec(alloc)?;
+    for number in 0..batches {
+        let mut batch = [0; 53];
+        batch.copy_from_slice(&SEGMENT[16..69]);
+        batch[13] = number;
+        batch[49] = number;
+        segment.extend_from_slice(&batch)?;
+    }
+    segment.push(0)?;
+    Ok(segment)
+}
+
+fn disk_of(alloc: Global, store: &Store) -> Result<MemDisk, Fail> {
+    let (has_image, batches, length, _, _) = *store;
+    let mut segment = segment_of(alloc, batches)?;
+    segment.truncate(length);
+    let image: &[u8] = if has_image { &IMAGE } else { &[] };
+    disk_with(alloc, image, &segment)
+}
+
+// Opens a store with a stop at a device call, and opens what that leaves.
+fn stopped_opening(
+    alloc: Global,
+    store: &Store,
+    stop_at: u64,
+    torn: Torn,
+) -> Result<(Option<StoreFault>, Found), Fail> {
+    let disk = planned(disk_of(alloc, store)?, Some(stop_at), None, torn);
+    let (fault, disk) = fault_of_opening(alloc, disk);
+    Ok((fault, reopened(alloc, after_stop(disk)?)))
 }
 
 #[test]
-fn stops_within_the_making(rt: HostRuntime) -> Result<(), Fail> {
-    for torn in [
-        Torn::Old,
-        Torn::New,
-        Torn::Half,
-        Torn::Fill(0x5a),
-        Torn::Fill(1),
-    ] {
-        // The making has 24 device calls.
-        for stop_at in 1..26u64 {
+fn stops_within_an_opening(rt: HostRuntime) -> Result<(), Fail> {
+    for store in &STORES {
+        for torn in &TORN {
+            for stop_at in 1..store.3 + 2 {
+                let fault = if stop_at <= store.3 {
+                    Some(StoreFault::Device)
+                } else {
+                    None
+                };
+                same_in_row(
+                    &rt,
+                    (store, torn, stop_at),
+                    stopped_opening(rt.alloc(), store, stop_at, *torn)?,
+                    (fault, store.4),
+                );
+            }
+        }
+    }
+    Ok(())
+}
+
+// A stop within the write of the missing gate may leave an open one, which is a damaged batch then. Nothing else is
+// promised for such a segment; every other stop leaves what it stands for.
+#[test]
+fn stops_within_the_opening_of_a_foreign_segment(rt: HostRuntime) -> Result<(), Fail> {
+    for store in &FOREIGN {
+        for torn in &TORN {
+            for stop_at in 1..store.3 + 2 {
+                let (_, found) = stopped_opening(rt.alloc(), store, stop_at, *torn)?;
+                let may_be_damaged = *torn == Torn::Fill(OPEN_GATE);
+                let is_promised = found == store.4
+                    || may_be_damaged && found == Err(StoreFault::Damaged);
+                same_in_row(&rt, (store, torn, stop_at), is_promised, true);
+            }
+        }
+    }
+    Ok(())
+}
+
+// Opens a store with a device call that fails, and opens it again.
+fn failed_opening(
+    alloc: Global,
+    store: &Store,
+    fail_at: u64,
+) -> Result<(Option<StoreFault>, Found), Fail> {
+    let disk = planned(disk_of(alloc, store)?, None, Some(fail_at), Torn::Old);
+    let (fault, disk) = fault_of_opening(alloc, disk);
+    Ok((fault, reopened(alloc, disk)))
+}
+
+#[test]
+fn failures_within_an_opening(rt: HostRuntime) -> Result<(), Fail> {
+    for store in STORES.iter().chain(&FOREIGN) {
+        for fail_at in 1..store.3 + 1 {
             same_in_row(
                 &rt,
-                (torn, stop_at),
-                stopped_in_making(rt.alloc(), stop_at, torn)?,
-                EMPTY,
+                (store, fail_at),
+                failed_opening(rt.alloc(), store, fail_at)?,
+                (Some(StoreFault::Device), store.4),
             );
         }
     }

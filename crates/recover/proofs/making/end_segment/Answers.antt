@@ -1,6 +1,5 @@
 use Rattle.std.proofs.Common.{◌+◌}
 use Rattle.disk.specs.Slots.{TornWrite, TornCut}
-use Rattle.disk.specs.declared.slot.Slot.TheVariants.{Segment0}
 use Rattle.recover.proofs.Lengths.{on_ok}
 use Rattle.recover.proofs.Rest.{rest_but, rest_but_changed, rest_synced}
 use Rattle.recover.proofs.making.end_segment.Goals as goal
@@ -10,8 +9,8 @@ returns-then-length-end-clause-rest g c = λ honest rest.
     let first = g.D.Disk.view c.args.disk.now in
     let written = g.D.Disk.view c.write_at.new.self in
     on_ok c.sync.result
-    (λ synced. rest_synced Segment0 written (g.D.Disk.view c.sync.new.self) (c.sync.ensures.time honest) (c.sync.ensures.seen honest) synced
-    (rest_but_changed Segment0 first written (TornWrite c.args.end 1) _ (c.write_at.ensures.time honest) (c.in_ok-write_at.ensures.written honest) (rest_but Segment0 first rest)))
+    (λ synced. rest_synced c.args.slot written (g.D.Disk.view c.sync.new.self) (c.sync.ensures.time honest) (c.sync.ensures.seen honest) synced
+    (rest_but_changed c.args.slot first written (TornWrite c.args.end 1) _ (c.write_at.ensures.time honest) (c.in_ok-write_at.ensures.written honest) (rest_but c.args.slot first rest)))
     (c.sync.ensures.synced honest)
 
 pub returns-clause-rest : goal.returns-clause-rest
@@ -19,6 +18,6 @@ returns-clause-rest g c = λ honest rest.
     let first = g.D.Disk.view c.args.disk.now in
     let cut = g.D.Disk.view c.cut.new.self in
     on_ok c.sync-2.result
-    (λ synced. rest_synced Segment0 cut (g.D.Disk.view c.sync-2.new.self) (c.sync-2.ensures.time honest) (c.sync-2.ensures.seen honest) synced
-    (rest_but_changed Segment0 first cut (TornCut (c.args.end + 1)) _ (c.cut.ensures.time honest) (c.in_ok-cut.ensures.cut honest) (rest_but Segment0 first rest)))
+    (λ synced. rest_synced c.args.slot cut (g.D.Disk.view c.sync-2.new.self) (c.sync-2.ensures.time honest) (c.sync-2.ensures.seen honest) synced
+    (rest_but_changed c.args.slot first cut (TornCut (c.args.end + 1)) _ (c.cut.ensures.time honest) (c.in_ok-cut.ensures.cut honest) (rest_but c.args.slot first rest)))
     (c.sync-2.ensures.synced honest)

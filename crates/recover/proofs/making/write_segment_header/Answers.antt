@@ -1,16 +1,11 @@
-use Rattle.disk.specs.Slots.{TornWrite, TornCut}
-use Rattle.disk.specs.declared.slot.Slot.TheVariants.{Segment0}
-use Rattle.recover.proofs.Lengths.{on_ok}
-use Rattle.recover.proofs.Rest.{rest_but, rest_but_changed, rest_synced}
+use Rattle.std.proofs.Common.{ℕ, List, ◌++◌, take, ap, ◌∙◌}
+use Rattle.disk.specs.Slots.{slot_of, with_slot}
+use Rattle.recover.proofs.Lengths.{always, segment_written}
 use Rattle.recover.proofs.making.write_segment_header.Goals as goal
 
-pub returns-clause-rest : goal.returns-clause-rest
-returns-clause-rest g c = λ honest rest.
-    let first = g.D.Disk.view c.args.disk.now in
-    let cut = g.D.Disk.view c.cut.new.self in
-    let written = g.D.Disk.view c.write_at.new.self in
-    on_ok c.sync.result
-    (λ synced. rest_synced Segment0 written (g.D.Disk.view c.sync.new.self) (c.sync.ensures.time honest) (c.sync.ensures.seen honest) synced
-    (rest_but_changed Segment0 cut written (TornWrite 1 16) _ (c.write_at.ensures.time honest) (c.in_ok-write_at.ensures.written honest)
-    (rest_but_changed Segment0 first cut (TornCut 1) _ (c.cut.ensures.time honest) (c.in_ok-cut.ensures.cut honest) (rest_but Segment0 first rest))))
-    (c.sync.ensures.synced honest)
+pub returns-clause-header : goal.returns-clause-header
+returns-clause-header g c = λ honest.
+    let old = (g.D.Disk.view c.args.disk.now).seen in
+    let written = segment_written c.args.slot old (g.D.Disk.view c.cut_behind.new.disk).seen (g.D.Disk.view c.write_behind.new.disk).seen (g.D.Disk.view c.sync_behind.new.disk).seen c.segment_start.result (c.requires honest)
+    (c.in_ok-cut_behind.ensures.cut honest) (c.in_ok-write_behind.ensures.written honest) (c.sync_behind.ensures.seen honest) in
+    always c.sync_behind.result (written ∙ ap (λ (start : List ℕ). with_slot old c.args.slot (take 1 (slot_of old c.args.slot) ++ start)) c.segment_start.ensures)

@@ -1,13 +1,16 @@
-use Rattle.std.proofs.Common.{◌≡◌, [], sym, ap, subst, ◌∙◌}
+use Rattle.std.proofs.Common.{◌≡◌, [], Err, inl, inr, sym, ap, subst, ◌∙◌}
 use Rattle.std.proofs.lemmas.Result.{err_from_is_err_and}
 use Rattle.disk.specs.Slots.{Slots, with_slot}
 use Rattle.disk.specs.declared.slot.Slot.TheVariants.{Segment0}
 use Rattle.recover.specs.Fronts.{four_slots, fronts_of}
 use Rattle.recover.specs.Recovered.{IsOtherVersion, Follows, HoldsOpeningImage}
 use Rattle.recover.specs.Surveyed.{HasBatchesAt}
-use Rattle.recover.proofs.Surveys.{some_is, batches_by_fronts, some_of, none_of, if_ok, if_ok_all, other_of_fronts, fronts_of_other, damaged_by_fronts, stored_by_fronts, new_by_fronts, image_by_fronts, follows_of}
+use Rattle.recover.proofs.Surveys.{some_is, batches_by_fronts, some_of, none_of, if_ok, if_ok_all, other_of_fronts, fronts_of_other, damaged_by_fronts, stored_by_fronts, new_by_fronts, image_by_fronts, shut_by_fronts, follows_of}
+use Rattle.recover.specs.Stopping.{HasLastGate}
+use Rattle.recover.proofs.Moments.{making_leaves_same, ending_leaves_same}
 use Rattle.recover.proofs.Ends.{still_stored, made, made_ready, made_stands}
-use Rattle.recover.proofs.Lengths.{on_ok}
+use Rattle.recover.proofs.Lengths.{on_ok, on_err, always_err}
+use Rattle.recover.proofs.Rest.{unchanged_then}
 use Rattle.recover.proofs.opening.load.Goals as goal
 
 pub load_stored-requires : goal.load_stored-requires
@@ -104,3 +107,56 @@ returns-in-Some-clause-image g c = λ honest.
 
 pub returns-clause-image : goal.returns-clause-image
 returns-clause-image g c = λ honest. record { rest = []; text = ap (λ (s : Slots). s.image0) (c.in_ok-make_store-in-None.ensures.made honest) }
+
+pub returns-in-Some-clause-any_moment : goal.returns-in-Some-clause-any_moment
+returns-in-Some-clause-any_moment g c = λ honest has.
+    let first = g.D.Disk.view c.args.disk.now in
+    let read = g.D.Disk.view c.read_fronts.new.disk in
+    let at_first = c.in_ok-fronts.ensures.seen honest in
+    let same : four_slots c.deref.result.now c.deref-2.result.now c.deref-3.result.now c.deref-4.result.now ≡ fronts_of first.seen =
+    (λ i. four_slots (c.deref.ensures.value i) (c.deref-2.ensures.value i) (c.deref-3.ensures.value i) (c.deref-4.ensures.value i)) ∙ c.in_ok-fronts.ensures.fronts honest in
+    let image = some_of c.in_ok-batches.field-0 _ c.in-Some.is c.in_ok-batches.ensures.image in
+    ending_leaves_same first read (g.D.Disk.view c.load_stored.new.disk) (c.in_ok-fronts.ensures.time honest) at_first (image_by_fronts first.seen _ same image)
+    (c.load_stored.ensures.any_moment honest (c.in_ok-fronts.ensures.rest honest) (subst (λ (s : Slots). HasLastGate s.segment0) (sym at_first) has))
+
+pub returns-in_err-make_store-in-None-clause-any_moment : goal.returns-in_err-make_store-in-None-clause-any_moment
+returns-in_err-make_store-in-None-clause-any_moment g c = λ honest has.
+    let first = g.D.Disk.view c.args.disk.now in
+    let read = g.D.Disk.view c.read_fronts.new.disk in
+    let same : four_slots c.deref.result.now c.deref-2.result.now c.deref-3.result.now c.deref-4.result.now ≡ fronts_of first.seen =
+    (λ i. four_slots (c.deref.ensures.value i) (c.deref-2.ensures.value i) (c.deref-3.ensures.value i) (c.deref-4.ensures.value i)) ∙ c.in_ok-fronts.ensures.fronts honest in
+    let new = none_of c.in_ok-batches.field-0 c.in-None.is c.in_ok-batches.ensures.new in
+    making_leaves_same first read (g.D.Disk.view c.make_store.new.disk) (c.in_ok-fronts.ensures.time honest) (c.in_ok-fronts.ensures.seen honest) (shut_by_fronts first.seen _ same new.0) has
+    (c.make_store.ensures.any_moment honest (c.in_ok-fronts.ensures.rest honest))
+
+pub returns-clause-any_moment : goal.returns-clause-any_moment
+returns-clause-any_moment g c = λ honest has.
+    let first = g.D.Disk.view c.args.disk.now in
+    let read = g.D.Disk.view c.read_fronts.new.disk in
+    let same : four_slots c.deref.result.now c.deref-2.result.now c.deref-3.result.now c.deref-4.result.now ≡ fronts_of first.seen =
+    (λ i. four_slots (c.deref.ensures.value i) (c.deref-2.ensures.value i) (c.deref-3.ensures.value i) (c.deref-4.ensures.value i)) ∙ c.in_ok-fronts.ensures.fronts honest in
+    let new = none_of c.in_ok-batches.field-0 c.in-None.is c.in_ok-batches.ensures.new in
+    making_leaves_same first read (g.D.Disk.view c.make_store.new.disk) (c.in_ok-fronts.ensures.time honest) (c.in_ok-fronts.ensures.seen honest) (shut_by_fronts first.seen _ same new.0) has
+    (c.make_store.ensures.any_moment honest (c.in_ok-fronts.ensures.rest honest))
+
+pub returns-in_err-make_store-in-None-clause-unchanged : goal.returns-in_err-make_store-in-None-clause-unchanged
+returns-in_err-make_store-in-None-clause-unchanged g c = λ honest.
+    let p = err_from_is_err_and c.from_residual-in_err-make_store-in-None.result c.from_residual-in_err-make_store-in-None.ensures.1 in
+    always_err c.from_residual-in_err-make_store-in-None.result (inl (p.1 ∙ ap Err p.2))
+
+pub returns-in_err-make_store-in-None-clause-untouched : goal.returns-in_err-make_store-in-None-clause-untouched
+returns-in_err-make_store-in-None-clause-untouched g c = λ honest.
+    let p = err_from_is_err_and c.from_residual-in_err-make_store-in-None.result c.from_residual-in_err-make_store-in-None.ensures.1 in
+    always_err c.from_residual-in_err-make_store-in-None.result (inl (p.1 ∙ ap Err p.2))
+
+pub returns-in_err-make_store-in-None-clause-still : goal.returns-in_err-make_store-in-None-clause-still
+returns-in_err-make_store-in-None-clause-still g c =
+    let p = err_from_is_err_and c.from_residual-in_err-make_store-in-None.result c.from_residual-in_err-make_store-in-None.ensures.1 in
+    always_err c.from_residual-in_err-make_store-in-None.result (inl (p.1 ∙ ap Err p.2))
+
+pub returns-in-Some-clause-untouched : goal.returns-in-Some-clause-untouched
+returns-in-Some-clause-untouched g c = λ honest.
+    let first = g.D.Disk.view c.args.disk.now in
+    let read = g.D.Disk.view c.read_fronts.new.disk in
+    on_err c.load_stored.result (λ ends. elim ends [ inl device ↦ inl device | inr still ↦ inr (unchanged_then first read (g.D.Disk.view c.load_stored.new.disk) (c.in_ok-fronts.ensures.time honest) still) ])
+    (c.load_stored.ensures.untouched honest)

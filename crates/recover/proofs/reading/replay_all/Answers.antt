@@ -4,7 +4,7 @@ use Rattle.disk.specs.Slots.{slot_of}
 use Rattle.journal.specs.Readers.{place_of}
 use Rattle.journal.specs.Reading.{Leads, IsNothing}
 use Rattle.journal.specs.Windows.{IsOver}
-use Rattle.recover.proofs.Rest.{rest_kept}
+use Rattle.recover.proofs.Rest.{rest_kept, unchanged_then}
 use Rattle.recover.proofs.Streams.{left_on, none_left, unread}
 use Rattle.recover.proofs.Surveys.{some_is}
 use Rattle.recover.proofs.reading.replay_all.Goals as goal
@@ -46,11 +46,20 @@ loop-state-preserved g c =
           subst (λ l. IsOver l c.next.new.self.window) same (c.in_ok-entry.ensures.over honest);
       slot = c.in_ok-entry.ensures.slot ∙ inv.slot;
       seen = λ honest. c.in_ok-entry.ensures.seen honest ∙ inv.seen honest;
-      rest = λ honest rest.
-          rest_kept (g.D.Disk.view c.loop-state.disk) (g.D.Disk.view c.next.new.disk) (c.in_ok-entry.ensures.time honest) (c.in_ok-entry.ensures.seen honest) (inv.rest honest rest);
+      time = λ honest. unchanged_then (g.D.Disk.view c.args.disk.now) (g.D.Disk.view c.loop-state.disk) (g.D.Disk.view c.next.new.disk) (inv.time honest) (c.in_ok-entry.ensures.time honest);
       quiet = c.in_ok-entry.ensures.quiet ∙ inv.quiet;
     }
 
+pub returns-clause-time : goal.returns-clause-time
+returns-clause-time g c = λ honest. unchanged_then (g.D.Disk.view c.args.disk.now) (g.D.Disk.view c.loop-state.disk) (g.D.Disk.view c.next.new.disk) (c.loop-state.invariant.time honest) (c.in_ok-entry.ensures.time honest)
+
+pub returns-in_err-entry-clause-time : goal.returns-in_err-entry-clause-time
+returns-in_err-entry-clause-time g c = λ honest. unchanged_then (g.D.Disk.view c.args.disk.now) (g.D.Disk.view c.loop-state.disk) (g.D.Disk.view c.next.new.disk) (c.loop-state.invariant.time honest) (c.in_err-entry.ensures.time honest)
+
+pub returns-in_err-state-clause-time : goal.returns-in_err-state-clause-time
+returns-in_err-state-clause-time g c = λ honest. unchanged_then (g.D.Disk.view c.args.disk.now) (g.D.Disk.view c.loop-state.disk) (g.D.Disk.view c.next.new.disk) (c.loop-state.invariant.time honest) (c.in_ok-entry.ensures.time honest)
+
 pub returns-clause-rest : goal.returns-clause-rest
 returns-clause-rest g c = λ honest rest.
-    rest_kept (g.D.Disk.view c.loop-state.disk) (g.D.Disk.view c.next.new.disk) (c.in_ok-entry.ensures.time honest) (c.in_ok-entry.ensures.seen honest) (c.loop-state.invariant.rest honest rest)
+    let time = unchanged_then (g.D.Disk.view c.args.disk.now) (g.D.Disk.view c.loop-state.disk) (g.D.Disk.view c.next.new.disk) (c.loop-state.invariant.time honest) (c.in_ok-entry.ensures.time honest) in
+    rest_kept (g.D.Disk.view c.args.disk.now) (g.D.Disk.view c.next.new.disk) time (c.in_ok-entry.ensures.seen honest ∙ c.loop-state.invariant.seen honest) rest

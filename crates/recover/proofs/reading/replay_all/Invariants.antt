@@ -1,9 +1,9 @@
 use Rattle.std.proofs.Common.{◌≡◌, ◌-◌}
+use Rattle.disk.specs.Moments.{MayLeave, Passes}
 use Rattle.disk.specs.declared.slot.Slot.TheVariants.{Segment0}
 use Rattle.journal.specs.Readers.{place_of}
 use Rattle.journal.specs.Reading.{MAX_RECORDS}
 use Rattle.journal.specs.Windows.{IsOver}
-use Rattle.recover.specs.AtRest.{IsAtRest}
 use Rattle.recover.proofs.Streams.{IsLeft}
 use Rattle.recover.proofs.reading.replay_all.Given as goal
 
@@ -14,7 +14,7 @@ invariant-loop-state g l = record {
   over : g.D.Disk.honest → IsOver (g.D.Disk.view l.fn.disk).seen.segment0 l.reader.window;
   slot : l.reader.window.slot ≡ Segment0;
   seen : g.D.Disk.honest → (g.D.Disk.view l.disk).seen ≡ (g.D.Disk.view l.fn.disk).seen;
-  rest : g.D.Disk.honest → IsAtRest (g.D.Disk.view l.fn.disk) → IsAtRest (g.D.Disk.view l.disk);
+  time : g.D.Disk.honest → Passes (g.D.Disk.view l.fn.disk) (g.D.Disk.view l.disk) (MayLeave (g.D.Disk.view l.fn.disk));
   quiet : g.D.Disk.failed_calls l.disk ≡ g.D.Disk.failed_calls l.fn.disk;
 }
 

@@ -16,7 +16,7 @@ invariant_of-self-2 c =
     let batch = with_text (value_of count text) c.args.text.now in
     let new = c.write_header.new.text.items in
     let is = more_text count text c.args.text.now c.push_before_gate.new.text.items new
-        (subst (IsWhole count) (sym (c.reserve.ensures.items ∙ c.in_ok-write_front.ensures.ok)) c.self.invariant) c.push_before_gate.ensures c.write_header.ensures in
+    (subst (IsWhole count) (sym (c.reserve.ensures.items ∙ c.in_ok-write_front.ensures.ok)) c.self.invariant) c.push_before_gate.ensures c.write_header.ensures in
     subst (IsWhole (count + 1)) (sym (whole_padded new batch is)) (whole_of batch.count batch.body new is)
 
 pub returns-clause-ok : goal.returns-clause-ok
@@ -26,6 +26,6 @@ returns-clause-ok c =
     let batch = with_text (value_of count text) c.args.text.now in
     let new = c.write_header.new.text.items in
     let is = more_text count text c.args.text.now c.push_before_gate.new.text.items new
-        (subst (IsWhole count) (sym (c.reserve.ensures.items ∙ c.in_ok-write_front.ensures.ok)) c.self.invariant) c.push_before_gate.ensures c.write_header.ensures in
+    (subst (IsWhole count) (sym (c.reserve.ensures.items ∙ c.in_ok-write_front.ensures.ok)) c.self.invariant) c.push_before_gate.ensures c.write_header.ensures in
     ap (value_of (count + 1)) (whole_padded new batch is) ∙ value_back (count + 1) new batch is refl
     ∙ ap (λ items. with_text (value_of count items) c.args.text.now) (c.reserve.ensures.items ∙ c.in_ok-write_front.ensures.ok) ∙ ap (λ b. with_text b c.args.text.now) c.self.view_is

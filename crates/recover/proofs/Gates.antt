@@ -1,0 +1,135 @@
+-- A gate stands behind a segment's batches at each moment of what a server does to it.
+use Rattle.std.proofs.Common.{◌≡◌, inl, inr, ℕ, ◌+◌, ◌<◌, ◌≤◌, List, [], ◌∷◌, ◌++◌, length, take, drop, refl, sym, ap, subst, ◌∙◌, arith, append_assoc, length-append}
+use Rattle.std.specs.Prelude.{◌-◌}
+use Rattle.std.proofs.lemmas.Bool.{cases_eq}
+use Rattle.std.proofs.lemmas.List.{take_at}
+use Rattle.ipc_model.specs.declared.record.Record.{Record}
+use Rattle.ipc_model.specs.store.Store.{AreRecords, SpellsBatches, SpellsSegment, IsInUse, IsClosed, all_records, batch_text, batches_text, open_gate, closed_gate, segment_header}
+use Rattle.ipc_laws.specs.BatchLaws.{same_batches, are_records-front, are_records-back}
+use Rattle.ipc_laws.specs.StoreLaws.{all_records-push, batches_text-push, none_empty-push, are_records-join}
+use Rattle.recover.specs.Making.{empty_segment}
+use Rattle.recover.specs.Recovered.{IsOpen}
+use Rattle.recover.specs.Stopping.{HasLastGate, AppendKeepsGate}
+
+-- equal texts of batches have the same behind them
+same_rest : (n : ℕ) (more more_too : List (List Record)) (x y : List ℕ) → IsClosed x → IsClosed y → AreRecords (all_records more) → AreRecords (all_records more_too)
+    → n + length (all_records more) ≤ 65536 → n + length (all_records more_too) ≤ 65536
+    → batches_text n more ++ x ≡ batches_text n more_too ++ y → x ≡ y
+same_rest n [] [] x y shut shut_too are are_too room room_too is = is
+same_rest n [] (b ∷ more_too) x y shut shut_too are are_too room room_too is = absurd (subst IsClosed is shut refl)
+same_rest n (a ∷ more) [] x y shut shut_too are are_too room room_too is = absurd (subst IsClosed (sym is) shut_too refl)
+same_rest n (a ∷ more) (b ∷ more_too) x y shut shut_too are are_too room room_too is =
+    let long : length (a ++ all_records more) ≡ length a + length (all_records more) = length-append a (all_records more) in
+    let long_too : length (b ++ all_records more_too) ≡ length b + length (all_records more_too) = length-append b (all_records more_too) in
+    let whole = sym (append_assoc (batch_text n a) (batches_text (n + length a) more) x) ∙ ap (λ l. drop 1 l) is ∙ append_assoc (batch_text n b) (batches_text (n + length b) more_too) y in
+    let first = same_batches n a b (batches_text (n + length a) more ++ x) (batches_text (n + length b) more_too ++ y)
+    (are_records-front a (all_records more) are) (are_records-front b (all_records more_too) are_too) (omega arith) (omega arith) whole in
+    let counts : length a ≡ length b = ap length first.0 in
+    let behind : batches_text (n + length a) more ++ x ≡ batches_text (n + length a) more_too ++ y = first.1 ∙ ap (λ k. batches_text (n + k) more_too ++ y) (sym counts) in
+    same_rest (n + length a) more more_too x y shut shut_too (are_records-back a (all_records more) are) (are_records-back b (all_records more_too) are_too) (omega arith) (omega arith) behind
+
+one_rest : (bytes : List ℕ) (r1 r2 : List Record) → (a : SpellsBatches bytes r1) → (b : SpellsBatches bytes r2) → a.rest ≡ b.rest
+one_rest bytes r1 r2 a b =
+    same_rest 0 a.batches b.batches a.rest b.rest a.closed b.closed (subst AreRecords a.flat a.canonical) (subst AreRecords b.flat b.canonical)
+    (omega (arith, a.bounded, ap length a.flat)) (omega (arith, b.bounded, ap length b.flat)) (sym a.text ∙ b.text)
+
+-- a segment with a reading that has a byte behind its batches
+pub has_gate : (segment : List ℕ) (records : List Record) → (known : SpellsSegment 0 segment records) → 0 < length known.spelled.rest → HasLastGate segment
+has_gate segment records known some others other =
+    let same : known.content ≡ other.content = ap (drop 16) (sym known.text ∙ other.text) in
+    let moved : SpellsBatches other.content records = record {
+      batches = known.spelled.batches;
+      rest = known.spelled.rest;
+      text = sym same ∙ known.spelled.text;
+      closed = known.spelled.closed;
+      none_empty = known.spelled.none_empty;
+      flat = known.spelled.flat;
+      canonical = known.spelled.canonical;
+      bounded = known.spelled.bounded;
+    } in
+    subst (λ l. 0 < length l) (one_rest other.content records others moved other.spelled) some
+
+-- a segment that isn't open has no reading
+pub shut_has_gate : (segment : List ℕ) → ¬ IsOpen 16 segment → HasLastGate segment
+shut_has_gate segment shut records known = absurd (shut (subst (IsOpen 16) (sym known.text) (omega (arith, length-append (segment_header open_gate 0) known.content), refl)))
+
+-- a segment that was never in use
+
+pub empty_has_gate : (segment : List ℕ) → segment ≡ empty_segment 0 → HasLastGate segment
+empty_has_gate segment is = has_gate segment []
+    (record {
+      content = closed_gate ∷ [];
+      text = is;
+      spelled = record { batches = []; rest = closed_gate ∷ []; text = refl; closed = λ e. cc; none_empty = tt; flat = refl; canonical = tt; bounded = omega arith };
+    }) (omega arith)
+
+-- a segment in use to which a batch is appended
+
+-- the batches of a segment in use, with other bytes behind them
+other_behind : (old new behind : List ℕ) (records : List Record) → (used : IsInUse 0 old records) → new ≡ take (length old - 1) old ++ behind → new ≡ segment_header open_gate 0 ++ (batches_text 0 used.spelled.batches ++ behind)
+other_behind old new behind records used is =
+    let header : List ℕ = segment_header open_gate 0 in
+    let text : List ℕ = batches_text 0 used.spelled.batches in
+    let whole : old ≡ (header ++ text) ++ used.spelled.rest = used.text ∙ ap (λ l. header ++ l) used.spelled.text ∙ sym (append_assoc header text used.spelled.rest) in
+    let long : length old - 1 ≡ length (header ++ text) = omega (arith, used.ended, ap length whole, length-append (header ++ text) used.spelled.rest) in
+    is ∙ (λ i. take (long i) (whole i) ++ behind) ∙ ap (λ l. l ++ behind) (take_at (header ++ text) used.spelled.rest (length (header ++ text)) refl) ∙ append_assoc header text behind
+
+closed_with_tail : (rest tail : List ℕ) → length rest ≡ 1 → IsClosed rest → IsClosed (rest ++ tail)
+closed_with_tail [] tail one shut = absurd (omega (arith, one))
+closed_with_tail (gate ∷ rest) tail one shut = shut
+
+same_records : (old new behind : List ℕ) (records : List Record) → (used : IsInUse 0 old records) → IsClosed behind → 0 < length behind → new ≡ segment_header open_gate 0 ++ (batches_text 0 used.spelled.batches ++ behind) → HasLastGate new
+same_records old new behind records used shut some is =
+    let spelled = used.spelled in
+    has_gate new records
+    (record {
+      content = batches_text 0 spelled.batches ++ behind;
+      text = is;
+      spelled = record {
+        batches = spelled.batches;
+        rest = behind;
+        text = refl;
+        closed = shut;
+        none_empty = spelled.none_empty;
+        flat = spelled.flat;
+        canonical = spelled.canonical;
+        bounded = spelled.bounded;
+      };
+    }) some
+
+more_records : (old new : List ℕ) (records batch : List Record) → (used : IsInUse 0 old records) → 0 < length batch → AreRecords batch → length records + length batch ≤ 65536
+    → new ≡ segment_header open_gate 0 ++ (batches_text 0 used.spelled.batches ++ (open_gate ∷ (batch_text (length records) batch ++ closed_gate ∷ []))) → HasLastGate new
+more_records old new records batch used some are room is =
+    let spelled = used.spelled in
+    let text : List ℕ = batch_text (length records) batch in
+    has_gate new (records ++ batch)
+    (record {
+      content = batches_text 0 spelled.batches ++ (open_gate ∷ (text ++ closed_gate ∷ []));
+      text = is;
+      spelled = record {
+        batches = spelled.batches ++ batch ∷ [];
+        rest = closed_gate ∷ [];
+        text = sym (append_assoc (batches_text 0 spelled.batches) (open_gate ∷ text) (closed_gate ∷ []))
+            ∙ ap (λ l. l ++ closed_gate ∷ []) (sym (batches_text-push 0 spelled.batches batch ∙ ap (λ k. batches_text 0 spelled.batches ++ (open_gate ∷ batch_text k batch)) (omega (arith, ap length spelled.flat))));
+        closed = λ e. cc;
+        none_empty = none_empty-push spelled.batches batch spelled.none_empty some;
+        flat = ap (λ l. l ++ batch) spelled.flat ∙ sym (all_records-push spelled.batches batch);
+        canonical = are_records-join records batch spelled.canonical are;
+        bounded = omega (arith, room, length-append records batch);
+      };
+    }) (omega arith)
+
+pub append_keeps_gate : AppendKeepsGate
+append_keeps_gate old new records batch used some are room mid =
+    let header : List ℕ = segment_header open_gate 0 in
+    let front : List ℕ = batches_text 0 used.spelled.batches in
+    let text : List ℕ = batch_text (length records) batch in
+    elim mid [
+      | inl tail ↦ same_records old new (used.spelled.rest ++ tail.0) records used (closed_with_tail used.spelled.rest tail.0 used.ended used.spelled.closed) (omega (arith, used.ended, length-append used.spelled.rest tail.0))
+          (tail.1 ∙ ap (λ l. l ++ tail.0) (used.text ∙ ap (λ l. header ++ l) used.spelled.text) ∙ append_assoc header (front ++ used.spelled.rest) tail.0 ∙ ap (λ l. header ++ l) (append_assoc front used.spelled.rest tail.0))
+      | inr gate ↦ elim (cases_eq gate.0 open_gate) [
+        | inl opened ↦ more_records old new records batch used some are room
+            (other_behind old new (open_gate ∷ (text ++ closed_gate ∷ [])) records used (gate.1 ∙ ap (λ (g : ℕ). take (length old - 1) old ++ (g ∷ (text ++ closed_gate ∷ []))) opened))
+        | inr shut ↦ same_records old new (gate.0 ∷ (text ++ closed_gate ∷ [])) records used shut (omega arith) (other_behind old new (gate.0 ∷ (text ++ closed_gate ∷ [])) records used gate.1)
+      ]
+    ]
