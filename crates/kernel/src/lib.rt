@@ -12,6 +12,6 @@ mod reply;
 mod stepping;
 
 pub use kernel::{Kernel, ReplayFault};
-pub use recording::Recorder;
 pub use laws::unrecorded_steps_change_nothing;
+pub use recording::Recorder;
 pub use snapshot::Snapshot;
