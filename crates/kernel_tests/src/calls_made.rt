@@ -6,7 +6,7 @@ use std::test::Fail;
 
 /// The first words of a reply's frame, of those that come here: the call's number, the code, and two results, of a port's
 /// status the messages and the make-send count; of a message its code, size and member, and the call's number.
-fn words_of(reply: &Reply) -> [u32; 4] {
+pub(crate) fn words_of(reply: &Reply) -> [u32; 4] {
     match reply {
         Reply::Refused { number, code } => [*number, code.number(), 0, 0],
         Reply::Done { number } => [*number, 0, 0, 0],
@@ -29,7 +29,7 @@ fn allocate(right: u32) -> Call {
     Call::Allocate { right }
 }
 
-fn allocated(right: u32, name: u32) -> Record {
+pub(crate) fn allocated(right: u32, name: u32) -> Record {
     Record {
         space: 1,
         call: allocate(right),
@@ -38,7 +38,7 @@ fn allocated(right: u32, name: u32) -> Record {
 }
 
 /// A new kernel with a record's step made.
-fn kernel_after(alloc: Global, first: &Record) -> Result<Kernel, Fail> {
+pub(crate) fn kernel_after(alloc: Global, first: &Record) -> Result<Kernel, Fail> {
     let kernel = Kernel::opening(alloc)?;
     Ok(kernel.replay(first)?)
 }
@@ -73,7 +73,7 @@ fn replays_a_record_once(rt: HostRuntime) -> Result<(), Fail> {
 }
 
 /// What the calls that take no memory answer, in words.
-fn read(kernel: &Kernel) -> [[u32; 4]; 4] {
+pub(crate) fn read(kernel: &Kernel) -> [[u32; 4]; 4] {
     [
         words_of(&kernel.port_type(1, 0x100)),
         words_of(&kernel.port_type(2, 0x100)),

@@ -5,3 +5,5 @@
 mod calls_made;
 #[cfg(test)]
 mod copied;
+#[cfg(test)]
+mod recorded;
