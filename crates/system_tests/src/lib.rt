@@ -11,3 +11,5 @@ mod expect;
 mod failures;
 #[cfg(test)]
 mod full_row;
+#[cfg(test)]
+mod lists;
