@@ -88,7 +88,7 @@ fn replied(core: &mut System<MemDisk>, ticket: u64) -> u64 {
 }
 
 /// What an event answers.
-pub(crate) fn answered(core: &mut System<MemDisk>, event: Asked) -> u64 {
+fn answered(core: &mut System<MemDisk>, event: Asked) -> u64 {
     match event {
         Asked::Allocate => submitted(core, &Call::Allocate { right: 1 }),
         Asked::Type(name) => submitted(core, &Call::Type { name }),

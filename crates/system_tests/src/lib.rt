@@ -11,5 +11,3 @@ mod expect;
 mod failures;
 #[cfg(test)]
 mod full_row;
-#[cfg(test)]
-mod lists;
