@@ -1,0 +1,72 @@
+-- The snapshots that an image spells: their numbers fit their words, and their rows rise.
+use Rattle.std.specs.Prelude.{◌≢◌, ℕ, ◌+◌, ◌^◌, ◌<◌, ◌≤◌, List, [], ◌∷◌, length, map, All}
+use Rattle.ipc_laws.specs.ImageLaws.{SpellableNamed, SpellableReplyRight, SpellableRight, SpellableSet, SpellableTarget}
+use Rattle.ipc_model.specs.declared.message.Message.{Message}
+use Rattle.ipc_model.specs.declared.message.RightKind.TheVariants as kind
+use Rattle.ipc_model.specs.declared.port.PortState.{PortState}
+use Rattle.ipc_model.specs.messages.Receiving.{message_size}
+use Rattle.snapshot.specs.declared.rows.LivePort.{LivePort}
+use Rattle.snapshot.specs.declared.rows.NamedEntry.{NamedEntry}
+use Rattle.snapshot.specs.declared.rows.Snapshot.{Snapshot}
+use Rattle.snapshot.specs.declared.rows.Space.{Space}
+use Rattle.words.specs.Words.{AreBytes}
+
+-- a queued message: sent by a send right or a send-once right, its body bytes, its numbers within their words
+pub record FitsMessage (message : Message) : Type 0 where
+  pub destination : message.destination ≢ kind.Receive
+  pub reply : SpellableReplyRight message.reply
+  pub id : message.id < 2 ^ 32
+  pub size : message_size message < 2 ^ 32
+  pub few_rights : length message.rights < 2 ^ 32
+  pub rights : All SpellableRight message.rights
+  pub bytes : AreBytes message.body
+
+-- what a live port keeps
+pub record FitsPort (port : PortState) : Type 0 where
+  pub limit : port.limit < 2 ^ 32
+  pub sequence_number : port.sequence_number < 2 ^ 32
+  pub make_send_count : port.make_send_count < 2 ^ 32
+  pub set : SpellableSet port.set
+  pub no_senders_target : SpellableTarget port.no_senders_target
+  pub port_destroyed_target : SpellableTarget port.port_destroyed_target
+  pub few_messages : length port.messages < 2 ^ 32
+  pub messages : All FitsMessage port.messages
+
+-- numbers that rise, the first of them at least this one
+abbrev pub RisesFrom : ℕ → List ℕ → Type 0
+RisesFrom at [] = Unit {0}
+RisesFrom at (n ∷ rest) = (at ≤ n) × RisesFrom (n + 1) rest
+
+-- a name with what it stands for
+abbrev pub FitsNamed : NamedEntry → Type 0
+FitsNamed row = SpellableNamed (row.name, row.entry)
+
+abbrev pub name_of : NamedEntry → ℕ
+name_of row = row.name
+
+-- a space
+pub record FitsSpace (space : Space) : Type 0 where
+  pub number : space.number < 2 ^ 32
+  pub few_names : length space.names < 2 ^ 32
+  pub names : All FitsNamed space.names
+  pub names_rise : RisesFrom 0 (map name_of space.names)
+
+abbrev pub number_of : Space → ℕ
+number_of space = space.number
+
+-- a live port by its serial
+abbrev pub FitsLivePort : LivePort → Type 0
+FitsLivePort port = (port.serial < 2 ^ 64) × FitsPort port.state
+
+abbrev pub serial_of : LivePort → ℕ
+serial_of port = port.serial
+
+-- A snapshot that an image spells.
+pub record FitsImage (snapshot : Snapshot) : Type 0 where
+  pub next_serial : snapshot.next_serial < 2 ^ 64
+  pub few_spaces : length snapshot.spaces < 2 ^ 32
+  pub spaces : All FitsSpace snapshot.spaces
+  pub spaces_rise : RisesFrom 0 (map number_of snapshot.spaces)
+  pub few_ports : length snapshot.ports < 2 ^ 32
+  pub ports : All FitsLivePort snapshot.ports
+  pub ports_rise : RisesFrom 0 (map serial_of snapshot.ports)

@@ -1,0 +1,5 @@
+pub mod Rows
+pub mod Fitting
+pub mod Parts
+pub mod RowLaws
+pub mod Taking

@@ -1,0 +1,118 @@
+ghost use Rattle.std.specs.Prelude.{◌≡◌, ◌≢◌, ◌<◌, ◌^◌, ◌++◌, [], ℕ, List, All, IfOk, IfSome, IsErrOf, IsSomeAnd, MatchBool, OnOk, flat_map, length, map};
+ghost use Rattle.image.specs.Fitting.{FitsImage, FitsLivePort, FitsSpace, RisesFrom, number_of, serial_of};
+ghost use Rattle.image.specs.Rows.{live_port_text, snapshot_text, space_text};
+ghost use Rattle.snapshot.specs.declared.rows.LivePort.{LivePort};
+ghost use Rattle.snapshot.specs.declared.rows.Snapshot.{Snapshot};
+ghost use Rattle.snapshot.specs.declared.rows.Space.{Space};
+ghost use Rattle.words.specs.Words.{word};
+
+use crate::ImageFault;
+use crate::rising::rises;
+use crate::spelled::{push_length, push_rows, take_rows};
+use ipc_model::Sequence;
+use snapshot::{LivePort, Snapshot, Space};
+use std::alloc::{AllocError, Global};
+use words::{push_long_word, take_long_word, take_word};
+
+/// The spaces that stand in front behind their count, and the bytes behind them.
+fn take_spaces(alloc: Global, bytes: &[u8]) -> Result<Option<(Sequence<Space>, &[u8])>, AllocError>
+    ensures found { IfOk result (λ found. IfSome found (λ r. (bytes.now ≡ word (length r.0) ++ (flat_map space_text r.0 ++ r.1.now))
+        × (length r.0 < 2 ^ 32) × All FitsSpace r.0 × RisesFrom 0 (map number_of r.0))) }
+    ensures only { (spaces : List Space) (rest : List ℕ) → length spaces < 2 ^ 32 → All FitsSpace spaces → RisesFrom 0 (map number_of spaces)
+        → bytes.now ≡ word (length spaces) ++ (flat_map space_text spaces ++ rest)
+        → IfOk result (λ found. IsSomeAnd found (λ r. (r.0 ≡ spaces) × (r.1.now ≡ rest))) }
+{
+    let Some((count, rest)) = take_word(bytes) else {
+        return Ok(None);
+    };
+    let spaces: Option<(Sequence<Space>, &[u8])> = take_rows(alloc, count, rest)?;
+    let Some((spaces, rest)) = spaces else {
+        return Ok(None);
+    };
+    if !rises(spaces.as_slice()) {
+        return Ok(None);
+    }
+    Ok(Some((spaces, rest)))
+}
+
+/// The live ports that stand in front behind their count, and the bytes behind them.
+fn take_ports(
+    alloc: Global,
+    bytes: &[u8],
+) -> Result<Option<(Sequence<LivePort>, &[u8])>, AllocError>
+    ensures found { IfOk result (λ found. IfSome found (λ r. (bytes.now ≡ word (length r.0) ++ (flat_map live_port_text r.0 ++ r.1.now))
+        × (length r.0 < 2 ^ 32) × All FitsLivePort r.0 × RisesFrom 0 (map serial_of r.0))) }
+    ensures only { (ports : List LivePort) (rest : List ℕ) → length ports < 2 ^ 32 → All FitsLivePort ports → RisesFrom 0 (map serial_of ports)
+        → bytes.now ≡ word (length ports) ++ (flat_map live_port_text ports ++ rest)
+        → IfOk result (λ found. IsSomeAnd found (λ r. (r.0 ≡ ports) × (r.1.now ≡ rest))) }
+{
+    let Some((count, rest)) = take_word(bytes) else {
+        return Ok(None);
+    };
+    let ports: Option<(Sequence<LivePort>, &[u8])> = take_rows(alloc, count, rest)?;
+    let Some((ports, rest)) = ports else {
+        return Ok(None);
+    };
+    if !rises(ports.as_slice()) {
+        return Ok(None);
+    }
+    Ok(Some((ports, rest)))
+}
+
+/// Whether nothing is left.
+fn is_end(rest: &[u8]) -> bool
+    ensures { MatchBool result (rest.now ≡ []) (rest.now ≢ []) }
+{
+    rest.is_empty()
+}
+
+/// The snapshot whose text these bytes are.
+fn read_snapshot(alloc: Global, bytes: &[u8]) -> Result<Option<Snapshot>, AllocError>
+    ensures found { IfOk result (λ found. IfSome found (λ snapshot. (bytes.now ≡ snapshot_text snapshot) × FitsImage snapshot)) }
+    ensures only { (snapshot : Snapshot) → FitsImage snapshot → bytes.now ≡ snapshot_text snapshot
+        → IfOk result (λ found. IsSomeAnd found (λ read. read ≡ snapshot)) }
+{
+    let Some((next_serial, rest)) = take_long_word(bytes) else {
+        return Ok(None);
+    };
+    let Some((spaces, rest)) = take_spaces(alloc, rest)? else {
+        return Ok(None);
+    };
+    let Some((ports, rest)) = take_ports(alloc, rest)? else {
+        return Ok(None);
+    };
+    if !is_end(rest) {
+        return Ok(None);
+    }
+    Ok(Some(Snapshot {
+        next_serial,
+        spaces,
+        ports,
+    }))
+}
+
+/// The snapshot that bytes spell: its numbers fit their words, and its spaces, their names and its ports rise.
+///
+/// `NotCanonical`: they spell none. `NoMemory`: a growth was refused.
+pub fn read(alloc: Global, bytes: &[u8]) -> Result<Snapshot, ImageFault>
+    ensures found { IfOk result (λ snapshot. (bytes.now ≡ snapshot_text snapshot) × FitsImage snapshot) }
+    ensures none { IsErrOf result ImageFault.NotCanonical → (snapshot : Snapshot) → FitsImage snapshot → bytes.now ≡ snapshot_text snapshot → ⊥ }
+{
+    match read_snapshot(alloc, bytes)? {
+        Some(snapshot) => Ok(snapshot),
+        None => Err(ImageFault::NotCanonical),
+    }
+}
+
+/// Adds the text of a snapshot. Where memory is wanted some of its bytes may have been added.
+pub fn write_into(snapshot: &Snapshot, out: &mut Vec<u8>) -> Result<(), AllocError>
+    ensures { OnOk result (out.new.items ≡ out.old.items ++ snapshot_text snapshot.now) }
+{
+    let (spaces, ports) = (snapshot.spaces.as_slice(), snapshot.ports.as_slice());
+    push_long_word(out, snapshot.next_serial)?;
+    push_length(out, spaces.len())?;
+    push_rows(out, spaces)?;
+    push_length(out, ports.len())?;
+    push_rows(out, ports)?;
+    Ok(())
+}

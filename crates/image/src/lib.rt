@@ -1,0 +1,16 @@
+//! Images: states as bytes, one spelling each.
+#![tactic(auto)]
+
+mod entries;
+mod fault;
+mod image;
+mod laws;
+mod messages;
+mod ports;
+mod rising;
+mod spaces;
+mod spelled;
+
+pub use fault::ImageFault;
+pub use image::{read, write_into};
+pub use laws::image_is_of_state;

@@ -1,0 +1,40 @@
+use crate::rising::rises;
+use crate::spelled::{Spelled, push_length, push_rows, take_rows};
+use ipc_model::Sequence;
+use snapshot::{NamedEntry, Space};
+use std::alloc::{AllocError, Global};
+use words::{push_word, take_word};
+
+impl Spelled for Space {
+    ghost use Rattle.image.specs.Fitting.{FitsSpace};
+    ghost use Rattle.image.specs.Rows.{space_text};
+
+    ghost text = { space_text };
+
+    ghost fits = { FitsSpace };
+
+    fn take(alloc: Global, bytes: &[u8]) -> Result<Option<(Self, &[u8])>, AllocError> {
+        let Some((number, rest)) = take_word(bytes) else {
+            return Ok(None);
+        };
+        let Some((count, rest)) = take_word(rest) else {
+            return Ok(None);
+        };
+        let names: Option<(Sequence<NamedEntry>, &[u8])> = take_rows(alloc, count, rest)?;
+        let Some((names, rest)) = names else {
+            return Ok(None);
+        };
+        if !rises(names.as_slice()) {
+            return Ok(None);
+        }
+        Ok(Some((Space { number, names }, rest)))
+    }
+
+    fn push(&self, out: &mut Vec<u8>) -> Result<(), AllocError> {
+        let names = self.names.as_slice();
+        push_word(out, self.number)?;
+        push_length(out, names.len())?;
+        push_rows(out, names)?;
+        Ok(())
+    }
+}
