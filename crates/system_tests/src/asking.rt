@@ -55,6 +55,14 @@ pub(crate) fn new_store(alloc: Global) -> Result<MemDisk, Fail> {
     Ok(core_on(alloc, MemDisk::new(alloc))?.into_disk())
 }
 
+/// How many records a store has.
+pub(crate) fn stored_records(alloc: Global, disk: MemDisk) -> Result<u64, Fail> {
+    match open(alloc, disk) {
+        Ok(opened) => Ok(opened.journal.records()),
+        Err(_) => Err(Fail::from("the store can't be opened")),
+    }
+}
+
 /// What a reply tells: the new name, the type bits, or the code.
 fn told(reply: &Reply) -> u64 {
     match reply {

@@ -1,7 +1,8 @@
-use crate::asking::{Asked, DEVICE, FAILED, NOT_NOW, Row, core_on, new_store, unlike};
+use crate::asking::{
+    Asked, DEVICE, FAILED, NOT_NOW, Row, core_on, new_store, stored_records, unlike,
+};
 use crate::expect::same_in_row;
 use disk::{MemDisk, Torn};
-use recover::open;
 use std::alloc::Global;
 use std::test::Fail;
 
@@ -64,18 +65,10 @@ fn asked(
     Ok((unlike, core.into_disk().after_stop()?))
 }
 
-/// How many records a store has.
-fn records_of(alloc: Global, disk: MemDisk) -> Result<u64, Fail> {
-    match open(alloc, disk) {
-        Ok(opened) => Ok(opened.journal.records()),
-        Err(_) => Err(Fail::from("the store can't be opened")),
-    }
-}
-
 /// The first row that is answered otherwise, and how many records are found again.
 fn left(alloc: Global, disk: MemDisk, rows: &[Row]) -> Result<(Option<(usize, u64)>, u64), Fail> {
     let (unlike, disk) = asked(alloc, disk, rows)?;
-    Ok((unlike, records_of(alloc, disk)?))
+    Ok((unlike, stored_records(alloc, disk)?))
 }
 
 #[test]

@@ -1,4 +1,4 @@
-//! Tests of the core: its events one by one, what a failing device leaves of a batch, and a row that is full.
+//! Tests of the core: its events one by one and in lists, what a failing device leaves, and a row that is full.
 #![tactic(auto)]
 
 #[cfg(test)]
@@ -11,3 +11,5 @@ mod expect;
 mod failures;
 #[cfg(test)]
 mod full_row;
+#[cfg(test)]
+mod lists;

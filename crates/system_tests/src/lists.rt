@@ -1,0 +1,279 @@
+//! Lists of events, a letter each, and what they answer, a letter each; and what a stop or a fault within them leaves.
+use crate::asking::{core_on, new_store, stored_records};
+use crate::expect::{same, same_in_row};
+use disk::{Disk, MemDisk, Slot, Torn};
+use ipc_model::{Call, Reply, Sequence};
+use std::alloc::{AllocError, Global};
+use std::test::Fail;
+use system::{Event, Outcome, System};
+
+/// A message of a header alone, by a send right made from the receive right 0x100.
+static MESSAGE: [u8; 24] = [
+    0x14, 0, 0, 0, 24, 0, 0, 0, 0, 1, 0, 0, 0, 0, 0, 0, 0, 0, 0, 0, 7, 0, 0, 0,
+];
+
+/// A call of space 1.
+fn submit(call: Call) -> Event {
+    Event::Submit { space: 1, call }
+}
+
+/// An event by its letter: a receive right is allocated (`a`), the message is sent to the first one (`s`), the status of that
+/// is asked for (`g`); what waits is taken (`k`), written (`w`), and its receipt handed in (`d`). Any other letter, from `0`
+/// on, asks for the reply of the ticket of its number.
+fn event_of(alloc: Global, letter: u8) -> Result<Event, AllocError> {
+    Ok(match letter {
+        b'a' => submit(Call::Allocate { right: 1 }),
+        b's' => submit(Call::Send {
+            message: Sequence::new(Vec::from_slice(alloc, &MESSAGE)?),
+        }),
+        b'g' => submit(Call::GetReceiveStatus { name: 0x100 }),
+        b'k' => Event::Take,
+        b'w' => Event::Append,
+        b'd' => Event::Durable,
+        _ => Event::Reply {
+            ticket: u64::from(letter.wrapping_sub(b'0')),
+        },
+    })
+}
+
+/// An outcome by its letter: a ticket, done, not now, a fault, or what a reply tells.
+fn letter_of(outcome: &Outcome) -> u8 {
+    match outcome {
+        Outcome::Ticket(_) => b'#',
+        Outcome::Reply(reply) => letter_of_reply(reply),
+        Outcome::Done => b'+',
+        Outcome::NotNow => b'-',
+        _ => b'!',
+    }
+}
+
+/// The letter of a number, from this one on; numbers above those of letters have that of 0.
+fn letter_from(first: u8, number: u32) -> u8 {
+    first.wrapping_add(u8::try_from(number).unwrap_or(0))
+}
+
+/// A reply by its letter: of an allocation the one from `A` on that has the number of its name, of a status the one from `a`
+/// on that has the number of its messages.
+fn letter_of_reply(reply: &Reply) -> u8 {
+    match reply {
+        Reply::Allocate { name } => letter_from(b'A', name.wrapping_sub(0x100)),
+        Reply::ReceiveStatus { status } => letter_from(b'a', status.messages),
+        _ => b'=',
+    }
+}
+
+fn events_of(alloc: Global, letters: &[u8]) -> Result<Vec<Event>, AllocError> {
+    let mut events = Vec::new(alloc);
+    for letter in letters {
+        events.push(event_of(alloc, *letter)?)?;
+    }
+    Ok(events)
+}
+
+/// Runs a list of events, and gives what each answered.
+fn run(core: &mut System<MemDisk>, alloc: Global, letters: &[u8]) -> Result<Vec<u8>, AllocError> {
+    let events = events_of(alloc, letters)?;
+    let outcomes = core.run(alloc, &events)?;
+    let mut answers = Vec::new(alloc);
+    for outcome in &outcomes {
+        answers.push(letter_of(outcome))?;
+    }
+    Ok(answers)
+}
+
+/// What a list of events answers on a disk, and the disk that a stop then leaves.
+fn play(alloc: Global, disk: MemDisk, letters: &[u8]) -> Result<(Vec<u8>, MemDisk), Fail> {
+    let mut core = core_on(alloc, disk)?;
+    let answers = run(&mut core, alloc, letters);
+    let disk = core.into_disk().after_stop()?;
+    Ok((answers?, disk))
+}
+
+/// Two calls are one batch. Their replies are given in any order, each once, as soon as its receipt is handed in; what isn't
+/// possible changes nothing.
+static TWO_CALLS: (&[u8], &[u8]) = (b"kwd0aawk0kww1kdd1002", b"----##-+--+---+-BA--");
+
+/// A status that saw a send waits for the send's record.
+static SEND_SEEN: (&[u8], &[u8]) = (b"akwd0sg2k2w2d21", b"#+++A##-+-+-+b=");
+
+/// Whether a list of events answers this on a new store, and how long its segment is then.
+fn answers(alloc: Global, list: (&[u8], &[u8])) -> Result<(bool, u64), Fail> {
+    let (letters, wanted) = list;
+    let (answers, disk) = play(alloc, MemDisk::new(alloc), letters)?;
+    Ok((answers.as_slice() == wanted, disk.length(Slot::Segment0)))
+}
+
+#[test]
+fn lists_of_events_are_run(rt: HostRuntime) -> Result<(), Fail> {
+    same(&rt, answers(rt.alloc(), TWO_CALLS)?, (true, 110));
+    same(&rt, answers(rt.alloc(), SEND_SEEN)?.0, true);
+    Ok(())
+}
+
+/// The next number of a fixed generator (the constants are those of Knuth's MMIX).
+fn next(seed: u64) -> u64 {
+    seed.wrapping_mul(6_364_136_223_846_793_005)
+        .wrapping_add(1_442_695_040_888_963_407)
+}
+
+/// The letter of an event by a number; a reply is asked for one of the first sixteen tickets.
+fn letter_by(number: u64) -> u8 {
+    match number % 8 {
+        0 | 1 => b'a',
+        2 => b'g',
+        3 => b'k',
+        4 => b'w',
+        5 => b'd',
+        _ => (number / 8 % 16) as u8 + b'0',
+    }
+}
+
+/// A hundred and twenty events.
+fn letters_by(alloc: Global, seed: u64) -> Result<Vec<u8>, AllocError> {
+    let mut letters = Vec::new(alloc);
+    let mut number = seed;
+    for _ in 0..120 {
+        number = next(number);
+        letters.push(letter_by(number >> 33))?;
+    }
+    Ok(letters)
+}
+
+/// How many records were told of by what a list of events answered, and how many were applied.
+fn bounds(alloc: Global, letters: &[u8], answers: &[u8]) -> Result<(u64, u64), AllocError> {
+    let mut seen = Vec::new(alloc);
+    let (mut told, mut applied) = (0, 0u64);
+    for (letter, answer) in letters.iter().zip(answers) {
+        if *answer == b'#' {
+            applied = applied.saturating_add(record_count(*letter));
+            seen.push(applied)?;
+        } else if *answer >= b'=' {
+            told = seen_by(&seen, *letter).max(told);
+        }
+    }
+    Ok((told, applied))
+}
+
+/// How many records the call of a letter has.
+fn record_count(letter: u8) -> u64 {
+    match letter {
+        b'a' | b's' => 1,
+        _ => 0,
+    }
+}
+
+/// How many records the ticket of a letter saw.
+fn seen_by(seen: &[u64], letter: u8) -> u64 {
+    let ticket = letter.wrapping_sub(b'0');
+    seen.get(ticket as usize).copied().unwrap_or(0)
+}
+
+/// How many of the first records are allocations, by the letters of their calls.
+fn allocations(letters: &[u8], answers: &[u8], records: u64) -> u64 {
+    let (mut left, mut count) = (records, 0u64);
+    for (letter, answer) in letters.iter().zip(answers) {
+        if *answer == b'#' && record_count(*letter) > 0 && left > 0 {
+            left -= 1;
+            count = count.saturating_add(u64::from(*letter == b'a'));
+        }
+    }
+    count
+}
+
+/// How many records a store has, and how many ports space 1 has after them, by the name of the next one, which is allocated
+/// and stored.
+fn found(alloc: Global, disk: MemDisk) -> Result<(u64, u64), Fail> {
+    let (answers, disk) = play(alloc, disk, b"akwd0")?;
+    let last = answers.last().copied().unwrap_or(0);
+    let records = stored_records(alloc, disk)?.saturating_sub(1);
+    Ok((records, u64::from(last.wrapping_sub(b'A'))))
+}
+
+/// Whether a list of events on this disk leaves no fewer records than it told of and no more than it applied, and the state
+/// after them; and whether one of them met a fault.
+fn is_bounded(alloc: Global, disk: MemDisk, letters: &[u8]) -> Result<(bool, bool), Fail> {
+    let (answers, disk) = play(alloc, disk, letters)?;
+    let (told, applied) = bounds(alloc, letters, &answers)?;
+    let (records, ports) = found(alloc, disk)?;
+    let is = told <= records
+        && records <= applied
+        && ports == allocations(letters, &answers, records);
+    Ok((is, answers.contains(&b'!')))
+}
+
+/// A new store whose device fails from this call on or at this call alone.
+fn failing(alloc: Global, at: u64, once: bool, torn: Torn) -> Result<MemDisk, Fail> {
+    let mut disk = new_store(alloc)?;
+    if once {
+        disk.plan(None, Some(at), torn);
+    } else {
+        disk.plan(Some(at), None, torn);
+    }
+    Ok(disk)
+}
+
+/// Opening a store makes eleven calls of the device, and each append four.
+const FIRST_CALL: u64 = 12;
+
+/// How many calls of the device a list makes behind those of the opening, by what it answers where none fails.
+fn device_calls(letters: &[u8], answers: &[u8]) -> u64 {
+    let mut calls = 0u64;
+    for (letter, answer) in letters.iter().zip(answers) {
+        if *letter == b'w' && *answer == b'+' {
+            calls = calls.saturating_add(4);
+        }
+    }
+    calls
+}
+
+/// How many calls of the device a list makes until none fails that is planned to, where whatever is left of each of them is
+/// within its bounds.
+fn swept(alloc: Global, letters: &[u8], once: bool, torn: Torn) -> Result<Option<u64>, Fail> {
+    for calls in 0..400u64 {
+        let at = FIRST_CALL.saturating_add(calls);
+        let disk = failing(alloc, at, once, torn)?;
+        let (is, met_fault) = is_bounded(alloc, disk, letters)?;
+        if !is {
+            return Ok(None);
+        }
+        if !met_fault {
+            return Ok(Some(calls));
+        }
+    }
+    Ok(None)
+}
+
+static KINDS: [Torn; 6] = [
+    Torn::Old,
+    Torn::New,
+    Torn::Half,
+    Torn::Fill(0),
+    Torn::Fill(0x5a),
+    Torn::Fill(0xff),
+];
+
+/// The first way to fail in which a list isn't swept as far as it makes calls of the device.
+fn unswept(alloc: Global, letters: &[u8]) -> Result<Option<(Torn, bool)>, Fail> {
+    let (answers, _) = play(alloc, new_store(alloc)?, letters)?;
+    let calls = device_calls(letters, &answers);
+    for torn in &KINDS {
+        for once in [false, true] {
+            if swept(alloc, letters, once, *torn)? != Some(calls) {
+                return Ok(Some((*torn, once)));
+            }
+        }
+    }
+    Ok(None)
+}
+
+#[test]
+fn a_stop_leaves_what_was_told(rt: HostRuntime) -> Result<(), Fail> {
+    for (letters, _) in [TWO_CALLS, SEND_SEEN] {
+        same(&rt, unswept(rt.alloc(), letters)?, None);
+    }
+    for seed in 1..5 {
+        let letters = letters_by(rt.alloc(), seed)?;
+        same_in_row(&rt, seed, unswept(rt.alloc(), &letters)?, None);
+    }
+    Ok(())
+}
