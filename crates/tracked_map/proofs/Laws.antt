@@ -1,5 +1,5 @@
 -- Laws of maps whose changes are kept or given up.
-use Rattle.std.proofs.Common.{◌≡◌, ℕ, zero, suc, ◌+◌, ◌^◌, ◌≤◌, ◌<◌, Bool, true, false, cond, nat_lt, ◌||◌, List, [], ◌∷◌, ◌++◌, length, Option, None, Some, is_some, refl, sym, ◌∙◌, ap, subst, arith}
+use Rattle.std.proofs.Common.{◌≡◌, ℕ, zero, suc, ◌+◌, ◌-◌, ◌^◌, ◌≤◌, ◌<◌, Bool, true, false, cond, nat_lt, ◌||◌, List, [], ◌∷◌, ◌++◌, length, Option, None, Some, is_some, refl, sym, ◌∙◌, ap, subst, arith}
 use Rattle.std.specs.Cmp.{nat_cmp_total, eq_by_cmp_equiv}
 use Rattle.std.proofs.lemmas.Bool.{ltb-false, ltb-true}
 use Rattle.std.specs.Option.{option_flatten}
@@ -321,3 +321,11 @@ module _ {X : Type 0} where
       → ((q : ℕ) → at ≤ q → q < key → get slots q ≡ None) → ((value : X) → slot ≡ Some value → ⊥) → Passed m from (key + 1)
   passed_slot slots m from at key slot seen passed is below none =
       same_passed _ _ from (key + 1) seen (passed_mark slots from key slot is none (passed_more slots from at key (same_passed _ _ from at (sym seen) passed) below))
+
+module _ {X : Type 0} where
+  -- where there are as many values as slots, no slot is without one
+  pub none_marked : (slots : FinMap {K = ℕ} nat_cmp (Option X)) (n : ℕ) → len slots ≡ n → n ≡ len (shown slots) → AreMarked slots []
+  none_marked slots n as_many counted key is =
+      let gone : len (remove slots key) ≡ len slots - 1 = len-remove nat_cmp_total slots key ∙ ap (λ (o : Option (Option X)). len_after (len slots) (is_some o) false) is in
+      let left : len (shown (remove slots key)) ≡ len (shown slots) = ap len (same_without slots key is) in
+      absurd (omega (arith, as_many, counted, gone, left, len_shown (remove slots key), has_some {X = Option X} slots key (ap is_some is)))

@@ -165,7 +165,7 @@ impl<V: Copy + Drop> TrackedMap<V> {
     pub fn keep(&mut self)
         ensures { self.new ≡ at_rest self.old.current }
     {
-        forget_marks(&mut self.slots, &self.former);
+        forget_marks(&mut self.slots, &self.former, self.len);
         self.former.clear();
         self.len_before = self.len;
     }
@@ -175,7 +175,7 @@ impl<V: Copy + Drop> TrackedMap<V> {
         ensures { self.new ≡ at_rest self.old.before }
     {
         put_back(&mut self.slots, &self.former);
-        forget_marks(&mut self.slots, &self.former);
+        forget_marks(&mut self.slots, &self.former, self.len_before);
         self.former.clear();
         self.len = self.len_before;
     }
@@ -218,12 +218,17 @@ fn write<V: Drop>(slots: &mut NumberMap<Option<V>>, key: u128, value: Option<V>)
     }
 }
 
-/// Removes the slots without a value, which are among those of these keys.
-fn forget_marks<V: Drop>(slots: &mut NumberMap<Option<V>>, former: &[(u128, Option<V>)])
-    requires { AreMarked slots.old former.now }
+/// Removes the slots without a value, which are among those of these keys; so many have one. Where there are no more slots
+/// than these, none is looked at.
+fn forget_marks<V: Drop>(slots: &mut NumberMap<Option<V>>, former: &[(u128, Option<V>)], len: usize)
+    requires marked { AreMarked slots.old former.now }
+    requires counted { len ≡ map.len (shown slots.old) }
     ensures shown { shown slots.new ≡ shown slots.old }
     ensures none { AreMarked slots.new [] }
 {
+    if slots.len() == len {
+        return;
+    }
     let mut rest = former;
     while let Some(((key, _), before)) = rest.split_last() {
         forget_mark(slots, *key);
