@@ -272,29 +272,12 @@ pub(crate) fn hundredths(figure: u64, of: u64) -> u64 {
     figure.saturating_mul(100).checked_div(of).unwrap_or(0)
 }
 
-/// How often little and more are measured by turns: the shortest time of each counts, since the machine's own speed changes.
-pub(crate) const TURNS: u32 = 3;
-
-/// How many nanoseconds the calls of a row take beside little, and beside more in each way, where that is less than before.
-fn measure(rt: &HostRuntime, row: &Row, figures: &mut [u64; 5]) -> Result<(), Fault> {
-    let [little, more @ ..] = figures;
-    *little = nanos_of(rt, row, LITTLE)?.min(*little);
-    for ((_, beside), figure) in WAYS.iter().zip(more.iter_mut()) {
-        *figure = nanos_of(rt, row, *beside)?.min(*figure);
-    }
-    Ok(())
-}
-
 /// Prints what a row costs beside little, and how many times as much beside more.
 fn print_row(rt: &HostRuntime, row: &Row) -> Result<(), Fault> {
-    let mut figures = [u64::MAX; 5];
-    for _ in 0..TURNS {
-        measure(rt, row, &mut figures)?;
-    }
-    let [little, more @ ..] = &figures;
+    let little = nanos_of(rt, row, LITTLE)?;
     let _ = print!(rt; "{}: {little}", row.label);
-    for ((what, _), figure) in WAYS.iter().zip(more) {
-        let ratio = hundredths(*figure, *little);
+    for (what, beside) in &WAYS {
+        let ratio = hundredths(nanos_of(rt, row, *beside)?, little);
         let (whole, part) = (ratio / 100, ratio % 100);
         let _ = print!(rt; ", {what} {whole}.{part:02}");
     }

@@ -4,14 +4,12 @@
 //! and in how much memory stores of many records are opened.
 #![tactic(auto)]
 
-mod batches;
 mod costs;
 mod deaths;
 mod memory;
 mod messages;
 mod openings;
 
-use crate::batches::print_batches;
 use crate::costs::{hundredths, print_costs};
 use crate::deaths::print_deaths;
 use crate::memory::{Before, Cycle, HERE, call_of, time_in_memory};
@@ -264,7 +262,6 @@ fn print_in_memory(rt: &HostRuntime) -> Result<(), Fault> {
 fn run(rt: &HostRuntime, folder: &str) -> Result<(), Fault> {
     print_openings(rt, folder)?;
     print_stored(rt, folder)?;
-    print_batches(rt, folder)?;
     print_in_memory(rt)?;
     print_costs(rt)?;
     print_messages(rt)?;

@@ -1,7 +1,7 @@
 //! What messages cost: a send with its receipt, by size and by rights, and a request with the reply to it; each beside few
 //! ports and beside many.
 
-use crate::costs::{TURNS, hundredths};
+use crate::costs::hundredths;
 use crate::memory::{Before, Cycle, HERE, time_in_memory};
 use crate::{Fault, per_call};
 use std::alloc::{AllocError, Global};
@@ -75,18 +75,10 @@ fn push_bytes(line: &mut String, count: u32) -> Result<(), AllocError> {
     Ok(())
 }
 
-/// How a message goes to the port 0x100, by a send right that is made for it.
-pub(crate) const BY_SEND: &str = "send make_send 0x100 id 7";
-
-/// The line that sends a message so, of this size and with so many send rights, which are moved.
-pub(crate) fn send_line(
-    alloc: Global,
-    how: &str,
-    size: u32,
-    rights: u32,
-) -> Result<String, AllocError> {
+/// The line that sends a message of this size with so many send rights, which are moved.
+pub(crate) fn send_line(alloc: Global, size: u32, rights: u32) -> Result<String, AllocError> {
     let mut line = String::new(alloc);
-    line.push_str(how)?;
+    line.push_str("send make_send 0x100 id 7")?;
     let mut left = size.saturating_sub(24);
     if rights > 0 {
         line.push_str(" complex item move_send")?;
@@ -115,17 +107,14 @@ fn nanos_of(rt: &HostRuntime, steps: &[(u32, &str)], ports: u32) -> Result<u64, 
 
 /// How long these calls take beside little, and how many hundredths of that they take beside more.
 fn compare(rt: &HostRuntime, steps: &[(u32, &str)]) -> Result<(u64, u64), Fault> {
-    let (mut little, mut more) = (u64::MAX, u64::MAX);
-    for _ in 0..TURNS {
-        little = nanos_of(rt, steps, LITTLE)?.min(little);
-        more = nanos_of(rt, steps, MORE)?.min(more);
-    }
+    let little = nanos_of(rt, steps, LITTLE)?;
+    let more = nanos_of(rt, steps, MORE)?;
     Ok((little, hundredths(more, little)))
 }
 
 /// Prints what a message of this size with so many rights costs.
 fn print_message(rt: &HostRuntime, size: u32, rights: u32) -> Result<(), Fault> {
-    let Ok(line) = send_line(rt.alloc(), BY_SEND, size, rights) else {
+    let Ok(line) = send_line(rt.alloc(), size, rights) else {
         return Err(Fault::Call);
     };
     let steps = [(HERE, line.as_str()), (HERE, "receive 0x100 limit 8192")];

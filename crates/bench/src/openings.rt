@@ -2,7 +2,7 @@
 
 use crate::costs::hundredths;
 use crate::memory::call_of;
-use crate::messages::{BY_SEND, send_line};
+use crate::messages::send_line;
 use crate::{Fault, open_caller, print_figure};
 use disk::{Disk, DiskFault, FileDisk, Slot};
 use ipc_model::Call;
@@ -112,23 +112,11 @@ fn time_opening<D: Disk + Drop>(rt: &HostRuntime, disk: D) -> Result<Duration, F
 }
 
 /// The files of a folder.
-pub(crate) fn files_at<'a>(
-    rt: &'a HostRuntime,
-    folder: &str,
-) -> Result<FileDisk<&'a HostRuntime>, Fault> {
+fn files_at<'a>(rt: &'a HostRuntime, folder: &str) -> Result<FileDisk<&'a HostRuntime>, Fault> {
     match FileDisk::at(rt.alloc(), rt, folder) {
         Ok(disk) => Ok(disk),
         Err(_) => Err(Fault::Store),
     }
-}
-
-/// Makes a folder.
-pub(crate) fn new_folder(rt: &HostRuntime, parent: &str, name: &str) -> Result<String, Fault> {
-    let Ok(folder) = format!(in rt.alloc(); "{parent}/{name}") else {
-        return Err(Fault::Device);
-    };
-    fs::create_dir(rt, folder.as_str())?;
-    Ok(folder)
 }
 
 /// Makes a store in a new folder, and gives the folder and the length of the segment.
@@ -139,7 +127,10 @@ fn make_folder(
     pair: (&str, &str),
     count: u32,
 ) -> Result<(String, u64), Fault> {
-    let folder = new_folder(rt, parent, name)?;
+    let Ok(folder) = format!(in rt.alloc(); "{parent}/{name}") else {
+        return Err(Fault::Device);
+    };
+    fs::create_dir(rt, folder.as_str())?;
     let length = make_store(rt.alloc(), files_at(rt, folder.as_str())?, pair, count)?;
     Ok((folder, length))
 }
@@ -183,7 +174,7 @@ fn number_in(line: &str) -> u64 {
 
 /// Prints how much memory opening a store of 8 KiB messages and their receipts takes.
 fn print_memory(rt: &HostRuntime, parent: &str) -> Result<(), Fault> {
-    let Ok(line) = send_line(rt.alloc(), BY_SEND, 8_192, 0) else {
+    let Ok(line) = send_line(rt.alloc(), 8_192, 0) else {
         return Err(Fault::Call);
     };
     let (folder, length) = make_folder(rt, parent, "messages", (line.as_str(), RECEIPT), ALL)?;
