@@ -9,13 +9,8 @@ ghost use Rattle.journal.specs.Storing.{IsMidStore};
 use crate::{Batch, StoreFault};
 use codes::MAX_RECORDS;
 use disk::{Disk, DiskFault, Slot};
+use slot_steps::OPEN_GATE;
 use std::marker::Model;
-
-/// A gate with this byte is open: what stands behind it counts.
-pub const OPEN_GATE: u8 = 0x5a;
-
-/// A closed gate.
-pub const CLOSED_GATE: u8 = 0;
 
 /// The records of the segment in use, on a disk. Each call is stored before it is answered.
 #[derive(Drop)]
