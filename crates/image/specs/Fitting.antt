@@ -5,6 +5,7 @@ use Rattle.ipc_model.specs.declared.message.Message.{Message}
 use Rattle.ipc_model.specs.declared.message.RightKind.TheVariants as kind
 use Rattle.ipc_model.specs.declared.port.PortState.{PortState}
 use Rattle.ipc_model.specs.messages.Receiving.{message_size}
+pub use Rattle.snapshot.specs.Rising.{RisesFrom, name_of, number_of, serial_of}
 use Rattle.snapshot.specs.declared.rows.LivePort.{LivePort}
 use Rattle.snapshot.specs.declared.rows.NamedEntry.{NamedEntry}
 use Rattle.snapshot.specs.declared.rows.Snapshot.{Snapshot}
@@ -32,17 +33,9 @@ pub record FitsPort (port : PortState) : Type 0 where
   pub few_messages : length port.messages < 2 ^ 32
   pub messages : All FitsMessage port.messages
 
--- numbers that rise, the first of them at least this one
-abbrev pub RisesFrom : ℕ → List ℕ → Type 0
-RisesFrom at [] = Unit {0}
-RisesFrom at (n ∷ rest) = (at ≤ n) × RisesFrom (n + 1) rest
-
 -- a name with what it stands for
 abbrev pub FitsNamed : NamedEntry → Type 0
 FitsNamed row = SpellableNamed (row.name, row.entry)
-
-abbrev pub name_of : NamedEntry → ℕ
-name_of row = row.name
 
 -- a space
 pub record FitsSpace (space : Space) : Type 0 where
@@ -51,15 +44,9 @@ pub record FitsSpace (space : Space) : Type 0 where
   pub names : All FitsNamed space.names
   pub names_rise : RisesFrom 0 (map name_of space.names)
 
-abbrev pub number_of : Space → ℕ
-number_of space = space.number
-
 -- a live port by its serial
 abbrev pub FitsLivePort : LivePort → Type 0
 FitsLivePort port = (port.serial < 2 ^ 64) × FitsPort port.state
-
-abbrev pub serial_of : LivePort → ℕ
-serial_of port = port.serial
 
 -- A snapshot that an image spells.
 pub record FitsImage (snapshot : Snapshot) : Type 0 where

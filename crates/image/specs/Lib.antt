@@ -3,3 +3,4 @@ pub mod Fitting
 pub mod Parts
 pub mod RowLaws
 pub mod Taking
+pub mod LawfulFits

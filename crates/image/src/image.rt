@@ -7,10 +7,9 @@ ghost use Rattle.snapshot.specs.declared.rows.Space.{Space};
 ghost use Rattle.words.specs.Words.{word};
 
 use crate::ImageFault;
-use crate::rising::rises;
 use crate::spelled::{push_length, push_rows, take_rows};
 use ipc_model::Sequence;
-use snapshot::{LivePort, Snapshot, Space};
+use snapshot::{LivePort, Snapshot, Space, rises};
 use std::alloc::{AllocError, Global};
 use words::{push_long_word, take_long_word, take_word};
 
@@ -29,7 +28,7 @@ fn take_spaces(alloc: Global, bytes: &[u8]) -> Result<Option<(Sequence<Space>, &
     let Some((spaces, rest)) = spaces else {
         return Ok(None);
     };
-    if !rises(spaces.as_slice()) {
+    if !rises(spaces.as_slice(), 0) {
         return Ok(None);
     }
     Ok(Some((spaces, rest)))
@@ -53,7 +52,7 @@ fn take_ports(
     let Some((ports, rest)) = ports else {
         return Ok(None);
     };
-    if !rises(ports.as_slice()) {
+    if !rises(ports.as_slice(), 0) {
         return Ok(None);
     }
     Ok(Some((ports, rest)))

@@ -1,4 +1,5 @@
 ghost use Rattle.std.specs.Prelude.{◌≡◌};
+ghost use Rattle.image.specs.LawfulFits.{LawfulSnapshotsFit};
 ghost use Rattle.image.specs.Rows.{snapshot_text};
 ghost use Rattle.ipc_model.specs.state.State.{State};
 ghost use Rattle.ipc_model.specs.texts.Images.{image_text};
@@ -7,4 +8,9 @@ ghost use Rattle.snapshot.specs.Snapshots.{snapshot_of};
 /// The text of a state's snapshot is the state's image.
 pub fn image_is_of_state()
     ensures { (state : State) → snapshot_text (snapshot_of state) ≡ image_text state }
+{}
+
+/// An image spells the snapshot of every lawful state whose queues are short enough to count.
+pub fn lawful_snapshots_fit()
+    ensures { LawfulSnapshotsFit }
 {}

@@ -7,10 +7,9 @@ mod image;
 mod laws;
 mod messages;
 mod ports;
-mod rising;
 mod spaces;
 mod spelled;
 
 pub use fault::ImageFault;
 pub use image::{read, write_into};
-pub use laws::image_is_of_state;
+pub use laws::{image_is_of_state, lawful_snapshots_fit};

@@ -1,7 +1,6 @@
-use crate::rising::rises;
 use crate::spelled::{Spelled, push_length, push_rows, take_rows};
 use ipc_model::Sequence;
-use snapshot::{NamedEntry, Space};
+use snapshot::{NamedEntry, Space, rises};
 use std::alloc::{AllocError, Global};
 use words::{push_word, take_word};
 
@@ -24,7 +23,7 @@ impl Spelled for Space {
         let Some((names, rest)) = names else {
             return Ok(None);
         };
-        if !rises(names.as_slice()) {
+        if !rises(names.as_slice(), 0) {
             return Ok(None);
         }
         Ok(Some((Space { number, names }, rest)))

@@ -1,5 +1,5 @@
 //! What is asked of the live ports, and done to what they keep beside their queues.
-ghost use Rattle.std.specs.Prelude.{◌≡◌, ◌+◌, ◌<◌, ◌/◌, ◌^◌, false, None, Some, OnOk, OnErr, option_map};
+ghost use Rattle.std.specs.Prelude.{◌≡◌, ◌+◌, ◌<◌, ◌≤◌, ◌/◌, ◌^◌, false, None, Some, OnOk, OnErr, option_map};
 ghost use Rattle.std.specs.FinMap as map;
 ghost use Rattle.ipc_model.specs.state.State.{lives, new_port, ports_are_used_up, with_port};
 ghost use Rattle.ipc_state.specs.Members.{set_in, AreMembers, AreMoving, DifferAt};
@@ -73,6 +73,14 @@ impl IpcState {
                 Err(error)
             }
         }
+    }
+
+    /// The next port gets this serial, which is none that was given before. It takes no memory.
+    pub fn set_next_serial(&mut self, serial: u64)
+        requires { self.old.current.next ≤ serial }
+        ensures { self.new ≡ record self.old { current = record self.old.current { next = serial } } }
+    {
+        self.ports.set_next_serial(serial);
     }
 
     /// Changes what a live port keeps beside its queue. Where memory is wanted the changes are given up.

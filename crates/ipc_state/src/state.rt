@@ -1,4 +1,5 @@
 ghost use Rattle.std.specs.Prelude.{◌≡◌, IfOk};
+ghost use Rattle.std.specs.FinMap as map;
 ghost use Rattle.ipc_model.specs.state.Lawful.{ShortQueues};
 ghost use Rattle.ipc_model.specs.state.State.{opening_state};
 ghost use Rattle.ipc_state.specs.Running.{at_rest};
@@ -38,15 +39,22 @@ impl Model for IpcState {
 }
 
 impl IpcState {
+    /// No spaces and no ports; the first port gets the serial 1. It takes no memory.
+    pub fn new(alloc: Global) -> Self
+        ensures { result ≡ at_rest (record { spaces = map.empty; ports = map.empty; next = 1 }) }
+    {
+        IpcState {
+            spaces: Spaces::new(alloc),
+            ports: Ports::new(alloc),
+            members: PlaceIndex::new(alloc),
+        }
+    }
+
     /// The state of a new store: space 1 without names, and no port.
     pub fn opening(alloc: Global) -> Result<Self, AllocError>
         ensures { IfOk result (λ state. state ≡ at_rest opening_state) }
     {
-        let mut state = IpcState {
-            spaces: Spaces::new(alloc),
-            ports: Ports::new(alloc),
-            members: PlaceIndex::new(alloc),
-        };
+        let mut state = IpcState::new(alloc);
         state.add_space(FIRST_SPACE)?;
         state.keep();
         Ok(state)

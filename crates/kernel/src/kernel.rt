@@ -42,7 +42,7 @@ impl From<AllocError> for ReplayFault {
 /// The state of the machine. Contracts see it as the state of the written definition.
 #[derive(Drop)]
 pub struct Kernel {
-    alloc: Global,
+    pub(crate) alloc: Global,
     pub(crate) state: IpcState,
 }
 

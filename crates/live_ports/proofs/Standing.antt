@@ -136,6 +136,15 @@ added_sound ports count next sound room =
     by key port false apart is =
         let below = sound.below key port is in record { within = omega (arith, below.within); mentioned = λ s to. omega (arith, below.mentioned s to); short = below.short }
 
+-- the next serial is a later one
+pub later_sound : (ports : Ports) (count next later : ℕ) → AreSound ports count next → next ≤ later → AreSound ports count later
+later_sound ports count next later sound past = record {
+  counted = sound.counted;
+  few = sound.few;
+  below = λ key port is.
+      let below = sound.below key port is in record { within = omega (arith, below.within); mentioned = λ s to. omega (arith, below.mentioned s to); short = below.short };
+}
+
 last_true : (b : Bool) → (b || false) ≡ true → b ≡ true
 last_true true e = refl
 last_true false e = absurd (cc e)

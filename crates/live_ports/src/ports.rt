@@ -207,6 +207,14 @@ impl LivePorts {
         }
     }
 
+    /// The next port gets this serial, which is none that was given before. It takes no memory.
+    pub fn set_next_serial(&mut self, serial: u64)
+        requires { self.old.current.next ≤ serial }
+        ensures { self.new ≡ record self.old { current = record self.old.current { next = serial } } }
+    {
+        self.tables.set_next_serial(serial);
+    }
+
     /// A port dies: it goes, and rights to it in other queues become `MACH_PORT_DEAD`. The targets of requests stay.
     /// Nothing changes where it is dead. Where memory is wanted the changes are given up.
     pub fn bury(&mut self, serial: u64) -> Result<(), AllocError>

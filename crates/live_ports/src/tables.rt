@@ -137,6 +137,15 @@ impl Tables {
         Ok(())
     }
 
+    /// The next port gets this serial.
+    pub(crate) fn set_next_serial(&mut self, serial: u64)
+        requires { AreMarked self.old.slots self.old.touched.items }
+        ensures ok { AreNow self.new (present_ports self.old.slots) self.old.count serial }
+        ensures before { SameBefore self.old self.new }
+    {
+        self.next = serial;
+    }
+
     /// A port that lives dies. Where memory is wanted the changes are to be given up.
     pub(crate) fn bury(&mut self, serial: u64) -> Result<(), AllocError>
         requires marked { AreMarked self.old.slots self.old.touched.items }

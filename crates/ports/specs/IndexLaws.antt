@@ -1,5 +1,5 @@
 -- What a change of the ports does to their indexes.
-use Rattle.std.proofs.Common.{◌≡◌, ℕ, ◌+◌, ◌-◌, ◌^◌, ◌<◌, Bool, true, false, cond, ◌||◌, List, [], ◌∷◌, ◌++◌, Option, None, Some, is_some, option_map, option_and_then, refl, sym, ◌∙◌, ap, subst, arith}
+use Rattle.std.proofs.Common.{◌≡◌, ℕ, ◌+◌, ◌-◌, ◌^◌, ◌<◌, ◌≤◌, Bool, true, false, cond, ◌||◌, List, [], ◌∷◌, ◌++◌, Option, None, Some, is_some, option_map, option_and_then, refl, sym, ◌∙◌, ap, subst, arith}
 use Rattle.std.specs.Cmp.{nat_cmp_total}
 use Rattle.std.specs.List.{list_any}
 use Rattle.std.specs.Ordering.{nat_cmp, eq_by_cmp}
@@ -227,6 +227,20 @@ pushed_indexed table after old new serial message lives fits live is done are = 
     by : (o : Option PortState) → get table.ports serial ≡ o → is_some o ≡ true → AreIndexed (record table { ports = changed table.ports serial (with_message message) }) (present_parts new)
     by None none some = absurd (cc some)
     by (Some port) there some = pushed_at table old new serial message port there fits live done are
+
+-- the next serial is a later one
+pub later_indexed : (table after : PortTable) (parts : Parts) (serial : ℕ) → table.next ≤ serial → serial < 2 ^ 64 → after ≡ record table { next = serial } → AreIndexed table parts → AreIndexed after parts
+later_indexed table after parts serial past fits is are = subst (λ (t : PortTable). AreIndexed t parts) (sym is) (record {
+  counted = are.counted;
+  carried = are.carried;
+  no_senders = are.no_senders;
+  destroyed = are.destroyed;
+  small = record {
+    below = λ k some. omega (arith, past, are.small.below k some);
+    mentioned = are.small.mentioned;
+    fits = fits;
+  };
+})
 
 -- a port is born
 pub added_indexed : (table after : PortTable) (parts : Parts) → table.next < 2 ^ 64 - 1 → after ≡ record { ports = insert table.ports table.next new_port; next = table.next + 1 } → AreIndexed table parts → AreIndexed after parts

@@ -1,5 +1,5 @@
 // What is done to the ports.
-ghost use Rattle.std.specs.Prelude.{◌≡◌, ◌<◌, ◌+◌, ◌-◌, ◌^◌, OnOk, OnErr, take};
+ghost use Rattle.std.specs.Prelude.{◌≡◌, ◌<◌, ◌≤◌, ◌+◌, ◌-◌, ◌^◌, OnOk, OnErr, take};
 ghost use Rattle.std.specs.FinMap as map;
 ghost use Rattle.codes.specs.declared.limits.TheConstants.{MAX_PORTS};
 ghost use Rattle.ipc_model.specs.state.State.{new_port};
@@ -104,6 +104,14 @@ impl Ports {
                 Err(error)
             }
         }
+    }
+
+    /// The next port gets this serial, which is none that was given before. It takes no memory.
+    pub fn set_next_serial(&mut self, serial: u64)
+        requires { self.old.current.next ≤ serial }
+        ensures { self.new ≡ record self.old { current = record self.old.current { next = serial } } }
+    {
+        self.ports.set_next_serial(serial);
     }
 }
 

@@ -1,1 +1,4 @@
+pub mod LawfulSnapshot
+pub mod Rising
+pub mod Rows
 pub mod Snapshots

@@ -1,18 +1,19 @@
 ghost use Rattle.std.specs.Prelude.{◌≡◌, ◌↔◌, ℕ, ◌<◌, ◌^◌, IsTrue, List, map};
-ghost use Rattle.image.specs.Fitting.{RisesFrom};
+ghost use Rattle.snapshot.specs.Rising.{RisesFrom};
 
-use snapshot::{LivePort, NamedEntry, Space};
+use crate::{LivePort, NamedEntry, Space};
 
 /// A row that has a number.
-pub(crate) trait Numbered {
+pub trait Numbered {
     ghost number: { Self → ℕ };
 
+    /// Its number.
     fn number(&self) -> u64
         ensures { result ≡ number self.now };
 }
 
 impl Numbered for NamedEntry {
-    ghost use Rattle.image.specs.Fitting.{name_of};
+    ghost use Rattle.snapshot.specs.Rising.{name_of};
 
     ghost number = { name_of };
 
@@ -22,7 +23,7 @@ impl Numbered for NamedEntry {
 }
 
 impl Numbered for Space {
-    ghost use Rattle.image.specs.Fitting.{number_of};
+    ghost use Rattle.snapshot.specs.Rising.{number_of};
 
     ghost number = { number_of };
 
@@ -32,7 +33,7 @@ impl Numbered for Space {
 }
 
 impl Numbered for LivePort {
-    ghost use Rattle.image.specs.Fitting.{serial_of};
+    ghost use Rattle.snapshot.specs.Rising.{serial_of};
 
     ghost number = { serial_of };
 
@@ -41,11 +42,11 @@ impl Numbered for LivePort {
     }
 }
 
-/// Whether the numbers of rows rise.
-pub(crate) fn rises<T: Numbered>(rows: &[T]) -> bool
-    ensures { IsTrue result ↔ RisesFrom 0 (map T.number rows.now) }
+/// Whether the numbers of rows rise, the first of them at least this one.
+pub fn rises<T: Numbered>(rows: &[T], from: u64) -> bool
+    ensures { IsTrue result ↔ RisesFrom from (map T.number rows.now) }
 {
-    let mut at = 0;
+    let mut at = u128::from(from);
     for row in rows {
         let number = u128::from(row.number());
         if number < at {

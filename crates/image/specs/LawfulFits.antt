@@ -1,0 +1,68 @@
+-- An image spells the snapshot of every lawful state whose queues are short.
+use Rattle.std.proofs.Common.{◌≡◌, ◌≢◌, ℕ, ◌+◌, ◌<◌, ◌≤◌, ◌^◌, All, List, [], ◌∷◌, length, map, refl, sym, Some, ◌∙◌, ap, subst, arith}
+use Rattle.std.specs.FinMap.{entries, get, len, len-entries}
+use Rattle.std.proofs.lemmas.List.Elements.{All-map, All-same}
+use Rattle.ipc_laws.specs.ImageLaws.{Spellable, SpellableLivePort, SpellableMessage, SpellableNamed, SpellablePort, SpellableSpace}
+use Rattle.ipc_laws.specs.Spelling.{lawful_is_spellable}
+use Rattle.ipc_model.specs.declared.message.Message.{Message}
+use Rattle.ipc_model.specs.declared.port.PortState.{PortState}
+use Rattle.ipc_model.specs.state.Lawful.{Lawful, LawfulMessage, LawfulPort, ShortQueues}
+use Rattle.ipc_model.specs.state.State.{Names, State}
+use Rattle.snapshot.specs.Rows.{all_entries, each_entry, entries_rise, map_map, named_row, port_row, space_row}
+use Rattle.snapshot.specs.Snapshots.{names_of, snapshot_of}
+use Rattle.image.specs.Fitting.{FitsImage, FitsLivePort, FitsMessage, FitsNamed, FitsPort, FitsSpace, RisesFrom, name_of, number_of, serial_of}
+
+length_mapped : {A B : Type 0} (f : A → B) (xs : List A) → length (map f xs) ≡ length xs
+length_mapped f [] = refl
+length_mapped f (x ∷ xs) = omega (arith, length_mapped f xs)
+
+message_fits : (message : Message) → LawfulMessage message → SpellableMessage message → FitsMessage message
+message_fits message lawful spells = record {
+  destination = lawful.destination;
+  reply = spells.reply;
+  id = spells.id;
+  size = spells.size;
+  few_rights = spells.few_rights;
+  rights = spells.rights;
+  bytes = lawful.bytes;
+}
+
+port_fits : (port : PortState) → LawfulPort port → SpellablePort port → FitsPort port
+port_fits port lawful spells = record {
+  limit = spells.limit;
+  sequence_number = spells.sequence_number;
+  make_send_count = spells.make_send_count;
+  set = spells.set;
+  no_senders_target = spells.no_senders_target;
+  port_destroyed_target = spells.port_destroyed_target;
+  few_messages = spells.few_messages;
+  messages = λ k d less. message_fits _ (lawful.messages k d less) (spells.messages k d less);
+}
+
+space_fits : (state : State) → Lawful state → Spellable state → (space : ℕ) (names : Names) → get state.spaces space ≡ Some names → FitsSpace (space_row (space, names))
+space_fits state lawful spells space names there =
+    let own = each_entry SpellableSpace state.spaces space names spells.spaces there in
+    record {
+      number = own.0;
+      few_names = omega (arith, own.1.few, len-entries names, length_mapped named_row (entries names));
+      names = All-map FitsNamed named_row (entries names) own.1.entries;
+      names_rise = subst (RisesFrom 0) (sym (map_map name_of named_row (entries names))) (entries_rise 0 names (λ k v at. omega arith));
+    }
+
+abbrev pub LawfulSnapshotsFit : Type 0
+LawfulSnapshotsFit = (state : State) → Lawful state → ShortQueues state → FitsImage (snapshot_of state)
+
+pub lawful_snapshots_fit : LawfulSnapshotsFit
+unfolding snapshot_of
+lawful_snapshots_fit state lawful short =
+    let spells : Spellable state = lawful_is_spellable state lawful short in
+    record {
+      next_serial = spells.next;
+      few_spaces = omega (arith, spells.few_spaces, len-entries state.spaces, length_mapped space_row (entries state.spaces));
+      spaces = All-map FitsSpace space_row (entries state.spaces) (all_entries (λ (e : ℕ × Names). FitsSpace (space_row e)) state.spaces (space_fits state lawful spells));
+      spaces_rise = subst (RisesFrom 0) (sym (map_map number_of space_row (entries state.spaces))) (entries_rise 0 state.spaces (λ k v at. omega arith));
+      few_ports = omega (arith, spells.few_ports, len-entries state.ports, length_mapped port_row (entries state.ports));
+      ports = All-map FitsLivePort port_row (entries state.ports) (all_entries (λ (e : ℕ × PortState). FitsLivePort (port_row e)) state.ports (λ serial port at.
+          let own = each_entry SpellableLivePort state.ports serial port spells.ports at in (own.0, port_fits port (lawful.ports serial port at).2 own.1)));
+      ports_rise = subst (RisesFrom 0) (sym (map_map serial_of port_row (entries state.ports))) (entries_rise 0 state.ports (λ k v at. omega arith));
+    }

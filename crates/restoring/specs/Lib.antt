@@ -1,0 +1,17 @@
+pub mod AllLaws
+pub mod Bodies
+pub mod ClimbLaws
+pub mod Climbing
+pub mod FillLaws
+pub mod Filling
+pub mod Holding
+pub mod HopLaws
+pub mod KindLaws
+pub mod LawfulRows
+pub mod LinkLaws
+pub mod Linked
+pub mod Received
+pub mod ReceiverLaws
+pub mod Receivers
+pub mod Restored
+pub mod Shaped

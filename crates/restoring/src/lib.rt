@@ -1,0 +1,12 @@
+//! The running state made of a snapshot, where the snapshot is that of a lawful state.
+#![tactic(auto)]
+
+mod bodies;
+mod climbing;
+mod filling;
+mod linking;
+mod making;
+mod receivers;
+mod shape;
+
+pub use making::{SnapshotFault, lawful, restore};

@@ -1,0 +1,117 @@
+ghost use Rattle.std.specs.Prelude.{◌≡◌, ◌↔◌, ◌<◌, ◌^◌, false, IfOk, IsErrOf, IsOk, IsTrue, OnOk};
+ghost use Rattle.ipc_model.specs.state.Circular.{Grounded};
+ghost use Rattle.ipc_model.specs.state.Lawful.{Lawful, ShortQueues};
+ghost use Rattle.ipc_state.specs.Running.{at_rest};
+ghost use Rattle.restoring.specs.FillLaws.{nothing, skeleton};
+ghost use Rattle.restoring.specs.Shaped.{IsShaped};
+ghost use Rattle.snapshot.specs.LawfulSnapshot.{IsLawfulSnapshot};
+ghost use Rattle.snapshot.specs.Snapshots.{snapshot_of};
+
+use crate::climbing::is_grounded;
+use crate::filling::{fill_queues, fill_spaces, open_ports};
+use crate::linking::is_linked;
+use crate::receivers::are_received_once;
+use crate::shape::is_shaped;
+use ipc_state::IpcState;
+use snapshot::Snapshot;
+use std::alloc::{AllocError, Global};
+
+/// Why a snapshot gives no state.
+#[derive(Clone, Copy, Debug, PartialEq, Eq)]
+pub enum SnapshotFault {
+    /// It is that of no lawful state.
+    NotLawful = 1,
+    /// No memory.
+    NoMemory = 2,
+}
+
+impl From<AllocError> for SnapshotFault {
+    ghost use Rattle.std.specs.Prelude.{◌≡◌};
+    ghost use Rattle.restoring.specs.declared.making.SnapshotFault.TheVariants.{NoMemory};
+
+    ghost from_gives = { λ _ e. e ≡ NoMemory };
+
+    fn from(_: AllocError) -> Self {
+        SnapshotFault::NoMemory
+    }
+}
+
+/// Whether a snapshot is that of a lawful state, in which no ports carry one another in a circle.
+pub fn lawful(alloc: Global, snapshot: &Snapshot) -> Result<bool, AllocError>
+    ensures { IfOk result (λ yes. IsTrue yes ↔ IsLawfulSnapshot snapshot.now) }
+{
+    let mut state = IpcState::new(alloc);
+    verdict(fill(alloc, &mut state, snapshot))
+}
+
+/// Whether what was filled in is lawful.
+fn verdict(outcome: Result<(), SnapshotFault>) -> Result<bool, AllocError>
+    ensures yes { IfOk result (λ yes. IsTrue yes → IsOk outcome) }
+    ensures no { IfOk result (λ yes. yes ≡ false → IsErrOf outcome SnapshotFault.NotLawful) }
+{
+    match outcome {
+        Ok(()) => Ok(true),
+        Err(SnapshotFault::NotLawful) => Ok(false),
+        Err(SnapshotFault::NoMemory) => Err(AllocError),
+    }
+}
+
+/// The running state of a snapshot, at rest.
+pub fn restore(alloc: Global, snapshot: &Snapshot) -> Result<IpcState, SnapshotFault>
+    ensures same { IfOk result (λ state. snapshot.now ≡ snapshot_of state.current) }
+    ensures rest { IfOk result (λ state. state ≡ at_rest state.current) }
+    ensures lawful { IfOk result (λ state. Lawful state.current × Grounded state.current) }
+    ensures valid { IfOk result (λ state. IsLawfulSnapshot snapshot.now) }
+    ensures unlawful { IsErrOf result SnapshotFault.NotLawful → IsLawfulSnapshot snapshot.now → ⊥ }
+{
+    let mut state = IpcState::new(alloc);
+    fill(alloc, &mut state, snapshot)?;
+    state.keep();
+    Ok(state)
+}
+
+/// Fills a state of nothing with the rows of a snapshot. With a fault it is to be given up.
+fn fill(alloc: Global, state: &mut IpcState, snapshot: &Snapshot) -> Result<(), SnapshotFault>
+    requires { state.old.current ≡ nothing }
+    ensures same { OnOk result (snapshot.now ≡ snapshot_of state.new.current) }
+    ensures lawful { OnOk result (Lawful state.new.current × Grounded state.new.current) }
+    ensures short { OnOk result (ShortQueues state.new.current) }
+    ensures unlawful { IsErrOf result SnapshotFault.NotLawful → IsLawfulSnapshot snapshot.now → ⊥ }
+{
+    serial_fits(snapshot);
+    if !is_shaped(alloc, snapshot)? {
+        return Err(SnapshotFault::NotLawful);
+    }
+    open_rows(state, snapshot)?;
+    if !is_linked(state, snapshot) {
+        return Err(SnapshotFault::NotLawful);
+    }
+    if !are_received_once(alloc, snapshot)? {
+        return Err(SnapshotFault::NotLawful);
+    }
+    fill_queues(alloc, state, snapshot.ports.as_slice())?;
+    if !is_grounded(alloc, state)? {
+        return Err(SnapshotFault::NotLawful);
+    }
+    Ok(())
+}
+
+/// Opens the ports and spaces of rows of a lawful shape, without their messages.
+fn open_rows(state: &mut IpcState, snapshot: &Snapshot) -> Result<(), AllocError>
+    requires nothing { state.old.current ≡ nothing }
+    requires shaped { IsShaped snapshot.now }
+    ensures { OnOk result (state.new.current ≡ skeleton snapshot.now) }
+{
+    serial_fits(snapshot);
+    open_ports(state, snapshot.ports.as_slice())?;
+    state.set_next_serial(snapshot.next_serial);
+    fill_spaces(state, snapshot.spaces.as_slice())?;
+    Ok(())
+}
+
+/// The next serial is a long word. It does nothing but show it.
+fn serial_fits(snapshot: &Snapshot)
+    ensures { snapshot.now.next_serial < 2 ^ 64 }
+{
+    let _next_serial = snapshot.next_serial;
+}

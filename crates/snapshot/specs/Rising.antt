@@ -1,0 +1,20 @@
+-- Rows whose numbers rise.
+use Rattle.std.specs.Prelude.{ℕ, ◌+◌, ◌≤◌, List, [], ◌∷◌}
+use Rattle.snapshot.specs.declared.rows.LivePort.{LivePort}
+use Rattle.snapshot.specs.declared.rows.NamedEntry.{NamedEntry}
+use Rattle.snapshot.specs.declared.rows.Space.{Space}
+
+-- numbers that rise, the first of them at least this one
+abbrev pub RisesFrom : ℕ → List ℕ → Type 0
+RisesFrom at [] = Unit {0}
+RisesFrom at (n ∷ rest) = (at ≤ n) × RisesFrom (n + 1) rest
+
+-- the numbers of rows
+abbrev pub name_of : NamedEntry → ℕ
+name_of row = row.name
+
+abbrev pub number_of : Space → ℕ
+number_of space = space.number
+
+abbrev pub serial_of : LivePort → ℕ
+serial_of port = port.serial
