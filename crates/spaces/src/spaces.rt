@@ -7,8 +7,8 @@ ghost use Rattle.ipc_model.specs.declared.message.RightKind.TheVariants as kind;
 ghost use Rattle.ipc_model.specs.state.State.{Names, received_port, request_of};
 ghost use Rattle.pair_counts.specs.Rights.{right_weight};
 ghost use Rattle.port_space.specs.References.{AreFewReferences};
-ghost use Rattle.spaces.specs.Indexes.{IsMoved, IsNextAt, SameBefore};
-ghost use Rattle.spaces.specs.Looking.{entry_in, place, port_named};
+ghost use Rattle.spaces.specs.Indexes.{IsMoved, IsNextAt, SameBefore, lesser};
+ghost use Rattle.spaces.specs.Looking.{entry_in, place, port_named, port_shared};
 ghost use Rattle.spaces.specs.Numbers.{IsFreeNumber};
 ghost use Rattle.spaces.specs.Slots.{spaces_at_rest, names_changed};
 
@@ -38,8 +38,8 @@ impl Model for Spaces {
     ghost view = { λ s. s.table };
 
     ghost invariant = { λ s.
-        AreIndexed s.table.before s.indexes.holders.before s.indexes.requesters.before s.indexes.receivers.before s.indexes.counts.before
-        × AreIndexed s.table.current s.indexes.holders.current s.indexes.requesters.current s.indexes.receivers.current s.indexes.counts.current };
+        AreIndexed s.table.before s.indexes.sharers.before s.indexes.requesters.before s.indexes.receivers.before s.indexes.counts.before
+        × AreIndexed s.table.current s.indexes.sharers.current s.indexes.requesters.current s.indexes.receivers.current s.indexes.counts.current };
 }
 
 impl Spaces {
@@ -156,7 +156,14 @@ impl Spaces {
     pub fn next_holder(&self, port: u64, from: u64) -> Option<u64>
         ensures { IsNextAt port_named self.now.current port from result }
     {
-        self.indexes.holders.next(port, from)
+        lesser(self.next_sharer(port, from), self.next_receiver(port, from))
+    }
+
+    /// The first place from one on whose name stands for a right to a port, and not for the receive right.
+    fn next_sharer(&self, port: u64, from: u64) -> Option<u64>
+        ensures { IsNextAt port_shared self.now.current port from result }
+    {
+        self.indexes.sharers.next(port, from)
     }
 
     /// The first place from one on whose name's dead-name request has a port for its target.
@@ -212,6 +219,17 @@ impl Spaces {
     {
         self.table.give_up();
         self.indexes.give_up();
+    }
+}
+
+/// The lesser of two numbers, where there are two.
+fn lesser(one: Option<u64>, other: Option<u64>) -> Option<u64>
+    ensures { result ≡ lesser one other }
+{
+    match (one, other) {
+        (Some(one), Some(other)) => Some(one.min(other)),
+        (Some(one), None) => Some(one),
+        (None, other) => other,
     }
 }
 
