@@ -90,10 +90,18 @@ impl Spaces {
         ensures ok { OnOk result (self.new ≡ record self.old { current = names_changed self.old.current space (λ names. map.insert names name entry) }) }
         ensures err { OnErr result (self.new ≡ spaces_at_rest self.old.before) }
     {
-        if !self.table.contains(space) {
+        let Some(names) = self.table.names(space) else {
             return Ok(());
-        }
-        match put_in_both(&mut self.table, &mut self.indexes, space, name, entry) {
+        };
+        let former = names.get(name);
+        match put_in_both(
+            &mut self.table,
+            &mut self.indexes,
+            space,
+            name,
+            former,
+            entry,
+        ) {
             Ok(()) => Ok(()),
             Err(error) => {
                 self.table.give_up();
@@ -108,10 +116,11 @@ impl Spaces {
         ensures ok { OnOk result (self.new ≡ record self.old { current = names_changed self.old.current space (λ names. map.remove names name) }) }
         ensures err { OnErr result (self.new ≡ spaces_at_rest self.old.before) }
     {
-        if !self.table.contains(space) {
+        let Some(names) = self.table.names(space) else {
             return Ok(());
-        }
-        match remove_from_both(&mut self.table, &mut self.indexes, space, name) {
+        };
+        let former = names.get(name);
+        match remove_from_both(&mut self.table, &mut self.indexes, space, name, former) {
             Ok(()) => Ok(()),
             Err(error) => {
                 self.table.give_up();
@@ -251,13 +260,16 @@ fn entry_of(table: &SpaceTable, space: u32, name: u32) -> Option<Entry>
     }
 }
 
+/// Has a name stand for this in place of what it stood for.
 fn put_in_both(
     table: &mut SpaceTable,
     indexes: &mut NameIndexes,
     space: u32,
     name: u32,
+    former: Option<Entry>,
     entry: Entry,
 ) -> Result<(), AllocError>
+    requires former { former ≡ entry_in table.old.current space name }
     requires room { (names : Names) → map.get table.old.current space ≡ Some names → map.get names name ≡ None → map.len names < MAX_NAMES }
     requires few { AreFewReferences entry }
     ensures table { OnOk result (table.new ≡ record table.old { current = names_changed table.old.current space (λ names. map.insert names name entry) }) }
@@ -265,23 +277,24 @@ fn put_in_both(
     ensures before { table.new.before ≡ table.old.before }
     ensures indexes_before { SameBefore indexes.old indexes.new }
 {
-    let former = entry_of(table, space, name);
     indexes.change(place(space, name), former, Some(entry))?;
     table.put(space, name, entry)
 }
 
+/// Takes a name out of use that stood for this.
 fn remove_from_both(
     table: &mut SpaceTable,
     indexes: &mut NameIndexes,
     space: u32,
     name: u32,
+    former: Option<Entry>,
 ) -> Result<(), AllocError>
+    requires { former ≡ entry_in table.old.current space name }
     ensures table { OnOk result (table.new ≡ record table.old { current = names_changed table.old.current space (λ names. map.remove names name) }) }
     ensures indexes { OnOk result (IsMoved indexes.old indexes.new (place space name) (entry_in table.old.current space name) None) }
     ensures before { table.new.before ≡ table.old.before }
     ensures indexes_before { SameBefore indexes.old indexes.new }
 {
-    let former = entry_of(table, space, name);
     indexes.change(place(space, name), former, None)?;
     table.remove(space, name)
 }
