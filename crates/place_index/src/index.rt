@@ -106,8 +106,26 @@ fn replace(
     ensures ok { OnOk result (places.new.current ≡ moved places.old.current place former number) }
     ensures before { places.new.before ≡ places.old.before }
 {
+    if former == number {
+        return stay(places, number, place);
+    }
     leave(places, former, place)?;
     join(places, number, place)
+}
+
+/// The number that is said to stand at a place does so from now on, if it didn't.
+fn stay(places: &mut TrackedMap<()>, number: Option<u64>, place: u64) -> Result<(), AllocError>
+    ensures ok { OnOk result (places.new.current ≡ with_place places.old.current number place) }
+    ensures before { places.new.before ≡ places.old.before }
+{
+    let Some(number) = number else {
+        return Ok(());
+    };
+    let key = key(number, place);
+    if places.contains_key(key) {
+        return Ok(());
+    }
+    places.set(key, ())
 }
 
 fn leave(places: &mut TrackedMap<()>, number: Option<u64>, place: u64) -> Result<(), AllocError>

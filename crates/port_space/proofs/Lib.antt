@@ -3,3 +3,4 @@ mod Bounds
 mod ByPort
 mod Free
 mod Standing
+mod Staying

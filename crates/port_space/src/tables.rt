@@ -67,8 +67,7 @@ impl Tables {
         ensures before { SameBefore self.old self.new }
     {
         let former = self.port_under(name);
-        leave_port(&mut self.by_port, former, name)?;
-        join_port(&mut self.by_port, port_held(&entry), name)?;
+        change_port(&mut self.by_port, former, port_held(&entry), name)?;
         self.names.set(u128::from(name), entry)?;
         self.gaps.remove(u128::from(name))?;
         self.low = next_unused(&self.names, &self.gaps, self.low);
@@ -142,6 +141,42 @@ pub(crate) fn port_key(port: u64, name: u32) -> u128
     ensures fits { result < 2 ^ 128 }
 {
     u128::from(port) * (1 << 32) + u128::from(name)
+}
+
+/// A name holds a right of one port, or of none, in place of another.
+fn change_port(
+    by_port: &mut TrackedMap<()>,
+    former: Option<u64>,
+    port: Option<u64>,
+    name: u32,
+) -> Result<(), AllocError>
+    ensures ok { OnOk result (by_port.new.current ≡ with_port (without_port by_port.old.current former name) port name) }
+    ensures before { by_port.new.before ≡ by_port.old.before }
+{
+    if former == port {
+        return stay_with_port(by_port, port, name);
+    }
+    leave_port(by_port, former, name)?;
+    join_port(by_port, port, name)
+}
+
+/// The name that is said to hold a right of a port does so from now on, if it didn't.
+fn stay_with_port(
+    by_port: &mut TrackedMap<()>,
+    port: Option<u64>,
+    name: u32,
+) -> Result<(), AllocError>
+    ensures ok { OnOk result (by_port.new.current ≡ with_port by_port.old.current port name) }
+    ensures before { by_port.new.before ≡ by_port.old.before }
+{
+    let Some(port) = port else {
+        return Ok(());
+    };
+    let key = port_key(port, name);
+    if by_port.contains_key(key) {
+        return Ok(());
+    }
+    by_port.set(key, ())
 }
 
 fn leave_port(by_port: &mut TrackedMap<()>, port: Option<u64>, name: u32) -> Result<(), AllocError>

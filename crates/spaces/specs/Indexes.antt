@@ -1,5 +1,5 @@
--- The names by the ports that they stand for rights to, that their requests have as targets, and whose receive rights they hold.
-use Rattle.std.proofs.Common.{◌≡◌, ℕ, ◌^◌, ◌<◌, ◌≤◌, ◌/◌, ◌%◌, Bool, true, false, cond, Option, None, Some, MatchOption, is_some, option_map, option_and_then, refl, sym, ◌∙◌, ap, subst, arith}
+-- The names by the ports whose receive rights they hold, that they stand for other rights to, and that their requests have as targets.
+use Rattle.std.proofs.Common.{nat_lt, if◌then◌else◌, ◌≡◌, ℕ, ◌^◌, ◌<◌, ◌≤◌, ◌/◌, ◌%◌, Bool, true, false, cond, Option, None, Some, MatchOption, is_some, option_map, option_and_then, refl, sym, ◌∙◌, ap, subst, arith}
 use Rattle.std.specs.Cmp.{nat_cmp_total}
 use Rattle.std.specs.Ordering.{nat_cmp, eq_by_cmp}
 use Rattle.std.specs.FinMap.{empty, get, insert, remove, get-empty, get-insert, get-remove}
@@ -12,7 +12,7 @@ use Rattle.pair_counts.specs.Counts.{Counts}
 use Rattle.spaces.specs.Counting.{AreWords, SpacesAreCounted, entry_fewer, entry_more, moved_counted, nothing_counted}
 use Rattle.spaces.specs.declared.indexes.NameIndexes.{NameIndexes}
 use Rattle.spaces.specs.Laws.{get_names_changed}
-use Rattle.spaces.specs.Looking.{entry_in, port_named, place, at_place, place_changed, parts_of}
+use Rattle.spaces.specs.Looking.{entry_in, port_shared, place, at_place, place_changed, parts_of}
 use Rattle.spaces.specs.Slots.{SpaceMap, names_changed}
 use Rattle.tracked_map.specs.Tracked.{at_rest}
 
@@ -20,8 +20,8 @@ use Rattle.tracked_map.specs.Tracked.{at_rest}
 abbrev pub AreSmall : SpaceMap → Type 0
 AreSmall spaces = (space name : ℕ) → is_some (entry_in spaces space name) ≡ true → (space < 2 ^ 32) × (name < 2 ^ 32)
 
-pub record AreIndexed (spaces : SpaceMap) (holders requesters receivers : Numbers) (counts : Counts) : Type 0 where
-  pub held : IsIndexed (at_place port_named spaces) holders
+pub record AreIndexed (spaces : SpaceMap) (sharers requesters receivers : Numbers) (counts : Counts) : Type 0 where
+  pub held : IsIndexed (at_place port_shared spaces) sharers
   pub requested : IsIndexed (at_place request_of spaces) requesters
   pub received : IsIndexed (at_place received_port spaces) receivers
   pub counted : SpacesAreCounted spaces counts
@@ -29,7 +29,7 @@ pub record AreIndexed (spaces : SpaceMap) (holders requesters receivers : Number
 
 -- what a name stands for was replaced
 pub record IsMoved (old new : NameIndexes) (number : ℕ) (former entry : Option Entry) : Type 0 where
-  pub held : new.holders.current ≡ moved old.holders.current number (option_and_then port_named former) (option_and_then port_named entry)
+  pub held : new.sharers.current ≡ moved old.sharers.current number (option_and_then port_shared former) (option_and_then port_shared entry)
   pub requested : new.requesters.current ≡ moved old.requesters.current number (option_and_then request_of former) (option_and_then request_of entry)
   pub received : new.receivers.current ≡ moved old.receivers.current number (option_and_then received_port former) (option_and_then received_port entry)
   pub counted : new.counts.current ≡ entry_fewer (entry_more old.counts.current entry) former
@@ -37,29 +37,29 @@ pub record IsMoved (old new : NameIndexes) (number : ℕ) (former entry : Option
   pub words : AreWords entry
 
 pub record SameBefore (old new : NameIndexes) : Type 0 where
-  pub held : new.holders.before ≡ old.holders.before
+  pub held : new.sharers.before ≡ old.sharers.before
   pub requested : new.requesters.before ≡ old.requesters.before
   pub received : new.receivers.before ≡ old.receivers.before
   pub counted : new.counts.before ≡ old.counts.before
 
 pub record AreGivenUp (old new : NameIndexes) : Type 0 where
-  pub held : new.holders ≡ at_rest old.holders.before
+  pub held : new.sharers ≡ at_rest old.sharers.before
   pub requested : new.requesters ≡ at_rest old.requesters.before
   pub received : new.receivers ≡ at_rest old.receivers.before
   pub counted : new.counts ≡ at_rest old.counts.before
 
 pub record AreKept (old new : NameIndexes) : Type 0 where
-  pub held : new.holders ≡ at_rest old.holders.current
+  pub held : new.sharers ≡ at_rest old.sharers.current
   pub requested : new.requesters ≡ at_rest old.requesters.current
   pub received : new.receivers ≡ at_rest old.receivers.current
   pub counted : new.counts ≡ at_rest old.counts.current
 
 -- the indexes once one name has changed
 pub moved_indexed : (spaces : SpaceMap) (old new : NameIndexes) (space name : ℕ) (names : Names) (change : Names → Names) (o : Option Entry) → name < 2 ^ 32 → space < 2 ^ 32 → get spaces space ≡ Some names
-    → ((n : ℕ) → get (change names) n ≡ cond (eq_by_cmp nat_cmp n name) o (get names n)) → AreIndexed spaces old.holders.current old.requesters.current old.receivers.current old.counts.current
-    → IsMoved old new (place space name) (get names name) o → AreIndexed (names_changed spaces space change) new.holders.current new.requesters.current new.receivers.current new.counts.current
+    → ((n : ℕ) → get (change names) n ≡ cond (eq_by_cmp nat_cmp n name) o (get names n)) → AreIndexed spaces old.sharers.current old.requesters.current old.receivers.current old.counts.current
+    → IsMoved old new (place space name) (get names name) o → AreIndexed (names_changed spaces space change) new.sharers.current new.requesters.current new.receivers.current new.counts.current
 moved_indexed spaces old new space name names change o small few there changed are done = record {
-  held = one port_named old.holders.current new.holders.current are.held done.held;
+  held = one port_shared old.sharers.current new.sharers.current are.held done.held;
   requested = one request_of old.requesters.current new.requesters.current are.requested done.requested;
   received = one received_port old.receivers.current new.receivers.current are.received done.received;
   counted = moved_counted spaces old.counts.current new.counts.current space name names change o there changed done.former_words done.words done.counted are.counted;
@@ -90,9 +90,9 @@ moved_indexed spaces old new space name names change o small few there changed a
         subst (IsIndexed (at_place look (names_changed spaces space change))) (sym (same ∙ ap (λ (f : Option ℕ). moved was (place space name) f (option_and_then look o)) (sym (stood look))))
         (place_moved (at_place look spaces) (at_place look (names_changed spaces space change)) was (place space name) (option_and_then look o) fits (place_changed look spaces space name names change o small there changed) indexed)
 
-pub none_indexed : (spaces : SpaceMap) (holders requesters receivers : Numbers) (counts : Counts) → spaces ≡ empty → holders ≡ empty → requesters ≡ empty → receivers ≡ empty → counts ≡ empty → AreIndexed spaces holders requesters receivers counts
-none_indexed spaces holders requesters receivers counts none a b c d = record {
-  held = nothing_indexed (at_place port_named spaces) holders (nothing port_named) a;
+pub none_indexed : (spaces : SpaceMap) (sharers requesters receivers : Numbers) (counts : Counts) → spaces ≡ empty → sharers ≡ empty → requesters ≡ empty → receivers ≡ empty → counts ≡ empty → AreIndexed spaces sharers requesters receivers counts
+none_indexed spaces sharers requesters receivers counts none a b c d = record {
+  held = nothing_indexed (at_place port_shared spaces) sharers (nothing port_shared) a;
   requested = nothing_indexed (at_place request_of spaces) requesters (nothing request_of) b;
   received = nothing_indexed (at_place received_port spaces) receivers (nothing received_port) c;
   counted = nothing_counted spaces counts none d;
@@ -103,10 +103,10 @@ none_indexed spaces holders requesters receivers counts none a b c d = record {
     nothing look q = ap (λ (s : SpaceMap). at_place look s q) none ∙ ap (λ (n : Option Names). option_and_then look (option_and_then (λ names. get names (q % 2 ^ 32)) n)) (get-empty nat_cmp (q / 2 ^ 32))
 
 -- the same indexes for spaces that look alike
-pub same_indexed : (spaces other : SpaceMap) (holders requesters receivers : Numbers) (counts : Counts) → ((space name : ℕ) → entry_in spaces space name ≡ entry_in other space name) → (SpacesAreCounted spaces counts → SpacesAreCounted other counts)
-    → AreIndexed spaces holders requesters receivers counts → AreIndexed other holders requesters receivers counts
-same_indexed spaces other holders requesters receivers counts alike counted are = record {
-  held = alike_indexed (at_place port_named spaces) (at_place port_named other) holders (λ q _. ap (option_and_then port_named) (alike (q / 2 ^ 32) (q % 2 ^ 32))) are.held;
+pub same_indexed : (spaces other : SpaceMap) (sharers requesters receivers : Numbers) (counts : Counts) → ((space name : ℕ) → entry_in spaces space name ≡ entry_in other space name) → (SpacesAreCounted spaces counts → SpacesAreCounted other counts)
+    → AreIndexed spaces sharers requesters receivers counts → AreIndexed other sharers requesters receivers counts
+same_indexed spaces other sharers requesters receivers counts alike counted are = record {
+  held = alike_indexed (at_place port_shared spaces) (at_place port_shared other) sharers (λ q _. ap (option_and_then port_shared) (alike (q / 2 ^ 32) (q % 2 ^ 32))) are.held;
   requested = alike_indexed (at_place request_of spaces) (at_place request_of other) requesters (λ q _. ap (option_and_then request_of) (alike (q / 2 ^ 32) (q % 2 ^ 32))) are.requested;
   received = alike_indexed (at_place received_port spaces) (at_place received_port other) receivers (λ q _. ap (option_and_then received_port) (alike (q / 2 ^ 32) (q % 2 ^ 32))) are.received;
   counted = counted are.counted;
@@ -114,11 +114,11 @@ same_indexed spaces other holders requesters receivers counts alike counted are 
 }
 
 -- what was is indexed as before
-pub indexed_before : (old new : NameIndexes) (spaces after : SpaceMap) → after ≡ spaces → SameBefore old new → AreIndexed spaces old.holders.before old.requesters.before old.receivers.before old.counts.before → AreIndexed after new.holders.before new.requesters.before new.receivers.before new.counts.before
+pub indexed_before : (old new : NameIndexes) (spaces after : SpaceMap) → after ≡ spaces → SameBefore old new → AreIndexed spaces old.sharers.before old.requesters.before old.receivers.before old.counts.before → AreIndexed after new.sharers.before new.requesters.before new.receivers.before new.counts.before
 indexed_before old new spaces after same before are =
-    subst (λ (s : SpaceMap). AreIndexed s new.holders.before new.requesters.before new.receivers.before new.counts.before) (sym same)
+    subst (λ (s : SpaceMap). AreIndexed s new.sharers.before new.requesters.before new.receivers.before new.counts.before) (sym same)
     (record {
-      held = subst (IsIndexed (at_place port_named spaces)) (sym before.held) are.held;
+      held = subst (IsIndexed (at_place port_shared spaces)) (sym before.held) are.held;
       requested = subst (IsIndexed (at_place request_of spaces)) (sym before.requested) are.requested;
       received = subst (IsIndexed (at_place received_port spaces)) (sym before.received) are.received;
       counted = subst (SpacesAreCounted spaces) (sym before.counted) are.counted;
@@ -128,14 +128,14 @@ indexed_before old new spaces after same before are =
 -- one name of a space that is there has changed
 pub indexed_after : (old new : NameIndexes) (spaces after : SpaceMap) (space name : ℕ) (change : Names → Names) (o : Option Entry) → name < 2 ^ 32 → space < 2 ^ 32 → is_some (get spaces space) ≡ true
     → ((names : Names) (n : ℕ) → get (change names) n ≡ cond (eq_by_cmp nat_cmp n name) o (get names n)) → after ≡ names_changed spaces space change → IsMoved old new (place space name) (entry_in spaces space name) o
-    → AreIndexed spaces old.holders.current old.requesters.current old.receivers.current old.counts.current → AreIndexed after new.holders.current new.requesters.current new.receivers.current new.counts.current
+    → AreIndexed spaces old.sharers.current old.requesters.current old.receivers.current old.counts.current → AreIndexed after new.sharers.current new.requesters.current new.receivers.current new.counts.current
 indexed_after old new spaces after space name change o small few there changed is done are = by_case (get spaces space) refl there
   where
-    by_case : (n : Option Names) → get spaces space ≡ n → is_some n ≡ true → AreIndexed after new.holders.current new.requesters.current new.receivers.current new.counts.current
+    by_case : (n : Option Names) → get spaces space ≡ n → is_some n ≡ true → AreIndexed after new.sharers.current new.requesters.current new.receivers.current new.counts.current
     by_case None at some = absurd (cc some)
     by_case (Some names) at some =
         let stood : entry_in spaces space name ≡ get names name = ap (option_and_then (λ (names : Names). get names name)) at in
-        subst (λ (s : SpaceMap). AreIndexed s new.holders.current new.requesters.current new.receivers.current new.counts.current) (sym is)
+        subst (λ (s : SpaceMap). AreIndexed s new.sharers.current new.requesters.current new.receivers.current new.counts.current) (sym is)
         (moved_indexed spaces old new space name names change o small few at (changed names) are (subst (λ (f : Option Entry). IsMoved old new (place space name) f o) stood done))
 
 -- the first place from one on at which a look gives the number
@@ -170,3 +170,9 @@ closed_alike spaces space none s name = sym (ap (option_and_then (λ (names : Na
     go : (b : Bool) → eq_by_cmp nat_cmp s space ≡ b → option_and_then (λ (names : Names). get names name) (cond b None (get spaces s)) ≡ entry_in spaces s name
     go true same = nothing (get spaces space) refl ∙ sym (ap (λ (k : ℕ). option_and_then (λ (names : Names). get names name) (get spaces k)) (key_is s space same))
     go false _ = refl
+
+-- the lesser of two numbers, where there are two
+abbrev pub lesser : Option ℕ → Option ℕ → Option ℕ
+lesser None other = other
+lesser (Some one) None = Some one
+lesser (Some one) (Some other) = Some (if nat_lt other one then other else one)

@@ -1,5 +1,6 @@
 -- What stands at a place: at a name of a space, as one number.
 use Rattle.std.proofs.Common.{◌≡◌, ℕ, ◌+◌, ◌*◌, ◌^◌, ◌<◌, ◌/◌, ◌%◌, Bool, true, false, cond, ◌&&◌, Option, None, Some, option_map, option_and_then, refl, sym, ◌∙◌, ap, arith}
+use Rattle.std.specs.Prelude.{if◌then◌else◌}
 use Rattle.std.specs.Ordering.{nat_cmp, eq_by_cmp}
 use Rattle.std.specs.FinMap.{get}
 use Rattle.ipc_laws.specs.MapSums.{key_is, same_key}
@@ -19,6 +20,13 @@ port_named (Port rights) = Some rights.port
 port_named (SendOnce port target) = Some port
 port_named Set = None
 port_named (Dead references) = None
+
+-- the port that a name stands for a right to, where it doesn't hold the receive right
+abbrev pub port_shared : Entry → Option ℕ
+port_shared (Port rights) = if rights.receive then None else Some rights.port
+port_shared (SendOnce port target) = Some port
+port_shared Set = None
+port_shared (Dead references) = None
 
 -- the number of a name in a space
 abbrev pub place : ℕ → ℕ → ℕ

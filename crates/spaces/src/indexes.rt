@@ -3,7 +3,7 @@ ghost use Rattle.std.specs.Prelude.{◌≡◌, IfOk, OnOk, option_and_then};
 ghost use Rattle.std.specs.FinMap as map;
 ghost use Rattle.ipc_model.specs.state.State.{received_port, request_of};
 ghost use Rattle.spaces.specs.Indexes.{IsMoved, SameBefore, AreGivenUp, AreKept};
-ghost use Rattle.spaces.specs.Looking.{port_named};
+ghost use Rattle.spaces.specs.Looking.{port_shared};
 ghost use Rattle.tracked_map.specs.Tracked.{at_rest};
 
 use crate::counting::{are_words, count_anew};
@@ -12,12 +12,12 @@ use pair_counts::PairCounts;
 use place_index::PlaceIndex;
 use std::alloc::{AllocError, Global};
 
-/// The places of names, each a space's number and the name as one number: by the port that a name stands for a right to,
-/// by the target of its dead-name request, and by the port whose receive right it holds; and how many send and send-once
-/// rights names stand for.
+/// The places of names, each a space's number and the name as one number: by the port whose receive right a name holds, by
+/// the port that any other name stands for a right to, and by the target of its dead-name request; and how many send and
+/// send-once rights names stand for.
 #[derive(Drop)]
 pub(crate) struct NameIndexes {
-    pub(crate) holders: PlaceIndex,
+    pub(crate) sharers: PlaceIndex,
     pub(crate) requesters: PlaceIndex,
     pub(crate) receivers: PlaceIndex,
     pub(crate) counts: PairCounts,
@@ -26,13 +26,13 @@ pub(crate) struct NameIndexes {
 impl NameIndexes {
     /// Indexes of nothing. They take no memory.
     pub(crate) fn new(alloc: Global) -> Self
-        ensures held { result.holders ≡ at_rest map.empty }
+        ensures held { result.sharers ≡ at_rest map.empty }
         ensures requested { result.requesters ≡ at_rest map.empty }
         ensures received { result.receivers ≡ at_rest map.empty }
         ensures counted { result.counts ≡ at_rest map.empty }
     {
         NameIndexes {
-            holders: PlaceIndex::new(alloc),
+            sharers: PlaceIndex::new(alloc),
             requesters: PlaceIndex::new(alloc),
             receivers: PlaceIndex::new(alloc),
             counts: PairCounts::new(alloc),
@@ -49,7 +49,8 @@ impl NameIndexes {
         ensures ok { OnOk result (IsMoved self.old self.new place former entry) }
         ensures before { SameBefore self.old self.new }
     {
-        self.holders.change(place, port_of(former), port_of(entry))?;
+        self.sharers
+            .change(place, shared_of(former), shared_of(entry))?;
         self.requesters
             .change(place, target_of(former), target_of(entry))?;
         self.receivers
@@ -64,12 +65,12 @@ impl NameIndexes {
     pub(crate) fn copy(&self) -> Result<NameIndexes, AllocError>
         ensures { IfOk result (λ copy. copy ≡ self.now) }
     {
-        let holders = self.holders.copy()?;
+        let sharers = self.sharers.copy()?;
         let requesters = self.requesters.copy()?;
         let receivers = self.receivers.copy()?;
         let counts = self.counts.copy()?;
         Ok(NameIndexes {
-            holders,
+            sharers,
             requesters,
             receivers,
             counts,
@@ -80,7 +81,7 @@ impl NameIndexes {
     pub(crate) fn keep(&mut self)
         ensures { AreKept self.old self.new }
     {
-        self.holders.keep();
+        self.sharers.keep();
         self.requesters.keep();
         self.receivers.keep();
         self.counts.keep();
@@ -90,19 +91,19 @@ impl NameIndexes {
     pub(crate) fn give_up(&mut self)
         ensures { AreGivenUp self.old self.new }
     {
-        self.holders.give_up();
+        self.sharers.give_up();
         self.requesters.give_up();
         self.receivers.give_up();
         self.counts.give_up();
     }
 }
 
-/// The port that a name stands for a right to.
-fn port_of(entry: Option<Entry>) -> Option<u64>
-    ensures { result ≡ option_and_then port_named entry }
+/// The port that a name stands for a right to, where it doesn't hold the receive right.
+fn shared_of(entry: Option<Entry>) -> Option<u64>
+    ensures { result ≡ option_and_then port_shared entry }
 {
     match entry {
-        Some(Entry::Port(rights)) => Some(rights.port),
+        Some(Entry::Port(rights)) if !rights.receive => Some(rights.port),
         Some(Entry::SendOnce { port, .. }) => Some(port),
         _ => None,
     }

@@ -92,16 +92,14 @@ pub(crate) fn keep_slots(slots: &mut NumberMap<Space>, touched: &[u128])
 fn keep_slot(slots: &mut NumberMap<Space>, key: u128)
     ensures { slots.new ≡ turned is kept_slot slots.old key }
 {
-    let Some(slot) = slots.get(key) else {
+    let Some(slot) = slots.get_mut(key) else {
         return;
     };
     if slot.is_there() {
-        if let Some(slot) = slots.get_mut(key) {
-            slot.keep();
-        }
-    } else {
-        slots.remove(key);
+        slot.keep();
+        return;
     }
+    slots.remove(key);
 }
 
 /// Gives the changes of the slots of these keys up.
@@ -120,14 +118,12 @@ pub(crate) fn give_slots_up(slots: &mut NumberMap<Space>, touched: &[u128])
 fn give_slot_up(slots: &mut NumberMap<Space>, key: u128)
     ensures { slots.new ≡ turned was given_slot slots.old key }
 {
-    let Some(slot) = slots.get(key) else {
+    let Some(slot) = slots.get_mut(key) else {
         return;
     };
     if slot.was_there() {
-        if let Some(slot) = slots.get_mut(key) {
-            slot.give_up();
-        }
-    } else {
-        slots.remove(key);
+        slot.give_up();
+        return;
     }
+    slots.remove(key);
 }

@@ -7,8 +7,8 @@ ghost use Rattle.ipc_model.specs.declared.message.RightKind.TheVariants as kind;
 ghost use Rattle.ipc_model.specs.state.State.{Names, received_port, request_of};
 ghost use Rattle.pair_counts.specs.Rights.{right_weight};
 ghost use Rattle.port_space.specs.References.{AreFewReferences};
-ghost use Rattle.spaces.specs.Indexes.{IsMoved, IsNextAt, SameBefore};
-ghost use Rattle.spaces.specs.Looking.{entry_in, place, port_named};
+ghost use Rattle.spaces.specs.Indexes.{IsMoved, IsNextAt, SameBefore, lesser};
+ghost use Rattle.spaces.specs.Looking.{entry_in, place, port_named, port_shared};
 ghost use Rattle.spaces.specs.Numbers.{IsFreeNumber};
 ghost use Rattle.spaces.specs.Slots.{spaces_at_rest, names_changed};
 
@@ -38,8 +38,8 @@ impl Model for Spaces {
     ghost view = { λ s. s.table };
 
     ghost invariant = { λ s.
-        AreIndexed s.table.before s.indexes.holders.before s.indexes.requesters.before s.indexes.receivers.before s.indexes.counts.before
-        × AreIndexed s.table.current s.indexes.holders.current s.indexes.requesters.current s.indexes.receivers.current s.indexes.counts.current };
+        AreIndexed s.table.before s.indexes.sharers.before s.indexes.requesters.before s.indexes.receivers.before s.indexes.counts.before
+        × AreIndexed s.table.current s.indexes.sharers.current s.indexes.requesters.current s.indexes.receivers.current s.indexes.counts.current };
 }
 
 impl Spaces {
@@ -90,10 +90,18 @@ impl Spaces {
         ensures ok { OnOk result (self.new ≡ record self.old { current = names_changed self.old.current space (λ names. map.insert names name entry) }) }
         ensures err { OnErr result (self.new ≡ spaces_at_rest self.old.before) }
     {
-        if !self.table.contains(space) {
+        let Some(names) = self.table.names(space) else {
             return Ok(());
-        }
-        match put_in_both(&mut self.table, &mut self.indexes, space, name, entry) {
+        };
+        let former = names.get(name);
+        match put_in_both(
+            &mut self.table,
+            &mut self.indexes,
+            space,
+            name,
+            former,
+            entry,
+        ) {
             Ok(()) => Ok(()),
             Err(error) => {
                 self.table.give_up();
@@ -108,10 +116,11 @@ impl Spaces {
         ensures ok { OnOk result (self.new ≡ record self.old { current = names_changed self.old.current space (λ names. map.remove names name) }) }
         ensures err { OnErr result (self.new ≡ spaces_at_rest self.old.before) }
     {
-        if !self.table.contains(space) {
+        let Some(names) = self.table.names(space) else {
             return Ok(());
-        }
-        match remove_from_both(&mut self.table, &mut self.indexes, space, name) {
+        };
+        let former = names.get(name);
+        match remove_from_both(&mut self.table, &mut self.indexes, space, name, former) {
             Ok(()) => Ok(()),
             Err(error) => {
                 self.table.give_up();
@@ -156,7 +165,14 @@ impl Spaces {
     pub fn next_holder(&self, port: u64, from: u64) -> Option<u64>
         ensures { IsNextAt port_named self.now.current port from result }
     {
-        self.indexes.holders.next(port, from)
+        lesser(self.next_sharer(port, from), self.next_receiver(port, from))
+    }
+
+    /// The first place from one on whose name stands for a right to a port, and not for the receive right.
+    fn next_sharer(&self, port: u64, from: u64) -> Option<u64>
+        ensures { IsNextAt port_shared self.now.current port from result }
+    {
+        self.indexes.sharers.next(port, from)
     }
 
     /// The first place from one on whose name's dead-name request has a port for its target.
@@ -215,6 +231,17 @@ impl Spaces {
     }
 }
 
+/// The lesser of two numbers, where there are two.
+fn lesser(one: Option<u64>, other: Option<u64>) -> Option<u64>
+    ensures { result ≡ lesser one other }
+{
+    match (one, other) {
+        (Some(one), Some(other)) => Some(one.min(other)),
+        (Some(one), None) => Some(one),
+        (None, other) => other,
+    }
+}
+
 /// The number of a name in a space.
 fn place(space: u32, name: u32) -> u64
     ensures { result ≡ place space name }
@@ -233,13 +260,16 @@ fn entry_of(table: &SpaceTable, space: u32, name: u32) -> Option<Entry>
     }
 }
 
+/// Has a name stand for this in place of what it stood for.
 fn put_in_both(
     table: &mut SpaceTable,
     indexes: &mut NameIndexes,
     space: u32,
     name: u32,
+    former: Option<Entry>,
     entry: Entry,
 ) -> Result<(), AllocError>
+    requires former { former ≡ entry_in table.old.current space name }
     requires room { (names : Names) → map.get table.old.current space ≡ Some names → map.get names name ≡ None → map.len names < MAX_NAMES }
     requires few { AreFewReferences entry }
     ensures table { OnOk result (table.new ≡ record table.old { current = names_changed table.old.current space (λ names. map.insert names name entry) }) }
@@ -247,23 +277,24 @@ fn put_in_both(
     ensures before { table.new.before ≡ table.old.before }
     ensures indexes_before { SameBefore indexes.old indexes.new }
 {
-    let former = entry_of(table, space, name);
     indexes.change(place(space, name), former, Some(entry))?;
     table.put(space, name, entry)
 }
 
+/// Takes a name out of use that stood for this.
 fn remove_from_both(
     table: &mut SpaceTable,
     indexes: &mut NameIndexes,
     space: u32,
     name: u32,
+    former: Option<Entry>,
 ) -> Result<(), AllocError>
+    requires { former ≡ entry_in table.old.current space name }
     ensures table { OnOk result (table.new ≡ record table.old { current = names_changed table.old.current space (λ names. map.remove names name) }) }
     ensures indexes { OnOk result (IsMoved indexes.old indexes.new (place space name) (entry_in table.old.current space name) None) }
     ensures before { table.new.before ≡ table.old.before }
     ensures indexes_before { SameBefore indexes.old indexes.new }
 {
-    let former = entry_of(table, space, name);
     indexes.change(place(space, name), former, None)?;
     table.remove(space, name)
 }

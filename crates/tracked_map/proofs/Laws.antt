@@ -1,5 +1,5 @@
 -- Laws of maps whose changes are kept or given up.
-use Rattle.std.proofs.Common.{◌≡◌, ℕ, zero, suc, ◌+◌, ◌-◌, ◌^◌, ◌≤◌, ◌<◌, Bool, true, false, cond, nat_lt, ◌||◌, List, [], ◌∷◌, ◌++◌, length, Option, None, Some, is_some, refl, sym, ◌∙◌, ap, subst, arith}
+use Rattle.std.proofs.Common.{◌≡◌, ℕ, zero, suc, ◌+◌, ◌-◌, ◌^◌, ◌≤◌, ◌<◌, Bool, true, false, cond, nat_lt, ◌||◌, List, [], ◌∷◌, ◌++◌, length, Option, None, Some, MatchOption, is_some, refl, sym, ◌∙◌, ap, subst, arith}
 use Rattle.std.specs.Cmp.{nat_cmp_total, eq_by_cmp_equiv}
 use Rattle.std.proofs.lemmas.Bool.{ltb-false, ltb-true}
 use Rattle.std.specs.Option.{option_flatten}
@@ -171,6 +171,21 @@ module _ {X : Type 0} where
     counted_before = sound.counted_before ∙ ap len (sym done.unwound);
   }
 
+  -- the value that a key has set again, and a key without a value removed
+  set_again : (m : FinMap {K = ℕ} nat_cmp X) (key : ℕ) (value : X) → get m key ≡ Some value → insert m key value ≡ m
+  set_again m key value is = same _ _ (λ q. get-insert nat_cmp_total m key value q ∙ at q (eq_by_cmp nat_cmp q key) refl)
+    where
+      at : (q : ℕ) (b : Bool) → eq_by_cmp nat_cmp q key ≡ b → cond b (Some value) (get m q) ≡ get m q
+      at q true here = sym (ap (get m) (key_is q key here) ∙ is)
+      at q false other = refl
+
+  without_none : (m : FinMap {K = ℕ} nat_cmp X) (key : ℕ) → get m key ≡ None → remove m key ≡ m
+  without_none m key is = same _ _ (λ q. get-remove nat_cmp_total m key q ∙ at q (eq_by_cmp nat_cmp q key) refl)
+    where
+      at : (q : ℕ) (b : Bool) → eq_by_cmp nat_cmp q key ≡ b → cond b None (get m q) ≡ get m q
+      at q true here = sym (ap (get m) (key_is q key here) ∙ is)
+      at q false other = refl
+
   nothing_shown : shown (empty {K = ℕ} {X = Option X} {R = nat_cmp}) ≡ empty
   nothing_shown = same _ _ (λ q. get_shown empty q ∙ ap option_flatten (get-empty nat_cmp q) ∙ sym (get-empty nat_cmp q))
 
@@ -329,3 +344,13 @@ module _ {X : Type 0} where
       let gone : len (remove slots key) ≡ len slots - 1 = len-remove nat_cmp_total slots key ∙ ap (λ (o : Option (Option X)). len_after (len slots) (is_some o) false) is in
       let left : len (shown (remove slots key)) ≡ len (shown slots) = ap len (same_without slots key is) in
       absurd (omega (arith, as_many, counted, gone, left, len_shown (remove slots key), has_some {X = Option X} slots key (ap is_some is)))
+
+-- a slot whose value, if it had one, was taken out
+pub taken_out : {X : Type 0} (slots : FinMap {K = ℕ} nat_cmp (Option X)) (key : ℕ) (slot left taken : Option X) → get slots key ≡ Some slot → taken ≡ slot → left ≡ None
+    → MatchOption taken (insert slots key left ≡ slots) (λ _. insert slots key left ≡ insert slots key None)
+taken_out slots key slot left None there was gone = ap (insert slots key) gone ∙ set_again slots key None (there ∙ ap Some (sym was))
+taken_out slots key slot left (Some value) there was gone = ap (insert slots key) gone
+
+-- where a slot has no value, none is removed
+pub none_removed : {X : Type 0} (slots : FinMap {K = ℕ} nat_cmp (Option X)) (key : ℕ) → option_flatten (get slots key) ≡ None → remove (shown slots) key ≡ shown slots
+none_removed slots key none = without_none (shown slots) key (get_shown slots key ∙ none)

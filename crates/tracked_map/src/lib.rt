@@ -3,6 +3,7 @@
 
 ghost use Rattle.std.specs.Prelude.{◌≡◌, ℕ, ◌≤◌, ◌<◌, [], true, Some, None, OnOk, OnErr, MatchOption, is_some, option_copied, IfOk, ◌^◌};
 ghost use Rattle.std.specs.FinMap as map;
+ghost use Rattle.std.specs.Option.{option_flatten};
 ghost use Rattle.tracked_map.specs.Tracked.{at_rest, len_after, over, put, shown, unmarked, AreMarked, HasSlots};
 
 use number_map::{Copier, NumberMap};
@@ -119,7 +120,11 @@ impl<V: Copy + Drop> TrackedMap<V> {
         ensures ok { OnOk result (self.new ≡ record self.old { current = map.insert self.old.current key value }) }
         ensures err { OnErr result (self.new ≡ self.old) }
     {
-        self.put(key, Some(value))
+        self.former.reserve(1)?;
+        let before = self.slots.insert(key, Some(value))?.flatten();
+        self.len = len_with(self.len, before.is_some(), self.slots.len());
+        self.former.push_reserved((key, before));
+        Ok(())
     }
 
     /// Removes the value of a key, if it has one. Where memory is wanted nothing changed.
@@ -127,22 +132,12 @@ impl<V: Copy + Drop> TrackedMap<V> {
         ensures ok { OnOk result (self.new ≡ record self.old { current = map.remove self.old.current key }) }
         ensures err { OnErr result (self.new ≡ self.old) }
     {
-        self.put(key, None)
-    }
-
-    fn put(&mut self, key: u128, value: Option<V>) -> Result<(), AllocError>
-        ensures ok { OnOk result (self.new ≡ record self.old { current = put self.old.current key value }) }
-        ensures err { OnErr result (self.new ≡ self.old) }
-    {
         self.former.reserve(1)?;
-        let before = self.slots.insert(key, value)?.flatten();
-        self.len = len_after(
-            self.len,
-            before.is_some(),
-            value.is_some(),
-            self.slots.len(),
-        );
-        self.former.push_reserved((key, before));
+        let Some(before) = take_value(&mut self.slots, key) else {
+            return Ok(());
+        };
+        self.len -= 1;
+        self.former.push_reserved((key, Some(before)));
         Ok(())
     }
 
@@ -181,17 +176,23 @@ impl<V: Copy + Drop> TrackedMap<V> {
     }
 }
 
-/// How many values there are once one comes, goes or is replaced, where there are no more than so many.
-fn len_after(len: usize, had: bool, has: bool, most: usize) -> usize
-    requires few { len_after len had has ≤ most }
-    requires there { had ≡ true → 0 < len }
-    ensures { result ≡ len_after len had has }
+/// Takes the value of a slot out, if it has one.
+fn take_value<V>(slots: &mut NumberMap<Option<V>>, key: u128) -> Option<V>
+    ensures value { result ≡ option_flatten (map.get slots.old key) }
+    ensures slots { MatchOption result (slots.new ≡ slots.old) (λ _. slots.new ≡ map.insert slots.old key None) }
 {
-    match (had, has) {
-        (false, true) => len + 1,
-        (true, false) => len - 1,
-        _ => len,
+    match slots.get_mut(key) {
+        Some(slot) => slot.take(),
+        None => None,
     }
+}
+
+/// How many values there are once a key has one that had one or hadn't, where there are no more than so many.
+fn len_with(len: usize, had: bool, most: usize) -> usize
+    requires { len_after len had true ≤ most }
+    ensures { result ≡ len_after len had true }
+{
+    if had { len } else { len + 1 }
 }
 
 /// Writes what was replaced back into its slots, the last first.

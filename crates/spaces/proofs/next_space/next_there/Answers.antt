@@ -1,5 +1,4 @@
-use Rattle.std.proofs.Common.{ℕ, ◌+◌, false, is_some, option_and_then, sym, ◌∙◌, ap, subst, arith}
-use Rattle.std.specs.FinMap as map
+use Rattle.std.proofs.Common.{ℕ, ◌+◌, is_some, sym, ◌∙◌, ap, subst, arith}
 use Rattle.spaces.specs.NextSpace.{ArePassed, passed_on, passed_slot}
 use Rattle.spaces.specs.Slots.{is}
 use Rattle.tracked_map.specs.Slots.{picked, get_picked}

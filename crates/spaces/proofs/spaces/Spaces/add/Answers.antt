@@ -10,7 +10,7 @@ invariant_of-self c =
     let indexes = c.self.inside.indexes in
     let absent = ap (λ (t : TrackedSpaces). get t.current c.args.space) c.self.view_is ∙ c.requires.absent in
     let done = c.in-Ok.ensures.ok in (
-      subst (λ (s : SpaceMap). AreIndexed s indexes.holders.before indexes.requesters.before indexes.receivers.before indexes.counts.before) (sym (ap (λ (t : TrackedSpaces). t.before) done)) c.self.invariant.0,
-      subst (λ (s : SpaceMap). AreIndexed s indexes.holders.current indexes.requesters.current indexes.receivers.current indexes.counts.current) (sym (ap (λ (t : TrackedSpaces). t.current) done))
+      subst (λ (s : SpaceMap). AreIndexed s indexes.sharers.before indexes.requesters.before indexes.receivers.before indexes.counts.before) (sym (ap (λ (t : TrackedSpaces). t.before) done)) c.self.invariant.0,
+      subst (λ (s : SpaceMap). AreIndexed s indexes.sharers.current indexes.requesters.current indexes.receivers.current indexes.counts.current) (sym (ap (λ (t : TrackedSpaces). t.current) done))
           (same_indexed _ _ _ _ _ _ (opened_alike c.self.inside.table.current c.args.space absent) (opened_counted c.self.inside.table.current c.args.space indexes.counts.current absent) c.self.invariant.1),
     )

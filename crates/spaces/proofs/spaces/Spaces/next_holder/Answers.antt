@@ -1,10 +1,8 @@
-use Rattle.std.proofs.Common.{ap, subst}
-use Rattle.spaces.specs.Indexes.{IsNextAt, next_at}
-use Rattle.spaces.specs.Slots.{SpaceMap, TrackedSpaces}
+use Rattle.std.proofs.Common.{sym, subst}
+use Rattle.spaces.specs.Indexes.{IsNextAt}
 use Rattle.spaces.specs.Looking.{port_named}
+use Rattle.spaces.proofs.Holding.{next_of_both}
 use Rattle.spaces.proofs.spaces.Spaces.next_holder.Goals as goal
 
 pub returns : goal.returns
-returns c =
-    subst (λ (s : SpaceMap). IsNextAt port_named s c.args.port c.args.from c.next.result) (ap (λ (t : TrackedSpaces). t.current) c.self.view_is)
-    (next_at port_named c.self.inside.table.current c.self.inside.indexes.holders.current c.args.port c.args.from c.next.result c.self.invariant.1.held c.next.ensures)
+returns c = subst (IsNextAt port_named c.args.self.now.current c.args.port c.args.from) (sym c.lesser.ensures) (next_of_both c.args.self.now.current c.args.port c.args.from c.next_sharer.result c.next_receiver.result c.next_sharer.ensures c.next_receiver.ensures)

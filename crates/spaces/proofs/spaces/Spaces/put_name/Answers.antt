@@ -1,4 +1,4 @@
-use Rattle.std.proofs.Common.{Some, ap, sym, ◌∙◌}
+use Rattle.std.proofs.Common.{Some, is_some, ap, sym}
 use Rattle.std.specs.Cmp.{nat_cmp_total}
 use Rattle.std.specs.FinMap.{insert, get-insert}
 use Rattle.ipc_model.specs.state.State.{Names}
@@ -10,6 +10,6 @@ pub invariant_of-self : goal.invariant_of-self
 invariant_of-self c =
     let change : Names → Names = λ names. insert names c.args.name c.args.entry in (
       indexed_before c.self.inside.indexes c.put_in_both.new.indexes c.self.inside.table.before c.put_in_both.new.table.before c.put_in_both.ensures.before c.put_in_both.ensures.indexes_before c.self.invariant.0,
-      indexed_after c.self.inside.indexes c.put_in_both.new.indexes c.self.inside.table.current c.put_in_both.new.table.current c.args.space c.args.name change (Some c.args.entry) c.ranges.name.fits c.ranges.space.fits (sym c.contains.ensures ∙ c.if-not-contains.false)
+      indexed_after c.self.inside.indexes c.put_in_both.new.indexes c.self.inside.table.current c.put_in_both.new.table.current c.args.space c.args.name change (Some c.args.entry) c.ranges.name.fits c.ranges.space.fits (sym (ap is_some c.in-Some.ensures))
           (λ names n. get-insert nat_cmp_total names c.args.name c.args.entry n) (ap (λ (t : TrackedSpaces). t.current) c.in-Ok.ensures.table) c.in-Ok.ensures.indexes c.self.invariant.1,
     )

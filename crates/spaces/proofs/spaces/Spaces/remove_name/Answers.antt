@@ -1,4 +1,4 @@
-use Rattle.std.proofs.Common.{None, ap, sym, ◌∙◌}
+use Rattle.std.proofs.Common.{None, is_some, ap, sym}
 use Rattle.std.specs.Cmp.{nat_cmp_total}
 use Rattle.std.specs.FinMap.{remove, get-remove}
 use Rattle.ipc_model.specs.state.State.{Names}
@@ -10,6 +10,6 @@ pub invariant_of-self : goal.invariant_of-self
 invariant_of-self c =
     let change : Names → Names = λ names. remove names c.args.name in (
       indexed_before c.self.inside.indexes c.remove_from_both.new.indexes c.self.inside.table.before c.remove_from_both.new.table.before c.remove_from_both.ensures.before c.remove_from_both.ensures.indexes_before c.self.invariant.0,
-      indexed_after c.self.inside.indexes c.remove_from_both.new.indexes c.self.inside.table.current c.remove_from_both.new.table.current c.args.space c.args.name change None c.ranges.name.fits c.ranges.space.fits (sym c.contains.ensures ∙ c.if-not-contains.false)
+      indexed_after c.self.inside.indexes c.remove_from_both.new.indexes c.self.inside.table.current c.remove_from_both.new.table.current c.args.space c.args.name change None c.ranges.name.fits c.ranges.space.fits (sym (ap is_some c.in-Some.ensures))
           (λ names n. get-remove nat_cmp_total names c.args.name n) (ap (λ (t : TrackedSpaces). t.current) c.in-Ok.ensures.table) c.in-Ok.ensures.indexes c.self.invariant.1,
     )
