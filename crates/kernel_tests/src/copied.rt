@@ -2,6 +2,7 @@ use ipc_model::{Call, CarriedRight, Entry, PortInMessage, PortRights, RightKind,
 use kernel::Kernel;
 use snapshot::Snapshot;
 use std::alloc::{AllocError, Global};
+use std::process::Abort;
 use std::test::Fail;
 
 /// Three ports, 0x100 to 0x102, and a set, 0x103, with the first as its member. The third has a send right too. 0x104 is a
@@ -116,14 +117,25 @@ struct Seen {
     rights: Option<[Option<CarriedRight>; 2]>,
 }
 
+fn seen_of(copy: &Snapshot) -> Seen {
+    Seen {
+        next_serial: copy.next_serial,
+        names: names_of(copy),
+        ports: [0, 1, 2].map(|index| port_of(copy, index)),
+        rights: rights_of(copy),
+    }
+}
+
 fn seen_after_calls(alloc: Global) -> Result<Seen, AllocError> {
     let copy = copy_after_calls(alloc)?;
-    Ok(Seen {
-        next_serial: copy.next_serial,
-        names: names_of(&copy),
-        ports: [0, 1, 2].map(|index| port_of(&copy, index)),
-        rights: rights_of(&copy),
-    })
+    Ok(seen_of(&copy))
+}
+
+/// What is seen of a copy of the kernel that is made of a copy of the state after these calls.
+fn seen_again(alloc: Global) -> Result<Seen, Fail> {
+    let kernel = Kernel::from_snapshot(alloc, copy_after_calls(alloc)?)?;
+    let copy = kernel.copy(alloc)?;
+    Ok(seen_of(&copy))
 }
 
 fn receive_right(port: u64) -> Entry {
@@ -165,7 +177,17 @@ const EXPECTED_RIGHTS: [Option<CarriedRight>; 2] = [
 
 #[test]
 fn a_copy_has_all_that_the_state_has(rt: HostRuntime) -> Result<(), Fail> {
-    let seen = seen_after_calls(rt.alloc())?;
+    expect_all(&rt, seen_after_calls(rt.alloc())?);
+    Ok(())
+}
+
+#[test]
+fn a_kernel_made_of_a_copy_has_all_of_it(rt: HostRuntime) -> Result<(), Fail> {
+    expect_all(&rt, seen_again(rt.alloc())?);
+    Ok(())
+}
+
+fn expect_all(rt: &impl Abort, seen: Seen) {
     assert_eq!(rt; seen.names, expected_names());
     assert_eq!(rt;
         (seen.next_serial, seen.ports),
@@ -179,5 +201,4 @@ fn a_copy_has_all_that_the_state_has(rt: HostRuntime) -> Result<(), Fail> {
         )
     );
     assert_eq!(rt; seen.rights, Some(EXPECTED_RIGHTS));
-    Ok(())
 }

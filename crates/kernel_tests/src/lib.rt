@@ -6,4 +6,6 @@ mod calls_made;
 #[cfg(test)]
 mod copied;
 #[cfg(test)]
+mod lawful;
+#[cfg(test)]
 mod recorded;
