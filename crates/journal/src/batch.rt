@@ -3,7 +3,7 @@ ghost use Rattle.ipc_model.specs.store.Store.{closed_gate};
 ghost use Rattle.words.specs.Words.{word, long_word};
 ghost use Rattle.journal.specs.Batch.{content_of, empty_batch, padded, with_text};
 
-use crate::journal::CLOSED_GATE;
+use slot_steps::CLOSED_GATE;
 use byteorder::{ByteOrder, LittleEndian};
 use std::alloc::{AllocError, Global};
 use std::marker::Model;

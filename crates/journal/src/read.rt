@@ -10,7 +10,7 @@ ghost use Rattle.journal.specs.Reading.{Leads, IsLast, IsNothing, IsInBatch, IsB
 ghost use Rattle.journal.specs.Windows.{IsOver, IsFull};
 
 use crate::StoreFault;
-use crate::journal::OPEN_GATE;
+use slot_steps::OPEN_GATE;
 use crate::window::{LONGEST_STEP, Window};
 use codes::MAX_RECORDS;
 use disk::{Disk, Slot};

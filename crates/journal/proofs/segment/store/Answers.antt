@@ -1,6 +1,6 @@
 use Rattle.std.proofs.Common.{◌+◌, length, arith}
 use Rattle.journal.proofs.Storing.{storing_text, storing_sync, storing_whole}
-use Rattle.journal.proofs.journal.store.Goals as goal
+use Rattle.journal.proofs.segment.store.Goals as goal
 
 pub returns-in_err-write_at-clause-any_moment : goal.returns-in_err-write_at-clause-any_moment
 returns-in_err-write_at-clause-any_moment g c = λ honest synced.

@@ -1,0 +1,23 @@
+use Rattle.std.proofs.Common.{ℕ, List, ◌++◌, take, ap, ◌∙◌}
+use Rattle.disk.specs.Slots.{slot_of, with_slot}
+use Rattle.slot_steps.proofs.Following.{closed_then}
+use Rattle.slot_steps.proofs.Lengths.{always, segment_written}
+use Rattle.journal.proofs.roll.write_header.Goals as goal
+
+pub returns-clause-header : goal.returns-clause-header
+returns-clause-header g c = λ honest.
+    let old = (g.D.Disk.view c.args.disk.now).seen in
+    let written = segment_written c.args.slot old (g.D.Disk.view c.cut_behind.new.disk).seen (g.D.Disk.view c.write_behind.new.disk).seen (g.D.Disk.view c.sync_behind.new.disk).seen c.segment_start.result (c.requires honest)
+    (c.in_ok-cut_behind.ensures.cut honest) (c.in_ok-write_behind.ensures.written honest) (c.sync_behind.ensures.seen honest) in
+    always c.sync_behind.result (written ∙ ap (λ (start : List ℕ). with_slot old c.args.slot (take 1 (slot_of old c.args.slot) ++ start)) c.segment_start.ensures)
+
+pub returns-clause-any_moment : goal.returns-clause-any_moment
+returns-clause-any_moment g c = λ honest shut.
+    let slot = c.args.slot in
+    let old = g.D.Disk.view c.args.disk.now in
+    let cut = g.D.Disk.view c.cut_behind.new.disk in
+    let written = g.D.Disk.view c.write_behind.new.disk in
+    let shut_cut = c.in_ok-cut_behind.ensures.shut honest shut in
+    closed_then slot old written (g.D.Disk.view c.sync_behind.new.disk)
+    (closed_then slot old cut written (c.cut_behind.ensures.any_moment honest shut) (c.write_behind.ensures.any_moment honest shut_cut))
+    (c.sync_behind.ensures.any_moment honest (c.in_ok-write_behind.ensures.shut honest shut_cut))

@@ -1,0 +1,70 @@
+-- A slot's gate, as it is read and while it is written.
+use Rattle.std.proofs.Common.{rules, ◌≡◌, ◌⊎◌, inl, inr, ℕ, ◌+◌, ◌<◌, List, [], ◌∷◌, ◌++◌, length, take, drop, get_or, refl, sym, ap, subst, ◌∙◌, arith}
+use Rattle.std.specs.Prelude.{IsTrue, nat_eq, min, slice_index_or, ◌↔◌, ◌≤◌, ◌-◌}
+use Rattle.std.proofs.lemmas.Bool.{cases_lt}
+use Rattle.disk.specs.Slots.{TornWrite}
+use Rattle.ipc_model.specs.store.Recovery.{IsOpen}
+use Rattle.ipc_model.specs.store.Store.{IsClosed, open_gate}
+use Rattle.slot_steps.specs.Steps.{HasSomeGate, IsClosing}
+
+-- an open gate, and what stands behind it
+pub gate_apart : (slot : List ℕ) → take 1 slot ≡ open_gate ∷ [] → slot ≡ open_gate ∷ drop 1 slot
+gate_apart [] is = absurd (cc is)
+gate_apart (gate ∷ rest) is = ap (λ (l : List ℕ). get_or l 0 0 ∷ rest) is
+
+pub closed_or_open : (slot : List ℕ) → IsClosed slot ⊎ (slot ≡ open_gate ∷ drop 1 slot)
+closed_or_open [] = inl tt
+closed_or_open (gate ∷ rest) = elim (cases_lt gate open_gate) [
+  | inl below ↦ inl (λ is. omega (arith, below, is))
+  | inr above ↦ elim (cases_lt open_gate gate) [
+    | inl beyond ↦ inl (λ is. omega (arith, beyond, is))
+    | inr within ↦ inr (ap (λ (g : ℕ). g ∷ rest) (omega (arith, above, within)))
+  ]
+]
+
+-- what begins with no open gate
+pub no_open_gate : (slot : List ℕ) → IsClosed slot → take 1 slot ≡ open_gate ∷ [] → ⊥
+no_open_gate [] shut is = absurd (cc is)
+no_open_gate (gate ∷ rest) shut is = shut (ap (λ (l : List ℕ). get_or l 0 0) is)
+
+pub closed_not_open : (header : ℕ) (slot : List ℕ) → IsClosed slot → IsOpen header slot → ⊥
+closed_not_open header slot shut is_open = no_open_gate slot shut is_open.1
+
+-- the first byte of a slot, as it is read
+is_gate : (gate : ℕ) → IsTrue (nat_eq gate open_gate) ↔ (gate ≡ open_gate)
+is_gate gate = search rules
+
+pub gate_read : (header : ℕ) (slot buffer old : List ℕ) (n : ℕ) → 1 < header → header ≤ length slot → length old ≡ 1 → n ≡ min (length old) (length slot - 0) → buffer ≡ take n (drop 0 slot) ++ drop n old
+    → IsTrue (nat_eq (slice_index_or buffer 0 0) open_gate) ↔ ((length slot < header) ⊎ (take 1 slot ≡ open_gate ∷ []))
+gate_read header [] buffer old n some long one count bytes = absurd (omega (arith, some, long))
+gate_read header (gate ∷ slot) buffer old n some long one count bytes =
+    let first : n ≡ 1 = omega (arith, one, count) in
+    let front : slice_index_or buffer 0 0 ≡ gate = ap (λ (l : List ℕ). slice_index_or l 0 0) (bytes ∙ (λ i. take (first i) (gate ∷ slot) ++ drop (first i) old)) in (
+      λ is. inr (ap (λ (g : ℕ). g ∷ []) ((is_gate gate).0 (subst (λ (g : ℕ). IsTrue (nat_eq g open_gate)) front is))),
+      λ needs. elim needs [
+        | inl short ↦ absurd (omega (arith, long, short))
+        | inr is ↦ subst (λ (g : ℕ). IsTrue (nat_eq g open_gate)) (sym front) ((is_gate gate).1 (ap (λ (l : List ℕ). slice_index_or l 0 0) is))
+      ],
+    )
+
+-- a gate that is written, or isn't
+pub torn_gate : (before after : List ℕ) → TornWrite 0 1 before after → HasSomeGate before after
+torn_gate before after torn = record { behind = torn.after; no_shorter = torn.no_shorter; no_longer = torn.no_longer }
+
+pub same_gate : (slot : List ℕ) → HasSomeGate slot slot
+same_gate slot = record { behind = refl; no_shorter = omega arith; no_longer = omega arith }
+
+-- a slot that is too short for its header, or open, and is being closed
+pub gate_closing : (header : ℕ) (before after : List ℕ) → 1 < header → (length before < header) ⊎ (take 1 before ≡ open_gate ∷ []) → HasSomeGate before after → IsClosing header before after
+gate_closing header before after some needs gate = elim needs [
+  | inl short ↦ inr (λ is_open. omega (arith, some, short, gate.no_longer, is_open.0))
+  | inr is ↦ elim (closed_or_open after) [
+    | inl shut ↦ inr (closed_not_open header after shut)
+    | inr whole ↦ inl (whole ∙ ap (λ (l : List ℕ). open_gate ∷ l) gate.behind ∙ sym (gate_apart before is))
+  ]
+]
+
+-- what stands behind the first byte of a slot
+pub behind_first : (slot text : List ℕ) → 0 < length slot → drop 1 (take 1 slot ++ text) ≡ text
+behind_first [] text some = absurd (omega (arith, some))
+behind_first (gate ∷ rest) text some = refl

@@ -1,0 +1,80 @@
+-- How long what is written is.
+use Rattle.std.proofs.Common.{◌≡◌, ℕ, ◌+◌, ◌≤◌, ◌<◌, List, [], ◌++◌, length, take, drop, replicate, Result, Ok, Err, OnOk, OnErr, ap, ◌∙◌, arith, append_assoc, length-append, length-take}
+use Rattle.std.proofs.lemmas.List.{append-nil, take_all, drop_all, take-append-le, drop_at}
+use Rattle.disk.specs.declared.slot.Slot.{Slot}
+use Rattle.disk.specs.Slots.{Slots, slot_of, with_slot, written_at}
+use Rattle.slot_steps.proofs.Moments.{own_bytes, with_twice}
+
+pub written_long : (old bytes : List ℕ) (at : ℕ) → at ≤ length old → at + length bytes ≤ length (written_at old at bytes)
+written_long old bytes at fits =
+    omega (arith, length-append (take at old ++ bytes) (drop (at + length bytes) old), length-append (take at old) bytes, length-take at old)
+
+pub cut_length : (old : List ℕ) (n : ℕ) → n ≤ length old → length (take n old) ≡ n
+cut_length old n fits = omega (arith, length-take n old)
+
+-- what follows on success
+pub on_ok : {T E P Q : Type 0} (r : Result T E) → (P → Q) → OnOk r P → OnOk r Q
+on_ok (Ok x) f p = f p
+on_ok (Err e) f p = tt
+
+-- a slot is long enough after zeros were written behind its gate
+pub zeros_long : (slot : Slot) (old new : Slots) → 0 < length (slot_of old slot) → new ≡ with_slot old slot (written_at (slot_of old slot) 1 (replicate 23 0)) → 24 ≤ length (slot_of new slot)
+zeros_long slot old new some is =
+    let bytes : List ℕ = written_at (slot_of old slot) 1 (replicate 23 0) in
+    let long = written_long (slot_of old slot) (replicate 23 0) 1 (omega arith) in
+    let same : length (slot_of new slot) ≡ length bytes = ap (λ (s : Slots). length (slot_of s slot)) is ∙ ap length (own_bytes slot old bytes) in
+    omega arith
+
+pub cleared : (slot : Slot) (old new : Slots) → 24 ≤ length (slot_of old slot) → new ≡ with_slot old slot (take 24 (slot_of old slot)) → length (slot_of new slot) ≡ 24
+cleared slot old new long is =
+    ap (λ (s : Slots). length (slot_of s slot)) is ∙ ap length (own_bytes slot old (take 24 (slot_of old slot))) ∙ cut_length (slot_of old slot) 24 long
+
+-- bytes stand behind a gate after text was written behind them
+pub text_behind : (slot : Slot) (old new : Slots) (text : List ℕ) → length (slot_of old slot) ≡ 24 → new ≡ with_slot old slot (written_at (slot_of old slot) 24 text) → 1 ≤ length (slot_of new slot)
+text_behind slot old new text long is =
+    let bytes : List ℕ = written_at (slot_of old slot) 24 text in
+    let more = written_long (slot_of old slot) text 24 (omega arith) in
+    let same : length (slot_of new slot) ≡ length bytes = ap (λ (s : Slots). length (slot_of s slot)) is ∙ ap length (own_bytes slot old bytes) in
+    omega arith
+
+-- and on failure
+pub on_err : {T E P Q : Type 0} (r : Result T E) → (P → Q) → OnErr r P → OnErr r Q
+on_err (Ok x) f p = tt
+on_err (Err e) f p = f p
+
+pub always_err : {T E P : Type 0} (r : Result T E) → P → OnErr r P
+always_err (Ok x) p = tt
+always_err (Err e) p = p
+
+-- what follows of nothing
+pub always : {T E P : Type 0} (r : Result T E) → P → OnOk r P
+always r p = elim r as (λ v. OnOk v _) [ Ok x ↦ p | Err e ↦ tt ]
+
+-- behind bytes that end where n says, and then over what stands behind the first of them
+pub written_twice : (old text header : List ℕ) (n : ℕ) → length old ≡ n → 1 + length header ≡ n → written_at (written_at old n text) 1 header ≡ take 1 old ++ (header ++ text)
+written_twice old text header n long fits =
+    let front : take n old ≡ old = take_all n old (omega arith) in
+    let none : drop (n + length text) old ≡ [] = drop_all (n + length text) old (omega arith) in
+    let first : written_at old n text ≡ old ++ text = (λ i. front i ++ text ++ none i) ∙ append-nil (old ++ text) in
+    let one : take 1 (old ++ text) ≡ take 1 old = take-append-le 1 old text (omega arith) in
+    let behind : drop (1 + length header) (old ++ text) ≡ text = drop_at old text (1 + length header) (omega arith) in
+    ap (λ (l : List ℕ). written_at l 1 header) first ∙ (λ i. one i ++ header ++ behind i) ∙ append_assoc (take 1 old) header text
+
+pub image_written : (slot : Slot) (old mid new after : Slots) (text header : List ℕ) → length (slot_of old slot) ≡ 24 → length header ≡ 23 → mid ≡ with_slot old slot (written_at (slot_of old slot) 24 text)
+    → new ≡ with_slot mid slot (written_at (slot_of mid slot) 1 header) → after ≡ new → after ≡ with_slot old slot (take 1 (slot_of old slot) ++ (header ++ text))
+image_written slot old mid new after text header long fits first second last =
+    let bytes : List ℕ = written_at (slot_of old slot) 24 text in
+    let own : slot_of mid slot ≡ bytes = ap (λ (s : Slots). slot_of s slot) first ∙ own_bytes slot old bytes in
+    last ∙ second ∙ (λ i. with_slot (first i) slot (written_at (own i) 1 header)) ∙ with_twice slot old bytes (written_at bytes 1 header)
+    ∙ ap (λ (b : List ℕ). with_slot old slot b) (written_twice (slot_of old slot) text header 24 long (omega arith))
+
+-- behind the gate alone, which is all that was left of a slot
+pub segment_written : (slot : Slot) (old mid new after : Slots) (start : List ℕ) → 0 < length (slot_of old slot) → mid ≡ with_slot old slot (take 1 (slot_of old slot)) → new ≡ with_slot mid slot (written_at (slot_of mid slot) 1 start) → after ≡ new
+    → after ≡ with_slot old slot (take 1 (slot_of old slot) ++ start)
+segment_written slot old mid new after start some first second last =
+    let gate : List ℕ = take 1 (slot_of old slot) in
+    let own : slot_of mid slot ≡ gate = ap (λ (s : Slots). slot_of s slot) first ∙ own_bytes slot old gate in
+    let one : length gate ≡ 1 = cut_length (slot_of old slot) 1 (omega arith) in
+    let whole : written_at gate 1 start ≡ gate ++ start =
+    (λ i. take_all 1 gate (omega arith) i ++ start ++ drop_all (1 + length start) gate (omega arith) i) ∙ append-nil (gate ++ start) in
+    last ∙ second ∙ (λ i. with_slot (first i) slot (written_at (own i) 1 start)) ∙ with_twice slot old gate (written_at gate 1 start) ∙ ap (λ (b : List ℕ). with_slot old slot b) whole

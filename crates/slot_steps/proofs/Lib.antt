@@ -1,0 +1,4 @@
+pub mod Moments
+pub mod Following
+pub mod Gates
+pub mod Lengths

@@ -1,0 +1,8 @@
+//! What is done to one slot of a store: its gate is closed, what stands behind the gate is written, and the gate is opened.
+#![tactic(auto)]
+
+mod slots;
+mod steps;
+
+pub use slots::{CLOSED_GATE, IMAGE_HEADER, OPEN_GATE, SEGMENT_HEADER, image_slot, segment_slot};
+pub use steps::{close_slot, cut_behind, sync_behind, write_behind, write_gate};

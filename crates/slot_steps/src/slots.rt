@@ -1,0 +1,38 @@
+ghost use Rattle.std.specs.Prelude.{◌≡◌};
+ghost use Rattle.slot_steps.specs.Steps.{image_slot as slot_of_image, segment_slot as slot_of_segment};
+
+use disk::Slot;
+
+/// A gate with this byte is open: what stands behind it counts.
+pub const OPEN_GATE: u8 = 0x5a;
+
+/// A closed gate.
+pub const CLOSED_GATE: u8 = 0;
+
+/// How many bytes an image slot has before its text: the gate, the version, six zero bytes, the epoch and the text's length.
+pub const IMAGE_HEADER: usize = 24;
+
+/// How many bytes a segment slot has before its first batch: the gate, the version, six zero bytes and the epoch.
+pub const SEGMENT_HEADER: usize = 16;
+
+/// The slot of an epoch's image.
+pub fn image_slot(epoch: u64) -> Slot
+    ensures { result ≡ slot_of_image epoch }
+{
+    if epoch % 2 == 0 {
+        Slot::Image0
+    } else {
+        Slot::Image1
+    }
+}
+
+/// The slot of an epoch's segment.
+pub fn segment_slot(epoch: u64) -> Slot
+    ensures { result ≡ slot_of_segment epoch }
+{
+    if epoch % 2 == 0 {
+        Slot::Segment0
+    } else {
+        Slot::Segment1
+    }
+}

@@ -1,0 +1,95 @@
+// Each says what a stop at any moment of it may leave, whatever a stop before might have left of the other slots.
+ghost use Rattle.std.specs.Prelude.{◌≡◌, ◌↔◌, ◌⊎◌, ◌≤◌, ◌<◌, ◌∷◌, [], length, take, drop, IsTrue, OnOk, IfOk};
+ghost use Rattle.disk.specs.Slots.{slot_of, with_slot, written_at};
+ghost use Rattle.disk.specs.Moments.{CountsFailure, Follows, IsSynced, MayLeave, Passes};
+ghost use Rattle.ipc_model.specs.store.Store.{open_gate, IsClosed};
+ghost use Rattle.slot_steps.specs.Steps.{HasSomeGate, IsClosing, IsShut, IsStillClosed};
+
+use crate::slots::{CLOSED_GATE, OPEN_GATE};
+use disk::{Disk, DiskFault, Slot};
+
+/// Writes the gate of a slot, on the disk.
+pub fn write_gate<D: Disk>(disk: &mut D, slot: Slot, gate: u8) -> Result<(), DiskFault>
+    ensures written { D.honest → OnOk result ((D.view disk.new).seen
+        ≡ with_slot (D.view disk.old).seen slot (gate ∷ drop 1 (slot_of (D.view disk.old).seen slot))) }
+    ensures synced { D.honest → OnOk result (IsSynced (D.view disk.new) slot) }
+    ensures any_moment { D.honest → Passes (D.view disk.old) (D.view disk.new) (Follows (D.view disk.old) slot HasSomeGate) }
+    ensures failures { CountsFailure (D.failed_calls disk.old) (D.failed_calls disk.new) result }
+{
+    disk.write_at(slot, 0, &[gate])?;
+    disk.sync(slot)
+}
+
+/// Whether a slot has its gate open, or not even its whole header.
+fn needs_closing<D: Disk>(disk: &mut D, slot: Slot, header: usize) -> Result<bool, DiskFault>
+    requires { 1 < header }
+    ensures needs { D.honest → IfOk result (λ needs. IsTrue needs ↔ ((length (slot_of (D.view disk.old).seen slot) < header)
+        ⊎ (take 1 (slot_of (D.view disk.old).seen slot) ≡ open_gate ∷ []))) }
+    ensures seen { D.honest → (D.view disk.new).seen ≡ (D.view disk.old).seen }
+    ensures time { D.honest → Passes (D.view disk.old) (D.view disk.new) (MayLeave (D.view disk.old)) }
+    ensures failures { CountsFailure (D.failed_calls disk.old) (D.failed_calls disk.new) result }
+{
+    if disk.length(slot) < header as u64 {
+        return Ok(true);
+    }
+    let mut gate = [OPEN_GATE];
+    disk.read(slot, 0, &mut gate)?;
+    Ok(gate[0] == OPEN_GATE)
+}
+
+/// Has a closed gate stand at the front of a slot, on the disk. It isn't written over a closed gate with a whole
+/// header: a stop within that write could leave an open gate before an old header.
+pub fn close_slot<D: Disk>(disk: &mut D, slot: Slot, header: usize) -> Result<(), DiskFault>
+    requires { 1 < header }
+    ensures begun { D.honest → OnOk result (0 < length (slot_of (D.view disk.new).seen slot)) }
+    ensures closed { D.honest → OnOk result (IsClosed (slot_of (D.view disk.new).seen slot)) }
+    ensures others { D.honest → OnOk result ((D.view disk.new).seen ≡ with_slot (D.view disk.old).seen slot (slot_of (D.view disk.new).seen slot)) }
+    ensures synced { D.honest → OnOk result (IsSynced (D.view disk.new) slot) }
+    ensures any_moment { D.honest → IsSynced (D.view disk.old) slot
+        → Passes (D.view disk.old) (D.view disk.new) (Follows (D.view disk.old) slot (IsClosing header)) }
+    ensures failures { CountsFailure (D.failed_calls disk.old) (D.failed_calls disk.new) result }
+{
+    if needs_closing(disk, slot, header)? {
+        return write_gate(disk, slot, CLOSED_GATE);
+    }
+    disk.sync(slot)
+}
+
+/// Writes behind a slot's gate.
+pub fn write_behind<D: Disk>(disk: &mut D, slot: Slot, at: u64, bytes: &[u8]) -> Result<(), DiskFault>
+    requires behind { 0 < at }
+    requires inside { D.honest → at ≤ length (slot_of (D.view disk.old).seen slot) }
+    ensures written { D.honest → OnOk result ((D.view disk.new).seen
+        ≡ with_slot (D.view disk.old).seen slot (written_at (slot_of (D.view disk.old).seen slot) at bytes.now)) }
+    ensures shut { D.honest → IsShut (D.view disk.old) slot → OnOk result (IsShut (D.view disk.new) slot) }
+    ensures any_moment { D.honest → IsShut (D.view disk.old) slot
+        → Passes (D.view disk.old) (D.view disk.new) (Follows (D.view disk.old) slot IsStillClosed) }
+    ensures failures { CountsFailure (D.failed_calls disk.old) (D.failed_calls disk.new) result }
+{
+    disk.write_at(slot, at, bytes)
+}
+
+/// Cuts a slot behind its gate.
+pub fn cut_behind<D: Disk>(disk: &mut D, slot: Slot, len: u64) -> Result<(), DiskFault>
+    requires behind { 0 < len }
+    requires inside { D.honest → len ≤ length (slot_of (D.view disk.old).seen slot) }
+    ensures cut { D.honest → OnOk result ((D.view disk.new).seen
+        ≡ with_slot (D.view disk.old).seen slot (take len (slot_of (D.view disk.old).seen slot))) }
+    ensures shut { D.honest → IsShut (D.view disk.old) slot → OnOk result (IsShut (D.view disk.new) slot) }
+    ensures any_moment { D.honest → IsShut (D.view disk.old) slot
+        → Passes (D.view disk.old) (D.view disk.new) (Follows (D.view disk.old) slot IsStillClosed) }
+    ensures failures { CountsFailure (D.failed_calls disk.old) (D.failed_calls disk.new) result }
+{
+    disk.cut(slot, len)
+}
+
+/// Syncs what stands behind a slot's gate.
+pub fn sync_behind<D: Disk>(disk: &mut D, slot: Slot) -> Result<(), DiskFault>
+    ensures seen { D.honest → (D.view disk.new).seen ≡ (D.view disk.old).seen }
+    ensures synced { D.honest → OnOk result (IsSynced (D.view disk.new) slot) }
+    ensures any_moment { D.honest → IsShut (D.view disk.old) slot
+        → Passes (D.view disk.old) (D.view disk.new) (Follows (D.view disk.old) slot IsStillClosed) }
+    ensures failures { CountsFailure (D.failed_calls disk.old) (D.failed_calls disk.new) result }
+{
+    disk.sync(slot)
+}
