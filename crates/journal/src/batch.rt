@@ -3,8 +3,8 @@ ghost use Rattle.ipc_model.specs.store.Store.{closed_gate};
 ghost use Rattle.words.specs.Words.{word, long_word};
 ghost use Rattle.journal.specs.Batch.{content_of, empty_batch, padded, with_text};
 
-use slot_steps::CLOSED_GATE;
 use byteorder::{ByteOrder, LittleEndian};
+use slot_steps::CLOSED_GATE;
 use std::alloc::{AllocError, Global};
 use std::marker::Model;
 

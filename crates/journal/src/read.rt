@@ -10,12 +10,12 @@ ghost use Rattle.journal.specs.Reading.{Leads, IsLast, IsNothing, IsInBatch, IsB
 ghost use Rattle.journal.specs.Windows.{IsOver, IsFull};
 
 use crate::StoreFault;
-use slot_steps::OPEN_GATE;
 use crate::window::{LONGEST_STEP, Window};
 use codes::MAX_RECORDS;
 use disk::{Disk, Slot};
 use ipc_model::Record;
 use record::take_record;
+use slot_steps::OPEN_GATE;
 use std::alloc::{AllocError, Global};
 use std::marker::Model;
 use words::{take_long_word, take_word};

@@ -2,10 +2,13 @@
 use Rattle.std.proofs.Common.{rules, ◌≡◌, ◌⊎◌, inl, inr, ℕ, ◌+◌, ◌<◌, List, [], ◌∷◌, ◌++◌, length, take, drop, get_or, refl, sym, ap, subst, ◌∙◌, arith}
 use Rattle.std.specs.Prelude.{IsTrue, nat_eq, min, slice_index_or, ◌↔◌, ◌≤◌, ◌-◌}
 use Rattle.std.proofs.lemmas.Bool.{cases_lt}
-use Rattle.disk.specs.Slots.{TornWrite}
+use Rattle.disk.specs.declared.slot.Slot.{Slot}
+use Rattle.disk.specs.Moments.{View, Passes, Follows, IsSynced}
+use Rattle.disk.specs.Slots.{slot_of, TornWrite}
 use Rattle.ipc_model.specs.store.Recovery.{IsOpen}
 use Rattle.ipc_model.specs.store.Store.{IsClosed, open_gate}
-use Rattle.slot_steps.specs.Steps.{HasSomeGate, IsClosing}
+use Rattle.slot_steps.specs.Steps.{HasSomeGate, IsClosing, IsRemade, IsStillClosed}
+use Rattle.slot_steps.proofs.Following.{follows_as, follows_then}
 
 -- an open gate, and what stands behind it
 pub gate_apart : (slot : List ℕ) → take 1 slot ≡ open_gate ∷ [] → slot ≡ open_gate ∷ drop 1 slot
@@ -68,3 +71,39 @@ gate_closing header before after some needs gate = elim needs [
 pub behind_first : (slot text : List ℕ) → 0 < length slot → drop 1 (take 1 slot ++ text) ≡ text
 behind_first [] text some = absurd (omega (arith, some))
 behind_first (gate ∷ rest) text some = refl
+
+-- a gate that is being opened: it isn't open, or all that stood behind it stands there
+pub gate_opened : (behind shut after : List ℕ) → drop 1 shut ≡ behind → HasSomeGate shut after → IsClosed after ⊎ (after ≡ open_gate ∷ behind)
+gate_opened behind shut after is gate = elim (closed_or_open after) [
+  | inl still ↦ inl still
+  | inr whole ↦ inr (whole ∙ ap (λ (l : List ℕ). open_gate ∷ l) (gate.behind ∙ is))
+]
+
+-- a slot is closed, and then written behind its gate
+pub closing_then : (slot : Slot) (old mid new : View) (header : ℕ) → Passes old mid (Follows old slot (IsClosing header)) → Passes mid new (Follows mid slot IsStillClosed) → Passes old new (Follows old slot (IsClosing header))
+closing_then slot old mid new header first second =
+    follows_then slot old mid new (IsClosing header) IsStillClosed (IsClosing header) first second (λ d after left closing. closing)
+    (λ d after left shut. inr (closed_not_open header after shut)) (λ d between after left early late. inr (closed_not_open header after late))
+
+-- and then its gate is opened before what stands behind it
+pub opening_then : (slot : Slot) (old mid new : View) (behind : List ℕ) → IsSynced mid slot → drop 1 (slot_of mid.seen slot) ≡ behind → Passes old mid (Follows old slot IsStillClosed) → Passes mid new (Follows mid slot HasSomeGate)
+    → Passes old new (Follows old slot (λ before after. IsClosed after ⊎ (after ≡ open_gate ∷ behind)))
+opening_then slot old mid new behind synced is first second =
+    let opening : Passes mid new (Follows mid slot (λ (before after : List ℕ). IsClosed after ⊎ (after ≡ open_gate ∷ behind))) =
+    follows_as slot mid new HasSomeGate (λ (before after : List ℕ). IsClosed after ⊎ (after ≡ open_gate ∷ behind)) second
+    (λ d after left gate. gate_opened behind (slot_of d slot) after (ap (λ (l : List ℕ). drop 1 l) (synced d left) ∙ is) gate) in
+    follows_then slot old mid new IsStillClosed (λ (before after : List ℕ). IsClosed after ⊎ (after ≡ open_gate ∷ behind)) (λ (before after : List ℕ). IsClosed after ⊎ (after ≡ open_gate ∷ behind)) first opening
+    (λ d after left shut. inl shut) (λ d after left opened. opened) (λ d between after left early late. late)
+
+-- a slot gets a new content: it is closed, and then the content stands there or its gate isn't open
+pub closing_remade : (slot : Slot) (old new : View) (header : ℕ) (content : List ℕ) → Passes old new (Follows old slot (IsClosing header)) → Passes old new (Follows old slot (IsRemade header content))
+closing_remade slot old new header content time = follows_as slot old new (IsClosing header) (IsRemade header content) time (λ d after left closing. inl closing)
+
+made : (header : ℕ) (before after content : List ℕ) → IsClosed after ⊎ (after ≡ content) → IsRemade header content before after
+made header before after content opened = elim opened [ inl shut ↦ inl (inr (closed_not_open header after shut)) | inr whole ↦ inr whole ]
+
+pub remade_then : (slot : Slot) (old mid new : View) (header : ℕ) (content : List ℕ) → Passes old mid (Follows old slot (IsClosing header)) → Passes mid new (Follows mid slot (λ before after. IsClosed after ⊎ (after ≡ content)))
+    → Passes old new (Follows old slot (IsRemade header content))
+remade_then slot old mid new header content first second =
+    follows_then slot old mid new (IsClosing header) (λ (before after : List ℕ). IsClosed after ⊎ (after ≡ content)) (IsRemade header content) first second (λ d after left closing. inl closing)
+    (λ d after left opened. made header (slot_of d slot) after content opened) (λ d between after left early late. made header (slot_of d slot) after content late)

@@ -1,8 +1,9 @@
 -- How long what is written is.
-use Rattle.std.proofs.Common.{◌≡◌, ℕ, ◌+◌, ◌≤◌, ◌<◌, List, [], ◌++◌, length, take, drop, replicate, Result, Ok, Err, OnOk, OnErr, ap, ◌∙◌, arith, append_assoc, length-append, length-take}
+use Rattle.std.proofs.Common.{◌≡◌, ℕ, ◌+◌, ◌≤◌, ◌<◌, List, [], ◌∷◌, ◌++◌, length, take, drop, replicate, Result, Ok, Err, OnOk, OnErr, ap, ◌∙◌, arith, append_assoc, length-append, length-take}
 use Rattle.std.proofs.lemmas.List.{append-nil, take_all, drop_all, take-append-le, drop_at}
 use Rattle.disk.specs.declared.slot.Slot.{Slot}
 use Rattle.disk.specs.Slots.{Slots, slot_of, with_slot, written_at}
+use Rattle.ipc_model.specs.store.Store.{IsClosed}
 use Rattle.slot_steps.proofs.Moments.{own_bytes, with_twice}
 
 pub written_long : (old bytes : List ℕ) (at : ℕ) → at ≤ length old → at + length bytes ≤ length (written_at old at bytes)
@@ -78,3 +79,21 @@ segment_written slot old mid new after start some first second last =
     let whole : written_at gate 1 start ≡ gate ++ start =
     (λ i. take_all 1 gate (omega arith) i ++ start ++ drop_all (1 + length start) gate (omega arith) i) ∙ append-nil (gate ++ start) in
     last ∙ second ∙ (λ i. with_slot (first i) slot (written_at (own i) 1 start)) ∙ with_twice slot old gate (written_at gate 1 start) ∙ ap (λ (b : List ℕ). with_slot old slot b) whole
+
+-- a gate that isn't open stays so while what stands behind it is written or cut
+pub closed_written : (slot : List ℕ) (bytes : List ℕ) → 0 < length slot → IsClosed slot → IsClosed (written_at slot 1 bytes)
+closed_written [] bytes some shut = absurd (omega (arith, some))
+closed_written (gate ∷ rest) bytes some shut = shut
+
+pub closed_cut : (slot : List ℕ) → IsClosed slot → IsClosed (take 24 slot)
+closed_cut [] shut = tt
+closed_cut (gate ∷ rest) shut = shut
+
+-- and when it has more bytes behind it
+pub closed_front : (head behind : List ℕ) → 0 < length head → IsClosed head → IsClosed (head ++ behind)
+closed_front [] behind some shut = absurd (omega (arith, some))
+closed_front (gate ∷ rest) behind some shut = shut
+
+-- the bytes of one slot, where it alone was changed
+pub own_of : (slot : Slot) (old new : Slots) (bytes : List ℕ) → new ≡ with_slot old slot bytes → slot_of new slot ≡ bytes
+own_of slot old new bytes is = ap (λ (s : Slots). slot_of s slot) is ∙ own_bytes slot old bytes

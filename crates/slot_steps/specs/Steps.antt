@@ -32,3 +32,7 @@ pub record HasSomeGate (before after : List ℕ) : Type 0 where
 -- a slot that is being closed is as it was, or it isn't open
 abbrev pub IsClosing : ℕ → List ℕ → List ℕ → Type 0
 IsClosing header before after = (after ≡ before) ⊎ (¬ IsOpen header after)
+
+-- a slot that gets a new content is as it was, or it isn't open, or all of that content stands there
+abbrev pub IsRemade : ℕ → List ℕ → List ℕ → List ℕ → Type 0
+IsRemade header content before after = IsClosing header before after ⊎ (after ≡ content)

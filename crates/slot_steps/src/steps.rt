@@ -56,7 +56,12 @@ pub fn close_slot<D: Disk>(disk: &mut D, slot: Slot, header: usize) -> Result<()
 }
 
 /// Writes behind a slot's gate.
-pub fn write_behind<D: Disk>(disk: &mut D, slot: Slot, at: u64, bytes: &[u8]) -> Result<(), DiskFault>
+pub fn write_behind<D: Disk>(
+    disk: &mut D,
+    slot: Slot,
+    at: u64,
+    bytes: &[u8],
+) -> Result<(), DiskFault>
     requires behind { 0 < at }
     requires inside { D.honest → at ≤ length (slot_of (D.view disk.old).seen slot) }
     ensures written { D.honest → OnOk result ((D.view disk.new).seen

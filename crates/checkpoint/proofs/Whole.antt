@@ -1,0 +1,59 @@
+-- An image's text behind its header's place, and then the whole image.
+use Rattle.std.proofs.Common.{◌≡◌, ℕ, ◌+◌, ◌*◌, ◌<◌, ◌≤◌, List, [], ◌∷◌, ◌++◌, length, take, drop, refl, sym, ap, subst, ◌∙◌, arith, append_assoc, length-append, length-take}
+use Rattle.std.proofs.lemmas.List.{append-nil, take-append-le, take_all, drop_at}
+use Rattle.disk.specs.declared.slot.Slot.{Slot}
+use Rattle.disk.specs.Moments.{View, Passes, Follows, IsSynced}
+use Rattle.disk.specs.Slots.{Slots, slot_of, with_slot}
+use Rattle.ipc_model.specs.store.Store.{IsClosed, epoch_text, image_content, open_gate}
+use Rattle.words.specs.Words.{long_word}
+use Rattle.checkpoint.specs.Images.{HoldsBehind, IsFinishing, open_image}
+use Rattle.slot_steps.specs.Steps.{HasSomeGate, IsStillClosed}
+use Rattle.slot_steps.proofs.Gates.{behind_first, opening_then}
+use Rattle.slot_steps.proofs.Lengths.{closed_cut, closed_front, cut_length, own_of}
+use Rattle.slot_steps.proofs.Moments.{with_twice}
+
+-- a slot that was cut to the place of a header, behind a gate that isn't open
+pub cut_to_header : (slot : Slot) (old new : Slots) → 24 ≤ length (slot_of old slot) → IsClosed (slot_of old slot) → new ≡ with_slot old slot (take 24 (slot_of old slot)) → HoldsBehind (slot_of new slot) []
+cut_to_header slot old new long shut is =
+    let front : List ℕ = take 24 (slot_of old slot) in
+    record { head = front; long = cut_length (slot_of old slot) 24 long; shut = closed_cut (slot_of old slot) shut; whole = own_of slot old new front is ∙ sym (append-nil front) }
+
+-- what stands behind the first byte once the header is written
+behind_header : (bytes text header : List ℕ) → (holds : HoldsBehind bytes text) → drop 1 (take 1 bytes ++ (header ++ drop 24 bytes)) ≡ header ++ text
+behind_header bytes text header holds =
+    let some : 0 < length bytes = omega (arith, holds.long, ap length holds.whole, length-append holds.head text) in
+    behind_first bytes (header ++ drop 24 bytes) some
+    ∙ ap (λ (l : List ℕ). header ++ l) (ap (λ (l : List ℕ). drop 24 l) holds.whole ∙ drop_at holds.head text 24 holds.long)
+
+-- an image's content is its header and its text
+content_is : (epoch : ℕ) (text : List ℕ) → (epoch_text epoch ++ long_word (length text)) ++ text ≡ image_content epoch text
+content_is epoch text = append_assoc (epoch_text epoch) (long_word (length text)) text
+
+pub header_written : (slot : Slot) (old new : Slots) (epoch : ℕ) (text : List ℕ) → HoldsBehind (slot_of old slot) text
+    → new ≡ with_slot old slot (take 1 (slot_of old slot) ++ ((epoch_text epoch ++ long_word (length text)) ++ drop 24 (slot_of old slot)))
+    → drop 1 (slot_of new slot) ≡ image_content epoch text
+header_written slot old new epoch text holds is =
+    let header : List ℕ = epoch_text epoch ++ long_word (length text) in
+    ap (λ (l : List ℕ). drop 1 l) (own_of slot old new (take 1 (slot_of old slot) ++ (header ++ drop 24 (slot_of old slot))) is) ∙ behind_header (slot_of old slot) text header holds ∙ content_is epoch text
+
+pub gate_written : (slot : Slot) (old mid new : Slots) (epoch : ℕ) (text bytes : List ℕ) → mid ≡ with_slot old slot bytes → drop 1 (slot_of mid slot) ≡ image_content epoch text
+    → new ≡ with_slot mid slot (open_gate ∷ drop 1 (slot_of mid slot)) → new ≡ with_slot old slot (open_image epoch text)
+gate_written slot old mid new epoch text bytes before behind is =
+    is ∙ (λ i. with_slot (before i) slot (open_gate ∷ behind i)) ∙ with_twice slot old bytes (open_gate ∷ image_content epoch text)
+
+-- a gate that isn't open still stands in front
+pub holds_shut : (bytes text : List ℕ) → HoldsBehind bytes text → IsClosed bytes
+holds_shut bytes text holds = subst IsClosed (sym holds.whole) (closed_front holds.head text (omega (arith, holds.long)) holds.shut)
+
+-- more of the text was written behind what stood there
+pub held_more : (slot : Slot) (old new : Slots) (text more whole : List ℕ) → HoldsBehind (slot_of old slot) text → new ≡ with_slot old slot (slot_of old slot ++ more) → text ++ more ≡ whole → HoldsBehind (slot_of new slot) whole
+held_more slot old new text more whole holds is joined = record {
+  head = holds.head;
+  long = holds.long;
+  shut = holds.shut;
+  whole = own_of slot old new (slot_of old slot ++ more) is ∙ ap (λ (l : List ℕ). l ++ more) holds.whole ∙ append_assoc holds.head text more ∙ ap (λ (l : List ℕ). holds.head ++ l) joined;
+}
+
+pub others_more : (slot : Slot) (first old new : Slots) (bytes : List ℕ) → old ≡ with_slot first slot (slot_of old slot) → new ≡ with_slot old slot bytes → new ≡ with_slot first slot (slot_of new slot)
+others_more slot first old new bytes before is =
+    is ∙ ap (λ (s : Slots). with_slot s slot bytes) before ∙ with_twice slot first (slot_of old slot) bytes ∙ ap (λ (l : List ℕ). with_slot first slot l) (sym (own_of slot old new bytes is))

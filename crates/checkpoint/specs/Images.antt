@@ -1,0 +1,41 @@
+-- An image while it is written into its slot.
+use Rattle.std.specs.Prelude.{◌≡◌, ◌⊎◌, ℕ, ◌+◌, ◌*◌, List, ◌∷◌, ◌++◌, length, take, refl}
+use Rattle.std.specs.Coded.{Coded, code_by, coded×, coded_ℕ, coded_list}
+use Rattle.ipc_model.specs.store.Store.{IsClosed, open_gate, image_content}
+use Rattle.ipc_model.specs.world.World.{piece_length}
+
+-- an epoch's image: its text, and how many pieces of it were written
+pub record ImageValue : Type 0 where
+  pub epoch : ℕ
+  pub text : List ℕ
+  pub written : ℕ
+
+abbrev pub image_code : Coded ImageValue
+image_code =
+    code_by (ℕ × (List ℕ × ℕ)) (coded× coded_ℕ (coded× (coded_list coded_ℕ) coded_ℕ)) (λ i. (i.epoch, (i.text, i.written))) (λ p. record { epoch = p.0; text = p.1.0; written = p.1.1 }) (λ _. refl)
+
+-- an image of which nothing was written
+abbrev pub unwritten : ℕ → List ℕ → ImageValue
+unwritten epoch text = record { epoch = epoch; text = text; written = 0 }
+
+abbrev pub one_more : ImageValue → ImageValue
+one_more image = record image { written = image.written + 1 }
+
+-- A slot holds this text, and in front of it a gate that isn't open and the place of a header.
+pub record HoldsBehind (slot text : List ℕ) : Type 0 where
+  pub head : List ℕ
+  pub long : length head ≡ 24
+  pub shut : IsClosed head
+  pub whole : slot ≡ head ++ text
+
+-- so many pieces of a text
+abbrev pub first_pieces : ℕ → List ℕ → List ℕ
+first_pieces count text = take (piece_length * count) text
+
+-- a slot with the whole open image of an epoch
+abbrev pub open_image : ℕ → List ℕ → List ℕ
+open_image epoch text = open_gate ∷ image_content epoch text
+
+-- An image is finished: its gate isn't open, or the whole image stands there.
+abbrev pub IsFinishing : ℕ → List ℕ → List ℕ → List ℕ → Type 0
+IsFinishing epoch text before after = IsClosed after ⊎ (after ≡ open_image epoch text)

@@ -1,0 +1,126 @@
+ghost use Rattle.std.specs.Prelude.{◌≡◌, ◌+◌, ◌*◌, ◌<◌, ◌≤◌, ◌++◌, [], length, take, IfOk, OnOk, OnErr};
+ghost use Rattle.disk.specs.Slots.{slot_of, with_slot};
+ghost use Rattle.disk.specs.Moments.{IsSynced, Passes, Follows, CountsFailure};
+ghost use Rattle.image.specs.Rows.{snapshot_text};
+ghost use Rattle.ipc_model.specs.world.World.{pieces_of};
+ghost use Rattle.checkpoint.specs.Images.{HoldsBehind, IsFinishing, first_pieces, one_more, open_image, unwritten};
+ghost use Rattle.slot_steps.specs.Steps.{IsClosing, IsRemade, IsShut, IsStillClosed, image_slot as slot_of_epoch};
+
+use crate::steps;
+use disk::{Disk, DiskFault};
+use image::write_into;
+use slot_steps::image_slot;
+use snapshot::Snapshot;
+use std::alloc::{AllocError, Global};
+use std::marker::Model;
+
+/// An epoch's image: its text, and how many pieces of it were written into the slot.
+#[derive(Drop)]
+pub struct Image {
+    epoch: u64,
+    text: Vec<u8>,
+    written: u64,
+}
+
+impl Model for Image {
+    ghost use Rattle.std.specs.Prelude.{◌≤◌};
+    ghost use Rattle.ipc_model.specs.world.World.{pieces_of};
+    ghost use Rattle.checkpoint.specs.Images.{ImageValue, image_code};
+
+    ghost Value = { ImageValue };
+
+    ghost coded = { image_code };
+
+    ghost view = { λ i. record { epoch = i.epoch; text = i.text.items; written = i.written } };
+
+    ghost invariant = { λ i. i.written ≤ pieces_of i.text.items };
+}
+
+impl Image {
+    /// Makes the image that an epoch begins with, in memory.
+    pub fn of(alloc: Global, epoch: u64, snapshot: &Snapshot) -> Result<Image, AllocError>
+        ensures { IfOk result (λ image. image ≡ unwritten epoch (snapshot_text snapshot.now)) }
+    {
+        let mut text = Vec::new(alloc);
+        write_into(snapshot, &mut text)?;
+        Ok(Image {
+            epoch,
+            text,
+            written: 0,
+        })
+    }
+
+    /// How many pieces its text has.
+    pub fn pieces(&self) -> u64
+        ensures { result ≡ pieces_of self.now.text }
+    {
+        steps::pieces_in(&self.text)
+    }
+
+    /// How many pieces were written.
+    pub fn written(&self) -> u64
+        ensures written { result ≡ self.now.written }
+        ensures within { result ≤ pieces_of self.now.text }
+    {
+        self.written
+    }
+
+    /// Closes and clears the image's slot.
+    pub fn close<D: Disk>(&self, disk: &mut D) -> Result<(), DiskFault>
+        ensures cleared { D.honest → OnOk result (HoldsBehind (slot_of (D.view disk.new).seen (slot_of_epoch self.now.epoch)) []) }
+        ensures others { D.honest → OnOk result ((D.view disk.new).seen ≡ with_slot (D.view disk.old).seen (slot_of_epoch self.now.epoch)
+            (slot_of (D.view disk.new).seen (slot_of_epoch self.now.epoch))) }
+        ensures shut { D.honest → OnOk result (IsShut (D.view disk.new) (slot_of_epoch self.now.epoch)) }
+        ensures any_moment { D.honest → IsSynced (D.view disk.old) (slot_of_epoch self.now.epoch)
+            → Passes (D.view disk.old) (D.view disk.new) (Follows (D.view disk.old) (slot_of_epoch self.now.epoch) (IsClosing 24)) }
+        ensures failures { CountsFailure (D.failed_calls disk.old) (D.failed_calls disk.new) result }
+    {
+        steps::clear(disk, image_slot(self.epoch))
+    }
+
+    /// Writes the next piece behind those that stand in the slot.
+    pub fn write_piece<D: Disk>(&mut self, disk: &mut D) -> Result<(), DiskFault>
+        requires more { self.old.written < pieces_of self.old.text }
+        requires holds { D.honest → HoldsBehind (slot_of (D.view disk.old).seen (slot_of_epoch self.old.epoch)) (first_pieces self.old.written self.old.text) }
+        ensures ok { OnOk result (self.new ≡ one_more self.old) }
+        ensures err { OnErr result (self.new ≡ self.old) }
+        ensures held { D.honest → OnOk result (HoldsBehind (slot_of (D.view disk.new).seen (slot_of_epoch self.old.epoch)) (first_pieces (self.old.written + 1) self.old.text)) }
+        ensures others { D.honest → OnOk result ((D.view disk.new).seen ≡ with_slot (D.view disk.old).seen (slot_of_epoch self.old.epoch)
+            (slot_of (D.view disk.new).seen (slot_of_epoch self.old.epoch))) }
+        ensures shut { D.honest → IsShut (D.view disk.old) (slot_of_epoch self.old.epoch) → OnOk result (IsShut (D.view disk.new) (slot_of_epoch self.old.epoch)) }
+        ensures any_moment { D.honest → IsShut (D.view disk.old) (slot_of_epoch self.old.epoch)
+            → Passes (D.view disk.old) (D.view disk.new) (Follows (D.view disk.old) (slot_of_epoch self.old.epoch) IsStillClosed) }
+        ensures failures { CountsFailure (D.failed_calls disk.old) (D.failed_calls disk.new) result }
+    {
+        let piece = steps::piece_at(&self.text, self.written);
+        steps::push_piece(disk, image_slot(self.epoch), piece)?;
+        self.written += 1;
+        Ok(())
+    }
+
+    /// Opens the gate of the image, whose whole text stands in the slot: once that and the header are on the disk.
+    pub fn finish<D: Disk>(&self, disk: &mut D) -> Result<(), DiskFault>
+        requires all { self.now.written ≡ pieces_of self.now.text }
+        requires holds { D.honest → HoldsBehind (slot_of (D.view disk.old).seen (slot_of_epoch self.now.epoch)) (first_pieces self.now.written self.now.text) }
+        ensures made { D.honest → OnOk result ((D.view disk.new).seen
+            ≡ with_slot (D.view disk.old).seen (slot_of_epoch self.now.epoch) (open_image self.now.epoch self.now.text)) }
+        ensures synced { D.honest → OnOk result (IsSynced (D.view disk.new) (slot_of_epoch self.now.epoch)) }
+        ensures any_moment { D.honest → IsShut (D.view disk.old) (slot_of_epoch self.now.epoch)
+            → Passes (D.view disk.old) (D.view disk.new) (Follows (D.view disk.old) (slot_of_epoch self.now.epoch) (IsFinishing self.now.epoch self.now.text)) }
+        ensures failures { CountsFailure (D.failed_calls disk.old) (D.failed_calls disk.new) result }
+    {
+        steps::finish(disk, image_slot(self.epoch), self.epoch, &self.text)
+    }
+
+    /// Writes all of the image at once, from the closing of its slot to the opening of its gate.
+    pub fn write<D: Disk>(&self, disk: &mut D) -> Result<(), DiskFault>
+        ensures made { D.honest → OnOk result ((D.view disk.new).seen
+            ≡ with_slot (D.view disk.old).seen (slot_of_epoch self.now.epoch) (open_image self.now.epoch self.now.text)) }
+        ensures synced { D.honest → OnOk result (IsSynced (D.view disk.new) (slot_of_epoch self.now.epoch)) }
+        ensures any_moment { D.honest → IsSynced (D.view disk.old) (slot_of_epoch self.now.epoch)
+            → Passes (D.view disk.old) (D.view disk.new) (Follows (D.view disk.old) (slot_of_epoch self.now.epoch) (IsRemade 24 (open_image self.now.epoch self.now.text))) }
+        ensures failures { CountsFailure (D.failed_calls disk.old) (D.failed_calls disk.new) result }
+    {
+        steps::write_all(disk, image_slot(self.epoch), self.epoch, &self.text)
+    }
+}

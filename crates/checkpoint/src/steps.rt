@@ -1,0 +1,152 @@
+// The device's part of an image's steps, on one slot.
+ghost use Rattle.std.specs.Prelude.{◌≡◌, ◌+◌, ◌<◌, ◌≤◌, ◌++◌, [], length, take, drop, OnOk};
+ghost use Rattle.disk.specs.Slots.{slot_of, with_slot};
+ghost use Rattle.disk.specs.Moments.{IsSynced, Passes, Follows, CountsFailure};
+ghost use Rattle.ipc_model.specs.store.Store.{epoch_text, IsClosed};
+ghost use Rattle.words.specs.Words.{long_word};
+ghost use Rattle.checkpoint.specs.Images.{HoldsBehind, IsFinishing, first_pieces, open_image};
+ghost use Rattle.ipc_model.specs.world.World.{pieces_of};
+ghost use Rattle.slot_steps.specs.Steps.{IsClosing, IsRemade, IsShut, IsStillClosed};
+
+use disk::{Disk, DiskFault, Slot};
+use slot_steps::{
+    IMAGE_HEADER, OPEN_GATE, close_slot, cut_behind, sync_behind, write_behind, write_gate,
+};
+
+/// How many bytes of an image's text are written at once.
+pub const PIECE: usize = 4096;
+
+/// What stands behind the gate of an image before its text: version 1, six zero bytes, its epoch, and the text's length.
+fn image_start(epoch: u64, length: u64) -> [u8; 23]
+    ensures { result ≡ epoch_text epoch ++ long_word length }
+{
+    let [a, b, c, d, e, f, g, h] = epoch.to_le_bytes();
+    let [i, j, k, l, m, n, o, p] = length.to_le_bytes();
+    [
+        1, 0, 0, 0, 0, 0, 0, a, b, c, d, e, f, g, h, i, j, k, l, m, n, o, p,
+    ]
+}
+
+/// Writes zeros where an image has its header behind the gate.
+fn write_zeros<D: Disk>(disk: &mut D, slot: Slot) -> Result<(), DiskFault>
+    requires { D.honest → 0 < length (slot_of (D.view disk.old).seen slot) }
+    ensures long { D.honest → OnOk result (24 ≤ length (slot_of (D.view disk.new).seen slot)) }
+    ensures closed { D.honest → IsClosed (slot_of (D.view disk.old).seen slot) → OnOk result (IsClosed (slot_of (D.view disk.new).seen slot)) }
+    ensures others { D.honest → OnOk result ((D.view disk.new).seen ≡ with_slot (D.view disk.old).seen slot (slot_of (D.view disk.new).seen slot)) }
+    ensures shut { D.honest → IsShut (D.view disk.old) slot → OnOk result (IsShut (D.view disk.new) slot) }
+    ensures any_moment { D.honest → IsShut (D.view disk.old) slot
+        → Passes (D.view disk.old) (D.view disk.new) (Follows (D.view disk.old) slot IsStillClosed) }
+    ensures failures { CountsFailure (D.failed_calls disk.old) (D.failed_calls disk.new) result }
+{
+    write_behind(disk, slot, 1, &[0; 23])
+}
+
+/// Clears an image slot: a closed gate and the place of a header stand there, and nothing else.
+pub(crate) fn clear<D: Disk>(disk: &mut D, slot: Slot) -> Result<(), DiskFault>
+    ensures cleared { D.honest → OnOk result (HoldsBehind (slot_of (D.view disk.new).seen slot) []) }
+    ensures others { D.honest → OnOk result ((D.view disk.new).seen ≡ with_slot (D.view disk.old).seen slot (slot_of (D.view disk.new).seen slot)) }
+    ensures shut { D.honest → OnOk result (IsShut (D.view disk.new) slot) }
+    ensures any_moment { D.honest → IsSynced (D.view disk.old) slot
+        → Passes (D.view disk.old) (D.view disk.new) (Follows (D.view disk.old) slot (IsClosing 24)) }
+    ensures failures { CountsFailure (D.failed_calls disk.old) (D.failed_calls disk.new) result }
+{
+    close_slot(disk, slot, IMAGE_HEADER)?;
+    write_zeros(disk, slot)?;
+    cut_behind(disk, slot, 24)
+}
+
+/// How many pieces a text has.
+pub(crate) fn pieces_in(text: &[u8]) -> u64
+    ensures { result ≡ pieces_of text.now }
+{
+    text.len().div_ceil(PIECE) as u64
+}
+
+/// A piece of a text, by how many stand before it.
+pub(crate) fn piece_at(text: &[u8], before: u64) -> &[u8]
+    ensures { first_pieces before text.now ++ result.now ≡ first_pieces (before + 1) text.now }
+{
+    let from = (before as usize).saturating_mul(PIECE).min(text.len());
+    let to = from.saturating_add(PIECE).min(text.len());
+    &text[from..to]
+}
+
+/// Writes a piece of an image's text behind what stands in the slot.
+pub(crate) fn push_piece<D: Disk>(disk: &mut D, slot: Slot, piece: &[u8]) -> Result<(), DiskFault>
+    requires { D.honest → 0 < length (slot_of (D.view disk.old).seen slot) }
+    ensures written { D.honest → OnOk result ((D.view disk.new).seen
+        ≡ with_slot (D.view disk.old).seen slot (slot_of (D.view disk.old).seen slot ++ piece.now)) }
+    ensures shut { D.honest → IsShut (D.view disk.old) slot → OnOk result (IsShut (D.view disk.new) slot) }
+    ensures any_moment { D.honest → IsShut (D.view disk.old) slot
+        → Passes (D.view disk.old) (D.view disk.new) (Follows (D.view disk.old) slot IsStillClosed) }
+    ensures failures { CountsFailure (D.failed_calls disk.old) (D.failed_calls disk.new) result }
+{
+    let end = disk.length(slot).max(1);
+    write_behind(disk, slot, end, piece)
+}
+
+/// Writes all of a text behind the place of the header.
+fn write_text<D: Disk>(disk: &mut D, slot: Slot, text: &[u8]) -> Result<(), DiskFault>
+    requires { D.honest → HoldsBehind (slot_of (D.view disk.old).seen slot) [] }
+    ensures held { D.honest → OnOk result (HoldsBehind (slot_of (D.view disk.new).seen slot) text.now) }
+    ensures others { D.honest → OnOk result ((D.view disk.new).seen ≡ with_slot (D.view disk.old).seen slot (slot_of (D.view disk.new).seen slot)) }
+    ensures shut { D.honest → IsShut (D.view disk.old) slot → OnOk result (IsShut (D.view disk.new) slot) }
+    ensures any_moment { D.honest → IsShut (D.view disk.old) slot
+        → Passes (D.view disk.old) (D.view disk.new) (Follows (D.view disk.old) slot IsStillClosed) }
+    ensures failures { CountsFailure (D.failed_calls disk.old) (D.failed_calls disk.new) result }
+{
+    for piece in 0..pieces_in(text) {
+        push_piece(disk, slot, piece_at(text, piece))?;
+    }
+    Ok(())
+}
+
+/// Writes an image's header behind the gate, on the disk.
+fn write_header<D: Disk>(disk: &mut D, slot: Slot, epoch: u64, size: u64) -> Result<(), DiskFault>
+    requires { D.honest → 24 ≤ length (slot_of (D.view disk.old).seen slot) }
+    ensures written { D.honest → OnOk result ((D.view disk.new).seen ≡ with_slot (D.view disk.old).seen slot
+        (take 1 (slot_of (D.view disk.old).seen slot) ++ ((epoch_text epoch ++ long_word size) ++ drop 24 (slot_of (D.view disk.old).seen slot)))) }
+    ensures synced { D.honest → OnOk result (IsSynced (D.view disk.new) slot) }
+    ensures any_moment { D.honest → IsShut (D.view disk.old) slot
+        → Passes (D.view disk.old) (D.view disk.new) (Follows (D.view disk.old) slot IsStillClosed) }
+    ensures failures { CountsFailure (D.failed_calls disk.old) (D.failed_calls disk.new) result }
+{
+    write_behind(disk, slot, 1, &image_start(epoch, size))?;
+    sync_behind(disk, slot)
+}
+
+/// Writes the header of an image, all of whose text stands in the slot, and opens the gate.
+pub(crate) fn finish<D: Disk>(
+    disk: &mut D,
+    slot: Slot,
+    epoch: u64,
+    text: &[u8],
+) -> Result<(), DiskFault>
+    requires { D.honest → HoldsBehind (slot_of (D.view disk.old).seen slot) text.now }
+    ensures made { D.honest → OnOk result ((D.view disk.new).seen ≡ with_slot (D.view disk.old).seen slot (open_image epoch text.now)) }
+    ensures synced { D.honest → OnOk result (IsSynced (D.view disk.new) slot) }
+    ensures any_moment { D.honest → IsShut (D.view disk.old) slot
+        → Passes (D.view disk.old) (D.view disk.new) (Follows (D.view disk.old) slot (IsFinishing epoch text.now)) }
+    ensures failures { CountsFailure (D.failed_calls disk.old) (D.failed_calls disk.new) result }
+{
+    write_header(disk, slot, epoch, text.len() as u64)?;
+    write_gate(disk, slot, OPEN_GATE)
+}
+
+/// Writes all of an image, from the closing of its slot to the opening of its gate.
+pub(crate) fn write_all<D: Disk>(
+    disk: &mut D,
+    slot: Slot,
+    epoch: u64,
+    text: &[u8],
+) -> Result<(), DiskFault>
+    ensures made { D.honest → OnOk result ((D.view disk.new).seen ≡ with_slot (D.view disk.old).seen slot (open_image epoch text.now)) }
+    ensures synced { D.honest → OnOk result (IsSynced (D.view disk.new) slot) }
+    ensures any_moment { D.honest → IsSynced (D.view disk.old) slot
+        → Passes (D.view disk.old) (D.view disk.new) (Follows (D.view disk.old) slot (IsRemade 24 (open_image epoch text.now))) }
+    ensures failures { CountsFailure (D.failed_calls disk.old) (D.failed_calls disk.new) result }
+{
+    clear(disk, slot)?;
+    write_text(disk, slot, text)?;
+    finish(disk, slot, epoch, text)
+}
