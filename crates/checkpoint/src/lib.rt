@@ -1,8 +1,8 @@
 //! Images in their slots: an epoch's image is made in memory, and written piece by piece behind a closed gate.
 #![tactic(auto)]
 
-mod image;
 mod steps;
+mod writing;
 
-pub use image::Image;
 pub use steps::PIECE;
+pub use writing::Image;

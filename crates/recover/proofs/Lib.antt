@@ -1,8 +1,3 @@
-mod Ends
-mod Gates
-mod Lengths
-mod Moments
-mod Rest
-mod Stages
-mod Streams
-mod Surveys
+pub mod Streams
+pub mod Surveys
+pub mod Fronts

@@ -1,13 +1,3 @@
-pub mod AsWritten
-pub mod AtRest
-pub mod Fronts
-pub mod Kept
-pub mod Looked
-pub mod Making
-pub mod Opened
-pub mod Recovered
-pub mod RecoveredLaws
+pub mod Headers
 pub mod Replayed
-pub mod Steps
-pub mod Stopping
 pub mod Surveyed

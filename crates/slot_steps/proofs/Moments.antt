@@ -62,3 +62,7 @@ own_bytes Segment1 s x = refl
 -- a slot that is synced stays so while nothing changes
 pub synced_kept : (slot : Slot) (old new : View) → Passes old new (MayLeave old) → new.seen ≡ old.seen → IsSynced old slot → IsSynced new slot
 synced_kept slot old new time same synced c left = synced c (left_before old new time c left) ∙ ap (λ (s : Slots). slot_of s slot) (sym same)
+
+-- calls that change nothing, one after another
+pub unchanged_then : (old mid new : View) → Passes old mid (MayLeave old) → Passes mid new (MayLeave mid) → Passes old new (MayLeave old)
+unchanged_then old mid new first second = passes_then old mid new (MayLeave old) (MayLeave mid) (MayLeave old) first second (λ c left. left) (left_before old mid first)

@@ -1,2 +1,0 @@
--- What is known of the machine's steps, passed on to who stands above.
-pub use Rattle.kernel.specs.Unrecorded.{unrecorded_step}
