@@ -9,9 +9,11 @@ mod laws;
 mod messages;
 mod recording;
 mod reply;
+mod restored;
 mod stepping;
 
 pub use kernel::{Kernel, ReplayFault};
 pub use laws::unrecorded_steps_change_nothing;
 pub use recording::Recorder;
+pub use restored::SnapshotFault;
 pub use snapshot::Snapshot;

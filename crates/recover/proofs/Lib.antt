@@ -1,3 +1,4 @@
+pub mod Texts
 pub mod Streams
 pub mod Surveys
 pub mod Fronts

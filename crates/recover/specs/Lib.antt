@@ -1,3 +1,4 @@
 pub mod Headers
+pub mod Loaded
 pub mod Replayed
 pub mod Surveyed

@@ -2,5 +2,6 @@
 #![tactic(auto)]
 
 mod headers;
+mod loading;
 mod reading;
 mod survey;

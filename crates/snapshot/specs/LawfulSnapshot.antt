@@ -1,0 +1,16 @@
+-- The snapshots of lawful states.
+use Rattle.std.specs.Prelude.{◌≡◌}
+use Rattle.ipc_model.specs.state.Circular.{Grounded}
+use Rattle.ipc_model.specs.state.Lawful.{Lawful, ShortQueues}
+use Rattle.ipc_model.specs.state.State.{State}
+use Rattle.snapshot.specs.Snapshots.{snapshot_of}
+use Rattle.snapshot.specs.declared.rows.Snapshot.{Snapshot}
+
+-- A lawful snapshot is that of a lawful state in which no ports carry one another in a circle, and whose queues are short
+-- enough to count.
+pub record IsLawfulSnapshot (snapshot : Snapshot) : Type 0 where
+  pub state : State
+  pub same : snapshot ≡ snapshot_of state
+  pub lawful : Lawful state
+  pub grounded : Grounded state
+  pub short : ShortQueues state
