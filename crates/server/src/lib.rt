@@ -11,3 +11,4 @@ pub use laws::{answered_is_stored, failure_loses_nothing};
 pub use program::{LoneEnd, lone, run_alone};
 pub use recover::{Opened, open};
 pub use service::{ServeFault, serve};
+pub use system::System;
