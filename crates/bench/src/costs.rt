@@ -168,8 +168,9 @@ const LITTLE: Beside = Beside {
     notices: 0,
 };
 
-/// Beside more of each, with what it is.
-static WAYS: [(&str, Beside); 4] = [
+/// Beside little, and beside more of each, with what it is.
+static WAYS: [(&str, Beside); 5] = [
+    ("little", LITTLE),
     (
         "16,000 ports",
         Beside {
@@ -272,16 +273,45 @@ pub(crate) fn hundredths(figure: u64, of: u64) -> u64 {
     figure.saturating_mul(100).checked_div(of).unwrap_or(0)
 }
 
+/// How often little and more are measured by turns: the shortest time of each counts, since other work slows the machine
+/// for longer than a turn takes.
+pub(crate) const TURNS: u32 = 5;
+
+/// Measures the calls of a row beside little and in each way beside more: nanoseconds, where they are fewer than before.
+fn measure(rt: &HostRuntime, row: &Row, figures: &mut [u64; 5]) -> Result<(), Fault> {
+    for (place, (_, beside)) in WAYS.iter().enumerate() {
+        let nanos = nanos_of(rt, row, *beside)?;
+        if let Some(figure) = figures.get_mut(place) {
+            *figure = nanos.min(*figure);
+        }
+    }
+    Ok(())
+}
+
+/// Prints how many times as long something takes beside more.
+pub(crate) fn print_ratio(rt: &HostRuntime, what: &str, more: u64, little: u64) {
+    let ratio = hundredths(more, little);
+    let (whole, part) = (ratio / 100, ratio % 100);
+    let _ = print!(rt; ", {what} {whole}.{part:02}");
+}
+
 /// Prints what a row costs beside little, and how many times as much beside more.
-fn print_row(rt: &HostRuntime, row: &Row) -> Result<(), Fault> {
-    let little = nanos_of(rt, row, LITTLE)?;
+fn print_figures(rt: &HostRuntime, row: &Row, figures: &[u64; 5]) {
+    let little = figures[0];
     let _ = print!(rt; "{}: {little}", row.label);
-    for (what, beside) in &WAYS {
-        let ratio = hundredths(nanos_of(rt, row, *beside)?, little);
-        let (whole, part) = (ratio / 100, ratio % 100);
-        let _ = print!(rt; ", {what} {whole}.{part:02}");
+    for ((what, _), figure) in WAYS.iter().zip(figures).skip(1) {
+        print_ratio(rt, what, *figure, little);
     }
     let _ = println!(rt);
+}
+
+/// Measures a row, and prints it.
+fn print_row(rt: &HostRuntime, row: &Row) -> Result<(), Fault> {
+    let mut figures = [u64::MAX; 5];
+    for _ in 0..TURNS {
+        measure(rt, row, &mut figures)?;
+    }
+    print_figures(rt, row, &figures);
     Ok(())
 }
 

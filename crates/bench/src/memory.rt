@@ -35,9 +35,9 @@ pub(crate) struct Cycle<'a> {
 
 /// A call by a task of a space.
 #[derive(Drop)]
-struct Step {
-    space: u32,
-    call: Call,
+pub(crate) struct Step {
+    pub(crate) space: u32,
+    pub(crate) call: Call,
 }
 
 /// The call of a line.
@@ -49,7 +49,7 @@ pub(crate) fn call_of(alloc: Global, line: &str) -> Result<Call, Fault> {
 }
 
 /// The calls of lines.
-fn steps_of(alloc: Global, lines: &[(u32, &str)]) -> Result<Vec<Step>, Fault> {
+pub(crate) fn steps_of(alloc: Global, lines: &[(u32, &str)]) -> Result<Vec<Step>, Fault> {
     let mut steps = Vec::new(alloc);
     for (space, line) in lines {
         let step = Step {

@@ -2,11 +2,11 @@
 
 use crate::costs::hundredths;
 use crate::memory::call_of;
-use crate::messages::send_line;
+use crate::messages::{BY_SEND, send_line};
+use crate::stored::make;
 use crate::{Fault, open_caller, print_figure};
 use disk::{Disk, DiskFault, FileDisk, Slot};
-use ipc_model::Call;
-use server::{Alone, Caller, open};
+use server::{Alone, open};
 use std::alloc::Global;
 use std::fs;
 use std::time::{Duration, Instant};
@@ -66,14 +66,6 @@ impl<D: Disk> Disk for Unsynced<D> {
     }
 }
 
-/// Makes a call, which has to be acknowledged.
-fn make<D: Disk>(caller: &mut Alone<D>, call: Call) -> Result<(), Fault> {
-    match caller.call(call) {
-        Ok(reply) if reply.is_success() => Ok(()),
-        _ => Err(Fault::Call),
-    }
-}
-
 /// Makes two ports, and then so many pairs of calls.
 fn make_records<D: Disk>(
     alloc: Global,
@@ -112,11 +104,23 @@ fn time_opening<D: Disk + Drop>(rt: &HostRuntime, disk: D) -> Result<Duration, F
 }
 
 /// The files of a folder.
-fn files_at<'a>(rt: &'a HostRuntime, folder: &str) -> Result<FileDisk<&'a HostRuntime>, Fault> {
+pub(crate) fn files_at<'a>(
+    rt: &'a HostRuntime,
+    folder: &str,
+) -> Result<FileDisk<&'a HostRuntime>, Fault> {
     match FileDisk::at(rt.alloc(), rt, folder) {
         Ok(disk) => Ok(disk),
         Err(_) => Err(Fault::Store),
     }
+}
+
+/// Makes a folder.
+pub(crate) fn new_folder(rt: &HostRuntime, parent: &str, name: &str) -> Result<String, Fault> {
+    let Ok(folder) = format!(in rt.alloc(); "{parent}/{name}") else {
+        return Err(Fault::Device);
+    };
+    fs::create_dir(rt, folder.as_str())?;
+    Ok(folder)
 }
 
 /// Makes a store in a new folder, and gives the folder and the length of the segment.
@@ -127,10 +131,7 @@ fn make_folder(
     pair: (&str, &str),
     count: u32,
 ) -> Result<(String, u64), Fault> {
-    let Ok(folder) = format!(in rt.alloc(); "{parent}/{name}") else {
-        return Err(Fault::Device);
-    };
-    fs::create_dir(rt, folder.as_str())?;
+    let folder = new_folder(rt, parent, name)?;
     let length = make_store(rt.alloc(), files_at(rt, folder.as_str())?, pair, count)?;
     Ok((folder, length))
 }
@@ -174,7 +175,7 @@ fn number_in(line: &str) -> u64 {
 
 /// Prints how much memory opening a store of 8 KiB messages and their receipts takes.
 fn print_memory(rt: &HostRuntime, parent: &str) -> Result<(), Fault> {
-    let Ok(line) = send_line(rt.alloc(), 8_192, 0) else {
+    let Ok(line) = send_line(rt.alloc(), BY_SEND, 8_192, 0) else {
         return Err(Fault::Call);
     };
     let (folder, length) = make_folder(rt, parent, "messages", (line.as_str(), RECEIPT), ALL)?;
