@@ -1,4 +1,4 @@
-ghost use Rattle.std.specs.Prelude.{◌≡◌, ◌+◌, ◌*◌, ◌<◌, ◌≤◌, ◌++◌, [], length, take, IfOk, OnOk, OnErr};
+ghost use Rattle.std.specs.Prelude.{◌≡◌, ◌+◌, ◌*◌, ◌^◌, ◌<◌, ◌≤◌, ◌++◌, [], length, take, IfOk, OnOk, OnErr};
 ghost use Rattle.disk.specs.Slots.{slot_of, with_slot};
 ghost use Rattle.disk.specs.Moments.{IsSynced, Passes, Follows, CountsFailure};
 ghost use Rattle.image.specs.Rows.{snapshot_text};
@@ -48,6 +48,14 @@ impl Image {
             text,
             written: 0,
         })
+    }
+
+    /// How many bytes its text has.
+    pub fn size(&self) -> u64
+        ensures size { result ≡ length self.now.text }
+        ensures fits { length self.now.text < 2 ^ 64 }
+    {
+        self.text.len() as u64
     }
 
     /// How many pieces its text has.

@@ -95,6 +95,7 @@ fn read_snapshot(alloc: Global, bytes: &[u8]) -> Result<Option<Snapshot>, AllocE
 /// `NotCanonical`: they spell none. `NoMemory`: a growth was refused.
 pub fn read(alloc: Global, bytes: &[u8]) -> Result<Snapshot, ImageFault>
     ensures found { IfOk result (λ snapshot. (bytes.now ≡ snapshot_text snapshot) × FitsImage snapshot) }
+    ensures only { (snapshot : Snapshot) → FitsImage snapshot → bytes.now ≡ snapshot_text snapshot → IfOk result (λ read. read ≡ snapshot) }
     ensures none { IsErrOf result ImageFault.NotCanonical → (snapshot : Snapshot) → FitsImage snapshot → bytes.now ≡ snapshot_text snapshot → ⊥ }
 {
     match read_snapshot(alloc, bytes)? {

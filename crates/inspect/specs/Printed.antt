@@ -4,18 +4,20 @@ use Rattle.disk.specs.Slots.{Slots}
 use Rattle.ipc_model.specs.state.State.{State}
 use Rattle.listing.specs.Drawing.{drawing}
 use Rattle.listing.specs.Listing.{listing}
-use Rattle.recover.specs.Recovered.{Recovers}
+use Rattle.recover.specs.Found.{Reads}
 
--- The lines of a state. On an honest disk it is the one that the slots stand for, with so many records.
+-- The lines of a state. On an honest disk it is the one that the slots spell, with the epoch of its image and so many records.
 pub record IsListing (honest : Type 0) (slots : Slots) (text : List ℕ) : Type 0 where
   pub state : State
+  pub epoch : ℕ
   pub records : ℕ
-  pub stands : honest → Recovers slots state records
-  pub lines : text ≡ listing 0 records state
+  pub reads : honest → Reads slots epoch records state
+  pub lines : text ≡ listing epoch records state
 
 -- and the drawing of it
 pub record IsSketch (honest : Type 0) (slots : Slots) (text : List ℕ) : Type 0 where
   pub state : State
+  pub epoch : ℕ
   pub records : ℕ
-  pub stands : honest → Recovers slots state records
+  pub reads : honest → Reads slots epoch records state
   pub drawn : text ≡ drawing state

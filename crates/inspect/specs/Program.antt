@@ -33,7 +33,7 @@ line_of name (Fault fault) = name ++ words_of (Fault fault)
 
 -- the lines of some state, and the drawing of one
 abbrev pub IsSomeListing : List ℕ → Type 0
-IsSomeListing text = (state : State) × (records : ℕ) × (text ≡ listing 0 records state)
+IsSomeListing text = (state : State) × (epoch records : ℕ) × (text ≡ listing epoch records state)
 
 abbrev pub IsSomeDrawing : List ℕ → Type 0
 IsSomeDrawing text = (state : State) × (text ≡ drawing state)

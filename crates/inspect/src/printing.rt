@@ -1,7 +1,8 @@
 ghost use Rattle.std.specs.Prelude.{◌≡◌, ◌≢◌, ℕ, List, Err, IfErr, IfOk, IsErrOf, OnErr, OnOk};
 ghost use Rattle.std.specs.Io.KnownBytes.{Appends, Keeps};
 ghost use Rattle.inspect.specs.Printed.{IsListing, IsSketch};
-ghost use Rattle.recover.specs.Recovered.{IsDamaged, IsOtherVersion};
+ghost use Rattle.ipc_model.specs.store.Recovery.{IsDamaged, IsOtherVersion};
+ghost use Rattle.standing.specs.Standing.{as_written};
 ghost use Rattle.wire.specs.Writing.{AppendsPart};
 
 use crate::ListFault;
@@ -22,8 +23,8 @@ pub fn list<D: Disk, W: Write>(alloc: Global, disk: &mut D, writer: &mut W) -> R
     ensures part { IsErrOf result ListFault.Write → (text : List ℕ) × IsListing D.honest (D.view disk.old).seen text × AppendsPart (W.contents writer.old) (W.contents writer.new) text }
     ensures unwritten { IfErr result (λ fault. fault ≢ ListFault.Write → Keeps (W.contents writer.old) (W.contents writer.new)) }
     ensures seen { D.honest → (D.view disk.new).seen ≡ (D.view disk.old).seen }
-    ensures version { D.honest → IsErrOf result (ListFault.Store StoreFault.Version) → IsOtherVersion (D.view disk.old).seen }
-    ensures damaged { D.honest → IsErrOf result (ListFault.Store StoreFault.Damaged) → IsDamaged (D.view disk.old).seen }
+    ensures version { D.honest → IsErrOf result (ListFault.Store StoreFault.Version) → IsOtherVersion (as_written (D.view disk.old).seen) }
+    ensures damaged { D.honest → IsErrOf result (ListFault.Store StoreFault.Damaged) → IsDamaged (as_written (D.view disk.old).seen) }
 {
     let text = lines_of(alloc, disk)?;
     send(writer, &text)
@@ -40,8 +41,8 @@ pub fn sketch<D: Disk, W: Write>(
     ensures part { IsErrOf result ListFault.Write → (text : List ℕ) × IsSketch D.honest (D.view disk.old).seen text × AppendsPart (W.contents writer.old) (W.contents writer.new) text }
     ensures unwritten { IfErr result (λ fault. fault ≢ ListFault.Write → Keeps (W.contents writer.old) (W.contents writer.new)) }
     ensures seen { D.honest → (D.view disk.new).seen ≡ (D.view disk.old).seen }
-    ensures version { D.honest → IsErrOf result (ListFault.Store StoreFault.Version) → IsOtherVersion (D.view disk.old).seen }
-    ensures damaged { D.honest → IsErrOf result (ListFault.Store StoreFault.Damaged) → IsDamaged (D.view disk.old).seen }
+    ensures version { D.honest → IsErrOf result (ListFault.Store StoreFault.Version) → IsOtherVersion (as_written (D.view disk.old).seen) }
+    ensures damaged { D.honest → IsErrOf result (ListFault.Store StoreFault.Damaged) → IsDamaged (as_written (D.view disk.old).seen) }
 {
     let text = sketch_of(alloc, disk)?;
     send(writer, &text)
@@ -50,8 +51,8 @@ pub fn sketch<D: Disk, W: Write>(
 fn lines_of<D: Disk>(alloc: Global, disk: &mut D) -> Result<Vec<u8>, ListFault>
     ensures text { IfOk result (λ text. IsListing D.honest (D.view disk.old).seen text.items) }
     ensures seen { D.honest → (D.view disk.new).seen ≡ (D.view disk.old).seen }
-    ensures version { D.honest → IsErrOf result (ListFault.Store StoreFault.Version) → IsOtherVersion (D.view disk.old).seen }
-    ensures damaged { D.honest → IsErrOf result (ListFault.Store StoreFault.Damaged) → IsDamaged (D.view disk.old).seen }
+    ensures version { D.honest → IsErrOf result (ListFault.Store StoreFault.Version) → IsOtherVersion (as_written (D.view disk.old).seen) }
+    ensures damaged { D.honest → IsErrOf result (ListFault.Store StoreFault.Damaged) → IsDamaged (as_written (D.view disk.old).seen) }
     ensures err { IfErr result (λ fault. fault ≢ ListFault.Write) }
 {
     let look = look(alloc, disk)?;
@@ -63,8 +64,8 @@ fn lines_of<D: Disk>(alloc: Global, disk: &mut D) -> Result<Vec<u8>, ListFault>
 fn sketch_of<D: Disk>(alloc: Global, disk: &mut D) -> Result<Vec<u8>, ListFault>
     ensures text { IfOk result (λ text. IsSketch D.honest (D.view disk.old).seen text.items) }
     ensures seen { D.honest → (D.view disk.new).seen ≡ (D.view disk.old).seen }
-    ensures version { D.honest → IsErrOf result (ListFault.Store StoreFault.Version) → IsOtherVersion (D.view disk.old).seen }
-    ensures damaged { D.honest → IsErrOf result (ListFault.Store StoreFault.Damaged) → IsDamaged (D.view disk.old).seen }
+    ensures version { D.honest → IsErrOf result (ListFault.Store StoreFault.Version) → IsOtherVersion (as_written (D.view disk.old).seen) }
+    ensures damaged { D.honest → IsErrOf result (ListFault.Store StoreFault.Damaged) → IsDamaged (as_written (D.view disk.old).seen) }
     ensures err { IfErr result (λ fault. fault ≢ ListFault.Write) }
 {
     let look = look(alloc, disk)?;

@@ -1,7 +1,6 @@
 pub mod Batch
 pub mod BatchLaws
 pub mod Fault
-pub mod Journal
 pub mod Readers
 pub mod Reading
 pub mod Storing

@@ -1,17 +1,17 @@
-//! The journal: batches of records, each behind a gate of its own, and the steps that make an epoch's segment.
+//! The journal: the segment in use, batches of records in it, each behind a gate of its own, and how a new segment is made.
 #![tactic(auto)]
 
 mod batch;
 mod fault;
-mod journal;
 mod read;
 mod roll;
+mod segment;
 mod window;
 
 pub use batch::Batch;
 pub use fault::StoreFault;
-pub use journal::Journal;
 pub use read::{PIECE, RecordReader};
-pub use roll::{Segment, roll_close, roll_head, roll_open};
+pub use roll::{roll_close, roll_head, roll_open};
+pub use segment::Segment;
 pub use slot_steps::{CLOSED_GATE, OPEN_GATE};
 pub use window::LONGEST_STEP;

@@ -6,18 +6,12 @@ ghost use Rattle.disk.specs.Moments.{IsSynced, Passes, Follows, CountsFailure};
 ghost use Rattle.ipc_model.specs.store.Store.{epoch_text, open_gate, closed_gate, IsClosed};
 ghost use Rattle.slot_steps.specs.Steps.{HasSomeGate, IsClosing, IsShut, IsStillClosed, segment_slot as slot_of_epoch};
 
+use crate::Segment;
 use disk::{Disk, DiskFault, Slot};
 use slot_steps::{
     CLOSED_GATE, OPEN_GATE, SEGMENT_HEADER, close_slot, cut_behind, segment_slot, sync_behind,
     write_behind, write_gate,
 };
-
-/// A segment that is in use: its epoch, and how many records it holds.
-#[derive(Clone, Copy, Debug, PartialEq, Eq)]
-pub struct Segment {
-    pub epoch: u64,
-    pub records: u64,
-}
 
 /// What stands behind the gate of a segment without batches: version 1, six zero bytes, its epoch, and a closed gate.
 fn segment_start(epoch: u64) -> [u8; 16]

@@ -7,7 +7,7 @@ ghost use Rattle.ipc_model.specs.texts.Texts.{number_of_reply, reply_text};
 ghost use Rattle.ipc_laws.specs.ImageLaws.{Spellable};
 ghost use Rattle.ipc_laws.specs.RecordedSteps.{IsAnsweredWhole};
 ghost use Rattle.ipc_model.specs.state.Circular.{Grounded};
-ghost use Rattle.ipc_model.specs.state.Lawful.{Lawful};
+ghost use Rattle.ipc_model.specs.state.Lawful.{Lawful, ShortQueues};
 
 use crate::choices::Shown;
 use crate::recording::{Recorder, step_recorded};
@@ -74,9 +74,12 @@ impl Kernel {
         Ok(Kernel { alloc, state })
     }
 
-    /// An image can spell the state. It does nothing but show it.
+    /// An image can spell the state, which is lawful. It does nothing but show it.
     pub fn has_image(&self)
-        ensures { Spellable self.now }
+        ensures spelled { Spellable self.now }
+        ensures lawful { Lawful self.now }
+        ensures grounded { Grounded self.now }
+        ensures short { ShortQueues self.now }
     {
         let _ = &self.state;
     }

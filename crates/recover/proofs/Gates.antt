@@ -7,8 +7,8 @@ use Rattle.ipc_model.specs.declared.record.Record.{Record}
 use Rattle.ipc_model.specs.store.Store.{AreRecords, SpellsBatches, SpellsSegment, IsInUse, IsClosed, all_records, batch_text, batches_text, open_gate, closed_gate, segment_header}
 use Rattle.ipc_laws.specs.BatchLaws.{same_batches, are_records-front, are_records-back}
 use Rattle.ipc_laws.specs.StoreLaws.{all_records-push, batches_text-push, none_empty-push, are_records-join}
+use Rattle.ipc_model.specs.store.Recovery.{IsOpen}
 use Rattle.recover.specs.Making.{empty_segment}
-use Rattle.recover.specs.Recovered.{IsOpen}
 use Rattle.recover.specs.Stopping.{HasLastGate, AppendKeepsGate}
 
 -- equal texts of batches have the same behind them
@@ -34,8 +34,8 @@ one_rest bytes r1 r2 a b =
     (omega (arith, a.bounded, ap length a.flat)) (omega (arith, b.bounded, ap length b.flat)) (sym a.text ∙ b.text)
 
 -- a segment with a reading that has a byte behind its batches
-pub has_gate : (segment : List ℕ) (records : List Record) → (known : SpellsSegment 0 segment records) → 0 < length known.spelled.rest → HasLastGate segment
-has_gate segment records known some others other =
+pub has_gate : (epoch : ℕ) (segment : List ℕ) (records : List Record) → (known : SpellsSegment epoch segment records) → 0 < length known.spelled.rest → HasLastGate segment
+has_gate epoch segment records known some other_epoch others other =
     let same : known.content ≡ other.content = ap (drop 16) (sym known.text ∙ other.text) in
     let moved : SpellsBatches other.content records = record {
       batches = known.spelled.batches;
@@ -51,12 +51,12 @@ has_gate segment records known some others other =
 
 -- a segment that isn't open has no reading
 pub shut_has_gate : (segment : List ℕ) → ¬ IsOpen 16 segment → HasLastGate segment
-shut_has_gate segment shut records known = absurd (shut (subst (IsOpen 16) (sym known.text) (omega (arith, length-append (segment_header open_gate 0) known.content), refl)))
+shut_has_gate segment shut epoch records known = absurd (shut (subst (IsOpen 16) (sym known.text) (omega (arith, length-append (segment_header open_gate epoch) known.content), refl)))
 
 -- a segment that was never in use
 
-pub empty_has_gate : (segment : List ℕ) → segment ≡ empty_segment 0 → HasLastGate segment
-empty_has_gate segment is = has_gate segment []
+pub empty_has_gate : (epoch : ℕ) (segment : List ℕ) → segment ≡ empty_segment epoch → HasLastGate segment
+empty_has_gate epoch segment is = has_gate epoch segment []
     (record {
       content = closed_gate ∷ [];
       text = is;
@@ -66,9 +66,9 @@ empty_has_gate segment is = has_gate segment []
 -- a segment in use to which a batch is appended
 
 -- the batches of a segment in use, with other bytes behind them
-other_behind : (old new behind : List ℕ) (records : List Record) → (used : IsInUse 0 old records) → new ≡ take (length old - 1) old ++ behind → new ≡ segment_header open_gate 0 ++ (batches_text 0 used.spelled.batches ++ behind)
-other_behind old new behind records used is =
-    let header : List ℕ = segment_header open_gate 0 in
+other_behind : (epoch : ℕ) (old new behind : List ℕ) (records : List Record) → (used : IsInUse epoch old records) → new ≡ take (length old - 1) old ++ behind → new ≡ segment_header open_gate epoch ++ (batches_text 0 used.spelled.batches ++ behind)
+other_behind epoch old new behind records used is =
+    let header : List ℕ = segment_header open_gate epoch in
     let text : List ℕ = batches_text 0 used.spelled.batches in
     let whole : old ≡ (header ++ text) ++ used.spelled.rest = used.text ∙ ap (λ l. header ++ l) used.spelled.text ∙ sym (append_assoc header text used.spelled.rest) in
     let long : length old - 1 ≡ length (header ++ text) = omega (arith, used.ended, ap length whole, length-append (header ++ text) used.spelled.rest) in
@@ -78,10 +78,10 @@ closed_with_tail : (rest tail : List ℕ) → length rest ≡ 1 → IsClosed res
 closed_with_tail [] tail one shut = absurd (omega (arith, one))
 closed_with_tail (gate ∷ rest) tail one shut = shut
 
-same_records : (old new behind : List ℕ) (records : List Record) → (used : IsInUse 0 old records) → IsClosed behind → 0 < length behind → new ≡ segment_header open_gate 0 ++ (batches_text 0 used.spelled.batches ++ behind) → HasLastGate new
-same_records old new behind records used shut some is =
+same_records : (epoch : ℕ) (old new behind : List ℕ) (records : List Record) → (used : IsInUse epoch old records) → IsClosed behind → 0 < length behind → new ≡ segment_header open_gate epoch ++ (batches_text 0 used.spelled.batches ++ behind) → HasLastGate new
+same_records epoch old new behind records used shut some is =
     let spelled = used.spelled in
-    has_gate new records
+    has_gate epoch new records
     (record {
       content = batches_text 0 spelled.batches ++ behind;
       text = is;
@@ -97,12 +97,12 @@ same_records old new behind records used shut some is =
       };
     }) some
 
-more_records : (old new : List ℕ) (records batch : List Record) → (used : IsInUse 0 old records) → 0 < length batch → AreRecords batch → length records + length batch ≤ 65536
-    → new ≡ segment_header open_gate 0 ++ (batches_text 0 used.spelled.batches ++ (open_gate ∷ (batch_text (length records) batch ++ closed_gate ∷ []))) → HasLastGate new
-more_records old new records batch used some are room is =
+more_records : (epoch : ℕ) (old new : List ℕ) (records batch : List Record) → (used : IsInUse epoch old records) → 0 < length batch → AreRecords batch → length records + length batch ≤ 65536
+    → new ≡ segment_header open_gate epoch ++ (batches_text 0 used.spelled.batches ++ (open_gate ∷ (batch_text (length records) batch ++ closed_gate ∷ []))) → HasLastGate new
+more_records epoch old new records batch used some are room is =
     let spelled = used.spelled in
     let text : List ℕ = batch_text (length records) batch in
-    has_gate new (records ++ batch)
+    has_gate epoch new (records ++ batch)
     (record {
       content = batches_text 0 spelled.batches ++ (open_gate ∷ (text ++ closed_gate ∷ []));
       text = is;
@@ -120,16 +120,16 @@ more_records old new records batch used some are room is =
     }) (omega arith)
 
 pub append_keeps_gate : AppendKeepsGate
-append_keeps_gate old new records batch used some are room mid =
-    let header : List ℕ = segment_header open_gate 0 in
+append_keeps_gate epoch old new records batch used some are room mid =
+    let header : List ℕ = segment_header open_gate epoch in
     let front : List ℕ = batches_text 0 used.spelled.batches in
     let text : List ℕ = batch_text (length records) batch in
     elim mid [
-      | inl tail ↦ same_records old new (used.spelled.rest ++ tail.0) records used (closed_with_tail used.spelled.rest tail.0 used.ended used.spelled.closed) (omega (arith, used.ended, length-append used.spelled.rest tail.0))
+      | inl tail ↦ same_records epoch old new (used.spelled.rest ++ tail.0) records used (closed_with_tail used.spelled.rest tail.0 used.ended used.spelled.closed) (omega (arith, used.ended, length-append used.spelled.rest tail.0))
           (tail.1 ∙ ap (λ l. l ++ tail.0) (used.text ∙ ap (λ l. header ++ l) used.spelled.text) ∙ append_assoc header (front ++ used.spelled.rest) tail.0 ∙ ap (λ l. header ++ l) (append_assoc front used.spelled.rest tail.0))
       | inr gate ↦ elim (cases_eq gate.0 open_gate) [
-        | inl opened ↦ more_records old new records batch used some are room
-            (other_behind old new (open_gate ∷ (text ++ closed_gate ∷ [])) records used (gate.1 ∙ ap (λ (g : ℕ). take (length old - 1) old ++ (g ∷ (text ++ closed_gate ∷ []))) opened))
-        | inr shut ↦ same_records old new (gate.0 ∷ (text ++ closed_gate ∷ [])) records used shut (omega arith) (other_behind old new (gate.0 ∷ (text ++ closed_gate ∷ [])) records used gate.1)
+        | inl opened ↦ more_records epoch old new records batch used some are room
+            (other_behind epoch old new (open_gate ∷ (text ++ closed_gate ∷ [])) records used (gate.1 ∙ ap (λ (g : ℕ). take (length old - 1) old ++ (g ∷ (text ++ closed_gate ∷ []))) opened))
+        | inr shut ↦ same_records epoch old new (gate.0 ∷ (text ++ closed_gate ∷ [])) records used shut (omega arith) (other_behind epoch old new (gate.0 ∷ (text ++ closed_gate ∷ [])) records used gate.1)
       ]
     ]

@@ -1,8 +1,9 @@
-mod Ends
-mod Gates
-mod Lengths
-mod Moments
-mod Rest
-mod Stages
-mod Streams
-mod Surveys
+pub mod Fronts
+pub mod Gates
+pub mod Joined
+pub mod Rest
+pub mod Stages
+pub mod Streams
+pub mod Surveys
+pub mod Texts
+pub mod Ways

@@ -1,160 +1,212 @@
--- What a slot is while its gate is written, and what a store stands for while it is made or its segment is ended.
-use Rattle.std.proofs.Common.{rules, ◌≡◌, ◌⊎◌, inl, inr, ℕ, ◌+◌, ◌<◌, List, [], ◌∷◌, ◌++◌, length, take, drop, get_or, refl, sym, ap, subst, ◌∙◌, arith, append_assoc, take-append-drop, length-append}
-use Rattle.std.specs.Prelude.{IsTrue, nat_eq, min, slice_index_or, ◌↔◌, ◌≤◌, ◌-◌}
+-- What a store stands for while it is made, while a checkpoint is finished, and while its segment is ended.
+use Rattle.std.proofs.Common.{◌≡◌, ◌⊎◌, inl, inr, ℕ, ◌+◌, ◌%◌, ◌^◌, ◌<◌, ◌≤◌, List, [], ◌∷◌, ◌++◌, length, take, drop, refl, sym, ap, subst, ◌∙◌, arith, append_assoc, take-append-drop, length-append}
+use Rattle.std.specs.Prelude.{◌-◌, max}
 use Rattle.std.proofs.Math.Seq.{take-append-add}
-use Rattle.std.proofs.lemmas.Bool.{cases_lt}
 use Rattle.disk.specs.declared.slot.Slot.TheVariants.{Image0, Segment0}
-use Rattle.disk.specs.Slots.{Slots, with_slot}
+use Rattle.disk.specs.Slots.{Slots, slot_of, with_slot}
+use Rattle.checkpoint.specs.Images.{open_image}
+use Rattle.ipc_laws.specs.Counted.{SpellsCounted}
+use Rattle.ipc_laws.specs.RecoveryLaws.{one_epoch, recovers_once}
+use Rattle.ipc_laws.specs.RunLaws.{run_split}
+use Rattle.ipc_model.specs.calls.Step.{Run}
 use Rattle.ipc_model.specs.declared.record.Record.{Record}
 use Rattle.ipc_model.specs.state.State.{State, opening_state}
-use Rattle.ipc_model.specs.calls.Step.{Run}
-use Rattle.ipc_model.specs.store.Store.{SpellsBatches, SpellsSegment, IsClosed, open_gate, closed_gate, segment_header, batches_text}
-use Rattle.ipc_laws.specs.BatchLaws.{one_reading}
-use Rattle.ipc_laws.specs.Counted.{SpellsCounted}
-use Rattle.recover.specs.Making.{DiffersIn, HasSomeGate, IsClosing, IsRemade, IsMaking, empty_segment, open_image}
-use Rattle.recover.specs.Recovered.{IsOpen, HoldsOpeningImage, WasNeverUsed, Recovers, IsNew, opening_text}
-use Rattle.recover.specs.Stopping.{HasLastGate, FollowsSame}
+use Rattle.ipc_model.specs.store.Recovery.{HasHeader, HoldsImage, IsNew, IsOfEpoch, IsOpen, Recovered, Spells, image_header, segment_header_length}
+use Rattle.ipc_model.specs.store.Store.{SpellsBatches, SpellsSegment, IsClosed, IsInUse, NoneEmpty, all_records, open_gate, closed_gate, segment_header, batches_text}
+use Rattle.ipc_model.specs.texts.Images.{image_text}
+use Rattle.slot_steps.specs.Steps.{IsClosing, IsRemade, image_slot, segment_slot}
+use Rattle.standing.specs.Changes.{closing_image, one_segment_changed, two_finished, two_image_changed}
+use Rattle.standing.specs.Slots.{one_of_two}
+use Rattle.standing.specs.Spelled.{one_spells, two_spells}
+use Rattle.standing.specs.Standing.{as_written, InOne, InTwo, IsPassedImage, IsPassedSegment}
+use Rattle.recover.specs.Found.{ReadsOne}
+use Rattle.recover.specs.Making.{DiffersIn, empty_segment}
+use Rattle.recover.specs.Replayed.{ReplaysAll}
+use Rattle.recover.specs.Stopping.{HasLastGate, HaveLastGates, RecoverSame, StandForSame}
+use Rattle.recover.specs.Surveyed.{IsInUse as Uses, IsUnused}
 use Rattle.recover.proofs.Gates.{has_gate, shut_has_gate, empty_has_gate}
-use Rattle.recover.proofs.Surveys.{closed, image_is_open, follows_of}
 
--- an open gate, and what stands behind it
-gate_apart : (slot : List ℕ) → take 1 slot ≡ open_gate ∷ [] → slot ≡ open_gate ∷ drop 1 slot
-gate_apart [] is = absurd (cc is)
-gate_apart (gate ∷ rest) is = ap (λ (l : List ℕ). get_or l 0 0 ∷ rest) is
+-- what is recovered
 
-closed_or_open : (slot : List ℕ) → IsClosed slot ⊎ (slot ≡ open_gate ∷ drop 1 slot)
-closed_or_open [] = inl tt
-closed_or_open (gate ∷ rest) = elim (cases_lt gate open_gate) [
-  | inl below ↦ inl (λ is. omega (arith, below, is))
-  | inr above ↦ elim (cases_lt open_gate gate) [
-    | inl beyond ↦ inl (λ is. omega (arith, beyond, is))
-    | inr within ↦ inr (ap (λ (g : ℕ). g ∷ rest) (omega (arith, above, within)))
-  ]
-]
+pub run_join : (old mid new : State) (records more : List Record) → Run old records mid → Run mid more new → Run old (records ++ more) new
+run_join old mid new [] more first second = subst (λ (s : State). Run s more new) first second
+run_join old mid new (one ∷ records) more first second = (first.0, first.1, run_join first.0 mid new records more first.2 second)
 
-closed_not_open : (header : ℕ) (slot : List ℕ) → IsClosed slot → IsOpen header slot → ⊥
-closed_not_open header slot shut is_open = closed slot shut is_open.1
+-- slots from which one state is recovered stand for what others stand for, from which it is too
+pub same_by_one : (s c : Slots) (state : State) → Recovered (as_written s) state → Recovered (as_written c) state → RecoverSame s c
+same_by_one s c state one other found is = subst (Recovered (as_written c)) (recovers_once (as_written s) state found one is) other
 
--- the first byte of a slot, as it is read
-is_gate : (gate : ℕ) → IsTrue (nat_eq gate open_gate) ↔ (gate ≡ open_gate)
-is_gate gate = search rules
+pub one_recovered : (s : Slots) (e : ℕ) (base state : State) (records : List Record) → InOne s e base records → Run base records state → Recovered (as_written s) state
+one_recovered s e base state records one run = record { base = base; records = records; spelled = one_spells s e base records one; run = run }
 
-pub gate_read : (header : ℕ) (slot buffer old : List ℕ) (n : ℕ) → 0 < header → header ≤ length slot → length old ≡ 1 → n ≡ min (length old) (length slot - 0) → buffer ≡ take n (drop 0 slot) ++ drop n old
-    → IsTrue (nat_eq (slice_index_or buffer 0 0) open_gate) ↔ ((length slot < header) ⊎ (take 1 slot ≡ open_gate ∷ []))
-gate_read header [] buffer old n some long one count bytes = absurd (omega (arith, some, long))
-gate_read header (gate ∷ slot) buffer old n some long one count bytes =
-    let first : n ≡ 1 = omega (arith, one, count) in
-    let front : slice_index_or buffer 0 0 ≡ gate = ap (λ (l : List ℕ). slice_index_or l 0 0) (bytes ∙ (λ i. take (first i) (gate ∷ slot) ++ drop (first i) old)) in (
-      λ is. inr (ap (λ (g : ℕ). g ∷ []) ((is_gate gate).0 (subst (λ (g : ℕ). IsTrue (nat_eq g open_gate)) front is))),
-      λ needs. elim needs [
-        | inl short ↦ absurd (omega (arith, long, short))
-        | inr is ↦ subst (λ (g : ℕ). IsTrue (nat_eq g open_gate)) (sym front) ((is_gate gate).1 (ap (λ (l : List ℕ). slice_index_or l 0 0) is))
-      ],
-    )
+pub two_recovered : (s : Slots) (e : ℕ) (base mid state : State) (first next : List Record) → InTwo s e base first next → Run base first mid → Run mid next state → Recovered (as_written s) state
+two_recovered s e base mid state first next two run more = record { base = base; records = first ++ next; spelled = two_spells s e base first next two; run = run_join base mid state first next run more }
 
--- a slot that is too short for its header, or open, and is being closed
-pub gate_closing : (header : ℕ) (before after : List ℕ) → 1 < header → (length before < header) ⊎ (take 1 before ≡ open_gate ∷ []) → HasSomeGate before after → IsClosing header before after
-gate_closing header before after some needs gate = elim needs [
-  | inl short ↦ inr (λ is_open. omega (arith, some, short, gate.no_longer, is_open.0))
-  | inr is ↦ elim (closed_or_open after) [
-    | inl shut ↦ inr (closed_not_open header after shut)
-    | inr whole ↦ inl (whole ∙ ap (λ (l : List ℕ). open_gate ∷ l) gate.behind ∙ sym (gate_apart before is))
-  ]
-]
+-- a store that was never in use
 
-pub closing_remade : (header : ℕ) (content before after : List ℕ) → IsClosing header before after → IsRemade header content before after
-closing_remade header content before after closing = inl closing
+each_number : (P : ℕ → Type 0) → P 0 → P 1 → (number : ℕ) → number < 2 → P number
+each_number P first second number small = elim (one_of_two 0 number small) as (λ _. P number) [ inl zero_is ↦ subst P (sym zero_is) first | inr one_is ↦ subst P (sym one_is) second ]
 
-pub shut_closing : (header : ℕ) (before after : List ℕ) → IsClosed after → IsClosing header before after
-shut_closing header before after shut = inr (closed_not_open header after shut)
+pub record IsFresh (s : Slots) : Type 0 where
+  pub image0 : IsOpen image_header s.image0 → ⊥
+  pub image1 : IsOpen image_header s.image1 → ⊥
+  pub segment0 : IsOpen segment_header_length s.segment0 → SpellsSegment 0 s.segment0 []
+  pub segment1 : IsOpen segment_header_length s.segment1 → ⊥
 
-pub shut_remade : (header : ℕ) (content before after : List ℕ) → IsClosed after → IsRemade header content before after
-shut_remade header content before after shut = inl (shut_closing header before after shut)
+abbrev no_records : (content : List ℕ) → IsClosed content → SpellsBatches content []
+no_records content shut = record { batches = []; rest = content; text = refl; closed = shut; none_empty = tt; flat = refl; canonical = tt; bounded = omega arith }
 
--- a slot with its new content behind a gate that is being opened
-pub gate_opening : (header : ℕ) (behind before shut after : List ℕ) → drop 1 shut ≡ behind → HasSomeGate shut after → IsRemade header (open_gate ∷ behind) before after
-gate_opening header behind before shut after is gate = elim (closed_or_open after) [
-  | inl closed_still ↦ shut_remade header (open_gate ∷ behind) before after closed_still
-  | inr whole ↦ inr (whole ∙ ap (λ (l : List ℕ). open_gate ∷ l) (gate.behind ∙ is))
-]
-
--- what stands behind the first byte of a slot
-pub behind_first : (slot text : List ℕ) → 0 < length slot → drop 1 (take 1 slot ++ text) ≡ text
-behind_first [] text some = absurd (omega (arith, some))
-behind_first (gate ∷ rest) text some = refl
-
--- a new store that is being made
-
-empty_spells : (slot : List ℕ) → slot ≡ empty_segment 0 → SpellsSegment 0 slot []
-empty_spells slot is = record {
-  content = closed_gate ∷ [];
-  text = is;
-  spelled = record { batches = []; rest = closed_gate ∷ []; text = refl; closed = λ e. cc; none_empty = tt; flat = refl; canonical = tt; bounded = omega arith };
+pub unused_fresh : (s : Slots) → IsUnused s → IsNew (as_written s) → IsFresh s
+unused_fresh s unused new = record {
+  image0 = unused.no_image 0 (omega arith);
+  image1 = unused.no_image 1 (omega arith);
+  segment0 = λ is_open.
+      let is = unused.first is_open in
+      let shut = (new.unused 0 0 (omega arith) is_open is).1 in
+      record { content = is.rest; text = is.text; spelled = no_records is.rest (subst IsClosed (ap (λ (l : List ℕ). drop 16 l) is.text) shut) };
+  segment1 = unused.second;
 }
 
-still_unused : (before after : List ℕ) → IsRemade 16 (empty_segment 0) before after → WasNeverUsed before → WasNeverUsed after
-still_unused before after remade unused = elim remade [
-  | inl closing ↦ elim closing [ inl same ↦ subst WasNeverUsed (sym same) unused | inr shut ↦ λ is_open. absurd (shut is_open) ]
-  | inr whole ↦ λ is_open. empty_spells after whole
+-- no records are in no batches
+no_batches : (batches : List (List Record)) → NoneEmpty batches → [] ≡ all_records batches → batches ≡ []
+no_batches [] none is = refl
+no_batches (batch ∷ batches) none is = absurd (omega (arith, none.0, ap length is, length-append batch (all_records batches)))
+
+closed_behind : (content : List ℕ) → SpellsBatches content [] → IsClosed content
+closed_behind content spelled =
+    subst IsClosed (sym (spelled.text ∙ ap (λ (b : List (List Record)). batches_text 0 b ++ spelled.rest) (no_batches spelled.batches spelled.none_empty spelled.flat))) spelled.closed
+
+of_epoch_0 : (slot : List ℕ) → SpellsSegment 0 slot [] → IsOfEpoch 0 0 slot
+of_epoch_0 slot spelled = record { rest = spelled.content; text = spelled.text; fits = omega arith; of_number = refl }
+
+pub fresh_spells : (s : Slots) → IsFresh s → Spells (as_written s) opening_state []
+fresh_spells s fresh = record {
+  headers = each_number (λ n. HasHeader image_header n ((as_written s).image n) × HasHeader segment_header_length n ((as_written s).segment n))
+      ((λ is_open. absurd (fresh.image0 is_open)), (λ is_open. (0, of_epoch_0 s.segment0 (fresh.segment0 is_open)))) ((λ is_open. absurd (fresh.image1 is_open)), (λ is_open. absurd (fresh.segment1 is_open)));
+  reading = inl (
+    record {
+      no_image = each_number (λ n. IsOpen image_header ((as_written s).image n) → ⊥) fresh.image0 fresh.image1;
+      unused = λ (number epoch : ℕ) (small : _). each_number (λ n. IsOpen segment_header_length ((as_written s).segment n) → IsOfEpoch n epoch ((as_written s).segment n)
+          → (epoch ≡ 0) × IsClosed (drop segment_header_length ((as_written s).segment n)))
+          (λ (is_open : _) (is : _).
+          let spelled = fresh.segment0 is_open in
+          (one_epoch epoch 0 is.rest spelled.content is.fits (omega arith) (sym is.text ∙ spelled.text), subst IsClosed (sym (ap (λ (l : List ℕ). drop 16 l) spelled.text)) (closed_behind spelled.content spelled.spelled)))
+          (λ (is_open : _) (_ : _). absurd (fresh.segment1 is_open)) number small;
+    },
+    refl,
+    refl,
+  );
+}
+
+pub fresh_recovered : (s : Slots) → IsFresh s → Recovered (as_written s) opening_state
+fresh_recovered s fresh = record { base = opening_state; records = []; spelled = fresh_spells s fresh; run = refl }
+
+-- nothing else is recovered from a store without an image
+pub unused_is_new : (s : Slots) (state : State) → IsUnused s → Recovered (as_written s) state → IsNew (as_written s)
+unused_is_new s state unused found = elim found.spelled.reading as (λ _. IsNew (as_written s)) [
+  | inl new ↦ new.0
+  | inr stored ↦ absurd (unused.no_image (stored.epoch % 2) (omega arith) (subst (IsOpen image_header) (sym stored.image.text) (omega arith, refl)))
 ]
 
-segment_stands : (old c : Slots) (state : State) (count : ℕ) → Recovers old state count → IsNew old state count → DiffersIn old Segment0 (IsRemade 16 (empty_segment 0) old.segment0) c → Recovers c state count
-segment_stands old c state count recovers new differs =
-    let image0 : c.image0 ≡ old.image0 = ap (λ (s : Slots). s.image0) differs.1 in
-    let image1 : c.image1 ≡ old.image1 = ap (λ (s : Slots). s.image1) differs.1 in
-    let segment1 : c.segment1 ≡ old.segment1 = ap (λ (s : Slots). s.segment1) differs.1 in
+-- it is made
+
+pub empty_spells : (e : ℕ) (slot : List ℕ) → slot ≡ empty_segment e → SpellsSegment e slot []
+empty_spells e slot is = record { content = closed_gate ∷ []; text = is; spelled = no_records (closed_gate ∷ []) (λ e. cc) }
+
+pub empty_in_use : (e : ℕ) (slot : List ℕ) → slot ≡ empty_segment e → IsInUse e slot []
+empty_in_use e slot is = record { content = closed_gate ∷ []; text = is; spelled = no_records (closed_gate ∷ []) (λ e. cc); ended = refl }
+
+pub fresh_segment : (s : Slots) (x : List ℕ) → IsFresh s → IsRemade 16 (empty_segment 0) s.segment0 x → IsFresh (with_slot s Segment0 x)
+fresh_segment s x fresh remade = record {
+  image0 = fresh.image0;
+  image1 = fresh.image1;
+  segment0 = λ is_open. elim remade as (λ _. SpellsSegment 0 x []) [
+    | inl closing ↦ elim closing as (λ _. SpellsSegment 0 x []) [
+      | inl same ↦ subst (λ l. SpellsSegment 0 l []) (sym same) (fresh.segment0 (subst (IsOpen segment_header_length) same is_open))
+      | inr shut ↦ absurd (shut is_open)
+    ]
+    | inr whole ↦ empty_spells 0 x whole
+  ];
+  segment1 = fresh.segment1;
+}
+
+pub segment_keeps_gate : (e : ℕ) (before x : List ℕ) → HasLastGate before → IsRemade 16 (empty_segment e) before x → HasLastGate x
+segment_keeps_gate e before x has remade = elim remade as (λ _. HasLastGate x) [
+  | inl closing ↦ elim closing as (λ _. HasLastGate x) [ inl same ↦ subst HasLastGate (sym same) has | inr shut ↦ shut_has_gate x shut ]
+  | inr whole ↦ empty_has_gate e x whole
+]
+
+-- the first image stands in its slot
+pub first_made : (s : Slots) (x : List ℕ) → IsFresh s → s.segment0 ≡ empty_segment 0 → HoldsImage 0 x opening_state → InOne (with_slot s Image0 x) 0 opening_state []
+first_made s x fresh segment image = record {
+  fits = omega arith;
+  image = image;
+  segment = empty_spells 0 s.segment0 segment;
+  other_image = inl fresh.image1;
+  other_segment = inl fresh.segment1;
+}
+
+pub fresh_image : (s : Slots) (x content : List ℕ) → IsFresh s → s.segment0 ≡ empty_segment 0 → HoldsImage 0 content opening_state → IsRemade 24 content s.image0 x → Recovered (as_written (with_slot s Image0 x)) opening_state
+fresh_image s x content fresh segment image remade = elim remade as (λ _. Recovered (as_written (with_slot s Image0 x)) opening_state) [
+  | inl closing ↦ fresh_recovered (with_slot s Image0 x) (record {
+    image0 = λ is_open. elim closing as (λ _. ⊥) [ inl same ↦ fresh.image0 (subst (IsOpen image_header) same is_open) | inr shut ↦ shut is_open ];
+    image1 = fresh.image1;
+    segment0 = fresh.segment0;
+    segment1 = fresh.segment1;
+  })
+  | inr whole ↦ one_recovered (with_slot s Image0 x) 0 opening_state opening_state [] (first_made s x fresh segment (subst (λ l. HoldsImage 0 l opening_state) (sym whole) image)) refl
+]
+
+-- a checkpoint that is finished
+
+pub next_image : (s : Slots) (e : ℕ) (base mid state : State) (first next : List Record) (x content : List ℕ) → InTwo s e base first next → Run base first mid → Run mid next state
+    → HoldsImage (e + 1) content mid → IsRemade 24 content (slot_of s (image_slot (e + 1))) x → Recovered (as_written (with_slot s (image_slot (e + 1)) x)) state
+next_image s e base mid state first next x content two run more image remade = elim remade as (λ _. Recovered (as_written (with_slot s (image_slot (e + 1)) x)) state) [
+  | inl closing ↦ two_recovered (with_slot s (image_slot (e + 1)) x) e base mid state first next
+      (two_image_changed s e base first next x two (closing_image e (slot_of s (image_slot (e + 1))) x closing two.other_image)) run more
+  | inr whole ↦ one_recovered (with_slot s (image_slot (e + 1)) x) (e + 1) mid state next
+      (two_finished s e base mid first next x two (subst (λ l. HoldsImage (e + 1) l mid) (sym whole) image)) more
+]
+
+-- a segment that is ended behind its batches
+
+-- a closed gate is left of what stands behind the batches, or put there
+gate_behind : (rest : List ℕ) → IsClosed rest → IsClosed (take 1 (rest ++ closed_gate ∷ [])) × (length (take 1 (rest ++ closed_gate ∷ [])) ≡ 1)
+gate_behind [] is = (λ e. cc, refl)
+gate_behind (gate ∷ rest) is = (is, refl)
+
+pub ended_in_use : (e : ℕ) (segment batches new : List ℕ) (records : List Record) (size end : ℕ) → segment ≡ segment_header open_gate e ++ batches → SpellsCounted batches records size → end ≡ 16 + size → new ≡ take (end + 1) (segment ++ closed_gate ∷ [])
+    → IsInUse e new records
+ended_in_use e segment batches new records size end is counted placed cut =
+    let spelled = counted.spelled in
+    let header : List ℕ = segment_header open_gate e in
+    let text : List ℕ = batches_text 0 spelled.batches in
+    let tail : List ℕ = take 1 (spelled.rest ++ closed_gate ∷ []) in
+    let gate = gate_behind spelled.rest spelled.closed in
+    let sized : size ≡ length text = omega (arith, counted.sized, ap length spelled.text, length-append text spelled.rest) in
+    let joined : segment ++ closed_gate ∷ [] ≡ (header ++ text) ++ (spelled.rest ++ closed_gate ∷ []) =
+    ap (λ l. l ++ closed_gate ∷ []) (is ∙ ap (λ l. header ++ l) spelled.text ∙ sym (append_assoc header text spelled.rest)) ∙ append_assoc (header ++ text) spelled.rest (closed_gate ∷ []) in
+    let long : end + 1 ≡ length (header ++ text) + 1 = omega (arith, placed, sized, length-append header text) in
+    let left : new ≡ header ++ (text ++ tail) =
+    cut ∙ (λ i. take (long i) (joined i)) ∙ take-append-add (header ++ text) (spelled.rest ++ closed_gate ∷ []) 1 ∙ append_assoc header text tail in
     record {
-      second_image = λ is_open. recovers.second_image (subst (IsOpen 24) image1 is_open);
-      second_segment = λ is_open. recovers.second_segment (subst (IsOpen 16) segment1 is_open);
-      stands = inr (record {
-        image = λ is_open. new.image (subst (IsOpen 24) image0 is_open);
-        segment = still_unused old.segment0 c.segment0 differs.0 new.segment;
-        state_is = new.state_is;
-        counted = new.counted;
-      });
+      content = text ++ tail;
+      text = left;
+      spelled = record {
+        batches = spelled.batches;
+        rest = tail;
+        text = refl;
+        closed = gate.0;
+        none_empty = spelled.none_empty;
+        flat = spelled.flat;
+        canonical = spelled.canonical;
+        bounded = spelled.bounded;
+      };
+      ended = gate.1;
     }
 
-image_stands : (old c : Slots) (state : State) (count : ℕ) → Recovers old state count → IsNew old state count → DiffersIn (with_slot old Segment0 (empty_segment 0)) Image0 (IsRemade 24 (open_image 0 opening_text) old.image0) c
-    → Recovers c state count
-image_stands old c state count recovers new differs =
-    let segment0 : c.segment0 ≡ empty_segment 0 = ap (λ (s : Slots). s.segment0) differs.1 in
-    let image1 : c.image1 ≡ old.image1 = ap (λ (s : Slots). s.image1) differs.1 in
-    let segment1 : c.segment1 ≡ old.segment1 = ap (λ (s : Slots). s.segment1) differs.1 in
-    let unmade : ¬ IsOpen 24 c.image0 → IsNew c state count =
-    λ shut. record { image = shut; segment = λ is_open. empty_spells c.segment0 segment0; state_is = new.state_is; counted = new.counted } in
-    record {
-      second_image = λ is_open. recovers.second_image (subst (IsOpen 24) image1 is_open);
-      second_segment = λ is_open. recovers.second_segment (subst (IsOpen 16) segment1 is_open);
-      stands = elim differs.0 [
-        | inl closing ↦ inr (unmade (elim closing [ inl same ↦ λ is_open. new.image (subst (IsOpen 24) same is_open) | inr shut ↦ shut ]))
-        | inr whole ↦ inl (record {
-          image = record { rest = []; text = whole };
-          follows = record { records = []; spelled = empty_spells c.segment0 segment0; run = new.state_is; counted = new.counted };
-        })
-      ];
-    }
-
--- At each moment of its making a store stands for what it stood for before.
-pub making_stands : (old c : Slots) (state : State) (count : ℕ) → ¬ IsOpen 24 old.image0 → IsMaking old c → Recovers old state count → Recovers c state count
-making_stands old c state count shut making recovers = elim recovers.stands [
-  | inl stored ↦ absurd (shut (image_is_open old.image0 stored.image))
-  | inr new ↦ elim making [
-    | inl segment ↦ segment_stands old c state count recovers new segment
-    | inr image ↦ image_stands old c state count recovers new image
-  ]
-]
-
--- and its segment has its last gate
-pub making_keeps_gate : (old c : Slots) → HasLastGate old.segment0 → IsMaking old c → HasLastGate c.segment0
-making_keeps_gate old c has making = elim making [
-  | inl segment ↦ elim segment.0 [
-    | inl closing ↦ elim closing [ inl same ↦ subst HasLastGate (sym same) has | inr shut ↦ shut_has_gate c.segment0 shut ]
-    | inr whole ↦ empty_has_gate c.segment0 whole
-  ]
-  | inr image ↦ empty_has_gate c.segment0 (ap (λ (s : Slots). s.segment0) image.1)
-]
-
--- a segment that is cut behind its last gate
+pub in_use_spells : (e : ℕ) (segment : List ℕ) (records : List Record) → IsInUse e segment records → SpellsSegment e segment records
+in_use_spells e segment records used = record { content = used.content; text = used.text; spelled = used.spelled }
 
 some_with_tail : (rest tail : List ℕ) → 0 < length rest → 0 < length (take 1 rest ++ tail)
 some_with_tail [] tail some = absurd (omega (arith, some))
@@ -164,11 +216,11 @@ gate_and_tail : (rest tail : List ℕ) → 0 < length rest → IsClosed rest →
 gate_and_tail [] tail some shut = absurd (omega (arith, some))
 gate_and_tail (gate ∷ rest) tail some shut = shut
 
-pub cut_spells : (segment batches after : List ℕ) (records : List Record) (size end : ℕ) → segment ≡ segment_header open_gate 0 ++ batches → (counted : SpellsCounted batches records size) → end ≡ 16 + size → 0 < length counted.spelled.rest
-    → take (end + 1) after ≡ take (end + 1) segment → (known : SpellsSegment 0 after records) × (0 < length known.spelled.rest)
-cut_spells segment batches after records size end is counted placed some same =
+pub cut_spells : (e : ℕ) (segment batches after : List ℕ) (records : List Record) (size end : ℕ) → segment ≡ segment_header open_gate e ++ batches → (counted : SpellsCounted batches records size) → end ≡ 16 + size → 0 < length counted.spelled.rest
+    → take (end + 1) after ≡ take (end + 1) segment → (known : SpellsSegment e after records) × (0 < length known.spelled.rest)
+cut_spells e segment batches after records size end is counted placed some same =
     let spelled = counted.spelled in
-    let header : List ℕ = segment_header open_gate 0 in
+    let header : List ℕ = segment_header open_gate e in
     let text : List ℕ = batches_text 0 spelled.batches in
     let tail : List ℕ = drop (end + 1) after in
     let sized : size ≡ length text = omega (arith, counted.sized, ap length spelled.text, length-append text spelled.rest) in
@@ -194,35 +246,3 @@ cut_spells segment batches after records size end is counted placed some same =
       },
       some_with_tail spelled.rest tail some,
     )
-
--- its last gate
-pub gate_behind_batches : (segment batches : List ℕ) (records : List Record) (size : ℕ) → segment ≡ segment_header open_gate 0 ++ batches → (counted : SpellsCounted batches records size) → HasLastGate segment → 0 < length counted.spelled.rest
-gate_behind_batches segment batches records size is counted has = has records (record { content = batches; text = is; spelled = counted.spelled })
-
-pub gate_inside : (segment batches : List ℕ) (records : List Record) (size end : ℕ) → segment ≡ segment_header open_gate 0 ++ batches → (counted : SpellsCounted batches records size) → end ≡ 16 + size → 0 < length counted.spelled.rest
-    → end < length segment
-gate_inside segment batches records size end is counted placed some =
-    omega (arith, placed, some, counted.sized, ap length is, length-append (segment_header open_gate 0) batches)
-
-pub cut_follows : (segment batches after : List ℕ) (records : List Record) (size end : ℕ) → segment ≡ segment_header open_gate 0 ++ batches → (counted : SpellsCounted batches records size) → end ≡ 16 + size → 0 < length counted.spelled.rest
-    → take (end + 1) after ≡ take (end + 1) segment → FollowsSame segment after
-cut_follows segment batches after records size end is counted placed some same =
-    let known = cut_spells segment batches after records size end is counted placed some same in (
-      λ state count follows.
-          let content : follows.spelled.content ≡ batches = ap (drop 16) (sym follows.spelled.text ∙ is) in
-          let one : records ≡ follows.records = one_reading batches records follows.records counted.spelled (subst (λ l. SpellsBatches l follows.records) content follows.spelled.spelled) in
-          record { records = records; spelled = known.0; run = subst (λ l. Run opening_state l state) (sym one) follows.run; counted = follows.counted ∙ ap length (sym one) },
-      has_gate after records known.0 known.1,
-    )
-
--- a store in use whose segment is cut so
-pub cut_stands : (old c : Slots) (state : State) (count : ℕ) → HoldsOpeningImage old.image0 → DiffersIn old Segment0 (FollowsSame old.segment0) c → Recovers old state count → Recovers c state count
-cut_stands old c state count image differs recovers =
-    let image0 : c.image0 ≡ old.image0 = ap (λ (s : Slots). s.image0) differs.1 in
-    let image1 : c.image1 ≡ old.image1 = ap (λ (s : Slots). s.image1) differs.1 in
-    let segment1 : c.segment1 ≡ old.segment1 = ap (λ (s : Slots). s.segment1) differs.1 in
-    record {
-      second_image = λ is_open. recovers.second_image (subst (IsOpen 24) image1 is_open);
-      second_segment = λ is_open. recovers.second_segment (subst (IsOpen 16) segment1 is_open);
-      stands = inl (record { image = subst HoldsOpeningImage (sym image0) image; follows = differs.0.0 state count (follows_of old state count recovers image) });
-    }

@@ -2,14 +2,13 @@
 use Rattle.std.proofs.Common.{◌≡◌, ◌∙◌, ℕ, ◌+◌, ◌-◌, ◌≤◌, List, [], ◌∷◌, ◌++◌, length, drop, refl, sym, ap, subst, arith, length-append, length-drop}
 use Rattle.std.specs.Prelude.{◌↔◌}
 use Rattle.ipc_model.specs.declared.record.Record.{Record}
-use Rattle.ipc_model.specs.state.State.{State, opening_state}
+use Rattle.ipc_model.specs.state.State.{State}
 use Rattle.ipc_model.specs.calls.Step.{Step, Run}
-use Rattle.ipc_model.specs.store.Store.{batches_text, all_records, IsClosed, NoneEmpty, AreRecords, SpellsBatches, SpellsSegment}
+use Rattle.ipc_model.specs.store.Store.{batches_text, all_records, IsClosed, NoneEmpty, AreRecords, SpellsBatches}
 use Rattle.ipc_model.specs.texts.Texts.{records_text}
 use Rattle.ipc_laws.specs.Counted.{SpellsCounted}
 use Rattle.journal.specs.Reading.{MAX_RECORDS, Place, SpellsFrom, Leads, IsLast, IsNothing}
-use Rattle.recover.specs.Replayed.{Replays}
-use Rattle.recover.specs.Surveyed.{HasBatchesAt}
+use Rattle.recover.specs.Replayed.{Replays, ReplaysAll}
 
 -- What is left to be replayed from here on, in this state, is what was to be replayed at first.
 pub record IsLeft (segment : List ℕ) (first place : Place) (old now : State) : Type 0 where
@@ -109,16 +108,13 @@ first_spells segment batches records inside spelled =
       ended = omega (arith, length-drop batches segment);
     }
 
-pub never_replayed : (segment : List ℕ) (batches : ℕ) → batches ≤ length segment → ((state : State) (count end : ℕ) → Replays segment (first_place batches) opening_state state count end → ⊥)
-    → (records : List Record) (state : State) → SpellsBatches (drop batches segment) records → Run opening_state records state → ⊥
-never_replayed segment batches inside none records state spelled run =
+pub never_replayed : (segment : List ℕ) (batches : ℕ) (old : State) → batches ≤ length segment → ((state : State) (count end : ℕ) → Replays segment (first_place batches) old state count end → ⊥)
+    → (records : List Record) (state : State) → SpellsBatches (drop batches segment) records → Run old records state → ⊥
+never_replayed segment batches old inside none records state spelled run =
     none state (length records) (length segment - length spelled.rest) (record { records = records; spelled = first_spells segment batches records inside spelled; run = run; counted = omega arith })
 
--- the batches of a segment, behind its header
-pub segment_spelled : (segment : List ℕ) (batches : ℕ) (records : List Record) (size : ℕ) → HasBatchesAt segment batches → SpellsCounted (drop batches segment) records size → SpellsSegment 0 segment records
-segment_spelled segment batches records size has counted = record { content = drop batches segment; text = has.1; spelled = counted.spelled }
-
-pub batches_spelled : (segment : List ℕ) (batches : ℕ) (records : List Record) → HasBatchesAt segment batches → SpellsSegment 0 segment records → SpellsBatches (drop batches segment) records
-batches_spelled segment batches records has spelled =
-    let same : spelled.content ≡ drop batches segment = ap (drop 16) (sym spelled.text ∙ has.1) in
-    subst (λ (l : List ℕ). SpellsBatches l records) same spelled.spelled
+-- all that was replayed, from the first batch on
+pub replayed_all : (segment : List ℕ) (old new : State) (count end : ℕ) → 16 ≤ length segment → Replays segment (first_place 16) old new count end → ReplaysAll segment old new count end
+replayed_all segment old new count end inside replays =
+    let counted = counted_first segment 16 end replays.records inside replays.spelled in
+    record { records = replays.records; spelled = counted.0; run = replays.run; counted = omega (arith, replays.counted); behind = counted.1; inside = counted.2 }

@@ -1,246 +1,313 @@
--- What the fronts of the slots tell of a store.
-use Rattle.std.proofs.Common.{◌≡◌, ◌≢◌, inl, inr, ℕ, ◌+◌, ◌-◌, ◌≤◌, List, [], ◌∷◌, ◌++◌, length, take, drop, true, false, Bool, nat_eq, Option, None, Some, IfSome, IfNone, Result, Ok, Err, IfOk, OnOk, refl, sym, ap, subst, ◌∙◌, arith, append_assoc, take-append-drop, length-take, length-drop, length-append}
-use Rattle.std.specs.Prelude.{IsTrue, slice_index}
-use Rattle.std.specs.List.{starts_with}
-use Rattle.std.proofs.lemmas.List.{take-take, get_or-take, drop-take}
-use Rattle.std.proofs.lemmas.Slice.Eq.{slice_eq-Decides}
-use Rattle.std.proofs.lemmas.Bool.Decides.{Decides-eqb}
+-- What a store is, by the epochs of its open slots.
+use Rattle.std.proofs.Common.{◌≡◌, ◌≢◌, ◌⊎◌, inl, inr, ℕ, suc, ◌+◌, ◌≤◌, ◌<◌, ◌%◌, ◌^◌, List, [], ◌∷◌, ◌++◌, length, Bool, true, false, nat_eq, Option, None, Some, IfSome, IfNone, Result, Ok, Err, IfOk, OnOk, OnErr, refl, sym, ap, subst, ◌∙◌, arith}
+use Rattle.std.specs.Prelude.{MatchBool, if◌then◌else◌, ◌==◌, slice_index}
+use Rattle.disk.specs.declared.slot.Slot.TheVariants.{Image0, Image1, Segment0, Segment1}
+use Rattle.disk.specs.Slots.{Slots, slot_of}
+use Rattle.ipc_laws.specs.RecoveryLaws.{image_header_is, image_is_open, one_epoch, segment_is_open}
 use Rattle.ipc_model.specs.declared.record.Record.{Record}
-use Rattle.ipc_model.specs.state.State.{State, opening_state}
-use Rattle.words.specs.Words.{long_word}
-use Rattle.ipc_model.specs.store.Store.{SpellsSegment, IsClosed, NoneEmpty, open_gate, segment_header, image_content, batches_text, all_records}
-use Rattle.recover.specs.Recovered.{IsOpen, HoldsOpeningImage, WasNeverUsed, Recovers, Follows, IsOtherVersion, HasOtherVersion, IsDamaged, opening_text}
-use Rattle.recover.specs.Fronts.{four_slots, fronts_of}
-use Rattle.recover.specs.Surveyed.{HasBatchesAt, IsSurveyed}
-use Rattle.disk.specs.Slots.{Slots}
+use Rattle.ipc_model.specs.state.State.{State}
+use Rattle.ipc_model.specs.store.Recovery.{Continues, HasHeader, HasOtherVersion, HeadersFit, HoldsImage, IsNew, IsOfEpoch, IsOpen, IsOtherVersion, IsStored, Spells, image_header, segment_header_length}
+use Rattle.ipc_model.specs.store.Store.{SpellsSegment, segment_header, open_gate}
+use Rattle.slot_steps.specs.Steps.{image_slot, segment_slot}
+use Rattle.standing.specs.Standing.{as_written, IsPassedImage, IsPassedSegment}
+use Rattle.standing.specs.Slots.{image_at, segment_at, one_of_two}
+use Rattle.recover.specs.Headers.{IsForeign, SayAll, Says, TellAll, Tells}
+use Rattle.recover.specs.Surveyed.{Adjoins, IsInUse, IsLatest, IsNoLater, IsUnused, OtherSegment, Surveys}
+use Rattle.journal.specs.declared.fault.StoreFault.{StoreFault}
+use Rattle.recover.specs.declared.survey.Survey.{Survey}
+use Rattle.recover.specs.declared.survey.Survey.TheVariants.{New}
+use Rattle.recover.specs.declared.headers.Header.{Header}
+use Rattle.recover.specs.declared.headers.Header.TheVariants.{Closed, Open, OtherVersion, Unreadable}
 
--- what starts with a prefix is it and the rest
-begins : (prefix text : List ℕ) → starts_with nat_eq text prefix ≡ true → text ≡ prefix ++ drop (length prefix) text
-begins prefix text e =
-    let same : prefix ≡ take (length prefix) text = (slice_eq-Decides Decides-eqb prefix (take (length prefix) text) _ refl).0 e in
-    sym (take-append-drop (length prefix) text) ∙ ap (λ l. l ++ drop (length prefix) text) (sym same)
+-- What the slots of an epoch tell: its image's, the other image's, its segment's and the other segment's.
+pub record TellOf (s : Slots) (e : ℕ) (a b c d : Option ℕ) : Type 0 where
+  pub image : Tells image_header (e % 2) (slot_of s (image_slot e)) a
+  pub other_image : Tells image_header ((e + 1) % 2) (slot_of s (image_slot (e + 1))) b
+  pub segment : Tells segment_header_length (e % 2) (slot_of s (segment_slot e)) c
+  pub other_segment : Tells segment_header_length ((e + 1) % 2) (slot_of s (segment_slot (e + 1))) d
 
--- the image's text, with its length, stands behind the header
-pub opening_image : (slot text : List ℕ) → slot ≡ segment_header open_gate 0 ++ text → starts_with nat_eq text (long_word 24 ++ opening_text) ≡ true → HoldsOpeningImage slot
-opening_image slot text is e = record {
-  rest = drop 32 text;
-  text = is ∙ ap (λ l. segment_header open_gate 0 ++ l) (begins (long_word 24 ++ opening_text) text e);
+-- what two numbers that are 0 and 1 tell
+abbrev pub TellBy : Slots → Option ℕ → Option ℕ → Option ℕ → Option ℕ → ℕ → ℕ → Type 0
+TellBy s a b c d n m =
+    Tells image_header n (slot_of s (if n == 0 then Image0 else Image1)) a × Tells image_header m (slot_of s (if m == 0 then Image0 else Image1)) b
+    × Tells segment_header_length n (slot_of s (if n == 0 then Segment0 else Segment1)) c × Tells segment_header_length m (slot_of s (if m == 0 then Segment0 else Segment1)) d
+
+tell_of : (s : Slots) (e : ℕ) (a b c d : Option ℕ) → TellBy s a b c d (e % 2) ((e + 1) % 2) → TellOf s e a b c d
+tell_of s e a b c d t = record { image = t.0; other_image = t.1; segment = t.2; other_segment = t.3 }
+
+pub tell_even : (s : Slots) (e : ℕ) (a b c d : Option ℕ) → e % 2 ≡ 0 → TellAll s a b c d → TellOf s e a b c d
+tell_even s e a b c d even t =
+    let odd : (e + 1) % 2 ≡ 1 = omega arith in
+    tell_of s e a b c d (subst (λ n. TellBy s a b c d n ((e + 1) % 2)) (sym even) (subst (λ m. TellBy s a b c d 0 m) (sym odd) (t.image0, t.image1, t.segment0, t.segment1)))
+
+pub tell_odd : (s : Slots) (e : ℕ) (a b c d : Option ℕ) → e % 2 ≡ 1 → TellAll s a b c d → TellOf s e b a d c
+tell_odd s e a b c d odd t =
+    let even : (e + 1) % 2 ≡ 0 = omega arith in
+    tell_of s e b a d c (subst (λ n. TellBy s b a d c n ((e + 1) % 2)) (sym odd) (subst (λ m. TellBy s b a d c 1 m) (sym even) (t.image1, t.image0, t.segment1, t.segment0)))
+
+-- an epoch that a slot tells is one
+told_epoch : (length number n e o : ℕ) (slot : List ℕ) → Tells length number slot (Some o) → IsOfEpoch n e slot → o ≡ e
+told_epoch length number n e o slot tells is = one_epoch o e tells.1.rest is.rest tells.1.fits is.fits (sym tells.1.text ∙ is.text)
+
+open_of_epoch : (number e : ℕ) (slot : List ℕ) → IsOfEpoch number e slot → IsOpen segment_header_length slot
+open_of_epoch number e slot is = subst (IsOpen segment_header_length) (sym is.text) (omega arith, refl)
+
+spelled_epoch : (e : ℕ) (slot : List ℕ) (records : List Record) → e < 2 ^ 64 → SpellsSegment e slot records → IsOfEpoch (e % 2) e slot
+spelled_epoch e slot records fits spelled = record { rest = spelled.content; text = spelled.text; fits = fits; of_number = refl }
+
+passed_image : (s : Slots) (e : ℕ) (o : Option ℕ) → Tells image_header ((e + 1) % 2) (slot_of s (image_slot (e + 1))) o → IsLatest e o → IsPassedImage e (slot_of s (image_slot (e + 1)))
+passed_image s e None told is = inl told
+passed_image s e (Some before) told is = inr (before, is, told.1)
+
+adjoining : (s : Slots) (e : ℕ) (o : Option ℕ) → Tells segment_header_length ((e + 1) % 2) (slot_of s (segment_slot (e + 1))) o → Adjoins e o → IsPassedSegment e (slot_of s (segment_slot (e + 1)))
+adjoining s e None told is = inl told
+adjoining s e (Some before) told is = inr (before, omega (arith, is), record { rest = told.1.rest; text = told.1.text; fits = told.1.fits; of_number = refl })
+
+other_by : (s : Slots) (e : ℕ) (o : Option ℕ) (follows : Bool) → Tells segment_header_length ((e + 1) % 2) (slot_of s (segment_slot (e + 1))) o → MatchBool follows (o ≡ Some (e + 1)) (Adjoins e o) → OtherSegment s e follows
+other_by s e o true told is = let next = subst (Tells segment_header_length ((e + 1) % 2) (slot_of s (segment_slot (e + 1)))) is told in (next.1.fits, next.1)
+other_by s e o false told is = adjoining s e o told is
+
+-- what the slots of an epoch tell, whose image is the latest
+pub told_in_use : (s : Slots) (e : ℕ) (other own_segment other_segment : Option ℕ) (follows : Bool) → TellOf s e (Some e) other own_segment other_segment → IsLatest e other → own_segment ≡ Some e
+    → MatchBool follows (other_segment ≡ Some (e + 1)) (Adjoins e other_segment) → IsInUse s e follows
+told_in_use s e other own_segment other_segment follows tells latest own is = record {
+  fits = tells.image.1.fits;
+  image_open = tells.image.0;
+  image = tells.image.1;
+  other_image = passed_image s e other tells.other_image latest;
+  segment = (subst (Tells segment_header_length (e % 2) (slot_of s (segment_slot e))) own tells.segment).1;
+  other = other_by s e other_segment follows tells.other_segment is;
 }
 
-pub image_is_open : (slot : List ℕ) → HoldsOpeningImage slot → IsOpen 24 slot
-image_is_open slot image = subst (IsOpen 24) (sym image.text) (omega arith, refl)
+-- where the disk spells something, its epoch is the latest image's
 
-pub image_begins : (slot : List ℕ) → HoldsOpeningImage slot → (rest : List ℕ) × (slot ≡ segment_header open_gate 0 ++ rest)
-image_begins slot image = (long_word 24 ++ opening_text ++ image.rest, image.text)
+before_or_none : (e f : ℕ) (slot : List ℕ) (o : Option ℕ) → Tells image_header ((e + 1) % 2) slot o → IsLatest e o → IsOfEpoch ((e + 1) % 2) f slot → IsOpen image_header slot → f ≤ e
+before_or_none e f slot None told latest is is_open = absurd (told is_open)
+before_or_none e f slot (Some before) told latest is is_open = omega (arith, latest, told_epoch image_header ((e + 1) % 2) ((e + 1) % 2) f before slot told is)
 
--- a segment that spells no record has no open gate behind its header
-no_batches : (batches : List (List Record)) → NoneEmpty batches → [] ≡ all_records batches → batches ≡ []
-no_batches [] none e = refl
-no_batches (batch ∷ batches) none e = absurd (omega (arith, none.0, ap length e, length-append batch (all_records batches)))
-
-pub closed : (bytes : List ℕ) → IsClosed bytes → take 1 bytes ≡ open_gate ∷ [] → ⊥
-closed [] is e = cc
-closed (gate ∷ rest) is e = is (cc)
-
-closed_unless_open : (bytes : List ℕ) → ¬ IsOpen 1 bytes → IsClosed bytes
-closed_unless_open [] shut = tt
-closed_unless_open (gate ∷ rest) shut = λ is. shut (omega arith, ap (λ (g : ℕ). g ∷ []) is)
-
--- and one with none spells no record
-pub unused_spells : (slot rest : List ℕ) → slot ≡ segment_header open_gate 0 ++ rest → ¬ IsOpen 1 rest → SpellsSegment 0 slot []
-unused_spells slot rest is shut = record {
-  content = rest;
-  text = is;
-  spelled = record { batches = []; rest = rest; text = refl; closed = closed_unless_open rest shut; none_empty = tt; flat = refl; canonical = tt; bounded = omega arith };
-}
-
-pub unspelled : (slot rest : List ℕ) → slot ≡ segment_header open_gate 0 ++ rest → IsOpen 1 rest → SpellsSegment 0 slot [] → ⊥
-unspelled slot rest is gate segment =
-    let same : segment.content ≡ rest = ap (drop 16) (sym segment.text ∙ is) in
-    let none : segment.spelled.batches ≡ [] = no_batches segment.spelled.batches segment.spelled.none_empty segment.spelled.flat in
-    let only : segment.content ≡ segment.spelled.rest = segment.spelled.text ∙ ap (λ (b : List (List Record)). batches_text 0 b ++ segment.spelled.rest) none in
-    closed segment.spelled.rest segment.spelled.closed (ap (take 1) (sym only ∙ same) ∙ gate.1)
-
-module _ (image0 image1 segment0 segment1 : List ℕ) where
-  pub stored_fails : (HoldsOpeningImage image0 → (rest : List ℕ) → segment0 ≢ segment_header open_gate 0 ++ rest) → IsOpen 24 image0 → IsSurveyed (four_slots image0 image1 segment0 segment1) → ⊥
-  stored_fails fails is_open surveyed = elim surveyed.first [
-    | inl stored ↦ fails stored.0 stored.1 stored.2
-    | inr new ↦ new.0 is_open
-  ]
-
-  pub new_fails : ¬ WasNeverUsed segment0 → ¬ IsOpen 24 image0 → IsSurveyed (four_slots image0 image1 segment0 segment1) → ⊥
-  new_fails fails closed surveyed = elim surveyed.first [
-    | inl stored ↦ closed (image_is_open image0 stored.0)
-    | inr new ↦ fails new.1
-  ]
-
--- what stands behind the header
-pub batches_behind : (segment rest : List ℕ) → segment ≡ segment_header open_gate 0 ++ rest → HasBatchesAt segment (length segment - length rest)
-batches_behind segment rest is =
-    let long : length segment ≡ 16 + length rest = ap length is ∙ length-append (segment_header open_gate 0) rest in
-    let place : length segment - length rest ≡ 16 = omega arith in
-    (omega arith, is ∙ ap (λ l. segment_header open_gate 0 ++ l) (sym (ap (λ n. drop n segment) place ∙ ap (drop 16) is)))
-
--- the batches stand right behind it
-pub behind_header : (segment : List ℕ) (place : ℕ) → HasBatchesAt segment place → place ≡ 16
-behind_header segment place has =
-    omega (arith, has.0, ap length has.1 ∙ length-append (segment_header open_gate 0) (drop place segment), length-drop place segment)
-
--- the fronts tell the same as the slots
-front_open : (header n : ℕ) (slot : List ℕ) → header ≤ n → 1 ≤ n → IsOpen header slot → IsOpen header (take n slot)
-front_open header n slot fits one is_open = (omega (arith, length-take n slot, is_open.0), take-take 1 n slot one ∙ is_open.1)
-
-pub open_front : (header n : ℕ) (slot : List ℕ) → 1 ≤ n → IsOpen header (take n slot) → IsOpen header slot
-open_front header n slot one is_open = (omega (arith, length-take n slot, is_open.0), sym (take-take 1 n slot one) ∙ is_open.1)
-
-pub is_false : (b : Bool) → b ≡ false → IsTrue b → ⊥
-is_false b e t = cc
-
-front_has : (n : ℕ) (slot : List ℕ) → 2 ≤ n → slice_index (take n slot) 1 ≡ slice_index slot 1
-front_has n slot two = get_or-take n slot 1 0 two
-
-front_other : (header n : ℕ) (slot : List ℕ) → header ≤ n → 2 ≤ n → HasOtherVersion header slot → HasOtherVersion header (take n slot)
-front_other header n slot fits two other = (front_open header n slot fits (omega arith) other.0, λ e. other.1 (sym (front_has n slot two) ∙ e))
-
-other_front : (header n : ℕ) (slot : List ℕ) → 2 ≤ n → HasOtherVersion header (take n slot) → HasOtherVersion header slot
-other_front header n slot two other = (open_front header n slot (omega arith) other.0, λ e. other.1 (front_has n slot two ∙ e))
-
-pub other_of_fronts : (slots : Slots) → IsOtherVersion (fronts_of slots) → IsOtherVersion slots
-other_of_fronts slots other = elim other [
-  | inl image0 ↦ inl (other_front 24 48 slots.image0 (omega arith) image0)
-  | inr others ↦ elim others [
-    | inl image1 ↦ inr (inl (other_front 24 24 slots.image1 (omega arith) image1))
-    | inr segments ↦ elim segments [
-      | inl segment0 ↦ inr (inr (inl (other_front 16 17 slots.segment0 (omega arith) segment0)))
-      | inr segment1 ↦ inr (inr (inr (other_front 16 16 slots.segment1 (omega arith) segment1)))
+at_most : (s : Slots) (e : ℕ) (other own_segment other_segment : Option ℕ) → TellOf s e (Some e) other own_segment other_segment → IsLatest e other → (base : State) (records : List Record) (stored : IsStored (as_written s) base records) → stored.epoch ≤ e
+at_most s e other own_segment other_segment tells latest base records stored =
+    let f = stored.epoch in
+    let image_is = image_header_is f ((as_written s).image (f % 2)) base stored.fits stored.image in
+    let is_open = image_is_open f ((as_written s).image (f % 2)) base stored.image in
+    elim (one_of_two e (f % 2) (omega arith)) as (λ _. f ≤ e) [
+      | inl own ↦
+          let here : IsOfEpoch (e % 2) f (slot_of s (image_slot e)) =
+          subst (IsOfEpoch (e % 2) f) (image_at s e) (subst (λ n. IsOfEpoch n f ((as_written s).image n)) own image_is) in
+          omega (arith, told_epoch image_header (e % 2) (e % 2) f e (slot_of s (image_slot e)) tells.image here)
+      | inr next ↦
+          let here : IsOfEpoch ((e + 1) % 2) f (slot_of s (image_slot (e + 1))) =
+          subst (IsOfEpoch ((e + 1) % 2) f) (image_at s (e + 1)) (subst (λ n. IsOfEpoch n f ((as_written s).image n)) next image_is) in
+          let open_here : IsOpen image_header (slot_of s (image_slot (e + 1))) =
+          subst (IsOpen image_header) (image_at s (e + 1)) (subst (λ n. IsOpen image_header ((as_written s).image n)) next is_open) in
+          before_or_none e f (slot_of s (image_slot (e + 1))) other tells.other_image latest here open_here
     ]
-  ]
+
+pub epoch_is : (s : Slots) (e : ℕ) (other own_segment other_segment : Option ℕ) → TellOf s e (Some e) other own_segment other_segment → IsLatest e other → (base : State) (records : List Record) (stored : IsStored (as_written s) base records) → stored.epoch ≡ e
+epoch_is s e other own_segment other_segment tells latest base records stored =
+    let least : e ≤ stored.epoch = stored.latest (e % 2) e (omega arith) (subst (IsOpen image_header) (sym (image_at s e)) tells.image.0) (subst (IsOfEpoch (e % 2) e) (sym (image_at s e)) tells.image.1) in
+    omega (arith, least, at_most s e other own_segment other_segment tells latest base records stored)
+
+own_told : (e : ℕ) (slot : List ℕ) (o : Option ℕ) (records : List Record) → Tells segment_header_length (e % 2) slot o → e < 2 ^ 64 → SpellsSegment e slot records → o ≡ Some e
+own_told e slot None records told fits spelled = absurd (told (segment_is_open e slot records spelled))
+own_told e slot (Some o) records told fits spelled = ap Some (told_epoch segment_header_length (e % 2) (e % 2) e o slot told (spelled_epoch e slot records fits spelled))
+
+other_told : (e : ℕ) (slot : List ℕ) (o : Option ℕ) (next : List Record) → Tells segment_header_length ((e + 1) % 2) slot o → Continues e slot next → (o ≡ Some (e + 1)) ⊎ Adjoins e o
+other_told e slot None next told continues = inr tt
+other_told e slot (Some o) next told (inl closed) = absurd (closed.0 told.0)
+other_told e slot (Some o) next told (inr (inl before)) = inr (omega (arith, before.1, told_epoch segment_header_length ((e + 1) % 2) (before.0 % 2) before.0 o slot told before.2))
+other_told e slot (Some o) next told (inr (inr spelled)) = inl (ap Some (told_epoch segment_header_length ((e + 1) % 2) ((e + 1) % 2) (e + 1) o slot told (spelled_epoch (e + 1) slot next spelled.0 spelled.1)))
+
+-- the parts of a store in use of this epoch, by slots
+pub record PartsOf (s : Slots) (e : ℕ) (base : State) (records : List Record) : Type 0 where
+  pub first : List Record
+  pub next : List Record
+  pub image : HoldsImage e (slot_of s (image_slot e)) base
+  pub segment : SpellsSegment e (slot_of s (segment_slot e)) first
+  pub other : Continues e (slot_of s (segment_slot (e + 1))) next
+  pub joined : records ≡ first ++ next
+
+pub parts_of : (s : Slots) (e : ℕ) (base : State) (records : List Record) (stored : IsStored (as_written s) base records) → stored.epoch ≡ e → PartsOf s e base records
+parts_of s e base records stored is =
+    let moved : PartsOf s stored.epoch base records = record {
+      first = stored.first;
+      next = stored.next;
+      image = subst (λ l. HoldsImage stored.epoch l base) (image_at s stored.epoch) stored.image;
+      segment = subst (λ l. SpellsSegment stored.epoch l stored.first) (segment_at s stored.epoch) stored.segment;
+      other = subst (λ l. Continues stored.epoch l stored.next) (segment_at s (stored.epoch + 1)) stored.other;
+      joined = stored.joined;
+    } in
+    subst (λ f. PartsOf s f base records) is moved
+
+-- a store whose latest image is open is no new one
+pub never_new : (s : Slots) (e : ℕ) → IsOpen image_header (slot_of s (image_slot e)) → IsNew (as_written s) → ⊥
+never_new s e is_open new = new.no_image (e % 2) (omega arith) (subst (IsOpen image_header) (sym (image_at s e)) is_open)
+
+pub told_damaged : (s : Slots) (e : ℕ) (other own_segment other_segment : Option ℕ) → TellOf s e (Some e) other own_segment other_segment → IsLatest e other
+    → (own_segment ≢ Some e) ⊎ ((other_segment ≢ Some (e + 1)) × (Adjoins e other_segment → ⊥)) → (base : State) (records : List Record) → Spells (as_written s) base records → ⊥
+told_damaged s e other own_segment other_segment tells latest wrong base records spelled = elim spelled.reading as (λ _. ⊥) [
+  | inl new ↦ never_new s e tells.image.0 new.0
+  | inr stored ↦
+      let parts = parts_of s e base records stored (epoch_is s e other own_segment other_segment tells latest base records stored) in
+      elim wrong as (λ _. ⊥) [
+        | inl own ↦ own (own_told e (slot_of s (segment_slot e)) own_segment parts.first tells.segment tells.image.1.fits parts.segment)
+        | inr neither ↦ elim (other_told e (slot_of s (segment_slot (e + 1))) other_segment parts.next tells.other_segment parts.other) as (λ _. ⊥) [ inl next ↦ neither.0 next | inr before ↦ neither.1 before ]
+      ]
 ]
 
-pub fronts_of_other : (slots : Slots) → IsOtherVersion slots → IsOtherVersion (fronts_of slots)
-fronts_of_other slots other = elim other [
-  | inl image0 ↦ inl (front_other 24 48 slots.image0 (omega arith) (omega arith) image0)
-  | inr others ↦ elim others [
-    | inl image1 ↦ inr (inl (front_other 24 24 slots.image1 (omega arith) (omega arith) image1))
-    | inr segments ↦ elim segments [
-      | inl segment0 ↦ inr (inr (inl (front_other 16 17 slots.segment0 (omega arith) (omega arith) segment0)))
-      | inr segment1 ↦ inr (inr (inr (front_other 16 16 slots.segment1 (omega arith) (omega arith) segment1)))
-    ]
+-- a store without an open image
+
+-- both slots of a number have their headers
+abbrev pub HasHeaders : Slots → ℕ → Type 0
+HasHeaders s n = HasHeader image_header n ((as_written s).image n) × HasHeader segment_header_length n ((as_written s).segment n)
+
+each_number : (P : ℕ → Type 0) → P 0 → P 1 → (number : ℕ) → number < 2 → P number
+each_number P first second number small = elim (one_of_two 0 number small) as (λ _. P number) [ inl zero_is ↦ subst P (sym zero_is) first | inr one_is ↦ subst P (sym one_is) second ]
+
+no_open_image : (s : Slots) → (IsOpen image_header s.image0 → ⊥) → (IsOpen image_header s.image1 → ⊥) → (number : ℕ) → number < 2 → IsOpen image_header ((as_written s).image number) → ⊥
+no_open_image s first second = each_number (λ n. IsOpen image_header ((as_written s).image n) → ⊥) first second
+
+first_epoch : (s : Slots) (o : Option ℕ) → Tells segment_header_length 0 s.segment0 o → (o ≡ None) ⊎ (o ≡ Some 0) → IsOpen segment_header_length s.segment0 → IsOfEpoch 0 0 s.segment0
+first_epoch s o told (inl none) is_open = absurd (subst (Tells segment_header_length 0 s.segment0) none told is_open)
+first_epoch s o told (inr first) is_open = (subst (Tells segment_header_length 0 s.segment0) first told).1
+
+pub told_unused : (s : Slots) (segment0 segment1 : Option ℕ) → TellAll s None None segment0 segment1 → (segment0 ≡ None) ⊎ (segment0 ≡ Some 0) → segment1 ≡ None → IsUnused s
+told_unused s segment0 segment1 tells first second =
+    let shut : IsOpen segment_header_length s.segment1 → ⊥ = subst (Tells segment_header_length 1 s.segment1) second tells.segment1 in
+    let epoch : IsOpen segment_header_length s.segment0 → IsOfEpoch 0 0 s.segment0 = first_epoch s segment0 tells.segment0 first in
+    record {
+      headers = each_number (λ n. HasHeaders s n) ((λ is_open. absurd (tells.image0 is_open)), (λ is_open. (0, epoch is_open))) ((λ is_open. absurd (tells.image1 is_open)), (λ is_open. absurd (shut is_open)));
+      no_image = no_open_image s tells.image0 tells.image1;
+      second = shut;
+      first = epoch;
+    }
+
+second_none : (s : Slots) (o : Option ℕ) → Tells segment_header_length 1 s.segment1 o → IsNew (as_written s) → o ≡ None
+second_none s None told new = refl
+second_none s (Some o) told new =
+    let zero_is : o ≡ 0 = (new.unused 1 o (omega arith) told.0 told.1).0 in
+    absurd (omega (arith, zero_is, told.1.of_number))
+
+first_none_or_0 : (s : Slots) (o : Option ℕ) → Tells segment_header_length 0 s.segment0 o → IsNew (as_written s) → (o ≡ None) ⊎ (o ≡ Some 0)
+first_none_or_0 s None told new = inl refl
+first_none_or_0 s (Some o) told new = inr (ap Some (new.unused 0 o (omega arith) told.0 told.1).0)
+
+pub unused_damaged : (s : Slots) (segment0 segment1 : Option ℕ) → TellAll s None None segment0 segment1 → (segment1 ≢ None) ⊎ ((segment0 ≢ None) × (segment0 ≢ Some 0))
+    → (base : State) (records : List Record) → Spells (as_written s) base records → ⊥
+unused_damaged s segment0 segment1 tells wrong base records spelled = elim spelled.reading as (λ _. ⊥) [
+  | inl new ↦ elim wrong as (λ _. ⊥) [
+    | inl second ↦ second (second_none s segment1 tells.segment1 new.0)
+    | inr first ↦ elim (first_none_or_0 s segment0 tells.segment0 new.0) as (λ _. ⊥) [ inl none ↦ first.0 none | inr zero_is ↦ first.1 zero_is ]
   ]
+  | inr stored ↦ no_open_image s tells.image0 tells.image1 (stored.epoch % 2) (omega arith) (image_is_open stored.epoch ((as_written s).image (stored.epoch % 2)) base stored.image)
 ]
 
-front_of_image : (slot : List ℕ) → HoldsOpeningImage slot → HoldsOpeningImage (take 48 slot)
-front_of_image slot image = record { rest = []; text = ap (take 48) image.text }
+-- headers
 
-image_of_front : (slot : List ℕ) → HoldsOpeningImage (take 48 slot) → HoldsOpeningImage slot
-image_of_front slot front = record {
-  rest = front.rest ++ drop 48 slot;
-  text = sym (take-append-drop 48 slot) ∙ ap (λ l. l ++ drop 48 slot) front.text ∙ append_assoc (open_gate ∷ image_content 0 opening_text) front.rest (drop 48 slot);
-}
+of_version_one : (header number epoch : ℕ) (slot : List ℕ) → IsOfEpoch number epoch slot → HasOtherVersion header slot → ⊥
+of_version_one header number epoch slot is other = other.1 (ap (λ (l : List ℕ). slice_index l 1) is.text)
 
--- the header and the gate behind it tell whether a segment was ever used
-unused_front : (slot : List ℕ) → WasNeverUsed slot → WasNeverUsed (take 17 slot)
-unused_front slot unused is_open =
-    let segment = unused (open_front 16 17 slot (omega arith) is_open) in
-    unused_spells (take 17 slot) (take 1 segment.content) (ap (take 17) segment.text)
-    (λ gate. unspelled slot segment.content segment.text (open_front 1 1 segment.content (omega arith) gate) segment)
+-- a header that no slot of its number has
+foreign_fails : (header number : ℕ) (slot : List ℕ) (h : Header) → Says header slot h → IsForeign h number → (IsOpen header slot → (epoch : ℕ) × IsOfEpoch number epoch slot) → ⊥
+foreign_fails header number slot Closed says foreign fits = foreign
+foreign_fails header number slot (Open epoch) says foreign fits =
+    let known = fits says.0 in
+    foreign (ap (λ e. e % 2) (one_epoch epoch known.0 says.1.rest known.1.rest says.1.fits known.1.fits (sym says.1.text ∙ known.1.text)) ∙ known.1.of_number)
+foreign_fails header number slot OtherVersion says foreign fits = let known = fits says.0 in of_version_one header number known.0 slot known.1 says
+foreign_fails header number slot Unreadable says foreign fits = let known = fits says.0 in says.2 number known.0 known.1
 
-header_of_front : (slot rest : List ℕ) → take 17 slot ≡ segment_header open_gate 0 ++ rest → slot ≡ segment_header open_gate 0 ++ drop 16 slot
-header_of_front slot rest is =
-    let header : take 16 slot ≡ segment_header open_gate 0 = sym (take-take 16 17 slot (omega arith)) ∙ ap (take 16) is in
-    sym (take-append-drop 16 slot) ∙ ap (λ l. l ++ drop 16 slot) header
+pub foreign_damaged : (s : Slots) (image0 image1 segment0 segment1 : Header) → SayAll s image0 image1 segment0 segment1
+    → IsForeign image0 0 ⊎ (IsForeign image1 1 ⊎ (IsForeign segment0 0 ⊎ IsForeign segment1 1)) → (base : State) (records : List Record) → Spells (as_written s) base records → ⊥
+foreign_damaged s image0 image1 segment0 segment1 says foreign base records spelled =
+    let zero_fits = spelled.headers 0 (omega arith) in
+    let one_fits = spelled.headers 1 (omega arith) in
+    elim foreign as (λ _. ⊥) [
+      | inl a ↦ foreign_fails image_header 0 s.image0 image0 says.image0 a zero_fits.0
+      | inr others ↦ elim others as (λ _. ⊥) [
+        | inl b ↦ foreign_fails image_header 1 s.image1 image1 says.image1 b one_fits.0
+        | inr segments ↦ elim segments as (λ _. ⊥) [
+          | inl c ↦ foreign_fails segment_header_length 0 s.segment0 segment0 says.segment0 c zero_fits.1
+          | inr d ↦ foreign_fails segment_header_length 1 s.segment1 segment1 says.segment1 d one_fits.1
+        ]
+      ]
+    ]
 
-unused_by_front : (slot : List ℕ) → WasNeverUsed (take 17 slot) → WasNeverUsed slot
-unused_by_front slot unused is_open =
-    let segment = unused (front_open 16 17 slot (omega arith) (omega arith) is_open) in
-    let same : take 1 (drop 16 slot) ≡ segment.content = sym (drop-take 16 1 slot) ∙ ap (drop 16) segment.text in
-    unused_spells slot (drop 16 slot) (header_of_front slot segment.content segment.text)
-    (λ gate. unspelled (take 17 slot) segment.content segment.text (subst (IsOpen 1) same (front_open 1 1 (drop 16 slot) (omega arith) (omega arith) gate)) segment)
+-- a header of the slot's number tells its epoch
+pub says_tells : (header number : ℕ) (slot : List ℕ) (h : Header) (o : Option ℕ) → Says header slot h → ((o ≡ None) × (h ≡ Closed)) ⊎ ((epoch : ℕ) × (o ≡ Some epoch) × (h ≡ Open epoch) × (epoch % 2 ≡ number)) → Tells header number slot o
+says_tells header number slot h o says (inl none) = subst (Tells header number slot) (sym none.0) (subst (Says header slot) none.1 says)
+says_tells header number slot h o says (inr some) =
+    let said = subst (Says header slot) some.2 says in
+    subst (Tells header number slot) (sym some.1) (said.0, record { rest = said.1.rest; text = said.1.text; fits = said.1.fits; of_number = some.3 })
 
-pub batches_by_front : (slot : List ℕ) (place : ℕ) → HasBatchesAt (take 17 slot) place → HasBatchesAt slot place
-batches_by_front slot place has =
-    let sixteen = behind_header (take 17 slot) place has in (
-      omega (arith, has.0, length-take 17 slot),
-      header_of_front slot (drop place (take 17 slot)) has.1 ∙ ap (λ n. segment_header open_gate 0 ++ drop n slot) (sym sixteen),
-    )
+-- another version is said of one slot, or of none
+is_other : (header : ℕ) (slot : List ℕ) (h : Header) → Says header slot h → HasOtherVersion header slot → h ≡ OtherVersion
+is_other header slot Closed says other = absurd (says other.0)
+is_other header slot (Open epoch) says other = absurd (of_version_one header (epoch % 2) epoch slot says.1 other)
+is_other header slot OtherVersion says other = refl
+is_other header slot Unreadable says other = absurd (says.1 other)
 
-fronts_surveyed : (slots : Slots) (state : State) (count : ℕ) → Recovers slots state count → IsSurveyed (fronts_of slots)
-fronts_surveyed slots state count recovers = record {
-  second_image = λ is_open. recovers.second_image (open_front 24 24 slots.image1 (omega arith) is_open);
-  second_segment = λ is_open. recovers.second_segment (open_front 16 16 slots.segment1 (omega arith) is_open);
-  first = elim recovers.stands [
-    | inl stored ↦ inl (front_of_image slots.image0 stored.image, take 1 stored.follows.spelled.content, ap (take 17) stored.follows.spelled.text)
-    | inr new ↦ inr (λ is_open. new.image (open_front 24 48 slots.image0 (omega arith) is_open), unused_front slots.segment0 new.segment)
-  ];
-}
+pub other_said : (s : Slots) (image0 image1 segment0 segment1 : Header) → SayAll s image0 image1 segment0 segment1
+    → (image0 ≡ OtherVersion) ⊎ ((image1 ≡ OtherVersion) ⊎ ((segment0 ≡ OtherVersion) ⊎ (segment1 ≡ OtherVersion))) → IsOtherVersion (as_written s)
+other_said s image0 image1 segment0 segment1 says (inl a) = (0, omega arith, inl (subst (Says image_header s.image0) a says.image0))
+other_said s image0 image1 segment0 segment1 says (inr (inl b)) = (1, omega arith, inl (subst (Says image_header s.image1) b says.image1))
+other_said s image0 image1 segment0 segment1 says (inr (inr (inl c))) = (0, omega arith, inr (subst (Says segment_header_length s.segment0) c says.segment0))
+other_said s image0 image1 segment0 segment1 says (inr (inr (inr d))) = (1, omega arith, inr (subst (Says segment_header_length s.segment1) d says.segment1))
 
-pub damaged_by_fronts : (slots fronts : Slots) → fronts ≡ fronts_of slots → ¬ IsOtherVersion fronts → ¬ IsSurveyed fronts → IsDamaged slots
-damaged_by_fronts slots fronts same no_other fails = (
-  λ other. no_other (subst IsOtherVersion (sym same) (fronts_of_other slots other)),
-  λ state count recovers. fails (subst IsSurveyed (sym same) (fronts_surveyed slots state count recovers)),
-)
+other_of : (s : Slots) (image0 image1 segment0 segment1 : Header) → SayAll s image0 image1 segment0 segment1
+    → (number : ℕ) → number < 2 → HasOtherVersion image_header ((as_written s).image number) ⊎ HasOtherVersion segment_header_length ((as_written s).segment number)
+    → (image0 ≡ OtherVersion) ⊎ ((image1 ≡ OtherVersion) ⊎ ((segment0 ≡ OtherVersion) ⊎ (segment1 ≡ OtherVersion)))
+other_of s image0 image1 segment0 segment1 says =
+    each_number (λ number. HasOtherVersion image_header ((as_written s).image number) ⊎ HasOtherVersion segment_header_length ((as_written s).segment number)
+    → (image0 ≡ OtherVersion) ⊎ ((image1 ≡ OtherVersion) ⊎ ((segment0 ≡ OtherVersion) ⊎ (segment1 ≡ OtherVersion))))
+    (λ other. elim other [ inl a ↦ inl (is_other image_header s.image0 image0 says.image0 a) | inr c ↦ inr (inr (inl (is_other segment_header_length s.segment0 segment0 says.segment0 c))) ])
+    (λ other. elim other [ inl b ↦ inr (inl (is_other image_header s.image1 image1 says.image1 b)) | inr d ↦ inr (inr (inr (is_other segment_header_length s.segment1 segment1 says.segment1 d))) ])
 
--- a store in use, by its fronts
-pub stored_by_fronts : (slots fronts : Slots) (state : State) (count : ℕ) → fronts ≡ fronts_of slots → (¬ IsOpen 24 fronts.image1) × (¬ IsOpen 16 fronts.segment1) → HoldsOpeningImage fronts.image0 → Follows slots.segment0 state count
-    → Recovers slots state count
-stored_by_fronts slots fronts state count same second image follows =
-    let image1 : fronts.image1 ≡ take 24 slots.image1 = ap (λ (s : Slots). s.image1) same in
-    let segment1 : fronts.segment1 ≡ take 16 slots.segment1 = ap (λ (s : Slots). s.segment1) same in
-    record {
-      second_image = λ is_open. second.0 (subst (IsOpen 24) (sym image1) (front_open 24 24 slots.image1 (omega arith) (omega arith) is_open));
-      second_segment = λ is_open. second.1 (subst (IsOpen 16) (sym segment1) (front_open 16 16 slots.segment1 (omega arith) (omega arith) is_open));
-      stands = inl (record {
-        image = image_of_front slots.image0 (subst HoldsOpeningImage (ap (λ (s : Slots). s.image0) same) image);
-        follows = follows;
-      });
-    }
+pub none_other : (s : Slots) (image0 image1 segment0 segment1 : Header) → SayAll s image0 image1 segment0 segment1
+    → (image0 ≢ OtherVersion) × (image1 ≢ OtherVersion) × (segment0 ≢ OtherVersion) × (segment1 ≢ OtherVersion) → IsOtherVersion (as_written s) → ⊥
+none_other s image0 image1 segment0 segment1 says none other = elim (other_of s image0 image1 segment0 segment1 says other.0 other.1 other.2) as (λ _. ⊥) [
+  | inl a ↦ none.0 a
+  | inr others ↦ elim others as (λ _. ⊥) [ inl b ↦ none.1 b | inr segments ↦ elim segments as (λ _. ⊥) [ inl c ↦ none.2 c | inr d ↦ none.3 d ] ]
+]
 
--- a new store, by its fronts
-pub new_by_fronts : (slots fronts : Slots) (state : State) → fronts ≡ fronts_of slots → (¬ IsOpen 24 fronts.image1) × (¬ IsOpen 16 fronts.segment1) → (¬ IsOpen 24 fronts.image0) × WasNeverUsed fronts.segment0 → state ≡ opening_state
-    → Recovers slots state 0
-new_by_fronts slots fronts state same second first is =
-    let image0 : fronts.image0 ≡ take 48 slots.image0 = ap (λ (s : Slots). s.image0) same in
-    let image1 : fronts.image1 ≡ take 24 slots.image1 = ap (λ (s : Slots). s.image1) same in
-    let segment1 : fronts.segment1 ≡ take 16 slots.segment1 = ap (λ (s : Slots). s.segment1) same in
-    record {
-      second_image = λ is_open. second.0 (subst (IsOpen 24) (sym image1) (front_open 24 24 slots.image1 (omega arith) (omega arith) is_open));
-      second_segment = λ is_open. second.1 (subst (IsOpen 16) (sym segment1) (front_open 16 16 slots.segment1 (omega arith) (omega arith) is_open));
-      stands = inr (record {
-        image = λ is_open. first.0 (subst (IsOpen 24) (sym image0) (front_open 24 48 slots.image0 (omega arith) (omega arith) is_open));
-        segment = unused_by_front slots.segment0 (subst WasNeverUsed (ap (λ (s : Slots). s.segment0) same) first.1);
-        state_is = is;
-        counted = refl;
-      });
-    }
+pub tells_of : (header number : ℕ) (slot : List ℕ) (h : Header) (o : Option ℕ) → Says header slot h → IfSome o (λ epoch. (h ≡ Open epoch) × (epoch % 2 ≡ number)) → IfNone o (h ≡ Closed) → Tells header number slot o
+tells_of header number slot h None says some none = says_tells header number slot h None says (inl (refl, none))
+tells_of header number slot h (Some epoch) says some none = says_tells header number slot h (Some epoch) says (inr (epoch, refl, some.0, some.1))
 
-pub shut_by_fronts : (slots fronts : Slots) → fronts ≡ fronts_of slots → ¬ IsOpen 24 fronts.image0 → ¬ IsOpen 24 slots.image0
-shut_by_fronts slots fronts same shut = λ is_open. shut (subst (IsOpen 24) (sym (ap (λ (s : Slots). s.image0) same)) (front_open 24 48 slots.image0 (omega arith) (omega arith) is_open))
+-- the epochs of both numbers differ
+strictly : (s : Slots) (a b c d : Option ℕ) (e : ℕ) → TellAll s a b c d → e % 2 ≡ 1 → IsNoLater e a → IsLatest e a
+strictly s None b c d e tells odd no_later = tt
+strictly s (Some o) b c d e tells odd no_later = omega (arith, no_later, odd, tells.image0.1.of_number)
 
-pub image_by_fronts : (slots fronts : Slots) → fronts ≡ fronts_of slots → HoldsOpeningImage fronts.image0 → HoldsOpeningImage slots.image0
-image_by_fronts slots fronts same image = image_of_front slots.image0 (subst HoldsOpeningImage (ap (λ (s : Slots). s.image0) same) image)
+-- what the latest image's slots tell
+pub first_tells : (s : Slots) (a b c d : Option ℕ) (e : ℕ) → TellAll s a b c d → a ≡ Some e → TellOf s e (Some e) b c d
+first_tells s a b c d e tells is =
+    let moved : TellAll s (Some e) b c d = subst (λ o. TellAll s o b c d) is tells in
+    tell_even s e (Some e) b c d moved.image0.1.of_number moved
 
-pub batches_by_fronts : (slots fronts : Slots) (place : ℕ) → fronts ≡ fronts_of slots → HasBatchesAt fronts.segment0 place → HasBatchesAt slots.segment0 place
-batches_by_fronts slots fronts place same has = batches_by_front slots.segment0 place (subst (λ (s : Slots). HasBatchesAt s.segment0 place) same has)
+pub second_tells : (s : Slots) (a b c d : Option ℕ) (e : ℕ) → TellAll s a b c d → b ≡ Some e → IsNoLater e a → TellOf s e (Some e) a d c × IsLatest e a
+second_tells s a b c d e tells is no_later =
+    let moved : TellAll s a (Some e) c d = subst (λ o. TellAll s a o c d) is tells in
+    (tell_odd s e a (Some e) c d moved.image1.1.of_number moved, strictly s a (Some e) c d e moved moved.image1.1.of_number no_later)
 
--- with the opening image, a store isn't new
-pub follows_of : (slots : Slots) (state : State) (count : ℕ) → Recovers slots state count → HoldsOpeningImage slots.image0 → Follows slots.segment0 state count
-follows_of slots state count recovers image = elim recovers.stands [ inl stored ↦ stored.follows | inr new ↦ absurd (new.image (image_is_open slots.image0 image)) ]
+pub none_tell : (s : Slots) (a b c d : Option ℕ) → TellAll s a b c d → a ≡ None → b ≡ None → TellAll s None None c d
+none_tell s a b c d tells first second = subst (λ o. TellAll s None o c d) second (subst (λ o. TellAll s o b c d) first tells)
 
--- what holds of the value
+pub always_ok : {T E P : Type 0} (r : Result T E) → ((x : T) → r ≡ Ok x → P) → OnOk r P
+always_ok (Ok x) p = p x refl
+always_ok (Err e) p = tt
+
+pub on_error : {T E P Q : Type 0} (r : Result T E) → (P → Q) → OnErr r P → OnErr r Q
+on_error (Ok x) f p = tt
+on_error (Err e) f p = f p
+
+pub always_err : {T E P : Type 0} (r : Result T E) → P → OnErr r P
+always_err (Ok x) p = tt
+always_err (Err e) p = p
+
+-- a store without an image, once it was tested
+pub new_surveyed : (s : Slots) (c d : Option ℕ) (r : Result Survey StoreFault) → TellAll s None None c d → IfOk r (λ survey. survey ≡ New) → OnOk r ((c ≡ None) ⊎ (c ≡ Some 0)) → OnOk r (d ≡ None) → IfOk r (Surveys s)
+new_surveyed s c d (Ok survey) tells new first second = subst (Surveys s) (sym new) (told_unused s c d tells first second)
+new_surveyed s c d (Err e) tells new first second = tt
+
 pub some_is : {T : Type 0} (P : T → Type 0) (o : Option T) (x : T) → o ≡ Some x → IfSome o P → P x
 some_is P o x is holds = subst (λ p. IfSome p P) is holds
-
-pub some_of : {T P : Type 0} (o : Option T) (x : T) → o ≡ Some x → IfSome o (λ _. P) → P
-some_of {P = P} o x is holds = subst (λ p. IfSome p (λ _. P)) is holds
-
-pub none_of : {T P : Type 0} (o : Option T) → o ≡ None → IfNone o P → P
-none_of {P = P} o is holds = subst (λ p. IfNone p P) is holds
-
--- what follows of the value
-pub if_ok : {T E : Type 0} {P Q : T → Type 0} (r : Result T E) → ((x : T) → P x → Q x) → IfOk r P → IfOk r Q
-if_ok (Ok x) f p = f x p
-if_ok (Err e) f p = tt
-
-pub if_ok_all : {T E R : Type 0} {P Q S : T → Type 0} (r : Result T E) → ((x : T) → P x → Q x → R → S x) → IfOk r P → IfOk r Q → OnOk r R → IfOk r S
-if_ok_all (Ok x) f p q r = f x p q r
-if_ok_all (Err e) f p q r = tt

@@ -1,15 +1,23 @@
 -- What an open store is between calls.
-use Rattle.std.specs.Prelude.{ℕ}
+use Rattle.std.specs.Prelude.{◌≡◌, ℕ, List, length}
 use Rattle.disk.specs.Moments.{View}
+use Rattle.disk.specs.Slots.{slot_of}
+use Rattle.ipc_model.specs.calls.Step.{Run}
+use Rattle.ipc_model.specs.declared.record.Record.{Record}
 use Rattle.ipc_model.specs.state.State.{State}
+use Rattle.ipc_model.specs.store.Store.{IsInUse}
+use Rattle.journal.specs.declared.segment.Segment.{Segment}
+use Rattle.slot_steps.specs.Steps.{segment_slot}
+use Rattle.standing.specs.Standing.{InOne}
 use Rattle.recover.specs.AtRest.{IsAtRest}
-use Rattle.recover.specs.Recovered.{IsOpen, HoldsOpeningImage, IsReady}
 
--- All of the disk is synced. It holds the opening image, and segment 0, which is in use, holds so many records,
--- with this state after them. The slots of odd epochs aren't open.
-pub record IsKept (disk : View) (state : State) (count : ℕ) : Type 0 where
+-- All of the disk is synced. It holds the image of the epoch in use and that epoch's segment, with so many records and one
+-- closed gate behind them, and the state is the one after them. The other slots are passed over.
+pub record IsKept (disk : View) (segment : Segment) (state : State) : Type 0 where
   pub at_rest : IsAtRest disk
-  pub image : HoldsOpeningImage disk.seen.image0
-  pub second_image : ¬ IsOpen 24 disk.seen.image1
-  pub second_segment : ¬ IsOpen 16 disk.seen.segment1
-  pub ready : IsReady disk.seen state count
+  pub base : State
+  pub records : List Record
+  pub stands : InOne disk.seen segment.epoch base records
+  pub in_use : IsInUse segment.epoch (slot_of disk.seen (segment_slot segment.epoch)) records
+  pub run : Run base records state
+  pub counted : segment.records ≡ length records

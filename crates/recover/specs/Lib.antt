@@ -1,12 +1,11 @@
-pub mod AsWritten
 pub mod AtRest
-pub mod Fronts
+pub mod Found
+pub mod Headers
 pub mod Kept
+pub mod Loaded
 pub mod Looked
 pub mod Making
 pub mod Opened
-pub mod Recovered
-pub mod RecoveredLaws
 pub mod Replayed
 pub mod Steps
 pub mod Stopping

@@ -1,8 +1,9 @@
--- What is left of a segment to be replayed, from a place on.
-use Rattle.std.specs.Prelude.{◌≡◌, ℕ, ◌+◌, List, length}
+-- The records of a segment, replayed.
+use Rattle.std.specs.Prelude.{◌≡◌, ℕ, ◌+◌, ◌-◌, ◌≤◌, List, length, drop}
+use Rattle.ipc_laws.specs.Counted.{SpellsCounted}
+use Rattle.ipc_model.specs.calls.Step.{Run}
 use Rattle.ipc_model.specs.declared.record.Record.{Record}
 use Rattle.ipc_model.specs.state.State.{State}
-use Rattle.ipc_model.specs.calls.Step.{Run}
 use Rattle.journal.specs.Reading.{Place, SpellsFrom}
 
 -- The records that the segment spells from this place on lead from one state to another. So many are read by then,
@@ -12,3 +13,12 @@ pub record Replays (segment : List ℕ) (place : Place) (old new : State) (count
   pub spelled : SpellsFrom segment place records end
   pub run : Run old records new
   pub counted : count ≡ place.number + length records
+
+-- The records of a segment, behind its header, lead from one state to another: so many, and the last batch ends at `end`.
+pub record ReplaysAll (segment : List ℕ) (old new : State) (count end : ℕ) : Type 0 where
+  pub records : List Record
+  pub spelled : SpellsCounted (drop 16 segment) records (end - 16)
+  pub run : Run old records new
+  pub counted : count ≡ length records
+  pub behind : 16 ≤ end
+  pub inside : end ≤ length segment

@@ -1,13 +1,17 @@
 //! Opening a store: what its slots stand for, and the repair of their ends.
 #![tactic(auto)]
 
+mod finding;
+mod headers;
 mod laws;
+mod loading;
 mod looking;
 mod making;
 mod opening;
 mod reading;
+mod survey;
 
 pub use kernel::Kernel;
-pub use laws::{append_keeps_gate, stands_as_written};
+pub use laws::append_keeps_gate;
 pub use looking::{Looked, look};
 pub use opening::{Opened, open};

@@ -1,16 +1,22 @@
 //! What a store holds, as it is found.
-ghost use Rattle.std.specs.Prelude.{◌≡◌, ◌⊎◌, ◌++◌, ℕ, IfOk, IsErrOf, OnErr, OnOk, Err};
-ghost use Rattle.disk.specs.Moments.{one_more};
+ghost use Rattle.std.specs.Prelude.{◌≡◌, ◌⊎◌, ◌+◌, ◌^◌, ◌<◌, true, Err, IfOk, IsErrOf, OnErr, OnOk};
+ghost use Rattle.disk.specs.Moments.{MayLeave, Passes, one_more};
 ghost use Rattle.ipc_model.specs.state.State.{State};
+ghost use Rattle.ipc_model.specs.store.Recovery.{IsDamaged, IsOtherVersion, Recovered};
+ghost use Rattle.recover.specs.Found.{Reads};
+ghost use Rattle.recover.specs.Headers.{Says};
 ghost use Rattle.recover.specs.Looked.{IsLook};
-ghost use Rattle.recover.specs.Recovered.{Follows, IsDamaged, IsOtherVersion, Recovers};
-ghost use Rattle.recover.specs.Surveyed.{HasBatchesAt};
+ghost use Rattle.recover.specs.Surveyed.{FitsNext, IsInUse, IsUnused};
+ghost use Rattle.standing.specs.Standing.{as_written};
 
-use crate::opening::{read_slots, replay_batches};
-use crate::reading::survey;
+use crate::finding::{have_no_batch, read_epoch};
+use crate::headers::{Header, read_headers};
+use crate::reading::replay_segment;
+use crate::survey::{Survey, survey_store};
 use disk::Disk;
 use journal::StoreFault;
 use kernel::{Kernel, Snapshot};
+use slot_steps::segment_slot;
 use std::alloc::Global;
 
 /// What a store holds.
@@ -24,6 +30,70 @@ pub struct Looked {
     pub snapshot: Snapshot,
 }
 
+/// The state of a store that was never in use.
+fn look_new<D: Disk>(alloc: Global, disk: &mut D, segment0: Header) -> Result<Kernel, StoreFault>
+    requires unused { D.honest → IsUnused (D.view disk.old).seen }
+    requires says { D.honest → Says 16 (D.view disk.old).seen.segment0 segment0 }
+    ensures reads { D.honest → IfOk result (Reads (D.view disk.old).seen 0 0) }
+    ensures damaged { D.honest → IsErrOf result StoreFault.Damaged → (state : State) → Recovered (as_written (D.view disk.old).seen) state → ⊥ }
+    ensures seen { D.honest → (D.view disk.new).seen ≡ (D.view disk.old).seen }
+    ensures quiet { OnOk result (D.failed_calls disk.new ≡ D.failed_calls disk.old) }
+    ensures device { IsErrOf result StoreFault.Device → D.failed_calls disk.new ≡ one_more (D.failed_calls disk.old) }
+    ensures faults { OnErr result ((result ≡ Err StoreFault.Device) ⊎ ((result ≡ Err StoreFault.Damaged) ⊎ (result ≡ Err StoreFault.NoMemory))) }
+{
+    have_no_batch(disk, segment0)?;
+    let kernel = Kernel::opening(alloc)?;
+    Ok(kernel)
+}
+
+/// The state of a store in use, and how many records its segments hold.
+fn look_in_use<D: Disk>(
+    alloc: Global,
+    disk: &mut D,
+    epoch: u64,
+    follows: bool,
+) -> Result<(Kernel, u64), StoreFault>
+    requires used { D.honest → IsInUse (D.view disk.old).seen epoch follows }
+    requires fits { FitsNext (Survey.InUse epoch follows) }
+    ensures reads { D.honest → IfOk result (λ r. Reads (D.view disk.old).seen epoch r.1 r.0) }
+    ensures damaged { D.honest → IsErrOf result StoreFault.Damaged → (state : State) → Recovered (as_written (D.view disk.old).seen) state → ⊥ }
+    ensures seen { D.honest → (D.view disk.new).seen ≡ (D.view disk.old).seen }
+    ensures quiet { OnOk result (D.failed_calls disk.new ≡ D.failed_calls disk.old) }
+    ensures device { IsErrOf result StoreFault.Device → D.failed_calls disk.new ≡ one_more (D.failed_calls disk.old) }
+    ensures faults { OnErr result ((result ≡ Err StoreFault.Device) ⊎ ((result ≡ Err StoreFault.Damaged) ⊎ (result ≡ Err StoreFault.NoMemory))) }
+{
+    let (kernel, first, _) = read_epoch(alloc, disk, epoch)?;
+    if !follows {
+        return Ok((kernel, first));
+    }
+    let (kernel, next, _) = replay_segment(alloc, kernel, disk, segment_slot(epoch + 1))?;
+    Ok((kernel, first.saturating_add(next)))
+}
+
+/// The epoch of a store's image, how many records its segments hold, and the state after them.
+fn find<D: Disk>(alloc: Global, disk: &mut D) -> Result<(u64, u64, Kernel), StoreFault>
+    ensures reads { D.honest → IfOk result (λ r. Reads (D.view disk.old).seen r.0 r.1 r.2) }
+    ensures seen { D.honest → (D.view disk.new).seen ≡ (D.view disk.old).seen }
+    ensures version { D.honest → IsErrOf result StoreFault.Version → IsOtherVersion (as_written (D.view disk.old).seen) }
+    ensures damaged { D.honest → IsErrOf result StoreFault.Damaged → IsDamaged (as_written (D.view disk.old).seen) }
+    ensures faults { OnErr result ((result ≡ Err StoreFault.Device) ⊎ ((result ≡ Err StoreFault.Damaged)
+        ⊎ ((result ≡ Err StoreFault.NoMemory) ⊎ (result ≡ Err StoreFault.Version)))) }
+    ensures quiet { OnOk result (D.failed_calls disk.new ≡ D.failed_calls disk.old) }
+    ensures device { IsErrOf result StoreFault.Device → D.failed_calls disk.new ≡ one_more (D.failed_calls disk.old) }
+{
+    let headers = read_headers(disk)?;
+    match survey_store(&headers)? {
+        Survey::New => {
+            let kernel = look_new(alloc, disk, headers.segment0)?;
+            Ok((0, 0, kernel))
+        }
+        Survey::InUse { epoch, follows } => {
+            let (kernel, records) = look_in_use(alloc, disk, epoch, follows)?;
+            Ok((epoch, records, kernel))
+        }
+    }
+}
+
 /// Looks at a store, and writes nothing: neither what it holds nor what a stop leaves of it changes.
 ///
 /// `Device`: the device failed. `Damaged`: the slots are none that a server leaves. `Version`: an open slot is
@@ -31,59 +101,18 @@ pub struct Looked {
 pub fn look<D: Disk>(alloc: Global, disk: &mut D) -> Result<Looked, StoreFault>
     ensures state { IfOk result (λ look. IsLook D.honest (D.view disk.old).seen look) }
     ensures seen { D.honest → (D.view disk.new).seen ≡ (D.view disk.old).seen }
-    ensures version { D.honest → IsErrOf result StoreFault.Version → IsOtherVersion (D.view disk.old).seen }
-    ensures damaged { D.honest → IsErrOf result StoreFault.Damaged → IsDamaged (D.view disk.old).seen }
+    ensures version { D.honest → IsErrOf result StoreFault.Version → IsOtherVersion (as_written (D.view disk.old).seen) }
+    ensures damaged { D.honest → IsErrOf result StoreFault.Damaged → IsDamaged (as_written (D.view disk.old).seen) }
     ensures faults { OnErr result ((result ≡ Err StoreFault.Device) ⊎ ((result ≡ Err StoreFault.Damaged)
         ⊎ ((result ≡ Err StoreFault.NoMemory) ⊎ (result ≡ Err StoreFault.Version)))) }
     ensures quiet { OnOk result (D.failed_calls disk.new ≡ D.failed_calls disk.old) }
     ensures device { IsErrOf result StoreFault.Device → D.failed_calls disk.new ≡ one_more (D.failed_calls disk.old) }
 {
-    let (kernel, records) = find(alloc, disk)?;
+    let (epoch, records, kernel) = find(alloc, disk)?;
     let snapshot = kernel.copy(alloc)?;
     Ok(Looked {
-        epoch: 0,
+        epoch,
         records,
         snapshot,
     })
-}
-
-/// The state that a store stands for, and how many records its segment holds.
-fn find<D: Disk>(alloc: Global, disk: &mut D) -> Result<(Kernel, u64), StoreFault>
-    ensures state { D.honest → IfOk result (λ r. Recovers (D.view disk.old).seen r.0 r.1) }
-    ensures seen { D.honest → (D.view disk.new).seen ≡ (D.view disk.old).seen }
-    ensures version { D.honest → IsErrOf result StoreFault.Version → IsOtherVersion (D.view disk.old).seen }
-    ensures damaged { D.honest → IsErrOf result StoreFault.Damaged → IsDamaged (D.view disk.old).seen }
-    ensures faults { OnErr result ((result ≡ Err StoreFault.Device) ⊎ ((result ≡ Err StoreFault.Damaged)
-        ⊎ ((result ≡ Err StoreFault.NoMemory) ⊎ (result ≡ Err StoreFault.Version)))) }
-    ensures quiet { OnOk result (D.failed_calls disk.new ≡ D.failed_calls disk.old) }
-    ensures device { IsErrOf result StoreFault.Device → D.failed_calls disk.new ≡ one_more (D.failed_calls disk.old) }
-{
-    let fronts = read_slots(alloc, disk)?;
-    match survey(
-        &fronts.image0,
-        &fronts.image1,
-        &fronts.segment0,
-        &fronts.segment1,
-    )? {
-        Some(batches) => follow(alloc, disk, batches),
-        None => {
-            let kernel = Kernel::opening(alloc)?;
-            Ok((kernel, 0))
-        }
-    }
-}
-
-/// The state after the records of segment 0, whose batches begin at this place, and their count.
-fn follow<D: Disk>(alloc: Global, disk: &mut D, batches: u64) -> Result<(Kernel, u64), StoreFault>
-    requires { D.honest → HasBatchesAt (D.view disk.old).seen.segment0 batches }
-    ensures state { D.honest → IfOk result (λ r. Follows (D.view disk.old).seen.segment0 r.0 r.1) }
-    ensures seen { D.honest → (D.view disk.new).seen ≡ (D.view disk.old).seen }
-    ensures damaged { D.honest → IsErrOf result StoreFault.Damaged
-        → (state : State) → (count : ℕ) → Follows (D.view disk.old).seen.segment0 state count → ⊥ }
-    ensures faults { OnErr result ((result ≡ Err StoreFault.Device) ⊎ ((result ≡ Err StoreFault.Damaged) ⊎ (result ≡ Err StoreFault.NoMemory))) }
-    ensures quiet { OnOk result (D.failed_calls disk.new ≡ D.failed_calls disk.old) }
-    ensures device { IsErrOf result StoreFault.Device → D.failed_calls disk.new ≡ one_more (D.failed_calls disk.old) }
-{
-    let (kernel, count, _) = replay_batches(alloc, disk, batches)?;
-    Ok((kernel, count))
 }

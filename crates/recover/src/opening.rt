@@ -1,32 +1,37 @@
-ghost use Rattle.std.specs.Prelude.{◌≡◌, ◌≢◌, ◌-◌, ◌<◌, ◌≤◌, ◌++◌, ℕ, List, false, length, take, drop, IfOk, IfErr, OnOk, OnErr, IsErrOf, ◌⊎◌, Err};
-ghost use Rattle.disk.specs.Slots.{Slots, slot_of, with_slot};
-ghost use Rattle.disk.specs.Moments.{one_more, MayLeave, Passes};
-ghost use Rattle.ipc_model.specs.declared.record.Record.{Record};
+ghost use Rattle.std.specs.Prelude.{◌≡◌, ◌≢◌, ◌⊎◌, ◌+◌, ◌<◌, ◌^◌, ℕ, List, [], true, false, Err, IfOk, IfErr, IsErrOf, OnErr, OnOk};
+ghost use Rattle.checkpoint.specs.Images.{open_image, unwritten};
+ghost use Rattle.disk.specs.Slots.{Slots};
+ghost use Rattle.disk.specs.Moments.{CountsFailure, MayLeave, Passes, one_more};
 ghost use Rattle.ipc_model.specs.state.State.{State, opening_state};
-ghost use Rattle.ipc_model.specs.calls.Step.{Run};
-ghost use Rattle.ipc_laws.specs.Counted.{SpellsCounted};
-ghost use Rattle.ipc_model.specs.store.Store.{SpellsBatches, IsInUse};
+ghost use Rattle.ipc_model.specs.store.Recovery.{HoldsImage, IsDamaged, IsNew, IsOtherVersion, Recovered};
+ghost use Rattle.ipc_model.specs.texts.Images.{image_text};
 ghost use Rattle.recover.specs.AtRest.{IsAtRest};
-ghost use Rattle.recover.specs.Fronts.{four_slots, fronts_of};
+ghost use Rattle.recover.specs.Headers.{SayAll, Says};
 ghost use Rattle.recover.specs.Kept.{IsKept};
-ghost use Rattle.recover.specs.Making.{DiffersIn};
-ghost use Rattle.recover.specs.Stopping.{HasLastGate, FollowsSame, LeavesSame};
-ghost use Rattle.recover.specs.Recovered.{Follows, Recovers, HoldsOpeningImage, IsReady, IsDamaged, IsOtherVersion};
-ghost use Rattle.recover.specs.Surveyed.{HasBatchesAt};
+ghost use Rattle.recover.specs.Stopping.{HaveLastGates, LeavesSame, StandForSame};
+ghost use Rattle.recover.specs.Surveyed.{IsInUse, IsUnused, Surveys};
+ghost use Rattle.standing.specs.Standing.{as_written};
 
-use crate::making::{end_segment, make_store, sync_all};
-use crate::reading::{IMAGE_HEADER, SEGMENT_HEADER, replay_all, survey};
-use disk::{Disk, Slot};
-use journal::{Journal, PIECE, RecordReader, StoreFault};
+use crate::finding::{have_no_batch, read_epoch};
+use crate::headers::{Header, Headers, read_headers};
+use crate::making::{end_segment, make_segment, sync_all};
+use crate::reading::replay_segment;
+use crate::survey::{Survey, survey_store};
+use checkpoint::Image;
+use disk::{Disk, DiskFault};
+use image::image_is_of_state;
+use journal::{Segment, StoreFault};
 use kernel::Kernel;
-use std::alloc::Global;
+use slot_steps::segment_slot;
+use std::alloc::{AllocError, Global};
 use std::marker::Model;
 
-/// A store that is open: the state that it stands for, and the journal that goes on from there.
+/// A store that is open: the state that it stands for, its disk, and the segment in use, from which it goes on.
 #[derive(Drop)]
 pub struct Opened<D: Disk> {
     pub kernel: Kernel,
-    pub journal: Journal<D>,
+    pub disk: D,
+    pub segment: Segment,
 }
 
 impl<D: Disk> Model for Opened<D> {
@@ -37,191 +42,185 @@ impl<D: Disk> Model for Opened<D> {
 
     ghost coded = { opened_code D.code };
 
-    ghost view = { λ o. record { kernel = o.kernel; journal = o.journal } };
+    ghost view = { λ o. record { kernel = o.kernel; disk = o.disk; segment = o.segment } };
 
     // Who has an opened store can go on from it.
-    ghost invariant = { λ o. D.honest → IsKept (D.view o.journal.disk) o.kernel o.journal.records };
+    ghost invariant = { λ o. D.honest → IsKept (D.view o.disk) o.segment o.kernel };
 }
 
-/// As much of the front of each slot as tells what the slot is.
-#[derive(Drop)]
-pub(crate) struct Fronts {
-    pub(crate) image0: Vec<u8>,
-    pub(crate) image1: Vec<u8>,
-    pub(crate) segment0: Vec<u8>,
-    pub(crate) segment1: Vec<u8>,
+/// The image that an epoch begins with, in this state.
+fn image_of(alloc: Global, epoch: u64, kernel: &Kernel) -> Result<Image, AllocError>
+    ensures image { IfOk result (λ image. image ≡ unwritten epoch (image_text kernel.now)) }
+    ensures holds { OnOk result (HoldsImage epoch (open_image epoch (image_text kernel.now)) kernel.now) }
+{
+    let snapshot = kernel.copy(alloc)?;
+    let image = Image::of(alloc, epoch, &snapshot)?;
+    let _ = image.size();
+    image_is_of_state();
+    kernel.has_image();
+    Ok(image)
 }
 
-/// The bytes of a slot, at most so many from its front.
-fn front_of<D: Disk>(
+/// Makes a new store: its segment first, and once that is whole, its image.
+fn write_first<D: Disk>(disk: &mut D, image: &Image) -> Result<Segment, DiskFault>
+    requires image { image.now ≡ unwritten 0 (image_text opening_state) }
+    requires holds { HoldsImage 0 (open_image 0 (image_text opening_state)) opening_state }
+    requires rest { D.honest → IsAtRest (D.view disk.old) }
+    requires unused { D.honest → IsUnused (D.view disk.old).seen }
+    requires new { D.honest → IsNew (as_written (D.view disk.old).seen) }
+    ensures kept { D.honest → IfOk result (λ segment. IsKept (D.view disk.new) segment opening_state) }
+    ensures any_moment { D.honest → HaveLastGates (D.view disk.old).seen
+        → Passes (D.view disk.old) (D.view disk.new) (StandForSame (D.view disk.old).seen) }
+    ensures failures { CountsFailure (D.failed_calls disk.old) (D.failed_calls disk.new) result }
+{
+    let segment = make_segment(disk, 0)?;
+    image.write(disk)?;
+    Ok(segment)
+}
+
+/// A store that was never in use is made.
+fn begin<D: Disk>(
     alloc: Global,
     disk: &mut D,
-    slot: Slot,
-    most: usize,
-) -> Result<Vec<u8>, StoreFault>
-    ensures bytes { D.honest → IfOk result (λ bytes. bytes.items ≡ take most (slot_of (D.view disk.old).seen slot)) }
-    ensures seen { D.honest → (D.view disk.new).seen ≡ (D.view disk.old).seen }
-    ensures time { D.honest → Passes (D.view disk.old) (D.view disk.new) (MayLeave (D.view disk.old)) }
-    ensures rest { D.honest → IsAtRest (D.view disk.old) → OnOk result (IsAtRest (D.view disk.new)) }
+    segment0: Header,
+) -> Result<(Kernel, Segment), StoreFault>
+    requires rest { D.honest → IsAtRest (D.view disk.old) }
+    requires unused { D.honest → IsUnused (D.view disk.old).seen }
+    requires says { D.honest → Says 16 (D.view disk.old).seen.segment0 segment0 }
+    ensures state { D.honest → IfOk result (λ r. Recovered (as_written (D.view disk.old).seen) r.0) }
+    ensures kept { D.honest → IfOk result (λ r. IsKept (D.view disk.new) r.1 r.0) }
+    ensures damaged { D.honest → IsErrOf result StoreFault.Damaged → (state : State) → Recovered (as_written (D.view disk.old).seen) state → ⊥ }
+    ensures unchanged { D.honest → OnErr result ((result ≡ Err StoreFault.Device) ⊎ ((D.view disk.new).seen ≡ (D.view disk.old).seen)) }
+    ensures untouched { D.honest → OnErr result ((result ≡ Err StoreFault.Device)
+        ⊎ Passes (D.view disk.old) (D.view disk.new) (MayLeave (D.view disk.old))) }
+    ensures any_moment { D.honest → HaveLastGates (D.view disk.old).seen
+        → Passes (D.view disk.old) (D.view disk.new) (StandForSame (D.view disk.old).seen) }
     ensures quiet { OnOk result (D.failed_calls disk.new ≡ D.failed_calls disk.old) }
     ensures still { OnErr result ((result ≡ Err StoreFault.Device) ⊎ (D.failed_calls disk.new ≡ D.failed_calls disk.old)) }
     ensures device { IsErrOf result StoreFault.Device → D.failed_calls disk.new ≡ one_more (D.failed_calls disk.old) }
-    ensures faults { OnErr result ((result ≡ Err StoreFault.Device) ⊎ (result ≡ Err StoreFault.NoMemory)) }
+    ensures faults { OnErr result ((result ≡ Err StoreFault.Device) ⊎ ((result ≡ Err StoreFault.Damaged) ⊎ (result ≡ Err StoreFault.NoMemory))) }
 {
-    let mut bytes = vec![in alloc; 0; most]?;
-    let count = disk.read(slot, 0, &mut bytes)?;
-    bytes.truncate(count);
-    Ok(bytes)
+    have_no_batch(disk, segment0)?;
+    let kernel = Kernel::opening(alloc)?;
+    let image = image_of(alloc, 0, &kernel)?;
+    let segment = write_first(disk, &image)?;
+    Ok((kernel, segment))
 }
 
-/// Reads the fronts of the slots.
-pub(crate) fn read_slots<D: Disk>(alloc: Global, disk: &mut D) -> Result<Fronts, StoreFault>
-    ensures fronts { D.honest → IfOk result (λ fronts. four_slots fronts.image0.items fronts.image1.items fronts.segment0.items fronts.segment1.items
-        ≡ fronts_of (D.view disk.old).seen) }
-    ensures seen { D.honest → (D.view disk.new).seen ≡ (D.view disk.old).seen }
-    ensures time { D.honest → Passes (D.view disk.old) (D.view disk.new) (MayLeave (D.view disk.old)) }
-    ensures rest { D.honest → IsAtRest (D.view disk.old) → OnOk result (IsAtRest (D.view disk.new)) }
+/// A store goes on in an epoch, whose segment is ended behind its batches.
+fn go_on<D: Disk>(alloc: Global, disk: &mut D, epoch: u64) -> Result<(Kernel, Segment), StoreFault>
+    requires rest { D.honest → IsAtRest (D.view disk.old) }
+    requires used { D.honest → IsInUse (D.view disk.old).seen epoch false }
+    ensures state { D.honest → IfOk result (λ r. Recovered (as_written (D.view disk.old).seen) r.0) }
+    ensures kept { D.honest → IfOk result (λ r. IsKept (D.view disk.new) r.1 r.0) }
+    ensures damaged { D.honest → IsErrOf result StoreFault.Damaged → (state : State) → Recovered (as_written (D.view disk.old).seen) state → ⊥ }
+    ensures unchanged { D.honest → OnErr result ((result ≡ Err StoreFault.Device) ⊎ ((D.view disk.new).seen ≡ (D.view disk.old).seen)) }
+    ensures untouched { D.honest → OnErr result ((result ≡ Err StoreFault.Device)
+        ⊎ Passes (D.view disk.old) (D.view disk.new) (MayLeave (D.view disk.old))) }
+    ensures any_moment { D.honest → HaveLastGates (D.view disk.old).seen
+        → Passes (D.view disk.old) (D.view disk.new) (StandForSame (D.view disk.old).seen) }
     ensures quiet { OnOk result (D.failed_calls disk.new ≡ D.failed_calls disk.old) }
     ensures still { OnErr result ((result ≡ Err StoreFault.Device) ⊎ (D.failed_calls disk.new ≡ D.failed_calls disk.old)) }
     ensures device { IsErrOf result StoreFault.Device → D.failed_calls disk.new ≡ one_more (D.failed_calls disk.old) }
-    ensures faults { OnErr result ((result ≡ Err StoreFault.Device) ⊎ (result ≡ Err StoreFault.NoMemory)) }
+    ensures faults { OnErr result ((result ≡ Err StoreFault.Device) ⊎ ((result ≡ Err StoreFault.Damaged) ⊎ (result ≡ Err StoreFault.NoMemory))) }
 {
-    let image0 = front_of(alloc, disk, Slot::Image0, IMAGE_HEADER + 24)?;
-    let image1 = front_of(alloc, disk, Slot::Image1, IMAGE_HEADER)?;
-    let segment0 = front_of(alloc, disk, Slot::Segment0, SEGMENT_HEADER + 1)?;
-    let segment1 = front_of(alloc, disk, Slot::Segment1, SEGMENT_HEADER)?;
-    Ok(Fronts {
-        image0,
-        image1,
-        segment0,
-        segment1,
-    })
+    let (kernel, records, end) = read_epoch(alloc, disk, epoch)?;
+    end_segment(disk, segment_slot(epoch), end)?;
+    Ok((kernel, Segment { epoch, records }))
 }
 
-/// Syncs the slots and reads their fronts.
-fn read_fronts<D: Disk>(alloc: Global, disk: &mut D) -> Result<Fronts, StoreFault>
-    ensures fronts { D.honest → IfOk result (λ fronts. four_slots fronts.image0.items fronts.image1.items fronts.segment0.items fronts.segment1.items
-        ≡ fronts_of (D.view disk.old).seen) }
+/// A store goes on in the next epoch, whose segment follows: its image is made of the state before that segment, and written.
+fn go_on_next<D: Disk>(
+    alloc: Global,
+    disk: &mut D,
+    epoch: u64,
+) -> Result<(Kernel, Segment), StoreFault>
+    requires rest { D.honest → IsAtRest (D.view disk.old) }
+    requires used { D.honest → IsInUse (D.view disk.old).seen epoch true }
+    requires fits { epoch + 1 < 2 ^ 64 }
+    ensures state { D.honest → IfOk result (λ r. Recovered (as_written (D.view disk.old).seen) r.0) }
+    ensures kept { D.honest → IfOk result (λ r. IsKept (D.view disk.new) r.1 r.0) }
+    ensures damaged { D.honest → IsErrOf result StoreFault.Damaged → (state : State) → Recovered (as_written (D.view disk.old).seen) state → ⊥ }
+    ensures unchanged { D.honest → OnErr result ((result ≡ Err StoreFault.Device) ⊎ ((D.view disk.new).seen ≡ (D.view disk.old).seen)) }
+    ensures untouched { D.honest → OnErr result ((result ≡ Err StoreFault.Device)
+        ⊎ Passes (D.view disk.old) (D.view disk.new) (MayLeave (D.view disk.old))) }
+    ensures any_moment { D.honest → HaveLastGates (D.view disk.old).seen
+        → Passes (D.view disk.old) (D.view disk.new) (StandForSame (D.view disk.old).seen) }
+    ensures quiet { OnOk result (D.failed_calls disk.new ≡ D.failed_calls disk.old) }
+    ensures still { OnErr result ((result ≡ Err StoreFault.Device) ⊎ (D.failed_calls disk.new ≡ D.failed_calls disk.old)) }
+    ensures device { IsErrOf result StoreFault.Device → D.failed_calls disk.new ≡ one_more (D.failed_calls disk.old) }
+    ensures faults { OnErr result ((result ≡ Err StoreFault.Device) ⊎ ((result ≡ Err StoreFault.Damaged) ⊎ (result ≡ Err StoreFault.NoMemory))) }
+{
+    let (base, _, _) = read_epoch(alloc, disk, epoch)?;
+    let image = image_of(alloc, epoch + 1, &base)?;
+    let (kernel, records, end) = replay_segment(alloc, base, disk, segment_slot(epoch + 1))?;
+    image.write(disk)?;
+    end_segment(disk, segment_slot(epoch + 1), end)?;
+    Ok((
+        kernel,
+        Segment {
+            epoch: epoch + 1,
+            records,
+        },
+    ))
+}
+
+/// What the headers of a disk's slots say, once all that was written is on it.
+fn read_synced<D: Disk>(disk: &mut D) -> Result<Headers, DiskFault>
+    ensures said { D.honest → IfOk result (λ h. SayAll (D.view disk.old).seen h.image0 h.image1 h.segment0 h.segment1) }
     ensures seen { D.honest → (D.view disk.new).seen ≡ (D.view disk.old).seen }
     ensures time { D.honest → Passes (D.view disk.old) (D.view disk.new) (MayLeave (D.view disk.old)) }
     ensures rest { D.honest → OnOk result (IsAtRest (D.view disk.new)) }
-    ensures quiet { OnOk result (D.failed_calls disk.new ≡ D.failed_calls disk.old) }
-    ensures still { OnErr result ((result ≡ Err StoreFault.Device) ⊎ (D.failed_calls disk.new ≡ D.failed_calls disk.old)) }
-    ensures device { IsErrOf result StoreFault.Device → D.failed_calls disk.new ≡ one_more (D.failed_calls disk.old) }
-    ensures faults { OnErr result ((result ≡ Err StoreFault.Device) ⊎ (result ≡ Err StoreFault.NoMemory)) }
+    ensures failures { CountsFailure (D.failed_calls disk.old) (D.failed_calls disk.new) result }
 {
     sync_all(disk)?;
-    let fronts = read_slots(alloc, disk)?;
-    Ok(fronts)
+    let headers = read_headers(disk)?;
+    Ok(headers)
 }
 
-/// The state after the records of segment 0, whose batches begin at this place, how many records they are, and where
-/// the last batch ends.
-pub(crate) fn replay_batches<D: Disk>(
-    alloc: Global,
-    disk: &mut D,
-    batches: u64,
-) -> Result<(Kernel, u64, u64), StoreFault>
-    requires { D.honest → batches ≤ length (D.view disk.old).seen.segment0 }
-    ensures state { D.honest → IfOk result (λ r. (records : List Record)
-        × SpellsCounted (drop batches (D.view disk.old).seen.segment0) records (r.2 - batches)
-        × Run opening_state records r.0 × (r.1 ≡ length records)) }
-    ensures end { D.honest → IfOk result (λ r. (batches ≤ r.2) × (r.2 ≤ length (D.view disk.old).seen.segment0)) }
-    ensures damaged { D.honest → IsErrOf result StoreFault.Damaged → (records : List Record) → (state : State)
-        → SpellsBatches (drop batches (D.view disk.old).seen.segment0) records → Run opening_state records state → ⊥ }
-    ensures seen { D.honest → (D.view disk.new).seen ≡ (D.view disk.old).seen }
-    ensures time { D.honest → Passes (D.view disk.old) (D.view disk.new) (MayLeave (D.view disk.old)) }
-    ensures rest { D.honest → IsAtRest (D.view disk.old) → OnOk result (IsAtRest (D.view disk.new)) }
-    ensures quiet { OnOk result (D.failed_calls disk.new ≡ D.failed_calls disk.old) }
-    ensures still { OnErr result ((result ≡ Err StoreFault.Device) ⊎ (D.failed_calls disk.new ≡ D.failed_calls disk.old)) }
-    ensures device { IsErrOf result StoreFault.Device → D.failed_calls disk.new ≡ one_more (D.failed_calls disk.old) }
-    ensures faults { OnErr result ((result ≡ Err StoreFault.Device) ⊎ ((result ≡ Err StoreFault.Damaged) ⊎ (result ≡ Err StoreFault.NoMemory))) }
-{
-    let mut reader = RecordReader::new(alloc, disk, Slot::Segment0, batches, PIECE)?;
-    let opening = Kernel::opening(alloc)?;
-    let kernel = replay_all(opening, &mut reader, disk)?;
-    Ok((kernel, reader.number(), reader.at()))
-}
-
-/// The state after the records of segment 0, whose batches begin at this place, and their count. The segment is ended
-/// behind them.
-fn load_stored<D: Disk>(
-    alloc: Global,
-    disk: &mut D,
-    batches: u64,
-) -> Result<(Kernel, u64), StoreFault>
-    requires { D.honest → HasBatchesAt (D.view disk.old).seen.segment0 batches }
-    ensures state { D.honest → IfOk result (λ r. Follows (D.view disk.old).seen.segment0 r.0 r.1) }
-    ensures ready { D.honest → IfOk result (λ r. IsReady (D.view disk.new).seen r.0 r.1) }
-    ensures others { D.honest → OnOk result ((D.view disk.new).seen
-        ≡ with_slot (D.view disk.old).seen Slot.Segment0 (D.view disk.new).seen.segment0) }
-    ensures rest { D.honest → IsAtRest (D.view disk.old) → OnOk result (IsAtRest (D.view disk.new)) }
+/// The state that a store stands for, and the segment in use.
+fn load<D: Disk>(alloc: Global, disk: &mut D) -> Result<(Kernel, Segment), StoreFault>
+    ensures state { D.honest → IfOk result (λ r. Recovered (as_written (D.view disk.old).seen) r.0) }
+    ensures kept { D.honest → IfOk result (λ r. IsKept (D.view disk.new) r.1 r.0) }
+    ensures version { D.honest → IsErrOf result StoreFault.Version → IsOtherVersion (as_written (D.view disk.old).seen) }
+    ensures damaged { D.honest → IsErrOf result StoreFault.Damaged → IsDamaged (as_written (D.view disk.old).seen) }
     ensures unchanged { D.honest → OnErr result ((result ≡ Err StoreFault.Device) ⊎ ((D.view disk.new).seen ≡ (D.view disk.old).seen)) }
     ensures untouched { D.honest → OnErr result ((result ≡ Err StoreFault.Device)
         ⊎ Passes (D.view disk.old) (D.view disk.new) (MayLeave (D.view disk.old))) }
-    ensures any_moment { D.honest → IsAtRest (D.view disk.old) → HasLastGate (D.view disk.old).seen.segment0
-        → Passes (D.view disk.old) (D.view disk.new)
-        (DiffersIn (D.view disk.old).seen Slot.Segment0 (FollowsSame (D.view disk.old).seen.segment0)) }
-    ensures damaged { D.honest → IsErrOf result StoreFault.Damaged
-        → (state : State) → (count : ℕ) → Follows (D.view disk.old).seen.segment0 state count → ⊥ }
-    ensures faults { OnErr result ((result ≡ Err StoreFault.Device) ⊎ ((result ≡ Err StoreFault.Damaged) ⊎ (result ≡ Err StoreFault.NoMemory))) }
-    ensures quiet { OnOk result (D.failed_calls disk.new ≡ D.failed_calls disk.old) }
-    ensures still { OnErr result ((result ≡ Err StoreFault.Device) ⊎ (D.failed_calls disk.new ≡ D.failed_calls disk.old)) }
-    ensures device { IsErrOf result StoreFault.Device → D.failed_calls disk.new ≡ one_more (D.failed_calls disk.old) }
-{
-    let (kernel, count, end) = replay_batches(alloc, disk, batches)?;
-    end_segment(disk, Slot::Segment0, end)?;
-    Ok((kernel, count))
-}
-
-/// The state that the store stands for, and how many records its segment holds. The segment is ready for more.
-fn load<D: Disk>(alloc: Global, disk: &mut D) -> Result<(Kernel, u64), StoreFault>
-    ensures state { D.honest → IfOk result (λ r. Recovers (D.view disk.old).seen r.0 r.1) }
-    ensures after { D.honest → IfOk result (λ r. Recovers (D.view disk.new).seen r.0 r.1) }
-    ensures ready { D.honest → IfOk result (λ r. IsReady (D.view disk.new).seen r.0 r.1) }
-    ensures image { D.honest → OnOk result (HoldsOpeningImage (D.view disk.new).seen.image0) }
-    ensures rest { D.honest → OnOk result (IsAtRest (D.view disk.new)) }
-    ensures unchanged { D.honest → OnErr result ((result ≡ Err StoreFault.Device) ⊎ ((D.view disk.new).seen ≡ (D.view disk.old).seen)) }
-    ensures untouched { D.honest → OnErr result ((result ≡ Err StoreFault.Device)
-        ⊎ Passes (D.view disk.old) (D.view disk.new) (MayLeave (D.view disk.old))) }
-    ensures any_moment { D.honest → HasLastGate (D.view disk.old).seen.segment0
+    ensures any_moment { D.honest → HaveLastGates (D.view disk.old).seen
         → Passes (D.view disk.old) (D.view disk.new) (LeavesSame (D.view disk.old)) }
-    ensures version { D.honest → IsErrOf result StoreFault.Version → IsOtherVersion (D.view disk.old).seen }
-    ensures damaged { D.honest → IsErrOf result StoreFault.Damaged → IsDamaged (D.view disk.old).seen }
+    ensures quiet { OnOk result (D.failed_calls disk.new ≡ D.failed_calls disk.old) }
+    ensures still { OnErr result ((result ≡ Err StoreFault.Device) ⊎ (D.failed_calls disk.new ≡ D.failed_calls disk.old)) }
+    ensures device { IsErrOf result StoreFault.Device → D.failed_calls disk.new ≡ one_more (D.failed_calls disk.old) }
     ensures faults { OnErr result ((result ≡ Err StoreFault.Device) ⊎ ((result ≡ Err StoreFault.Damaged)
         ⊎ ((result ≡ Err StoreFault.NoMemory) ⊎ (result ≡ Err StoreFault.Version)))) }
-    ensures quiet { OnOk result (D.failed_calls disk.new ≡ D.failed_calls disk.old) }
-    ensures still { OnErr result ((result ≡ Err StoreFault.Device) ⊎ (D.failed_calls disk.new ≡ D.failed_calls disk.old)) }
-    ensures device { IsErrOf result StoreFault.Device → D.failed_calls disk.new ≡ one_more (D.failed_calls disk.old) }
 {
-    let fronts = read_fronts(alloc, disk)?;
-    match survey(
-        &fronts.image0,
-        &fronts.image1,
-        &fronts.segment0,
-        &fronts.segment1,
-    )? {
-        Some(batches) => load_stored(alloc, disk, batches),
-        None => {
-            let kernel = Kernel::opening(alloc)?;
-            make_store(disk)?;
-            Ok((kernel, 0))
-        }
+    let headers = read_synced(disk)?;
+    match survey_store(&headers)? {
+        Survey::New => begin(alloc, disk, headers.segment0),
+        Survey::InUse {
+            epoch,
+            follows: false,
+        } => go_on(alloc, disk, epoch),
+        Survey::InUse {
+            epoch,
+            follows: true,
+        } => go_on_next(alloc, disk, epoch),
     }
 }
 
-/// Opens a store. A new one gets its first segment and image; of another the state is read, and the segment is
-/// ended behind its last batch. With a fault the disk comes back.
+/// Opens a store. A new one gets its first segment and image. Of another the state is read; a checkpoint that was half done is
+/// finished, and the segment in use is ended behind its last batch. With a fault the disk comes back.
 ///
 /// `Device`: the device failed. `Damaged`: the slots are none that a server leaves. `Version`: an open slot is
 /// of another version. `NoMemory`: no memory.
 pub fn open<D: Disk>(alloc: Global, disk: D) -> Result<Opened<D>, (StoreFault, D)>
-    ensures state { D.honest → IfOk result (λ opened. Recovers (D.view disk).seen opened.kernel opened.journal.records) }
-    ensures version { D.honest → IfErr result (λ fault. fault.0 ≡ StoreFault.Version → IsOtherVersion (D.view disk).seen) }
-    ensures damaged { D.honest → IfErr result (λ fault. fault.0 ≡ StoreFault.Damaged → IsDamaged (D.view disk).seen) }
+    ensures state { D.honest → IfOk result (λ opened. Recovered (as_written (D.view disk).seen) opened.kernel) }
+    ensures version { D.honest → IfErr result (λ fault. fault.0 ≡ StoreFault.Version → IsOtherVersion (as_written (D.view disk).seen)) }
+    ensures damaged { D.honest → IfErr result (λ fault. fault.0 ≡ StoreFault.Damaged → IsDamaged (as_written (D.view disk).seen)) }
     ensures faults { IfErr result (λ fault. (fault.0 ≡ StoreFault.Device) ⊎ ((fault.0 ≡ StoreFault.Damaged)
         ⊎ ((fault.0 ≡ StoreFault.NoMemory) ⊎ (fault.0 ≡ StoreFault.Version)))) }
-    ensures quiet { IfOk result (λ opened. D.failed_calls opened.journal.disk ≡ D.failed_calls disk) }
+    ensures quiet { IfOk result (λ opened. D.failed_calls opened.disk ≡ D.failed_calls disk) }
     ensures still { IfErr result (λ fault. fault.0 ≢ StoreFault.Device → D.failed_calls fault.1 ≡ D.failed_calls disk) }
     ensures device { IfErr result (λ fault. fault.0 ≡ StoreFault.Device → D.failed_calls fault.1 ≡ one_more (D.failed_calls disk)) }
     // A fault that isn't the device's leaves the slots as they were, and a stop leaves of them what it left before.
@@ -231,29 +230,27 @@ pub fn open<D: Disk>(alloc: Global, disk: D) -> Result<Opened<D>, (StoreFault, D
     // Whatever a stop leaves, at any moment of the call and also where it fails, it might have left before, or it stands
     // for what the store stood for, with a gate behind its batches. Of a segment that has none, which no server leaves,
     // nothing is said: a stop within the write of that gate could leave an open one.
-    ensures any_moment { D.honest → HasLastGate (D.view disk).seen.segment0
-        → IfOk result (λ opened. Passes (D.view disk) (D.view opened.journal.disk) (LeavesSame (D.view disk))) }
-    ensures any_moment_of_fault { D.honest → HasLastGate (D.view disk).seen.segment0
+    ensures any_moment { D.honest → HaveLastGates (D.view disk).seen
+        → IfOk result (λ opened. Passes (D.view disk) (D.view opened.disk) (LeavesSame (D.view disk))) }
+    ensures any_moment_of_fault { D.honest → HaveLastGates (D.view disk).seen
         → IfErr result (λ fault. Passes (D.view disk) (D.view fault.1) (LeavesSame (D.view disk))) }
-    ensures in_use { D.honest → IfOk result (λ opened. IsReady (D.view opened.journal.disk).seen opened.kernel opened.journal.records) }
-    ensures synced { D.honest → IfOk result (λ opened. IsAtRest (D.view opened.journal.disk)) }
-    ensures stands { D.honest → IfOk result (λ opened. (c : Slots) → MayLeave (D.view opened.journal.disk) c
-        → Recovers c opened.kernel opened.journal.records) }
+    // What is left at the end stands for the state, and who goes on from there knows the slots.
+    ensures stands { D.honest → IfOk result (λ opened. (c : Slots) → MayLeave (D.view opened.disk) c
+        → Recovered (as_written c) opened.kernel) }
+    ensures kept { D.honest → IfOk result (λ opened. IsKept (D.view opened.disk) opened.segment opened.kernel) }
     // What slots stand for is what opening them gives. A store that stands for a state isn't told to be damaged or of
     // another version.
-    ensures same { D.honest → IfOk result (λ opened. (state : State) → (count : ℕ) → Recovers (D.view disk).seen state count
-        → (opened.kernel ≡ state) × (opened.journal.records ≡ count)) }
-    ensures opens { D.honest → IfErr result (λ fault. (state : State) → (count : ℕ) → Recovers (D.view disk).seen state count
+    ensures same { D.honest → IfOk result (λ opened. (state : State) → Recovered (as_written (D.view disk).seen) state → opened.kernel ≡ state) }
+    ensures opens { D.honest → IfErr result (λ fault. (state : State) → Recovered (as_written (D.view disk).seen) state
         → (fault.0 ≢ StoreFault.Damaged) × (fault.0 ≢ StoreFault.Version)) }
-    ensures kept { D.honest → IfOk result (λ opened. IsKept (D.view opened.journal.disk) opened.kernel opened.journal.records) }
-    ensures ready { IfOk result (λ opened. opened.journal.failed ≡ false) }
 {
     let mut disk = disk;
     match load(alloc, &mut disk) {
-        Ok((kernel, records)) => {
-            let journal = Journal::new(disk, records);
-            Ok(Opened { kernel, journal })
-        }
+        Ok((kernel, segment)) => Ok(Opened {
+            kernel,
+            disk,
+            segment,
+        }),
         Err(fault) => Err((fault, disk)),
     }
 }

@@ -88,7 +88,7 @@ impl Connection {
             Ok(opened) => opened,
             Err((fault, _)) => return Err(place.differs(Difference::Unopened(fault))),
         };
-        let records = opened.journal.records();
+        let records = opened.segment.records;
         Ok(Connection {
             alloc,
             caller: Alone::new(alloc, opened),

@@ -4,9 +4,9 @@ use crate::row::{Ask, Row, Script, Step, is_wanted};
 use disk::Torn;
 use std::alloc::Global;
 
-/// How many device calls `open` makes on a store that is there: four syncs, four reads of the fronts, one of the
-/// segment, which is one piece here, and two that end it.
-const OPENING_CALLS: u64 = 11;
+/// How many device calls `open` makes on a store that is there: four syncs, four reads of headers, two of the image, one
+/// of the segment, which is one piece here, and two that end it.
+const OPENING_CALLS: u64 = 13;
 
 /// How many device calls an append makes.
 const APPEND_CALLS: u64 = 4;

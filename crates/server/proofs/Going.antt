@@ -26,12 +26,12 @@ keeps_is out old new e is = known new (subst (λ o. Keeps o new) e is)
     known None h = absurd h
     known (Some ys) h = ap (λ l. Some l) h
 
-module _ {C : Type 0} (answers : C → Call → Reply → C → Type 0) where
+module _ {C : Type 0} (answers : C → Call → Reply → C → Type 0) (rests : C → C → Type 0) where
   -- some of the input was served
   pub record Going (old now : C) (input before : List ℕ) (left written : Option (List ℕ)) (count : ℕ) : Type 0 where
     pub exchanges : Exchanges
     pub rest : List ℕ
-    pub calls : Answers answers old exchanges now
+    pub calls : Answers answers rests old exchanges now
     pub read : input ≡ requests_text exchanges ++ rest
     pub rest_is : left ≡ Some rest
     pub replies : written ≡ Some (before ++ replies_text exchanges)
@@ -41,9 +41,9 @@ module _ {C : Type 0} (answers : C → Call → Reply → C → Type 0) where
   begun old input before left written e f =
       record { exchanges = []; rest = input; calls = refl; read = refl; rest_is = e; replies = f ∙ ap (λ l. Some l) (sym (append-nil before)); counted = refl }
 
-  answers-push : (old mid new : C) (exchanges : Exchanges) (exchange : List ℕ × Reply) → Answers answers old exchanges mid → IsAnswered answers mid exchange.0 exchange.1 new → Answers answers old (exchanges ++ exchange ∷ []) new
-  answers-push old mid new [] exchange so_far is = (new, subst (λ c. IsAnswered answers c exchange.0 exchange.1 new) so_far is, refl)
-  answers-push old mid new (first ∷ exchanges) exchange so_far is = (so_far.0, so_far.1, answers-push so_far.0 mid new exchanges exchange so_far.2 is)
+  answers-push : (old mid later new : C) (exchanges : Exchanges) (exchange : List ℕ × Reply) → Answers answers rests old exchanges mid → IsAnswered answers mid exchange.0 exchange.1 later → rests later new → Answers answers rests old (exchanges ++ exchange ∷ []) new
+  answers-push old mid later new [] exchange so_far is rested = (later, new, subst (λ c. IsAnswered answers c exchange.0 exchange.1 later) so_far is, rested, refl)
+  answers-push old mid later new (first ∷ exchanges) exchange so_far is rested = (so_far.0, so_far.1, so_far.2, so_far.3, answers-push so_far.1 mid later new exchanges exchange so_far.4 is rested)
 
   requests_text-push : (exchanges : Exchanges) (exchange : List ℕ × Reply) → requests_text (exchanges ++ exchange ∷ []) ≡ requests_text exchanges ++ frame_text exchange.0
   requests_text-push [] exchange = append-nil (frame_text exchange.0)
@@ -54,19 +54,19 @@ module _ {C : Type 0} (answers : C → Call → Reply → C → Type 0) where
   replies_text-push (first ∷ exchanges) exchange = ap (λ l. frame_text (reply_text first.1) ++ l) (replies_text-push exchanges exchange) ∙ sym (append_assoc (frame_text (reply_text first.1)) (replies_text exchanges) (frame_text (reply_text exchange.1)))
 
   -- at the end of the input
-  pub ended_whole : (old now : C) (input before : List ℕ) (left written after : Option (List ℕ)) (count : ℕ) (so_far : Going old now input before left written count) → (so_far.rest ≡ []) × (after ≡ Some []) → ServesAll answers old now input before after written
+  pub ended_whole : (old now : C) (input before : List ℕ) (left written after : Option (List ℕ)) (count : ℕ) (so_far : Going old now input before left written count) → (so_far.rest ≡ []) × (after ≡ Some []) → ServesAll answers rests old now input before after written
   ended_whole old now input before left written after count so_far is =
       record { exchanges = so_far.exchanges; calls = so_far.calls; read = so_far.read ∙ ap (λ l. requests_text so_far.exchanges ++ l) is.0 ∙ append-nil (requests_text so_far.exchanges); all = is.1; replies = so_far.replies }
 
-  -- one frame more
-  pub goes_on : (old mid new : C) (input before content after : List ℕ) (answer : Reply) (left now written sent : Option (List ℕ)) (count : ℕ) (so_far : Going old mid input before left written count) → so_far.rest ≡ frame_text content ++ after → now ≡ Some after → IsAnswered answers mid content answer new
+  -- one frame more, and the time after it
+  pub goes_on : (old mid later new : C) (input before content after : List ℕ) (answer : Reply) (left now written sent : Option (List ℕ)) (count : ℕ) (so_far : Going old mid input before left written count) → so_far.rest ≡ frame_text content ++ after → now ≡ Some after → IsAnswered answers mid content answer later → rests later new
       → sent ≡ Some ((before ++ replies_text so_far.exchanges) ++ frame_text (reply_text answer)) → Going old new input before now sent (count + 1)
-  goes_on old mid new input before content after answer left now written sent count so_far frame now_is answered out =
+  goes_on old mid later new input before content after answer left now written sent count so_far frame now_is answered rested out =
       let exchange : List ℕ × Reply = (content, answer) in
       record {
         exchanges = so_far.exchanges ++ exchange ∷ [];
         rest = after;
-        calls = answers-push old mid new so_far.exchanges exchange so_far.calls answered;
+        calls = answers-push old mid later new so_far.exchanges exchange so_far.calls answered rested;
         read = so_far.read ∙ ap (λ l. requests_text so_far.exchanges ++ l) frame ∙ sym (append_assoc (requests_text so_far.exchanges) (frame_text content) after) ∙ ap (λ l. l ++ after) (sym (requests_text-push so_far.exchanges exchange));
         rest_is = now_is;
         replies = out ∙ ap (λ l. Some l) (append_assoc before (replies_text so_far.exchanges) (frame_text (reply_text answer)) ∙ ap (λ l. before ++ l) (sym (replies_text-push so_far.exchanges exchange)));

@@ -3,8 +3,7 @@ use Rattle.std.specs.Prelude.{◌≡◌, ◌≢◌, ◌⊎◌, ℕ, false, List,
 use Rattle.disk.specs.Moments.{View}
 use Rattle.journal.specs.Fault as store
 use Rattle.journal.specs.declared.fault.StoreFault.{StoreFault}
-use Rattle.recover.specs.Kept.{IsKept}
-use Rattle.server.specs.Keeping.{AloneValue, AnswersKept, FailsKept}
+use Rattle.server.specs.Keeping.{AloneValue, AnswersKept, BreaksKept, FailsKept, IsHeld, RestsKept}
 use Rattle.server.specs.Serving.{Ends}
 use Rattle.server.specs.declared.program.LoneEnd.{LoneEnd}
 use Rattle.server.specs.declared.program.LoneEnd.TheVariants.{Served, CommandLine, Fault}
@@ -44,8 +43,8 @@ module _ {D : Type 0} (honest : Type 0) (view : D → View) (input before : List
     pub new : AloneValue D
     pub attached : old.space ≡ 1
     pub works : old.failed ≡ false
-    pub kept : honest → IsKept (view old.disk) old.kernel old.records
-    pub ends : Ends (AnswersKept honest view) (FailsKept honest view) old new input before left written result
+    pub held : honest → IsHeld (view old.disk) old.kernel
+    pub ends : Ends (AnswersKept honest view) (FailsKept honest view) (RestsKept honest view) (BreaksKept honest view) old new input before left written result
 
   abbrev pub IsRun : Result (Unit {0}) ServeFault → Type 0
   IsRun result = Unopened input before left written result ⊎ ServesOpened result

@@ -74,10 +74,11 @@ IsAnswered answers old content answer new = IsServed answers old content answer 
 abbrev pub Exchanges : Type 0
 Exchanges = List (List ℕ × Reply)
 
--- the caller answered these, one after another
-abbrev pub Answers : {C : Type 0} → (C → Call → Reply → C → Type 0) → C → Exchanges → C → Type 0
-Answers answers old [] new = new ≡ old
-Answers {C} answers old (exchange ∷ exchanges) new = (mid : C) × IsAnswered answers old exchange.0 exchange.1 mid × Answers answers mid exchanges new
+-- the caller answered these, one after another, and was given time behind each
+abbrev pub Answers : {C : Type 0} → (C → Call → Reply → C → Type 0) → (C → C → Type 0) → C → Exchanges → C → Type 0
+Answers answers rests old [] new = new ≡ old
+Answers {C} answers rests old (exchange ∷ exchanges) new =
+    (mid later : C) × IsAnswered answers old exchange.0 exchange.1 mid × rests mid later × Answers answers rests later exchanges new
 
 -- the frames as they were read, and the replies as they are written
 abbrev pub requests_text : Exchanges → List ℕ
@@ -90,9 +91,9 @@ replies_text (exchange ∷ exchanges) = frame_text (reply_text exchange.1) ++ re
 
 -- All of the input was served: it is the frames of these exchanges, nothing of it is left, and their replies
 -- were written behind what was written before.
-pub record ServesAll {C : Type 0} (answers : C → Call → Reply → C → Type 0) (old new : C) (input before : List ℕ) (left written : Option (List ℕ)) : Type 0 where
+pub record ServesAll {C : Type 0} (answers : C → Call → Reply → C → Type 0) (rests : C → C → Type 0) (old new : C) (input before : List ℕ) (left written : Option (List ℕ)) : Type 0 where
   pub exchanges : Exchanges
-  pub calls : Answers answers old exchanges new
+  pub calls : Answers answers rests old exchanges new
   pub read : input ≡ requests_text exchanges
   pub all : left ≡ Some []
   pub replies : written ≡ Some (before ++ replies_text exchanges)
@@ -120,14 +121,14 @@ IsFailed answers fails old content fault new = (asks : Request) × Asks content 
 
 -- Some of the input was served: the frames of these exchanges stood at its front, the rest is behind them, and what was
 -- written before and their replies is all that is sent.
-pub record Exchanged {C : Type 0} (answers : C → Call → Reply → C → Type 0) (old now : C) (input before rest sent : List ℕ) : Type 0 where
+pub record Exchanged {C : Type 0} (answers : C → Call → Reply → C → Type 0) (rests : C → C → Type 0) (old now : C) (input before rest sent : List ℕ) : Type 0 where
   pub exchanges : Exchanges
-  pub calls : Answers answers old exchanges now
+  pub calls : Answers answers rests old exchanges now
   pub read : input ≡ requests_text exchanges ++ rest
   pub replies : sent ≡ before ++ replies_text exchanges
 
 -- A connection that ends with a fault, by where it does.
-module _ {C : Type 0} (answers : C → Call → Reply → C → Type 0) (fails : C → Call → StoreFault → C → Type 0) (old new : C) (input before : List ℕ) (left written : Option (List ℕ)) where
+module _ {C : Type 0} (answers : C → Call → Reply → C → Type 0) (fails : C → Call → StoreFault → C → Type 0) (rests : C → C → Type 0) (breaks : C → StoreFault → C → Type 0) (old new : C) (input before : List ℕ) (left written : Option (List ℕ)) where
   -- memory for the replies is wanted before anything is read
   pub record NeverBegins (fault : WireFault) : Type 0 where
     pub fault_is : fault ≡ NoMemory
@@ -139,7 +140,7 @@ module _ {C : Type 0} (answers : C → Call → Reply → C → Type 0) (fails :
   pub record StopsReading (fault : WireFault) : Type 0 where
     pub rest : List ℕ
     pub sent : List ℕ
-    pub exchanged : Exchanged answers old new input before rest sent
+    pub exchanged : Exchanged answers rests old new input before rest sent
     pub unreadable : IsReadOf rest (Err fault) left
     pub written_is : written ≡ Some sent
 
@@ -149,7 +150,7 @@ module _ {C : Type 0} (answers : C → Call → Reply → C → Type 0) (fails :
     pub mid : C
     pub rest : List ℕ
     pub sent : List ℕ
-    pub exchanged : Exchanged answers old mid input before rest sent
+    pub exchanged : Exchanged answers rests old mid input before rest sent
     pub content : List ℕ
     pub behind : List ℕ
     pub frame : rest ≡ frame_text content ++ behind
@@ -164,7 +165,7 @@ module _ {C : Type 0} (answers : C → Call → Reply → C → Type 0) (fails :
     pub mid : C
     pub rest : List ℕ
     pub sent : List ℕ
-    pub exchanged : Exchanged answers old mid input before rest sent
+    pub exchanged : Exchanged answers rests old mid input before rest sent
     pub content : List ℕ
     pub behind : List ℕ
     pub frame : rest ≡ frame_text content ++ behind
@@ -173,18 +174,35 @@ module _ {C : Type 0} (answers : C → Call → Reply → C → Type 0) (fails :
     pub answered : IsAnswered answers mid content answer new
     pub part : AppendsPart (Some sent) written (frame_text (reply_text answer))
 
+  -- The caller fails in the store in the time after a reply, which was written whole; nothing behind its frame is read, and
+  -- nothing more is written.
+  pub record StopsResting (fault : StoreFault) : Type 0 where
+    pub mid : C
+    pub rest : List ℕ
+    pub sent : List ℕ
+    pub exchanged : Exchanged answers rests old mid input before rest sent
+    pub content : List ℕ
+    pub behind : List ℕ
+    pub frame : rest ≡ frame_text content ++ behind
+    pub unread : left ≡ Some behind
+    pub answer : Reply
+    pub after : C
+    pub answered : IsAnswered answers mid content answer after
+    pub broken : breaks after fault new
+    pub written_is : written ≡ Some (sent ++ frame_text (reply_text answer))
+
   -- as many frames were served as a connection serves at most
   pub record StopsAtMost (fault : WireFault) : Type 0 where
     pub fault_is : fault ≡ Device
     pub rest : List ℕ
     pub sent : List ℕ
-    pub exchanged : Exchanged answers old new input before rest sent
+    pub exchanged : Exchanged answers rests old new input before rest sent
     pub most : length exchanged.exchanges ≡ 2 ^ 64 - 1
     pub unread : left ≡ Some rest
     pub written_is : written ≡ Some sent
 
   -- How a connection ended.
   abbrev pub Ends : Result (Unit {0}) ServeFault → Type 0
-  Ends (Ok done) = ServesAll answers old new input before left written
+  Ends (Ok done) = ServesAll answers rests old new input before left written
   Ends (Err (Wire fault)) = NeverBegins fault ⊎ (StopsReading fault ⊎ (StopsWriting fault ⊎ StopsAtMost fault))
-  Ends (Err (Store fault)) = StopsCalling fault
+  Ends (Err (Store fault)) = StopsCalling fault ⊎ StopsResting fault

@@ -1,6 +1,6 @@
 -- What a stop leaves while a lone connection is served: the state after some first ones of the records that its calls made,
 -- and nothing that was answered is missing.
-use Rattle.std.specs.Prelude.{◌≡◌, ◌⊎◌, ℕ, ◌+◌, ◌≤◌, List, [], ◌∷◌, ◌++◌, length, take, Option, None, Some, MatchBool, if◌then◌else◌}
+use Rattle.std.specs.Prelude.{◌≡◌, ◌⊎◌, ℕ, ◌≤◌, List, [], ◌∷◌, ◌++◌, length, take, Option, None, Some, MatchBool, if◌then◌else◌}
 use Rattle.calls.specs.Requests.{Asks}
 use Rattle.calls.specs.declared.request.Request.{Request}
 use Rattle.calls.specs.declared.request.Request.TheVariants as request
@@ -15,10 +15,10 @@ use Rattle.ipc_model.specs.declared.record.Record.{Record}
 use Rattle.ipc_model.specs.messages.Receiving.{without_message}
 use Rattle.ipc_model.specs.state.State.{State}
 use Rattle.journal.specs.declared.fault.StoreFault.{StoreFault}
-use Rattle.recover.specs.Kept.{IsKept}
-use Rattle.recover.specs.Recovered.{Recovers}
-use Rattle.server.specs.Keeping.{AloneValue, AnswersKept, FailsKept}
-use Rattle.server.specs.Serving.{Answers, Exchanges, IsFailed, IsRefused, LacksMemory}
+use Rattle.ipc_model.specs.store.Recovery.{Recovered}
+use Rattle.standing.specs.Standing.{as_written}
+use Rattle.server.specs.Keeping.{AloneValue, AnswersKept, BreaksKept, FailsKept, IsHeld, RestsKept}
+use Rattle.server.specs.Serving.{Answers, Exchanges, IsAnswered, IsFailed, IsRefused, LacksMemory}
 
 -- the record of a call of a task of this space that was answered so, if it has one
 abbrev pub record_of : ℕ → Call → Reply → List Record
@@ -51,18 +51,20 @@ module _ {D : Type 0} (answers : AloneValue D → Call → Reply → AloneValue 
       ((asks : Request) × Asks content asks × MakesRequest old asks answer new records)
       ⊎ ((IsRefused old content answer new ⊎ LacksMemory old content answer new) × (records ≡ []))
 
-  abbrev pub MakesAll : AloneValue D → Exchanges → AloneValue D → List Record → Type 0
-  MakesAll old [] new records = (new ≡ old) × (records ≡ [])
-  MakesAll old (exchange ∷ exchanges) new records =
-      (mid : AloneValue D) × (first rest : List Record) × Makes old exchange.0 exchange.1 mid first × MakesAll mid exchanges new rest × (records ≡ first ++ rest)
+  -- the time after a frame makes no record
+  abbrev pub MakesAll : (AloneValue D → AloneValue D → Type 0) → AloneValue D → Exchanges → AloneValue D → List Record → Type 0
+  MakesAll rests old [] new records = (new ≡ old) × (records ≡ [])
+  MakesAll rests old (exchange ∷ exchanges) new records =
+      (mid later : AloneValue D) × (first rest : List Record) × Makes old exchange.0 exchange.1 mid first × rests mid later × MakesAll rests later exchanges new rest
+      × (records ≡ first ++ rest)
 
--- slots that stand for the state after the first ones of these records, which follow a state with so many before it
-pub record StandsWithin (old : State) (count : ℕ) (records : List Record) (c : Slots) : Type 0 where
+-- slots that stand for the state after the first ones of these records, which follow a state
+pub record StandsWithin (old : State) (records : List Record) (c : Slots) : Type 0 where
   pub first : ℕ
   pub within : first ≤ length records
   pub state : State
   pub run : Run old (take first records) state
-  pub stands : Recovers c state (count + first)
+  pub stands : Recovered (as_written c) state
 
 -- the calls that are asked for
 abbrev pub given : Option Call → List Call
@@ -83,24 +85,42 @@ abbrev pub AreOf : List Call → List Record → Type 0
 AreOf calls [] = Unit {0}
 AreOf calls (entry ∷ records) = IsAmong entry.call calls × AreOf calls records
 
--- Frames that were answered: the store is kept with all the records that their calls made, and a stop at any moment since
--- the first of them leaves the state after some first ones of these.
+-- Frames that were answered, with the time after each: a stop leaves the state after all the records that their calls made, and a stop at any moment
+-- since the first of them the state after some first ones of these.
 pub record IsStoredWhole {D : Type 0} (honest : Type 0) (view : D → View) (old : AloneValue D) (exchanges : Exchanges) (new : AloneValue D) : Type 0 where
   pub records : List Record
-  pub made : MakesAll (AnswersKept honest view) old exchanges new records
-  pub counted : new.records ≡ old.records + length records
-  pub kept : IsKept (view new.disk) new.kernel new.records
-  pub any_moment : (c : Slots) → LeftSince (view new.disk) (view old.disk).moment c → StandsWithin old.kernel old.records records c
+  pub made : MakesAll (AnswersKept honest view) (RestsKept honest view) old exchanges new records
+  pub held : IsHeld (view new.disk) new.kernel
+  pub any_moment : (c : Slots) → LeftSince (view new.disk) (view old.disk).moment c → StandsWithin old.kernel records c
 
 abbrev pub AnsweredIsStored : {D : Type 0} → Type 0 → (D → View) → Type 0
 AnsweredIsStored {D} honest view =
-    (old : AloneValue D) (exchanges : Exchanges) (new : AloneValue D) → honest → IsKept (view old.disk) old.kernel old.records
-    → Answers (AnswersKept honest view) old exchanges new → IsStoredWhole honest view old exchanges new
+    (old : AloneValue D) (exchanges : Exchanges) (new : AloneValue D) → honest → IsHeld (view old.disk) old.kernel
+    → Answers (AnswersKept honest view) (RestsKept honest view) old exchanges new → IsStoredWhole honest view old exchanges new
+
+-- One frame that was answered, before any time is given: the last one of a connection whose reply couldn't be written, or
+-- whose caller broke after it.
+pub record IsStoredFrame {D : Type 0} (honest : Type 0) (view : D → View) (old : AloneValue D) (content : List ℕ) (answer : Reply) (new : AloneValue D) : Type 0 where
+  pub records : List Record
+  pub made : Makes (AnswersKept honest view) old content answer new records
+  pub held : IsHeld (view new.disk) new.kernel
+  pub any_moment : (c : Slots) → LeftSince (view new.disk) (view old.disk).moment c → StandsWithin old.kernel records c
+
+abbrev pub FrameIsStored : {D : Type 0} → Type 0 → (D → View) → Type 0
+FrameIsStored {D} honest view =
+    (old : AloneValue D) (content : List ℕ) (answer : Reply) (new : AloneValue D) → honest → IsHeld (view old.disk) old.kernel
+    → IsAnswered (AnswersKept honest view) old content answer new → IsStoredFrame honest view old content answer new
 
 -- A frame whose calls failed in the store: a stop at any moment since leaves the state before it, or the one after the first
 -- of its calls.
 abbrev pub FailureLosesNothing : {D : Type 0} → Type 0 → (D → View) → Type 0
 FailureLosesNothing {D} honest view =
-    (old : AloneValue D) (content : List ℕ) (fault : StoreFault) (new : AloneValue D) → honest → IsKept (view old.disk) old.kernel old.records
+    (old : AloneValue D) (content : List ℕ) (fault : StoreFault) (new : AloneValue D) → honest → IsHeld (view old.disk) old.kernel
     → IsFailed (AnswersKept honest view) (FailsKept honest view) old content fault new → (c : Slots) → LeftSince (view new.disk) (view old.disk).moment c
-    → (asks : Request) × Asks content asks × ((records : List Record) × AreOf (calls_of asks) records × StandsWithin old.kernel old.records records c)
+    → (asks : Request) × Asks content asks × ((records : List Record) × AreOf (calls_of asks) records × StandsWithin old.kernel records c)
+
+-- Time after a reply that ended with a fault of the store: a stop at any moment since it began leaves the state as it was.
+abbrev pub BreakingLosesNothing : {D : Type 0} → Type 0 → (D → View) → Type 0
+BreakingLosesNothing {D} honest view =
+    (old : AloneValue D) (fault : StoreFault) (new : AloneValue D) → honest → IsHeld (view old.disk) old.kernel
+    → BreaksKept honest view old fault new → (c : Slots) → LeftSince (view new.disk) (view old.disk).moment c → Recovered (as_written c) old.kernel

@@ -1,10 +1,11 @@
 ghost use Rattle.std.specs.Prelude.{◌≡◌, ◌+◌, ◌<◌, ◌≤◌, true, false, if◌then◌else◌, length, IfErr, IfOk, OnOk, OnErr, IsErrOf};
 ghost use Rattle.disk.specs.Moments.{LeftSince, MayLeave, Passes};
 ghost use Rattle.disk.specs.Slots.{Slots};
-ghost use Rattle.recover.specs.Kept.{IsKept};
-ghost use Rattle.recover.specs.Recovered.{Recovers};
+ghost use Rattle.ipc_model.specs.store.Recovery.{Recovered};
+ghost use Rattle.standing.specs.Standing.{as_written};
 ghost use Rattle.system.specs.Calling.{IsResting};
-ghost use Rattle.server.specs.Keeping.{AnswersKept, FailsKept, IsBeforeOrAfter, IsMoved, attached_by, records_of};
+ghost use Rattle.system.specs.GoingOn.{IsStanding};
+ghost use Rattle.server.specs.Keeping.{AnswersKept, BreaksKept, FailsKept, IsBeforeOrAfter, IsHeld, IsMoved, RestsKept, attached_by};
 ghost use Rattle.server.specs.Serving.{StepOrShortage, shortage_of};
 ghost use Rattle.ipc_model.specs.calls.Step.{has_record, succeeded};
 ghost use Rattle.ipc_model.specs.texts.Texts.{reply_text};
@@ -16,10 +17,12 @@ use codes::{FIRST_SPACE, KernReturn, MACH_PORT_NULL, MAX_FRAME_CONTENT};
 use disk::Disk;
 use ipc_model::{Call, Reply};
 use journal::StoreFault;
-use recover::Opened;
 use std::alloc::Global;
 use std::marker::Model;
-use system::{CallFault, System};
+use system::{CallFault, Opened, System};
+
+/// How many records an epoch's row has when a checkpoint is begun.
+pub const CHECKPOINT_RECORDS: u64 = 32_768;
 
 /// Who makes the calls of a connection.
 pub trait Caller {
@@ -29,12 +32,23 @@ pub trait Caller {
     /// How a call may fail in the store, and what it is afterwards.
     ghost fails: { Self → Call → StoreFault → Self → Type 0 };
 
+    /// What it may be after it was given time between two frames.
+    ghost rests: { Self → Self → Type 0 };
+
+    /// How that may fail in the store, and what it is afterwards.
+    ghost breaks: { Self → StoreFault → Self → Type 0 };
+
     /// Makes a call. A reply is given only when all that it tells of is stored, and it
     /// fits in a frame.
     fn call(&mut self, call: Call) -> Result<Reply, StoreFault>
         ensures answers { IfOk result (λ reply. answers self.old call reply self.new) }
         ensures fits { IfOk result (λ reply. length (reply_text reply) ≤ MAX_FRAME_CONTENT) }
         ensures fails { IfErr result (λ fault. fails self.old call fault self.new) };
+
+    /// Takes time after a frame's reply was written, for what no reply waits for.
+    fn rest(&mut self) -> Result<(), StoreFault>
+        ensures rests { OnOk result (rests self.old self.new) }
+        ensures breaks { IfErr result (λ fault. breaks self.old fault self.new) };
 }
 
 /// The caller of a lone connection: the core over an opened store that nobody else uses.
@@ -48,43 +62,43 @@ pub struct Alone<D: Disk> {
 
 impl<D: Disk> Model for Alone<D> {
     ghost use Rattle.std.specs.Prelude.{◌≡◌, false};
-    ghost use Rattle.recover.specs.Kept.{IsKept};
     ghost use Rattle.server.specs.Keeping.{AloneValue, alone_code};
     ghost use Rattle.system.specs.Calling.{IsResting};
+    ghost use Rattle.system.specs.GoingOn.{IsStanding};
 
     ghost Value = { AloneValue D };
 
     ghost coded = { alone_code D.code };
 
-    ghost view = { λ a. record { kernel = a.system.core.kernel; disk = a.system.journal.disk; records = a.system.journal.records; space = a.space; failed = a.failed } };
+    ghost view = { λ a. record { kernel = a.system.core.kernel; disk = a.system.store.disk; space = a.space; failed = a.failed } };
 
     // Until a call fails, nothing waits between calls, and the store holds what the kernel holds.
-    ghost invariant = { λ a. a.failed ≡ false → IsResting a.system × (D.honest → IsKept (D.view a.system.journal.disk) a.system.core.kernel a.system.journal.records) };
+    ghost invariant = { λ a. a.failed ≡ false → IsResting a.system × (D.honest → IsStanding D.view a.system.store a.system.core.kernel) };
 }
 
 impl<D: Disk> Alone<D> {
     /// A caller that goes on from an opened store. It is attached to space 1.
     pub fn new(alloc: Global, opened: Opened<D>) -> Self
         ensures kernel { result.kernel ≡ opened.kernel }
-        ensures disk { result.disk ≡ opened.journal.disk }
-        ensures records { result.records ≡ opened.journal.records }
+        ensures disk { result.disk ≡ opened.disk }
         ensures space { result.space ≡ 1 }
-        ensures failed { result.failed ≡ opened.journal.failed }
+        ensures failed { result.failed ≡ false }
+        // A stop leaves the state that was opened.
+        ensures held { D.honest → IsHeld (D.view result.disk) result.kernel }
     {
-        let failed = opened.journal.has_failed();
         Alone {
             alloc,
             system: System::new(alloc, opened),
             space: FIRST_SPACE,
-            failed,
+            failed: false,
         }
     }
 
     /// The disk of the store, which is closed.
     pub fn into_disk(self) -> D
         ensures disk { result ≡ self.disk }
-        // Until a call fails, the disk holds what was answered.
-        ensures kept { D.honest → self.failed ≡ false → IsKept (D.view result) self.kernel self.records }
+        // Until a call fails, a stop leaves what was answered.
+        ensures held { D.honest → self.failed ≡ false → IsHeld (D.view result) self.kernel }
     {
         let Alone {
             alloc: _,
@@ -101,10 +115,14 @@ impl<D: Disk> Caller for Alone<D> {
 
     ghost fails = { FailsKept D.honest D.view };
 
+    ghost rests = { RestsKept D.honest D.view };
+
+    ghost breaks = { BreaksKept D.honest D.view };
+
     /// Makes a call. One that has a record is stored before it is answered. After a fault the caller is of no
     /// further use, and answers `Failed`: a call that was made and not stored is known to nobody.
     ///
-    /// Where the slots stand for a state (`Recovers`), `recover::open` gives that state, and doesn't find them
+    /// Where a state is recovered from the slots (`Recovered`), `recover::open` gives that state, and doesn't find them
     /// damaged or of another version.
     fn call(&mut self, call: Call) -> Result<Reply, StoreFault>
         ensures answers { IfOk result (λ reply. AnswersKept D.honest D.view self.old call reply self.new) }
@@ -113,11 +131,11 @@ impl<D: Disk> Caller for Alone<D> {
         // A stop at any moment from the beginning of the call to its end leaves the state before it or the state after
         // it, also where the call fails.
         ensures any_moment { D.honest → self.old.failed ≡ false → (c : Slots) → LeftSince (D.view self.new.disk) (D.view self.old.disk).moment c
-            → IsBeforeOrAfter self.old.kernel self.old.records self.old.space call self.new.kernel c }
+            → IsBeforeOrAfter self.old.kernel self.old.space call self.new.kernel c }
         ensures passes { D.honest → Passes (D.view self.old.disk) (D.view self.new.disk)
-            (IsBeforeOrAfter self.old.kernel self.old.records self.old.space call self.new.kernel) }
+            (IsBeforeOrAfter self.old.kernel self.old.space call self.new.kernel) }
         // A stop after the reply leaves the state after the call, so nothing that was answered is lost.
-        ensures stored { D.honest → OnOk result ((c : Slots) → MayLeave (D.view self.new.disk) c → Recovers c self.new.kernel self.new.records) }
+        ensures stored { D.honest → OnOk result (IsHeld (D.view self.new.disk) self.new.kernel) }
         // A call without a record, refused or a read, changes neither the state nor the disk, and what attaches to no
         // other space changes nothing at all.
         ensures unrecorded { IfOk result (λ reply. has_record call reply ≡ false → IsMoved self.old self.new) }
@@ -136,6 +154,29 @@ impl<D: Disk> Caller for Alone<D> {
             Err(fault) => {
                 self.failed = true;
                 Err(fault)
+            }
+        }
+    }
+
+    /// Takes time after a reply: where the epoch's row has `CHECKPOINT_RECORDS` records a checkpoint is begun, and while one is
+    /// under way its image goes on by a step. After a fault it answers `Failed`, as `call` does.
+    fn rest(&mut self) -> Result<(), StoreFault>
+        ensures rests { OnOk result (RestsKept D.honest D.view self.old self.new) }
+        ensures breaks { IfErr result (λ fault. BreaksKept D.honest D.view self.old fault self.new) }
+        // A stop at any moment from the beginning of that time to its end leaves the state as it was, also where it
+        // fails.
+        ensures any_moment { D.honest → self.old.failed ≡ false → (c : Slots) → LeftSince (D.view self.new.disk) (D.view self.old.disk).moment c
+            → Recovered (as_written c) self.old.kernel }
+        ensures failed { self.old.failed ≡ true → (IsErrOf result StoreFault.Failed) × (self.new ≡ self.old) }
+    {
+        if self.failed {
+            return Err(StoreFault::Failed);
+        }
+        match self.system.go_on(CHECKPOINT_RECORDS) {
+            Ok(()) => Ok(()),
+            Err(broken) => {
+                self.failed = true;
+                Err(broken)
             }
         }
     }
@@ -168,14 +209,13 @@ fn make_call<D: Disk>(
     requires { IsResting system.old }
     ensures answers { IfOk result (λ reply. StepOrShortage system.old.core.kernel space call.now reply system.new.core.kernel) }
     ensures frame { IfOk result (λ reply. length (reply_text reply) ≤ MAX_FRAME_CONTENT) }
-    ensures passes { D.honest → IsKept (D.view system.old.journal.disk) system.old.core.kernel system.old.journal.records
-        → Passes (D.view system.old.journal.disk) (D.view system.new.journal.disk)
-        (IsBeforeOrAfter system.old.core.kernel system.old.journal.records space call.now system.new.core.kernel) }
-    ensures kept { D.honest → IsKept (D.view system.old.journal.disk) system.old.core.kernel system.old.journal.records
-        → OnOk result (IsKept (D.view system.new.journal.disk) system.new.core.kernel system.new.journal.records) }
-    ensures counted { IfOk result (λ reply. system.new.journal.records ≡ system.old.journal.records + records_of call.now reply) }
+    ensures passes { D.honest → IsStanding D.view system.old.store system.old.core.kernel
+        → Passes (D.view system.old.store.disk) (D.view system.new.store.disk)
+        (IsBeforeOrAfter system.old.core.kernel space call.now system.new.core.kernel) }
+    ensures kept { D.honest → IsStanding D.view system.old.store system.old.core.kernel
+        → OnOk result (IsStanding D.view system.new.store system.new.core.kernel) }
     ensures unrecorded { IfOk result (λ reply. has_record call.now reply ≡ false
-        → (system.new.core.kernel ≡ system.old.core.kernel) × (system.new.journal ≡ system.old.journal)) }
+        → (system.new.core.kernel ≡ system.old.core.kernel) × (system.new.store ≡ system.old.store)) }
     ensures rests { OnOk result (IsResting system.new) }
 {
     match system.call(space, call) {

@@ -6,8 +6,10 @@ mod laws;
 mod program;
 mod service;
 
-pub use alone::{Alone, Caller};
-pub use laws::{answered_is_stored, failure_loses_nothing};
+pub use alone::{Alone, CHECKPOINT_RECORDS, Caller};
+pub use laws::{
+    answered_is_stored, breaking_loses_nothing, failure_loses_nothing, frame_is_stored,
+};
 pub use program::{LoneEnd, lone, run_alone};
-pub use recover::{Opened, open};
 pub use service::{ServeFault, serve};
+pub use system::{Opened, open};

@@ -1,16 +1,15 @@
 ghost use Rattle.std.specs.Prelude.{◌≡◌, ◌++◌, false, length, codes, IfErr, IfSome, OnErr, OnOk};
 ghost use Rattle.std.specs.Io.KnownBytes.{Appends};
-ghost use Rattle.recover.specs.Kept.{IsKept};
 ghost use Rattle.server.specs.Program.{EndsAlone, IsRun, ServesOpened, line_of, status_of, words_of};
 ghost use Rattle.wire.specs.Writing.{AppendsPart};
 
 use crate::{Alone, ServeFault, serve};
 use disk::{Disk, FileDisk};
 use journal::StoreFault;
-use recover::{Opened, open};
 use std::alloc::Global;
 use std::io::{Read, Write};
 use std::rt::Files;
+use system::{Opened, open};
 use wire::{WireFault, write_bytes};
 
 /// How a run of the program for one connection ends.
@@ -159,8 +158,6 @@ fn serve_opened<D: Disk + Drop, I: Read, O: Write>(
     input: &mut I,
     output: &mut O,
 ) -> Result<(), ServeFault>
-    requires kept { D.honest → IsKept (D.view opened.journal.disk) opened.kernel opened.journal.records }
-    requires ready { opened.journal.failed ≡ false }
     ensures run { IfSome (I.remaining input.old) (λ bytes. IfSome (O.contents output.old) (λ before.
         ServesOpened D.honest D.view bytes before (I.remaining input.new) (O.contents output.new) result)) }
 {

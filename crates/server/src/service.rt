@@ -45,7 +45,7 @@ impl From<StoreFault> for ServeFault {
 }
 
 /// Serves one connection up to the end of its input: reads frame by frame, and writes the reply of each before
-/// the next is read.
+/// the next is read. Behind each reply the caller is given time.
 pub fn serve<R: Read, W: Write, C: Caller>(
     alloc: Global,
     reader: &mut R,
@@ -54,7 +54,7 @@ pub fn serve<R: Read, W: Write, C: Caller>(
 ) -> Result<(), ServeFault>
     // All that was read, called and written, by how it ended.
     ensures ended { IfSome (R.remaining reader.old) (λ input. IfSome (W.contents writer.old) (λ before.
-        Ends C.answers C.fails caller.old caller.new input before (R.remaining reader.new) (W.contents writer.new) result)) }
+        Ends C.answers C.fails C.rests C.breaks caller.old caller.new input before (R.remaining reader.new) (W.contents writer.new) result)) }
 {
     let Ok(mut reply) = Frame::with_room(alloc, MAX_FRAME_CONTENT as usize) else {
         return Err(ServeFault::Wire(WireFault::NoMemory));
@@ -68,6 +68,7 @@ pub fn serve<R: Read, W: Write, C: Caller>(
         if writer.flush().is_err() {
             return Err(ServeFault::Wire(WireFault::Device));
         }
+        caller.rest()?;
     }
     Err(ServeFault::Wire(WireFault::Device))
 }

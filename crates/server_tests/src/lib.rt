@@ -4,7 +4,11 @@
 #[cfg(test)]
 mod frames;
 #[cfg(test)]
+mod many_calls;
+#[cfg(test)]
 mod programs;
+#[cfg(test)]
+mod rests;
 #[cfg(test)]
 mod served;
 #[cfg(test)]

@@ -42,9 +42,9 @@ fn on_failing_disk(alloc: Global, fails_at: u64) -> Result<(usize, Result<(), Se
 
 #[test]
 fn a_failing_store_gets_no_reply(rt: HostRuntime) -> Result<(), Fail> {
-    // Opening makes eleven calls of the disk: four syncs, four reads of the fronts, one of the segment, and two that end
-    // it. An append makes four, so the fifteenth call is the first append's last.
-    for (fails_at, written) in [(12, 0), (15, 0), (16, 16), (19, 16)] {
+    // Opening makes thirteen calls of the disk: four syncs, four reads of headers, two of the image, one of the segment, and
+    // two that end it. An append makes four, so the seventeenth call is the first append's last.
+    for (fails_at, written) in [(14, 0), (17, 0), (18, 16), (21, 16)] {
         let seen = on_failing_disk(rt.alloc(), fails_at)?;
         assert_eq!(rt; seen, (written, Err(ServeFault::Store(StoreFault::Device))));
     }

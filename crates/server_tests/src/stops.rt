@@ -35,7 +35,7 @@ fn has_type(opened: &Opened<MemDisk>, name: u32, bits: u32) -> bool {
 /// How many records a store has, and whether it knows the port and the set.
 fn known(opened: &Opened<MemDisk>) -> (u64, bool, bool) {
     (
-        opened.journal.records(),
+        opened.segment.records,
         has_type(opened, 0x100, 0x20000),
         has_type(opened, 0x101, 0x80000),
     )

@@ -1,9 +1,7 @@
 use crate::expect::{same, same_in_row};
-use crate::making::{
-    NEW_SEGMENT, SEGMENT, append_allocations, disk_with, journal_of, planned, slot,
-};
+use crate::making::{NEW_SEGMENT, SEGMENT, append_allocations, disk_with, segment_of, slot};
 use crate::streams::{Read, long_segment, records_of};
-use disk::{Slot, Torn};
+use disk::Slot;
 use ipc_model::{Call, Record, Reply};
 use journal::{LONGEST_STEP, PIECE, StoreFault};
 use std::alloc::Global;
@@ -11,15 +9,11 @@ use std::test::Fail;
 
 #[test]
 fn a_batch_is_stored(rt: HostRuntime) -> Result<(), Fail> {
-    let disk = disk_with(rt.alloc(), &[], &NEW_SEGMENT)?;
-    let mut journal = journal_of(disk, 0)?;
-    append_allocations(rt.alloc(), &mut journal, 1)?;
-    same(&rt, journal.records(), 1);
-    same(
-        &rt,
-        slot(&journal.into_disk(), Slot::Segment0),
-        &SEGMENT[..],
-    );
+    let mut disk = disk_with(rt.alloc(), &[], &NEW_SEGMENT)?;
+    let mut segment = segment_of(0);
+    append_allocations(rt.alloc(), &mut segment, &mut disk, 1)?;
+    same(&rt, segment.records, 1);
+    same(&rt, slot(&disk, Slot::Segment0), &SEGMENT[..]);
     Ok(())
 }
 
@@ -42,30 +36,25 @@ static TWO_BATCHES: [u8; 163] = [
 
 #[test]
 fn a_batch_has_one_gate(rt: HostRuntime) -> Result<(), Fail> {
-    let disk = disk_with(rt.alloc(), &[], &NEW_SEGMENT)?;
-    let mut journal = journal_of(disk, 0)?;
-    append_allocations(rt.alloc(), &mut journal, 2)?;
-    append_allocations(rt.alloc(), &mut journal, 1)?;
-    same(&rt, journal.records(), 3);
-    same(
-        &rt,
-        slot(&journal.into_disk(), Slot::Segment0),
-        &TWO_BATCHES[..],
-    );
+    let mut disk = disk_with(rt.alloc(), &[], &NEW_SEGMENT)?;
+    let mut segment = segment_of(0);
+    append_allocations(rt.alloc(), &mut segment, &mut disk, 2)?;
+    append_allocations(rt.alloc(), &mut segment, &mut disk, 1)?;
+    same(&rt, segment.records, 3);
+    same(&rt, slot(&disk, Slot::Segment0), &TWO_BATCHES[..]);
     Ok(())
 }
 
-// What an append answers, and how many records the journal and how many bytes its segment has then.
+// What an append answers, and how many records and how many bytes the segment has then.
 type Appended = (Result<(), StoreFault>, u64, usize);
 
-// Appends a batch of so many records to a journal of so many.
+// Appends a batch of so many records to a segment of so many.
 fn appended(alloc: Global, records: u64, count: u8) -> Result<Appended, Fail> {
-    let disk = disk_with(alloc, &[], &NEW_SEGMENT)?;
-    let mut journal = journal_of(disk, records)?;
-    let answer = append_allocations(alloc, &mut journal, count);
-    let records = journal.records();
-    let length = slot(&journal.into_disk(), Slot::Segment0).len();
-    Ok((answer, records, length))
+    let mut disk = disk_with(alloc, &[], &NEW_SEGMENT)?;
+    let mut segment = segment_of(records);
+    let answer = append_allocations(alloc, &mut segment, &mut disk, count);
+    let length = slot(&disk, Slot::Segment0).len();
+    Ok((answer, segment.records, length))
 }
 
 // A batch fits as a whole, or nothing of it is stored.
@@ -82,26 +71,6 @@ fn a_segment_holds_65536_records(rt: HostRuntime) -> Result<(), Fail> {
             (records, count),
             appended(rt.alloc(), records, count)?,
             wanted,
-        );
-    }
-    Ok(())
-}
-
-#[test]
-fn a_failure_is_remembered(rt: HostRuntime) -> Result<(), Fail> {
-    for call in 1..5u64 {
-        let disk = disk_with(rt.alloc(), &[], &NEW_SEGMENT)?;
-        let disk = planned(disk, None, Some(call), Torn::Old);
-        let mut journal = journal_of(disk, 0)?;
-        let seen = [
-            append_allocations(rt.alloc(), &mut journal, 1),
-            append_allocations(rt.alloc(), &mut journal, 1),
-        ];
-        same_in_row(
-            &rt,
-            call,
-            seen,
-            [Err(StoreFault::Device), Err(StoreFault::Failed)],
         );
     }
     Ok(())

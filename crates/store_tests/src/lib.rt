@@ -6,6 +6,8 @@ mod counted;
 #[cfg(test)]
 mod disk_tests;
 #[cfg(test)]
+mod epochs;
+#[cfg(test)]
 mod expect;
 #[cfg(test)]
 mod journal_tests;

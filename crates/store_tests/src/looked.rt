@@ -19,7 +19,7 @@ fn looked(alloc: Global, disk: &mut MemDisk) -> Result<(u64, u64, u64, usize), F
 /// A store that was made and closed.
 fn made(alloc: Global) -> Result<MemDisk, Fail> {
     match open(alloc, MemDisk::new(alloc)) {
-        Ok(opened) => Ok(opened.journal.into_disk()),
+        Ok(opened) => Ok(opened.disk),
         Err(_) => Err(Fail::from("the store can't be opened")),
     }
 }

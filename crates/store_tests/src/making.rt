@@ -1,12 +1,13 @@
-//! A stored record and the journal that stores it. What is made here has no contract, so that a test's proof doesn't
+//! A stored record and the segment that stores it. What is made here has no contract, so that a test's proof doesn't
 //! carry it along.
 ghost use Rattle.std.specs.Prelude.{◌<◌, ◌^◌, length};
 ghost use Rattle.ipc_model.specs.texts.Texts.{call_text, reply_text};
 
 use disk::{Disk, MemDisk, Slot, Torn};
 use ipc_model::{Call, Record, Reply};
-use journal::{Batch, Journal, StoreFault};
+use journal::{Batch, Segment, StoreFault};
 use record::push_record;
+use slot_steps::segment_slot;
 use std::alloc::Global;
 use std::test::Fail;
 
@@ -33,8 +34,13 @@ fn allocation(name: u32) -> Record
     }
 }
 
-/// Adds the record of this number, the allocation of the name 0x100 and the number's lowest byte.
-fn add_allocation(alloc: Global, batch: &mut Batch, number: u64) -> Result<(), StoreFault> {
+/// Adds the record of this number, the allocation of a name: the first one and the number's lowest byte.
+fn add_allocation(
+    alloc: Global,
+    batch: &mut Batch,
+    number: u64,
+    first: u8,
+) -> Result<(), StoreFault> {
     if batch.count() == u32::MAX {
         return Err(StoreFault::Full);
     }
@@ -44,40 +50,44 @@ fn add_allocation(alloc: Global, batch: &mut Batch, number: u64) -> Result<(), S
         alloc,
         &mut text,
         number,
-        &allocation(0x100 + u32::from(low)),
+        &allocation(0x100 + u32::from(first) + u32::from(low)),
     )?;
     batch.add(&text)?;
     Ok(())
 }
 
-/// A batch of so many records, numbered on from this number.
-fn batch_of(alloc: Global, number: u64, count: u8) -> Result<Batch, StoreFault> {
+/// A batch of so many records, numbered on from this number, where record 0 allocates this name behind 0x100.
+fn batch_of(alloc: Global, number: u64, count: u8, first: u8) -> Result<Batch, StoreFault> {
     let mut batch = Batch::new(alloc);
     for at in 0..count {
-        add_allocation(alloc, &mut batch, number.saturating_add(u64::from(at)))?;
+        add_allocation(
+            alloc,
+            &mut batch,
+            number.saturating_add(u64::from(at)),
+            first,
+        )?;
     }
     Ok(batch)
 }
 
-/// A journal of so many records on a disk with a segment.
-pub(crate) fn journal_of(disk: MemDisk, records: u64) -> Result<Journal<MemDisk>, Fail> {
-    if disk.length(Slot::Segment0) == 0 {
-        return Err(Fail::from("the disk has a segment"));
-    }
-    Ok(Journal::new(disk, records))
+/// A segment of epoch 0 that is told to hold so many records.
+pub(crate) fn segment_of(records: u64) -> Segment {
+    Segment { epoch: 0, records }
 }
 
-/// Appends a batch of so many records.
+/// Appends a batch of so many records. The names of an epoch begin at 0x100 and its number.
 pub(crate) fn append_allocations(
     alloc: Global,
-    journal: &mut Journal<MemDisk>,
+    segment: &mut Segment,
+    disk: &mut MemDisk,
     count: u8,
 ) -> Result<(), StoreFault> {
-    let batch = batch_of(alloc, journal.records(), count)?;
-    if batch.count() == 0 {
+    let [first, ..] = segment.epoch.to_le_bytes();
+    let batch = batch_of(alloc, segment.records, count, first)?;
+    if batch.count() == 0 || disk.length(segment_slot(segment.epoch)) == 0 {
         return Ok(());
     }
-    journal.append(&batch)
+    segment.append(disk, &batch)
 }
 
 /// A disk with these bytes in the image 0 and the segment 0.

@@ -1,6 +1,6 @@
 use crate::expect::{same, same_in_row};
 use crate::making::{
-    NEW_SEGMENT, SEGMENT, append_allocations, disk_with, journal_of, planned, slot,
+    NEW_SEGMENT, SEGMENT, append_allocations, disk_with, planned, segment_of, slot,
 };
 use crate::streams::long_segment;
 use disk::{MemDisk, Slot, Torn};
@@ -38,7 +38,7 @@ fn opened(alloc: Global, disk: MemDisk) -> Result<Opened<MemDisk>, (StoreFault, 
 // Opens a store, and gives the fault and the disk.
 fn fault_of_opening(alloc: Global, disk: MemDisk) -> (Option<StoreFault>, MemDisk) {
     match opened(alloc, disk) {
-        Ok(opened) => (None, opened.journal.into_disk()),
+        Ok(opened) => (None, opened.disk),
         Err((fault, disk)) => (Some(fault), disk),
     }
 }
@@ -63,9 +63,8 @@ fn reopened(alloc: Global, disk: MemDisk) -> Found {
                 type_bits(&opened, 0x163),
                 type_bits(&opened, 0x164),
             ];
-            let records = opened.journal.records();
-            let length = slot(&opened.journal.into_disk(), Slot::Segment0).len();
-            Ok((records, bits, length))
+            let length = slot(&opened.disk, Slot::Segment0).len();
+            Ok((opened.segment.records, bits, length))
         }
         Err((fault, _)) => Err(fault),
     }
@@ -80,9 +79,13 @@ fn stored(alloc: Global) -> Result<MemDisk, Fail> {
     let Ok(opened) = opened(alloc, MemDisk::new(alloc)) else {
         return Err("it is made".into());
     };
-    let mut journal = opened.journal;
-    append_allocations(alloc, &mut journal, 1)?;
-    Ok(journal.into_disk())
+    let Opened {
+        kernel: _,
+        mut disk,
+        mut segment,
+    } = opened;
+    append_allocations(alloc, &mut segment, &mut disk, 1)?;
+    Ok(disk)
 }
 
 #[test]
@@ -194,9 +197,9 @@ fn second_slots(rt: HostRuntime) -> Result<(), Fail> {
 // Stores a batch of so many records, and opens what a stop at a device call leaves.
 fn stopped(alloc: Global, count: u8, stop_at: u64, torn: Torn) -> Result<Found, Fail> {
     let disk = disk_with(alloc, &IMAGE, &NEW_SEGMENT)?;
-    let mut journal = journal_of(planned(disk, Some(stop_at), None, torn), 0)?;
-    let _ = append_allocations(alloc, &mut journal, count);
-    Ok(reopened(alloc, after_stop(journal.into_disk())?))
+    let mut disk = planned(disk, Some(stop_at), None, torn);
+    let _ = append_allocations(alloc, &mut segment_of(0), &mut disk, count);
+    Ok(reopened(alloc, after_stop(disk)?))
 }
 
 #[test]
@@ -227,18 +230,18 @@ fn stops_within_an_append(rt: HostRuntime) -> Result<(), Fail> {
 }
 
 // Stores: whether the image is there, how many batches the segment has, how many bytes are left of it, how many device
-// calls an opening makes (four syncs and four reads of fronts, a read of what stands behind the segment's header, and
-// then the making or the segment's end), and what it finds.
+// calls an opening makes (four syncs and four reads of headers; then the making, or a read of the image's length and one of
+// its text, a read of what stands behind the segment's header, and the segment's end), and what it finds.
 type Store = (bool, u8, usize, u64, Found);
 
 static STORES: [Store; 3] = [
     (false, 0, 0, 24, EMPTY),
-    (true, 1, 70, 11, STORED),
-    (true, 100, 5_317, 11, HUNDRED),
+    (true, 1, 70, 13, STORED),
+    (true, 100, 5_317, 13, HUNDRED),
 ];
 
 // Segments with no gate behind their batches, which no server leaves.
-static FOREIGN: [Store; 2] = [(true, 1, 69, 11, STORED), (true, 0, 16, 10, EMPTY)];
+static FOREIGN: [Store; 2] = [(true, 1, 69, 13, STORED), (true, 0, 16, 12, EMPTY)];
 
 static TORN: [Torn; 6] = [
     Torn::Old,
@@ -250,7 +253,7 @@ static TORN: [Torn; 6] = [
 ];
 
 // A segment of epoch 0 with so many batches. Each is that of `SEGMENT`, with a number and a name of its own.
-fn segment_of(alloc: Global, batches: u8) -> Result<Vec<u8>, Fail> {
+fn batches_of(alloc: Global, batches: u8) -> Result<Vec<u8>, Fail> {
     let mut segment = SEGMENT[..16].to_vec(alloc)?;
     for number in 0..batches {
         let mut batch = [0; 53];
@@ -265,7 +268,7 @@ fn segment_of(alloc: Global, batches: u8) -> Result<Vec<u8>, Fail> {
 
 fn disk_of(alloc: Global, store: &Store) -> Result<MemDisk, Fail> {
     let (has_image, batches, length, _, _) = *store;
-    let mut segment = segment_of(alloc, batches)?;
+    let mut segment = batches_of(alloc, batches)?;
     segment.truncate(length);
     let image: &[u8] = if has_image { &IMAGE } else { &[] };
     disk_with(alloc, image, &segment)

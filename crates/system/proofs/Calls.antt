@@ -6,25 +6,25 @@ use Rattle.std.specs.FinMap as finmap
 use Rattle.std.proofs.lemmas.List.{append-nil}
 use Rattle.codes.specs.declared.limits.TheConstants.{MAX_RECORDS}
 use Rattle.disk.specs.Moments.{View, IsSynced}
-use Rattle.disk.specs.Slots.{with_slot}
-use Rattle.disk.specs.declared.slot.Slot.TheVariants.{Segment0}
 use Rattle.ipc_laws.specs.MapLaws.{get-here}
 use Rattle.ipc_model.specs.calls.Step.{Step, has_record}
 use Rattle.ipc_model.specs.declared.call.Call.{Call}
 use Rattle.ipc_model.specs.declared.call.Reply.{Reply}
 use Rattle.ipc_model.specs.declared.record.Record.{Record}
 use Rattle.ipc_model.specs.state.State.{State}
-use Rattle.ipc_model.specs.store.Store.{with_batch}
 use Rattle.ipc_model.specs.texts.Texts.{record_text}
-use Rattle.journal.specs.Batch.{BatchValue, content_of, empty_batch, with_text}
-use Rattle.journal.specs.Journal.{JournalValue}
+use Rattle.journal.specs.Batch.{BatchValue, empty_batch, with_text}
+use Rattle.journal.specs.declared.segment.Segment.{Segment}
+use Rattle.slot_steps.specs.Steps.{segment_slot}
 use Rattle.journal.specs.declared.fault.StoreFault.{StoreFault}
-use Rattle.journal.specs.declared.fault.StoreFault.TheVariants.{Device, Failed}
-use Rattle.recover.specs.Steps.{unrecorded_step}
+use Rattle.journal.specs.declared.fault.StoreFault.TheVariants.{Device, Failed, Full}
+use Rattle.phases.specs.Passed.{unrecorded_step}
 use Rattle.system.specs.Calling.{Calls, CallFails, FailsToStoreAll, IsAlone, IsResting, IsStored, StoresAll}
-use Rattle.system.specs.Changes.{Answers, FailsToStore, HandsIn, IsNotDue, PassesAppend, Stores, Submits, Takes}
+use Rattle.storing.specs.Changes.{IsAppended, PassesAppend}
+use Rattle.storing.specs.Values.{CheckpointValue, StoreValue}
+use Rattle.system.specs.Changes.{Answers, FailsToStore, FindsFull, HandsFinished, HandsIn, HandsReceipt, IsNotDue, Stores, Submits, Takes}
 use Rattle.system.specs.Core.{SystemValue, TicketsValue}
-use Rattle.system.specs.Halves.{Gives, KernelValue, RowValue, TicketValue, entry_of, with_receipt, with_record, without_waiting}
+use Rattle.system.specs.Halves.{CannotTake, Gives, KernelValue, RowValue, TakenValue, TakesBatch, TicketValue, entry_of, with_receipt, with_record}
 
 pub if_err_from : {T E : Type 0} (r : Result T E) (was : E) (P : E → Type 0) → IsErrAnd r (λ fault. fault ≡ was) → P was → IfErr r P
 if_err_from (Ok x) was P is p = tt
@@ -42,11 +42,50 @@ some_same : {A : Type 0} (o : Option A) (a b : A) → o ≡ Some a → o ≡ Som
 some_same o a b one two = cc (one, two)
 
 module _ {D : Type 0} (honest : Type 0) (view : D → View) where
-  pub stores_failed : (old taken new : SystemValue D) (fault : StoreFault) → old.journal.failed ≡ false → Takes old taken
-      → ((fault ≡ Failed) × (taken.journal.failed ≡ true) × (new ≡ taken)) ⊎ ((fault ≡ Device) × FailsToStore honest view taken new) → (fault ≡ Device) × FailsToStoreAll honest view old new
-  stores_failed old taken new fault unfailed takes fails = elim fails [
-    | inl before ↦ absurd (cc (before.1, ap (λ (s : SystemValue D). s.journal.failed) takes.rest ∙ unfailed))
-    | inr now ↦ (now.0, record { taken = taken; takes = takes; fails = now.1 })
+  -- A core whose row alone may have records that wait.
+  pub record IsReady (old : SystemValue D) : Type 0 where
+    pub none_older : old.core.older.count ≡ 0
+    pub epoch : old.store.segment.epoch ≡ old.core.epoch
+    pub room : 0 < old.core.row.waiting.count → old.store.segment.records + old.core.row.waiting.count ≤ MAX_RECORDS
+    pub finished : old.finished ≡ None
+
+  -- what it takes are the row's
+  pub record TakesRow (old new : SystemValue D) (taken : TakenValue) : Type 0 where
+    pub epoch : taken.epoch ≡ old.core.epoch
+    pub batch : taken.batch ≡ old.core.row.waiting
+    pub core : new.core ≡ record old.core { row = record old.core.row { waiting = empty_batch }; is_out = true }
+
+  pub takes_row : (old new : SystemValue D) (taken : TakenValue) → old.core.older.count ≡ 0 → TakesBatch old.core taken new.core → TakesRow old new taken
+  takes_row old new taken none takes = elim takes.which as (λ _. TakesRow old new taken) [
+    | inl older ↦ absurd (omega (arith, takes.some, none, ap (λ (b : BatchValue). b.count) older.1))
+    | inr row ↦ record { epoch = row.1; batch = row.2; core = row.3 }
+  ]
+
+  -- where the row has records that wait, they are taken
+  pub takes_some : (old new : SystemValue D) → old.core.is_out ≡ false → CannotTake old.core × (new ≡ old) → (old.core.row.waiting.count ≡ 0) × (new ≡ old)
+  takes_some old new none_out none = elim none.0 as (λ _. (old.core.row.waiting.count ≡ 0) × (new ≡ old)) [ inl empty ↦ (empty.1, none.1) | inr out ↦ absurd (cc (none_out, out)) ]
+
+  -- the segment takes what was taken
+  pub taken_epoch : (old taken : SystemValue D) → IsReady old → (takes : Takes old taken) → takes.taken.epoch ≡ taken.store.segment.epoch
+  taken_epoch old taken ready takes =
+      (takes_row old taken takes.taken ready.none_older takes.takes).epoch ∙ sym ready.epoch ∙ sym (ap (λ (s : SystemValue D). s.store.segment.epoch) takes.rest)
+
+  -- and there is room for it
+  pub has_room : (old taken new : SystemValue D) → IsReady old → Takes old taken → FindsFull taken new → ⊥
+  has_room old taken new ready takes full =
+      let row = takes_row old taken takes.taken ready.none_older takes.takes in
+      let same : full.taken ≡ takes.taken = some_same taken.out full.taken takes.taken full.out (ap (λ (s : SystemValue D). s.out) takes.rest) in
+      let count : full.taken.batch.count ≡ old.core.row.waiting.count = ap (λ (t : TakenValue). t.batch.count) same ∙ ap (λ (b : BatchValue). b.count) row.batch in
+      omega (arith, full.full, count, ap (λ (s : SystemValue D). s.store.segment.records) takes.rest, ready.room (omega (arith, takes.takes.some, ap (λ (b : BatchValue). b.count) row.batch)))
+
+  pub stores_failed : (old taken new : SystemValue D) (fault : StoreFault) → IsReady old → old.store.failed ≡ false → Takes old taken
+      → ((fault ≡ Failed) × (taken.store.failed ≡ true) × (new ≡ taken)) ⊎ (((fault ≡ Device) × FailsToStore honest view taken new) ⊎ ((fault ≡ Full) × FindsFull taken new)) → (fault ≡ Device) × FailsToStoreAll honest view old new
+  stores_failed old taken new fault ready unfailed takes fails = elim fails as (λ _. (fault ≡ Device) × FailsToStoreAll honest view old new) [
+    | inl before ↦ absurd (cc (before.1, ap (λ (s : SystemValue D). s.store.failed) takes.rest, unfailed))
+    | inr now ↦ elim now as (λ _. (fault ≡ Device) × FailsToStoreAll honest view old new) [
+      | inl device ↦ (device.0, record { taken = taken; takes = takes; fails = device.1 })
+      | inr full ↦ absurd (has_room old taken new ready takes full.1)
+    ]
   ]
 
   -- a row in which nothing waited, after a call
@@ -73,34 +112,59 @@ module _ {D : Type 0} (honest : Type 0) (view : D → View) where
         kept = submits.gives.kept recorded;
         holds = record {
           counted = ap (λ (b : BatchValue). b.count) one;
-          text = ap (λ (b : BatchValue). b.body) one ∙ ap (λ n. record_text n entry) rests.length ∙ sym (append-nil (record_text old.journal.records entry));
+          text = ap (λ (b : BatchValue). b.body) one ∙ ap (λ n. record_text n entry) rests.length ∙ sym (append-nil (record_text old.store.segment.records entry));
         };
       }
 
   -- the batch stands behind what the segment held
-  abbrev IsWritten : JournalValue D → JournalValue D → BatchValue → Type 0
-  IsWritten before after batch = (view after.disk).seen ≡ with_slot (view before.disk).seen Segment0 (with_batch (view before.disk).seen.segment0 (content_of batch))
+  abbrev IsWritten : StoreValue D → StoreValue D → BatchValue → Type 0
+  IsWritten before after batch = IsAppended before.segment.epoch (view before.disk).seen (view after.disk).seen batch
+
+  -- it is there on the disk
+  abbrev IsThere : StoreValue D → StoreValue D → Type 0
+  IsThere before after = IsSynced (view after.disk) (segment_slot before.segment.epoch)
+
+  abbrev Appends : StoreValue D → StoreValue D → BatchValue → Type 0
+  Appends before after batch = PassesAppend before.segment.epoch (view before.disk) (view after.disk) batch
 
   -- what the store was before a batch is appended is what it was before the call
-  passes_before : (old taken new : SystemValue D) (batch : BatchValue) → taken.journal ≡ old.journal → PassesAppend (view taken.journal.disk) (view new.journal.disk) batch → PassesAppend (view old.journal.disk) (view new.journal.disk) batch
-  passes_before old taken new batch same passes = subst (λ (j : JournalValue D). PassesAppend (view j.disk) (view new.journal.disk) batch) same passes
+  passes_before : (old taken new : SystemValue D) (batch : BatchValue) → taken.store ≡ old.store → Appends taken.store new.store batch → Appends old.store new.store batch
+  passes_before old taken new batch same passes = subst (λ (j : StoreValue D). Appends j new.store batch) same passes
+
+  -- a core in which nothing waited is ready for what waits after a call
+  pub ready_of : (old : SystemValue D) (space : ℕ) (c : Call) (new : SystemValue D) → IsResting old → Submits old space c new → IsReady new
+  ready_of old space c new rests submits =
+      let rest = submits.gives.rest in
+      let store : new.store ≡ old.store = ap (λ (s : SystemValue D). s.store) submits.rest in
+      let entry = entry_of space c submits.ticket.answer in
+      record {
+        none_older = ap (λ (k : KernelValue). k.older.count) rest ∙ ap (λ (b : BatchValue). b.count) rests.older;
+        epoch = ap (λ (j : StoreValue D). j.segment.epoch) store ∙ rests.epoch ∙ sym (ap (λ (k : KernelValue). k.epoch) rest);
+        room = λ some.
+            let recorded = row_of (has_record c submits.ticket.answer) old.core.row entry rests.waiting (subst (λ (r : RowValue). 0 < r.waiting.count) submits.gives.row some) in
+            omega (arith, submits.gives.room recorded, rests.length, ap (λ (j : StoreValue D). j.segment.records) store, ap (λ (r : RowValue). r.waiting.count) (one_waits old space c new submits rests recorded), ap (λ (b : BatchValue). b.count) rests.waiting);
+        finished = ap (λ (s : SystemValue D). s.finished) submits.rest ∙ rests.finished;
+      }
 
   pub call_fails : (old : SystemValue D) (space : ℕ) (c : Call) (made new : SystemValue D) → IsResting old → Submits old space c made → FailsToStoreAll honest view made new → CallFails honest view old space c new
   call_fails old space c made new rests submits fails =
       let entry = entry_of space c submits.ticket.answer in
-      let some : 0 < (if has_record c submits.ticket.answer then with_record old.core.row entry else old.core.row).waiting.count = subst (λ (r : RowValue). 0 < r.waiting.count) submits.gives.row fails.takes.some in
-      let recorded = row_of (has_record c submits.ticket.answer) old.core.row entry rests.waiting some in
-      let batch = fails.fails.batch in
-      let is : batch ≡ made.core.row.waiting = some_same fails.taken.out batch made.core.row.waiting fails.fails.out (ap (λ (s : SystemValue D). s.out) fails.takes.rest) in
-      let same : fails.taken.journal ≡ old.journal = ap (λ (s : SystemValue D). s.journal) fails.takes.rest ∙ ap (λ (s : SystemValue D). s.journal) submits.rest in
-      let kernel : made.core.kernel ≡ new.core.kernel = sym (ap (λ (s : SystemValue D). s.core.kernel) fails.fails.rest ∙ ap (λ (s : SystemValue D). s.core.kernel) fails.takes.rest) in
+      let ready = ready_of old space c made rests submits in
+      let row = takes_row made fails.taken fails.takes.taken ready.none_older fails.takes.takes in
+      let some : 0 < made.core.row.waiting.count = omega (arith, fails.takes.takes.some, ap (λ (b : BatchValue). b.count) row.batch) in
+      let recorded = row_of (has_record c submits.ticket.answer) old.core.row entry rests.waiting (subst (λ (r : RowValue). 0 < r.waiting.count) submits.gives.row some) in
+      let same_taken : fails.fails.taken ≡ fails.takes.taken = some_same fails.taken.out fails.fails.taken fails.takes.taken fails.fails.out (ap (λ (s : SystemValue D). s.out) fails.takes.rest) in
+      let batch = fails.fails.taken.batch in
+      let is : batch ≡ made.core.row.waiting = ap (λ (t : TakenValue). t.batch) same_taken ∙ row.batch in
+      let same : fails.taken.store ≡ old.store = ap (λ (s : SystemValue D). s.store) fails.takes.rest ∙ ap (λ (s : SystemValue D). s.store) submits.rest in
+      let kernel : made.core.kernel ≡ new.core.kernel = sym (ap (λ (s : SystemValue D). s.core.kernel) fails.fails.rest ∙ ap (λ (k : KernelValue). k.kernel) row.core) in
       record {
         answer = submits.ticket.answer;
         step = subst (λ (s : State). Step old.core.kernel space c submits.ticket.answer s) kernel submits.gives.step;
         recorded = recorded;
         batch = batch;
         alone = alone_of old space c made submits batch rests recorded is;
-        passes = λ is_honest synced. passes_before old fails.taken new batch same (fails.fails.passes is_honest (subst (λ (j : JournalValue D). IsSynced (view j.disk) Segment0) (sym same) synced));
+        passes = λ is_honest synced. passes_before old fails.taken new batch same (fails.fails.passes is_honest (subst (λ (j : StoreValue D). IsThere j j) (sym same) synced));
       }
 
   -- A core after a call was made and all that waited was stored.
@@ -108,78 +172,107 @@ module _ {D : Type 0} (honest : Type 0) (view : D → View) where
     rests : IsResting new
     kernel : made.core.kernel ≡ new.core.kernel
     tickets : new.tickets ≡ made.tickets
-    seen : new.core.handed ≡ made.core.row.length
-    counted : new.journal.records ≡ old.journal.records + (if has_record c answer then 1 else 0)
-    unrecorded : has_record c answer ≡ false → (new.core.kernel ≡ old.core.kernel) × (new.journal ≡ old.journal)
+    seen : new.core.handed ≡ made.core.row.made
+    counted : new.store.segment ≡ record old.store.segment { records = old.store.segment.records + (if has_record c answer then 1 else 0) }
+    checkpoint : new.store.checkpoint ≡ old.store.checkpoint
+    is_cut : new.core.is_cut ≡ old.core.is_cut
+    unrecorded : has_record c answer ≡ false → (new.core.kernel ≡ old.core.kernel) × (new.store ≡ old.store)
     recorded : has_record c answer ≡ true → IsStored honest view old space c answer new
 
   settled_without : (old : SystemValue D) (space : ℕ) (c : Call) (made new : SystemValue D) → IsResting old → (submits : Submits old space c made) → has_record c submits.ticket.answer ≡ false → (made.core.row.waiting.count ≡ 0 → new ≡ made)
       → IsSettled old made new space c submits.ticket.answer
   settled_without old space c made new rests submits none same =
       let answer = submits.ticket.answer in
+      let rest = submits.gives.rest in
       let row : made.core.row ≡ old.core.row = submits.gives.row ∙ ap (λ (b : Bool). if b then with_record old.core.row (entry_of space c answer) else old.core.row) none in
       let waiting : made.core.row.waiting ≡ empty_batch = ap (λ (r : RowValue). r.waiting) row ∙ rests.waiting in
       let is : new ≡ made = same (ap (λ (b : BatchValue). b.count) waiting) in
-      let journal : made.journal ≡ old.journal = ap (λ (s : SystemValue D). s.journal) submits.rest in
+      let store : made.store ≡ old.store = ap (λ (s : SystemValue D). s.store) submits.rest in
       let kernel : made.core.kernel ≡ old.core.kernel = unrecorded_step old.core.kernel space c answer made.core.kernel submits.gives.step none in
-      let records : made.journal.records ≡ old.journal.records = ap (λ (j : JournalValue D). j.records) journal in
+      let records : made.store.segment.records ≡ old.store.segment.records = ap (λ (j : StoreValue D). j.segment.records) store in
+      let handed : made.core.handed ≡ made.core.row.made = ap (λ (k : KernelValue). k.handed) rest ∙ rests.handed ∙ sym (ap (λ (r : RowValue). r.made) row) in
       record {
         rests = subst IsResting (sym is) (record {
-          none_out = submits.gives.is_out ∙ rests.none_out;
+          none_out = ap (λ (k : KernelValue). k.is_out) rest ∙ rests.none_out;
           out = ap (λ (s : SystemValue D). s.out) submits.rest ∙ rests.out;
           receipt = ap (λ (s : SystemValue D). s.receipt) submits.rest ∙ rests.receipt;
+          finished = ap (λ (s : SystemValue D). s.finished) submits.rest ∙ rests.finished;
+          older = ap (λ (k : KernelValue). k.older) rest ∙ rests.older;
           waiting = waiting;
+          epoch = ap (λ (j : StoreValue D). j.segment.epoch) store ∙ rests.epoch ∙ sym (ap (λ (k : KernelValue). k.epoch) rest);
           length = ap (λ (r : RowValue). r.length) row ∙ rests.length ∙ sym records;
-          handed = submits.gives.handed ∙ rests.handed ∙ sym records;
-          unfailed = ap (λ (j : JournalValue D). j.failed) journal ∙ rests.unfailed;
+          handed = handed;
+          unfailed = ap (λ (j : StoreValue D). j.failed) store ∙ rests.unfailed;
         });
         kernel = sym (ap (λ (s : SystemValue D). s.core.kernel) is);
         tickets = ap (λ (s : SystemValue D). s.tickets) is;
-        seen = ap (λ (s : SystemValue D). s.core.handed) is ∙ submits.gives.handed ∙ rests.handed ∙ sym rests.length ∙ sym (ap (λ (r : RowValue). r.length) row);
-        counted = ap (λ (s : SystemValue D). s.journal.records) is ∙ records ∙ omega (arith, ap {B = ℕ} (λ (b : Bool). if b then 1 else 0) none);
-        unrecorded = λ _. (ap (λ (s : SystemValue D). s.core.kernel) is ∙ kernel, ap (λ (s : SystemValue D). s.journal) is ∙ journal);
+        seen = ap (λ (s : SystemValue D). s.core.handed) is ∙ handed;
+        counted = ap (λ (s : SystemValue D). s.store.segment) is ∙ ap (λ (j : StoreValue D). j.segment) store ∙ ap (λ (n : ℕ). record old.store.segment { records = n }) (omega (arith, ap {B = ℕ} (λ (b : Bool). if b then 1 else 0) none));
+        checkpoint = ap (λ (s : SystemValue D). s.store.checkpoint) is ∙ ap (λ (j : StoreValue D). j.checkpoint) store;
+        is_cut = ap (λ (s : SystemValue D). s.core.is_cut) is ∙ ap (λ (k : KernelValue). k.is_cut) rest;
+        unrecorded = λ _. (ap (λ (s : SystemValue D). s.core.kernel) is ∙ kernel, ap (λ (s : SystemValue D). s.store) is ∙ store);
         recorded = λ recorded. absurd (cc (recorded, none));
       }
+
+  -- the one receipt that is out is the batch's
+  hands_size : (old taken stored new : SystemValue D) (size : ℕ) → old.finished ≡ None → taken.finished ≡ old.finished → stored.finished ≡ taken.finished → stored.receipt ≡ Some size → HandsIn stored new → new ≡ record stored { core = with_receipt stored.core size; receipt = None }
+  hands_size old taken stored new size none first second receipt hands = elim hands as (λ _. new ≡ record stored { core = with_receipt stored.core size; receipt = None }) [
+    | inl mine ↦ mine.rest ∙ ap (λ (n : ℕ). record stored { core = with_receipt stored.core n; receipt = None }) (some_same stored.receipt mine.size size mine.receipt receipt)
+    | inr image ↦ absurd (cc (image.finished, second, first, none))
+  ]
 
   settled_with : (old : SystemValue D) (space : ℕ) (c : Call) (made new : SystemValue D) → IsResting old → (submits : Submits old space c made) → has_record c submits.ticket.answer ≡ true → StoresAll honest view made new
       → IsSettled old made new space c submits.ticket.answer
   settled_with old space c made new rests submits recorded all =
       let answer = submits.ticket.answer in
-      let batch = all.stores.batch in
+      let rest = submits.gives.rest in
+      let ready = ready_of old space c made rests submits in
+      let taken = all.stores.taken in
+      let mine = takes_row made all.taken all.takes.taken ready.none_older all.takes.takes in
+      let same_taken : taken ≡ all.takes.taken = some_same all.taken.out taken all.takes.taken all.stores.out (ap (λ (s : SystemValue D). s.out) all.takes.rest) in
+      let batch = taken.batch in
       let row = one_waits old space c made submits rests recorded in
-      let is : batch ≡ made.core.row.waiting = some_same all.taken.out batch made.core.row.waiting all.stores.out (ap (λ (s : SystemValue D). s.out) all.takes.rest) in
+      let is : batch ≡ made.core.row.waiting = ap (λ (t : TakenValue). t.batch) same_taken ∙ mine.batch in
       let one : batch.count ≡ 1 = ap (λ (b : BatchValue). b.count) is ∙ ap (λ (r : RowValue). r.waiting.count) row ∙ ap (λ (b : BatchValue). b.count + 1) rests.waiting in
-      let size : all.hands.size ≡ batch.count = some_same all.stored.receipt all.hands.size batch.count all.hands.receipt (ap (λ (s : SystemValue D). s.receipt) all.stores.rest) in
-      let whole : new ≡ record { core = with_receipt (without_waiting made.core) all.hands.size; journal = all.stored.journal; out = None; receipt = None; tickets = made.tickets } =
-      all.hands.rest ∙ ap (λ (s : SystemValue D). record s { core = with_receipt s.core all.hands.size; receipt = None }) (all.stores.rest ∙ ap (λ (s : SystemValue D). record s { journal = all.stored.journal; out = None; receipt = Some batch.count }) all.takes.rest) in
-      let journal : new.journal ≡ all.stored.journal = ap (λ (s : SystemValue D). s.journal) whole in
-      let before : all.taken.journal ≡ old.journal = ap (λ (s : SystemValue D). s.journal) all.takes.rest ∙ ap (λ (s : SystemValue D). s.journal) submits.rest in
-      let records : new.journal.records ≡ old.journal.records + 1 =
-      omega (arith, ap (λ (j : JournalValue D). j.records) journal, all.stores.counted, ap (λ (j : JournalValue D). j.records) before, one) in
-      let handed : new.core.handed ≡ old.journal.records + 1 = omega (arith, ap (λ (s : SystemValue D). s.core.handed) whole, submits.gives.handed, rests.handed, size, one) in
-      let length : made.core.row.length ≡ old.journal.records + 1 = ap (λ (r : RowValue). r.length) row ∙ ap (λ n. n + 1) rests.length in
+      let before : all.taken.store ≡ old.store = ap (λ (s : SystemValue D). s.store) all.takes.rest ∙ ap (λ (s : SystemValue D). s.store) submits.rest in
+      let last = hands_size made all.taken all.stored new batch.count ready.finished (ap (λ (s : SystemValue D). s.finished) all.takes.rest) (ap (λ (s : SystemValue D). s.finished) all.stores.rest) (ap (λ (s : SystemValue D). s.receipt) all.stores.rest) all.hands in
+      let core : new.core ≡ with_receipt (record made.core { row = record made.core.row { waiting = empty_batch }; is_out = true }) batch.count =
+      ap (λ (s : SystemValue D). s.core) last ∙ ap (λ (k : KernelValue). with_receipt k batch.count) (ap (λ (s : SystemValue D). s.core) all.stores.rest ∙ mine.core) in
+      let store : new.store ≡ all.stored.store = ap (λ (s : SystemValue D). s.store) last in
+      let after : all.stored.store ≡ record all.taken.store { disk = all.stored.store.disk; segment = record all.taken.store.segment { records = all.taken.store.segment.records + batch.count } } = ap (λ (s : SystemValue D). s.store) all.stores.rest in
+      let segment : new.store.segment ≡ record old.store.segment { records = old.store.segment.records + 1 } =
+      ap (λ (j : StoreValue D). j.segment) (store ∙ after) ∙ (λ i. record { epoch = (before i).segment.epoch; records = (before i).segment.records + one i }) in
+      let records : new.store.segment.records ≡ old.store.segment.records + 1 = ap (λ (g : Segment). g.records) segment in
+      let handed : new.core.handed ≡ old.core.row.made + 1 = omega (arith, ap (λ (k : KernelValue). k.handed) core, ap (λ (k : KernelValue). k.handed) rest, rests.handed, one) in
+      let made_is : made.core.row.made ≡ old.core.row.made + 1 = ap (λ (r : RowValue). r.made) row in
+      let length : made.core.row.length ≡ old.store.segment.records + 1 = ap (λ (r : RowValue). r.length) row ∙ ap (λ n. n + 1) rests.length in
       record {
         rests = record {
-          none_out = ap (λ (s : SystemValue D). s.core.is_out) whole;
-          out = ap (λ (s : SystemValue D). s.out) whole;
-          receipt = ap (λ (s : SystemValue D). s.receipt) whole;
-          waiting = ap (λ (s : SystemValue D). s.core.row.waiting) whole;
-          length = ap (λ (s : SystemValue D). s.core.row.length) whole ∙ length ∙ sym records;
-          handed = handed ∙ sym records;
-          unfailed = ap (λ (j : JournalValue D). j.failed) journal ∙ all.stores.unfailed.1;
+          none_out = ap (λ (k : KernelValue). k.is_out) core;
+          out = ap (λ (s : SystemValue D). s.out) last ∙ ap (λ (s : SystemValue D). s.out) all.stores.rest;
+          receipt = ap (λ (s : SystemValue D). s.receipt) last;
+          finished = ap (λ (s : SystemValue D). s.finished) last ∙ ap (λ (s : SystemValue D). s.finished) all.stores.rest ∙ ap (λ (s : SystemValue D). s.finished) all.takes.rest ∙ ready.finished;
+          older = ap (λ (k : KernelValue). k.older) core ∙ ap (λ (k : KernelValue). k.older) rest ∙ rests.older;
+          waiting = ap (λ (k : KernelValue). k.row.waiting) core;
+          epoch = ap (λ (g : Segment). g.epoch) segment ∙ rests.epoch ∙ sym (ap (λ (k : KernelValue). k.epoch) core ∙ ap (λ (k : KernelValue). k.epoch) rest);
+          length = ap (λ (k : KernelValue). k.row.length) core ∙ length ∙ sym records;
+          handed = handed ∙ sym (ap (λ (k : KernelValue). k.row.made) core ∙ made_is);
+          unfailed = ap (λ (j : StoreValue D). j.failed) (store ∙ after) ∙ all.stores.unfailed;
         };
-        kernel = sym (ap (λ (s : SystemValue D). s.core.kernel) whole);
-        tickets = ap (λ (s : SystemValue D). s.tickets) whole;
-        seen = handed ∙ sym length;
-        counted = omega (arith, records, ap {B = ℕ} (λ (b : Bool). if b then 1 else 0) recorded);
+        kernel = sym (ap (λ (k : KernelValue). k.kernel) core);
+        tickets = ap (λ (s : SystemValue D). s.tickets) last ∙ ap (λ (s : SystemValue D). s.tickets) all.stores.rest ∙ ap (λ (s : SystemValue D). s.tickets) all.takes.rest;
+        seen = handed ∙ sym made_is;
+        counted = segment ∙ ap (λ (n : ℕ). record old.store.segment { records = n }) (omega (arith, ap {B = ℕ} (λ (b : Bool). if b then 1 else 0) recorded));
+        checkpoint = ap (λ (j : StoreValue D). j.checkpoint) (store ∙ after) ∙ ap (λ (j : StoreValue D). j.checkpoint) before;
+        is_cut = ap (λ (k : KernelValue). k.is_cut) core ∙ ap (λ (k : KernelValue). k.is_cut) rest;
         unrecorded = λ none. absurd (cc (recorded, none));
         recorded = λ _. record {
           batch = batch;
           alone = alone_of old space c made submits batch rests recorded is;
-          stored = λ is_honest. subst (λ (j : JournalValue D). IsWritten old.journal j batch) (sym journal) (subst (λ (j : JournalValue D). IsWritten j all.stored.journal batch) before (all.stores.stored is_honest));
-          synced = λ is_honest. subst (λ (j : JournalValue D). IsSynced (view j.disk) Segment0) (sym journal) (all.stores.synced is_honest);
-          passes = λ is_honest synced. subst (λ (j : JournalValue D). PassesAppend (view old.journal.disk) (view j.disk) batch) (sym journal)
-              (passes_before old all.taken all.stored batch before (all.stores.passes is_honest (subst (λ (j : JournalValue D). IsSynced (view j.disk) Segment0) (sym before) synced)));
+          stored = λ is_honest. subst (λ (j : StoreValue D). IsWritten old.store j batch) (sym store) (subst (λ (j : StoreValue D). IsWritten j all.stored.store batch) before (all.stores.stored is_honest));
+          synced = λ is_honest. subst (λ (j : StoreValue D). IsThere old.store j) (sym store) (subst (λ (j : StoreValue D). IsThere j all.stored.store) before (all.stores.synced is_honest));
+          passes = λ is_honest synced. subst (λ (j : StoreValue D). Appends old.store j batch) (sym store)
+              (passes_before old all.taken all.stored batch before (all.stores.passes is_honest (subst (λ (j : StoreValue D). IsThere j j) (sym before) synced)));
         };
       }
 
@@ -219,13 +312,18 @@ module _ {D : Type 0} (honest : Type 0) (view : D → View) where
           none_out = settles.rests.none_out;
           out = settles.rests.out;
           receipt = settles.rests.receipt;
+          finished = settles.rests.finished;
+          older = settles.rests.older;
           waiting = settles.rests.waiting;
+          epoch = settles.rests.epoch;
           length = settles.rests.length;
           handed = settles.rests.handed;
           unfailed = settles.rests.unfailed;
         });
-        counted = ap (λ (s : SystemValue D). s.journal.records) last_is ∙ settles.counted;
-        unrecorded = λ none. (kernel ∙ (settles.unrecorded none).0, ap (λ (s : SystemValue D). s.journal) last_is ∙ (settles.unrecorded none).1);
+        counted = ap (λ (s : SystemValue D). s.store.segment) last_is ∙ settles.counted;
+        checkpoint = ap (λ (s : SystemValue D). s.store.checkpoint) last_is ∙ settles.checkpoint;
+        is_cut = ap (λ (s : SystemValue D). s.core.is_cut) last_is ∙ settles.is_cut;
+        unrecorded = λ none. (kernel ∙ (settles.unrecorded none).0, ap (λ (s : SystemValue D). s.store) last_is ∙ (settles.unrecorded none).1);
         recorded = λ recorded.
             let done = settles.recorded recorded in
             subst (IsStored honest view old space c submits.ticket.answer) (sym last_is) (record {

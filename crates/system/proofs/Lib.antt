@@ -1,6 +1,12 @@
+mod Appending
+mod Between
 mod Calls
+mod Checkpoints
+mod Going
 mod Lists
-mod PhaseLaws
+mod OrderLaws
+pub mod Passed
+mod Rows
+mod Runs
 mod Simulation
-mod Stored
 mod Tickets

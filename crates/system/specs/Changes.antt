@@ -1,58 +1,82 @@
 -- What each event makes of a core.
-use Rattle.std.specs.Prelude.{◌≡◌, ◌≢◌, ◌⊎◌, ℕ, ◌+◌, ◌<◌, ◌≤◌, true, false, Option, None, Some}
+use Rattle.std.specs.Prelude.{◌≡◌, ◌⊎◌, ℕ, ◌+◌, ◌<◌, ◌≤◌, true, false, Option, None, Some, is_none}
 use Rattle.std.specs.FinMap as finmap
+use Rattle.codes.specs.declared.limits.TheConstants.{MAX_RECORDS}
+use Rattle.disk.specs.Moments.{View, IsSynced}
 use Rattle.ipc_model.specs.declared.call.Call.{Call}
 use Rattle.ipc_model.specs.declared.call.Reply.{Reply}
-use Rattle.disk.specs.Moments.{View, Follows, IsSynced, Passes}
-use Rattle.disk.specs.Slots.{with_slot}
-use Rattle.disk.specs.declared.slot.Slot.TheVariants.{Segment0}
-use Rattle.ipc_model.specs.store.Store.{with_batch, IsMidAppend}
-use Rattle.journal.specs.Batch.{BatchValue, content_of}
+use Rattle.slot_steps.specs.Steps.{segment_slot}
+use Rattle.storing.specs.Changes.{Finishes, IsAppended, PassesAppend}
+use Rattle.storing.specs.Values.{CutValue, begun}
 use Rattle.system.specs.Core.{SystemValue}
-use Rattle.system.specs.Halves.{Gives, IsFullFor, KernelValue, TicketValue, with_receipt, without_waiting}
-
--- what a stop may leave while a batch is appended
-abbrev pub PassesAppend : View → View → BatchValue → Type 0
-PassesAppend old new batch = Passes old new (Follows old Segment0 (λ before after. IsMidAppend before (content_of batch) after))
+use Rattle.system.specs.Halves.{CannotTake, Cuts, Gives, IsFullFor, TakenValue, TakesBatch, TicketValue, with_receipt}
 
 module _ {D : Type 0} where
   -- A call was made, and its ticket given.
   pub record Submits (old : SystemValue D) (space : ℕ) (c : Call) (new : SystemValue D) : Type 0 where
     pub ticket : TicketValue
     pub gives : Gives old.core space c ticket new.core
-    pub rest : new ≡ record { core = new.core; journal = old.journal; out = old.out; receipt = old.receipt; tickets = record { kept = finmap.insert old.tickets.kept old.tickets.given (Some ticket); given = old.tickets.given + 1 } }
+    pub rest : new ≡ record old { core = new.core; tickets = record { kept = finmap.insert old.tickets.kept old.tickets.given (Some ticket); given = old.tickets.given + 1 } }
 
-  -- The records that waited are out as a batch.
+  -- Records that waited are out as a batch.
   pub record Takes (old new : SystemValue D) : Type 0 where
-    pub some : 0 < old.core.row.waiting.count
-    pub none_out : old.core.is_out ≡ false
-    pub rest : new ≡ record old { core = without_waiting old.core; out = Some old.core.row.waiting }
+    pub taken : TakenValue
+    pub takes : TakesBatch old.core taken new.core
+    pub rest : new ≡ record old { core = new.core; out = Some taken }
 
   -- The batch that was out is stored: whole, or nothing of it, at any moment.
   pub record Stores (honest : Type 0) (view : D → View) (old new : SystemValue D) : Type 0 where
-    pub batch : BatchValue
-    pub out : old.out ≡ Some batch
-    pub unfailed : (old.journal.failed ≡ false) × (new.journal.failed ≡ false)
-    pub counted : new.journal.records ≡ old.journal.records + batch.count
-    pub rest : new ≡ record old { journal = new.journal; out = None; receipt = Some batch.count }
-    pub stored : honest → (view new.journal.disk).seen ≡ with_slot (view old.journal.disk).seen Segment0 (with_batch (view old.journal.disk).seen.segment0 (content_of batch))
-    pub synced : honest → IsSynced (view new.journal.disk) Segment0
-    pub passes : honest → IsSynced (view old.journal.disk) Segment0 → PassesAppend (view old.journal.disk) (view new.journal.disk) batch
+    pub taken : TakenValue
+    pub out : old.out ≡ Some taken
+    pub in_use : taken.epoch ≡ old.store.segment.epoch
+    pub unfailed : old.store.failed ≡ false
+    pub rest : new ≡ record old {
+      store = record old.store { disk = new.store.disk; segment = record old.store.segment { records = old.store.segment.records + taken.batch.count } };
+      out = None;
+      receipt = Some taken.batch.count;
+      finished_first = true;
+    }
+    pub stored : honest → IsAppended old.store.segment.epoch (view old.store.disk).seen (view new.store.disk).seen taken.batch
+    pub synced : honest → IsSynced (view new.store.disk) (segment_slot old.store.segment.epoch)
+    pub passes : honest → IsSynced (view old.store.disk) (segment_slot old.store.segment.epoch) → PassesAppend old.store.segment.epoch (view old.store.disk) (view new.store.disk) taken.batch
 
   -- The device failed while it was stored: the batch is still out, and the store of no further use.
   pub record FailsToStore (honest : Type 0) (view : D → View) (old new : SystemValue D) : Type 0 where
-    pub batch : BatchValue
-    pub out : old.out ≡ Some batch
-    pub failed : (old.journal.failed ≡ false) × (new.journal.failed ≡ true)
-    pub counted : new.journal.records ≡ old.journal.records
-    pub rest : new ≡ record old { journal = new.journal }
-    pub passes : honest → IsSynced (view old.journal.disk) Segment0 → PassesAppend (view old.journal.disk) (view new.journal.disk) batch
+    pub taken : TakenValue
+    pub out : old.out ≡ Some taken
+    pub in_use : taken.epoch ≡ old.store.segment.epoch
+    pub unfailed : old.store.failed ≡ false
+    pub rest : new ≡ record old { store = record old.store { disk = new.store.disk; failed = true } }
+    pub passes : honest → IsSynced (view old.store.disk) (segment_slot old.store.segment.epoch) → PassesAppend old.store.segment.epoch (view old.store.disk) (view new.store.disk) taken.batch
 
-  -- The receipt was handed in.
-  pub record HandsIn (old new : SystemValue D) : Type 0 where
+  -- There is no room for the batch in its segment, and nothing changed.
+  pub record FindsFull (old new : SystemValue D) : Type 0 where
+    pub taken : TakenValue
+    pub out : old.out ≡ Some taken
+    pub in_use : taken.epoch ≡ old.store.segment.epoch
+    pub full : MAX_RECORDS < old.store.segment.records + taken.batch.count
+    pub rest : new ≡ old
+
+  -- no batch is out that the segment in use takes
+  abbrev pub CannotAppend : SystemValue D → Type 0
+  CannotAppend system = (taken : TakenValue) → system.out ≡ Some taken → taken.epoch ≡ system.store.segment.epoch → ⊥
+
+  -- The receipt of a batch was handed in, the oldest that was out;
+  pub record HandsReceipt (old new : SystemValue D) : Type 0 where
     pub size : ℕ
     pub receipt : old.receipt ≡ Some size
+    pub oldest : (old.finished ≡ None) ⊎ (old.finished_first ≡ false)
     pub rest : new ≡ record old { core = with_receipt old.core size; receipt = None }
+
+  -- or that of an image.
+  pub record HandsFinished (old new : SystemValue D) : Type 0 where
+    pub epoch : ℕ
+    pub finished : old.finished ≡ Some epoch
+    pub oldest : (old.receipt ≡ None) ⊎ (old.finished_first ≡ true)
+    pub rest : new ≡ record old { core = record old.core { is_cut = false }; finished = None }
+
+  abbrev pub HandsIn : SystemValue D → SystemValue D → Type 0
+  HandsIn old new = HandsReceipt old new ⊎ HandsFinished old new
 
   -- A ticket was answered.
   pub record Answers (old : SystemValue D) (number : ℕ) (answer : Reply) (new : SystemValue D) : Type 0 where
@@ -68,3 +92,14 @@ module _ {D : Type 0} where
 
   abbrev pub IsFullNow : SystemValue D → ℕ → Call → Type 0
   IsFullNow system space c = IsFullFor system.core space c
+
+  -- The next epoch began, and a checkpoint with it.
+  pub record BeginsEpoch (old new : SystemValue D) : Type 0 where
+    pub cut : CutValue
+    pub cuts : Cuts old.core cut new.core
+    pub rest : new ≡ record old { core = new.core; store = record old.store { checkpoint = Some (begun cut) } }
+
+  -- The image was finished, whose receipt is out.
+  pub record FinishesImage (honest : Type 0) (view : D → View) (old new : SystemValue D) : Type 0 where
+    pub finishes : Finishes honest view old.store new.store
+    pub rest : new ≡ record old { store = new.store; finished = Some old.store.segment.epoch; finished_first = is_none old.receipt }

@@ -16,6 +16,13 @@ event_of event.Take = world.take_batch
 event_of event.Append = world.append
 event_of event.Durable = world.durable
 event_of (event.Reply ticket) = world.ask_reply ticket
+event_of event.Cut = world.cut
+event_of event.RollClose = world.roll_close
+event_of event.RollHead = world.roll_head
+event_of event.RollOpen = world.roll_open
+event_of event.ImageClose = world.image_close
+event_of event.Piece = world.piece
+event_of event.Finish = world.finish
 
 abbrev pub fault_of : StoreFault → fault.StoreFault
 fault_of Device = fault.device

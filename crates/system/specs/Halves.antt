@@ -1,5 +1,5 @@
--- What clauses see of the core: the half that makes calls, and the half that stores their records.
-use Rattle.std.specs.Prelude.{◌≡◌, ℕ, ◌+◌, ◌-◌, ◌<◌, ◌≤◌, Bool, true, false, if◌then◌else◌, refl}
+-- What clauses see of the half that makes calls.
+use Rattle.std.specs.Prelude.{◌≡◌, ◌⊎◌, ℕ, ◌+◌, ◌-◌, ◌^◌, ◌<◌, ◌≤◌, Bool, true, false, if◌then◌else◌, refl}
 use Rattle.std.specs.Coded.{Coded, code_by, coded×, coded_ℕ, coded_bool}
 use Rattle.codes.specs.declared.limits.TheConstants.{MAX_RECORDS}
 use Rattle.ipc_model.specs.calls.Step.{Step, has_record}
@@ -10,22 +10,26 @@ use Rattle.ipc_model.specs.state.State.{State}
 use Rattle.ipc_model.specs.state.StateCode.{state_code}
 use Rattle.ipc_model.specs.texts.Texts.{kept_record, record_text, FitsCall, IsRecord}
 use Rattle.journal.specs.Batch.{BatchValue, batch_code, empty_batch, with_text}
+use Rattle.phases.specs.Phases.{IsImageOf}
+use Rattle.storing.specs.Values.{CutValue}
 
--- The row of an epoch: how many records it has, and of these the ones that wait to be taken, the last.
+-- The row of an epoch: how many records it has, how many were made since the store was opened, in all epochs, and the ones
+-- that wait to be taken, the row's last.
 pub record RowValue : Type 0 where
   pub length : ℕ
+  pub made : ℕ
   pub waiting : BatchValue
 
 abbrev pub row_code : Coded RowValue
 row_code =
-    code_by (ℕ × BatchValue) (coded× coded_ℕ batch_code) (λ r. (r.length, r.waiting)) (λ p. record { length = p.0; waiting = p.1 }) (λ _. refl)
+    code_by (ℕ × (ℕ × BatchValue)) (coded× coded_ℕ (coded× coded_ℕ batch_code)) (λ r. (r.length, (r.made, r.waiting))) (λ p. record { length = p.0; made = p.1.0; waiting = p.1.1 }) (λ _. refl)
 
 abbrev pub entry_of : ℕ → Call → Reply → Record
 entry_of space c answer = record { space = space; call = c; reply = answer }
 
 -- a record more, which has the next number
 abbrev pub with_record : RowValue → Record → RowValue
-with_record row entry = record { length = row.length + 1; waiting = with_text row.waiting (record_text row.length entry) }
+with_record row entry = record { length = row.length + 1; made = row.made + 1; waiting = with_text row.waiting (record_text row.length entry) }
 
 -- a row after a call that was answered so
 abbrev pub row_after : RowValue → ℕ → Call → Reply → RowValue
@@ -35,45 +39,95 @@ row_after row space c answer = if has_record c answer then with_record row (entr
 abbrev pub Wrote : RowValue → ℕ → Call → Reply → RowValue → Type 0
 Wrote old space c answer new = (new ≡ with_record old (entry_of space c answer)) × IsRecord (kept_record (entry_of space c answer))
 
--- A ticket: the reply that it keeps, and how many records of the row its call saw.
+-- the row of the next epoch, which has no record
+abbrev pub next_row : RowValue → RowValue
+next_row row = record { length = 0; made = row.made; waiting = empty_batch }
+
+-- A ticket: the reply that it keeps, and how many of the records that were made its call saw.
 pub record TicketValue : Type 0 where
   pub answer : Reply
   pub seen : ℕ
 
--- The half that makes calls: the state, the epoch's row, how many of its records are stored, as receipts tell, and whether a
--- batch is out.
+-- records of one epoch that were taken to be stored
+pub record TakenValue : Type 0 where
+  pub epoch : ℕ
+  pub batch : BatchValue
+
+abbrev pub taken_code : Coded TakenValue
+taken_code = code_by (ℕ × BatchValue) (coded× coded_ℕ batch_code) (λ t. (t.epoch, t.batch)) (λ p. record { epoch = p.0; batch = p.1 }) (λ _. refl)
+
+-- The half that makes calls: the state, its epoch, the records of the epoch before that wait to be taken, the epoch's row, how
+-- many of the records that were made are stored, as receipts tell, whether a batch is out, and whether a checkpoint is under
+-- way.
 pub record KernelValue : Type 0 where
   pub kernel : State
+  pub epoch : ℕ
+  pub older : BatchValue
   pub row : RowValue
   pub handed : ℕ
   pub is_out : Bool
+  pub is_cut : Bool
 
 abbrev pub kernel_code : Coded KernelValue
 kernel_code =
-    code_by (State × (RowValue × (ℕ × Bool))) (coded× state_code (coded× row_code (coded× coded_ℕ coded_bool))) (λ k. (k.kernel, (k.row, (k.handed, k.is_out))))
-    (λ p. record { kernel = p.0; row = p.1.0; handed = p.1.1.0; is_out = p.1.1.1 }) (λ _. refl)
+    code_by (State × (ℕ × (BatchValue × (RowValue × (ℕ × (Bool × Bool)))))) (coded× state_code (coded× coded_ℕ (coded× batch_code (coded× row_code (coded× coded_ℕ (coded× coded_bool coded_bool))))))
+    (λ k. (k.kernel, (k.epoch, (k.older, (k.row, (k.handed, (k.is_out, k.is_cut)))))))
+    (λ p. record { kernel = p.0; epoch = p.1.0; older = p.1.1.0; row = p.1.1.1.0; handed = p.1.1.1.1.0; is_out = p.1.1.1.1.1.0; is_cut = p.1.1.1.1.1.1 }) (λ _. refl)
+
+-- a half that goes on from a state in an epoch, whose row has so many records, all of which are stored
+abbrev pub first_half : State → ℕ → ℕ → KernelValue
+first_half kernel epoch records = record {
+  kernel = kernel;
+  epoch = epoch;
+  older = empty_batch;
+  row = record { length = records; made = 0; waiting = empty_batch };
+  handed = 0;
+  is_out = false;
+  is_cut = false;
+}
 
 -- A call was made, and a ticket given: the reply is one of the machine's, the call's record stands in the row, if it has one,
--- and the ticket saw all of the row then.
+-- and the ticket saw all records that were made.
 pub record Gives (old : KernelValue) (space : ℕ) (c : Call) (ticket : TicketValue) (new : KernelValue) : Type 0 where
   pub step : Step old.kernel space c ticket.answer new.kernel
   pub row : new.row ≡ row_after old.row space c ticket.answer
-  pub seen : ticket.seen ≡ new.row.length
+  pub seen : ticket.seen ≡ new.row.made
   pub room : has_record c ticket.answer ≡ true → old.row.length < MAX_RECORDS
   pub fits : FitsCall c
   pub kept : has_record c ticket.answer ≡ true → IsRecord (kept_record (entry_of space c ticket.answer))
-  pub handed : new.handed ≡ old.handed
-  pub is_out : new.is_out ≡ old.is_out
+  pub rest : new ≡ record old { kernel = new.kernel; row = new.row }
 
 -- The row takes no more records, and a step of the call has one.
 abbrev pub IsFullFor : KernelValue → ℕ → Call → Type 0
 IsFullFor half space c =
     (MAX_RECORDS ≤ half.row.length) × ((answer : Reply) × (new : State) × Step half.kernel space c answer new × (has_record c answer ≡ true))
 
--- the records that waited are out as a batch
-abbrev pub without_waiting : KernelValue → KernelValue
-without_waiting half = record half { row = record { length = half.row.length; waiting = empty_batch }; is_out = true }
+-- Records that waited are out as a batch: those of the epoch before, and where none of these is left, those of the row.
+pub record TakesBatch (old : KernelValue) (taken : TakenValue) (new : KernelValue) : Type 0 where
+  pub some : 0 < taken.batch.count
+  pub none_out : old.is_out ≡ false
+  pub which : ((taken.epoch + 1 ≡ old.epoch) × (taken.batch ≡ old.older) × (new ≡ record old { older = empty_batch; is_out = true }))
+      ⊎ ((old.older.count ≡ 0) × (taken.epoch ≡ old.epoch) × (taken.batch ≡ old.row.waiting)
+      × (new ≡ record old { row = record old.row { waiting = empty_batch }; is_out = true }))
+
+-- no record waits, or a batch is out
+abbrev pub CannotTake : KernelValue → Type 0
+CannotTake half = ((half.older.count ≡ 0) × (half.row.waiting.count ≡ 0)) ⊎ (half.is_out ≡ true)
 
 -- the receipt of so many records was handed in
 abbrev pub with_receipt : KernelValue → ℕ → KernelValue
 with_receipt half count = record half { handed = half.handed + count; is_out = false }
+
+-- The next epoch may begin: no checkpoint is under way, no record of the epoch before waits, and there is a next epoch.
+pub record CanCut (half : KernelValue) : Type 0 where
+  pub over : half.is_cut ≡ false
+  pub next : half.epoch < 2 ^ 64 - 1
+  pub none_older : half.older.count ≡ 0
+
+-- The next epoch began: the copy is the image of the state after the whole row.
+pub record Cuts (old : KernelValue) (cut : CutValue) (new : KernelValue) : Type 0 where
+  pub can : CanCut old
+  pub epoch : cut.epoch ≡ old.epoch + 1
+  pub row : cut.row ≡ old.row.length
+  pub image : IsImageOf cut.text old.kernel
+  pub rest : new ≡ record old { epoch = old.epoch + 1; older = old.row.waiting; row = next_row old.row; is_cut = true }

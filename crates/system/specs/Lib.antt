@@ -3,7 +3,9 @@ pub mod Changes
 pub mod Core
 pub mod Events
 pub mod Faults
+pub mod GoingOn
 pub mod Halves
-pub mod Phases
+pub mod Order
+pub mod Passed
 pub mod SystemCode
 pub mod TicketCode

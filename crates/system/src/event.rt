@@ -6,14 +6,28 @@ use journal::StoreFault;
 pub enum Event {
     /// A task of this space makes a call.
     Submit { space: u32, call: Call },
-    /// The records that wait are taken as a batch.
+    /// Records that wait are taken as a batch.
     Take,
     /// The batch is stored.
     Append,
-    /// The receipt of the batch that was stored is handed in.
+    /// The oldest receipt is handed in: of a batch that was stored, or of an image that was finished.
     Durable,
     /// The reply that a ticket keeps is asked for.
     Reply { ticket: u64 },
+    /// The next epoch begins, with a copy of the state, and a checkpoint with it.
+    Cut,
+    /// The slot of the next segment is closed.
+    RollClose,
+    /// The next segment gets its header.
+    RollHead,
+    /// The next segment is opened.
+    RollOpen,
+    /// The slot of the next image is closed.
+    ImageClose,
+    /// The next piece of the image is written.
+    Piece,
+    /// The image is finished.
+    Finish,
 }
 
 /// What an event answered.
@@ -29,7 +43,7 @@ pub enum Outcome {
     NotNow,
     /// The epoch's row takes no more records, and the call has one; nothing changed.
     EpochFull,
-    /// The store failed.
+    /// The store failed, or memory was wanted there, and then nothing changed.
     Store(StoreFault),
     /// A growth was refused; nothing changed.
     NoMemory,

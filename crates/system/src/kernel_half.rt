@@ -1,18 +1,19 @@
 ghost use Rattle.std.specs.Prelude.{◌≡◌, ◌⊎◌, ◌+◌, ◌<◌, ◌≤◌, true, false, length, MatchBool, IfOk, IfErr, IfSome, IfNone, OnErr, IsErrOf};
 ghost use Rattle.codes.specs.declared.limits.TheConstants.{MAX_FRAME_CONTENT, MAX_RECORDS};
 ghost use Rattle.ipc_model.specs.texts.Texts.{reply_text};
-ghost use Rattle.journal.specs.Batch.{empty_batch};
-ghost use Rattle.system.specs.Halves.{Gives, IsFullFor, with_receipt, without_waiting};
+ghost use Rattle.system.specs.Halves.{CanCut, CannotTake, Cuts, Gives, IsFullFor, TakesBatch, first_half, with_receipt};
 
 use crate::Ticket;
 use crate::row::Row;
-use crate::store_half::Receipt;
+use crate::taken::Taken;
 use codes::MAX_RECORDS;
+use image::image_is_of_state;
 use ipc_model::{Call, Reply, call_in_range};
 use journal::Batch;
 use kernel::Kernel;
 use std::alloc::{AllocError, Global};
 use std::marker::Model;
+use storing::{Cut, Finished, Receipt};
 
 /// Why a call wasn't made. Nothing changed.
 #[derive(Clone, Copy, Debug, PartialEq, Eq)]
@@ -38,11 +39,16 @@ impl From<AllocError> for SubmitFault {
 #[derive(Drop)]
 pub struct KernelHalf {
     kernel: Kernel,
+    epoch: u64,
+
+    // The records of the epoch before that wait to be taken.
+    older: Batch,
     row: Row,
     handed: u64,
 
     // The batch that takes the place of the one that is taken next; there is none while a batch is out.
     spare: Option<Batch>,
+    is_cut: bool,
 }
 
 impl Model for KernelHalf {
@@ -54,22 +60,34 @@ impl Model for KernelHalf {
 
     ghost coded = { kernel_code };
 
-    ghost view = { λ k. record { kernel = k.kernel; row = k.row; handed = k.handed; is_out = is_none k.spare } };
+    ghost view = { λ k. record { kernel = k.kernel; epoch = k.epoch; older = k.older; row = k.row; handed = k.handed; is_out = is_none k.spare; is_cut = k.is_cut } };
 
-    ghost invariant = { λ k. (k.handed ≤ k.row.length) × (k.row.length < 2 ^ 64) × IfSome k.spare (λ batch. batch ≡ empty_batch) };
+    // There is an epoch before this one where records of it wait.
+    ghost invariant = { λ k. (k.handed ≤ k.row.made) × (k.row.made < 2 ^ 64) × IfSome k.spare (λ batch. batch ≡ empty_batch)
+        × (0 < k.older.count → 0 < k.epoch) };
 }
 
 impl KernelHalf {
-    /// Goes on from a state and the records that the epoch's segment holds, all of which are stored. It takes no memory.
-    pub fn new(alloc: Global, kernel: Kernel, records: u64) -> Self
-        ensures { result ≡ record { kernel = kernel; row = record { length = records; waiting = empty_batch }; handed = records; is_out = false } }
+    /// Goes on from a state in an epoch, whose segment holds so many records. It takes no memory.
+    pub fn new(alloc: Global, kernel: Kernel, epoch: u64, records: u64) -> Self
+        ensures { result ≡ first_half kernel epoch records }
     {
         KernelHalf {
             kernel,
+            epoch,
+            older: Batch::new(alloc),
             row: Row::new(alloc, records),
-            handed: records,
+            handed: 0,
             spare: Some(Batch::new(alloc)),
+            is_cut: false,
         }
+    }
+
+    /// How many records the epoch's row has.
+    pub fn row_length(&self) -> u64
+        ensures { result ≡ self.now.row.length }
+    {
+        self.row.len()
     }
 
     /// Makes a call of a task of this space. Its record, if it has one, waits then to be taken.
@@ -79,11 +97,15 @@ impl KernelHalf {
         ensures err { OnErr result (self.new ≡ self.old) }
     {
         call_in_range(call);
+        // No machine makes so many records.
+        if self.row.made() == u64::MAX {
+            return Err(SubmitFault::NoMemory);
+        }
         if self.row.len() >= MAX_RECORDS {
             return self.submit_without_room(space, call);
         }
         let reply = self.kernel.apply_recorded(space, call, &mut self.row)?;
-        let seen = self.row.len();
+        let seen = self.row.made();
         Ok(Ticket { reply, seen })
     }
 
@@ -99,31 +121,66 @@ impl KernelHalf {
         let Some(reply) = answer else {
             return Err(SubmitFault::EpochFull);
         };
-        let seen = self.row.len();
+        let seen = self.row.made();
         Ok(Ticket { reply, seen })
     }
 
-    /// Takes the records that wait, as a batch. There is none while one is out, or where no record waits.
-    pub fn take(&mut self) -> Option<Batch>
-        ensures taken { IfSome result (λ batch. (batch ≡ self.old.row.waiting) × (0 < batch.count)
-            × (self.old.is_out ≡ false) × (self.new ≡ without_waiting self.old)) }
-        ensures room { IfSome result (λ _. self.old.row.length ≤ MAX_RECORDS) }
-        ensures none { IfNone result (((self.old.row.waiting.count ≡ 0) ⊎ (self.old.is_out ≡ true)) × (self.new ≡ self.old)) }
+    /// Takes records that wait, as a batch of one epoch, the epoch before first. There is none while a batch is out, or where
+    /// no record waits.
+    pub fn take(&mut self) -> Option<Taken>
+        ensures taken { IfSome result (λ taken. TakesBatch self.old taken self.new) }
+        ensures none { IfNone result (CannotTake self.old × (self.new ≡ self.old)) }
     {
+        if self.older.count() > 0 {
+            let empty = self.spare.take()?;
+            let epoch = self.epoch - 1;
+            let batch = std::mem::replace(&mut self.older, empty);
+            return Some(Taken { epoch, batch });
+        }
         if self.row.waiting() == 0 {
             return None;
         }
         let empty = self.spare.take()?;
-        Some(self.row.take(empty))
+        let epoch = self.epoch;
+        let batch = self.row.take(empty);
+        Some(Taken { epoch, batch })
     }
 
     /// Learns that the records of the batch that was out are stored.
     pub fn durable(&mut self, receipt: Receipt)
-        requires { self.old.handed + receipt ≤ self.old.row.length }
+        requires { self.old.handed + receipt ≤ self.old.row.made }
         ensures { self.new ≡ with_receipt self.old receipt }
     {
         self.handed += u64::from(receipt.count());
         self.spare = Some(receipt.into_empty());
+    }
+
+    /// Begins the next epoch, with a copy of the state after the whole row. There is none while a checkpoint is under way or
+    /// records of the epoch before wait, and in the last epoch. Where memory is wanted nothing changed.
+    pub fn cut(&mut self, alloc: Global) -> Result<Option<Cut>, AllocError>
+        ensures cut { IfOk result (λ cut. IfSome cut (λ cut. Cuts self.old cut self.new)) }
+        ensures not_now { IfOk result (λ cut. IfNone cut ((CanCut self.old → ⊥) × (self.new ≡ self.old))) }
+        ensures err { OnErr result (CanCut self.old × (self.new ≡ self.old)) }
+    {
+        if self.is_cut || self.epoch == u64::MAX || self.older.count() > 0 {
+            return Ok(None);
+        }
+        let snapshot = self.kernel.copy(alloc)?;
+        image_is_of_state();
+        self.kernel.has_image();
+        let row = self.row.len();
+        self.older = self.row.end();
+        self.epoch += 1;
+        self.is_cut = true;
+        Ok(Some(Cut::new(snapshot, self.epoch, row)))
+    }
+
+    /// Learns that the checkpoint is over.
+    pub fn finished(&mut self, receipt: Finished)
+        ensures { self.new ≡ record self.old { is_cut = false } }
+    {
+        let _ = receipt;
+        self.is_cut = false;
     }
 
     /// Whether all records that a ticket saw are stored, as far as receipts tell.

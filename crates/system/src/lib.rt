@@ -1,16 +1,19 @@
 //! The core of the server, without threads: a half that makes calls, a half that stores them, and the events of both.
 #![tactic(auto)]
 
+mod checkpointing;
 mod event;
+mod going_on;
 mod kernel_half;
 mod row;
 mod stepping;
-mod store_half;
 mod system;
+mod taken;
 mod ticket;
 
 pub use event::{Event, Outcome};
 pub use kernel_half::{KernelHalf, SubmitFault};
-pub use store_half::{Receipt, StoreHalf};
+pub use phases::{Opened, open};
 pub use system::{CallFault, System};
+pub use taken::Taken;
 pub use ticket::Ticket;

@@ -1,6 +1,7 @@
 ghost use Rattle.std.specs.Prelude.{◌≡◌, ◌<◌, ◌≤◌, ◌^◌};
 ghost use Rattle.codes.specs.declared.limits.TheConstants.{MAX_RECORDS};
 ghost use Rattle.journal.specs.Batch.{empty_batch};
+ghost use Rattle.system.specs.Halves.{next_row};
 
 use codes::MAX_RECORDS;
 use ipc_model::{Call, Reply};
@@ -16,6 +17,9 @@ use std::marker::Model;
 pub(crate) struct Row {
     alloc: Global,
     length: u64,
+
+    // How many records were made since the store was opened, in all epochs.
+    made: u64,
     waiting: Batch,
 
     // Where the text of a record is made, whose room is used again.
@@ -31,7 +35,7 @@ impl Model for Row {
 
     ghost coded = { row_code };
 
-    ghost view = { λ r. record { length = r.length; waiting = r.waiting } };
+    ghost view = { λ r. record { length = r.length; made = r.made; waiting = r.waiting } };
 
     ghost invariant = { λ r. (r.waiting.count ≤ r.length) × (0 < r.waiting.count → r.length ≤ MAX_RECORDS) };
 }
@@ -39,11 +43,12 @@ impl Model for Row {
 impl Row {
     /// The row of an epoch whose segment holds so many records. It takes no memory.
     pub(crate) fn new(alloc: Global, length: u64) -> Self
-        ensures { result ≡ record { length = length; waiting = empty_batch } }
+        ensures { result ≡ record { length = length; made = 0; waiting = empty_batch } }
     {
         Row {
             alloc,
             length,
+            made: 0,
             waiting: Batch::new(alloc),
             text: Vec::new(alloc),
         }
@@ -51,16 +56,22 @@ impl Row {
 
     /// How many records it has.
     pub(crate) fn len(&self) -> u64
-        ensures length { result ≡ self.now.length }
-        ensures within { self.now.length < 2 ^ 64 }
+        ensures { result ≡ self.now.length }
     {
         self.length
     }
 
-    /// How many of them wait to be taken.
+    /// How many records were made.
+    pub(crate) fn made(&self) -> u64
+        ensures made { result ≡ self.now.made }
+        ensures within { self.now.made < 2 ^ 64 }
+    {
+        self.made
+    }
+
+    /// How many of its records wait to be taken.
     pub(crate) fn waiting(&self) -> u32
-        ensures count { result ≡ self.now.waiting.count }
-        ensures room { 0 < self.now.waiting.count → self.now.length ≤ MAX_RECORDS }
+        ensures { result ≡ self.now.waiting.count }
     {
         self.waiting.count()
     }
@@ -69,18 +80,27 @@ impl Row {
     pub(crate) fn take(&mut self, empty: Batch) -> Batch
         requires { empty ≡ empty_batch }
         ensures taken { result ≡ self.old.waiting }
-        ensures left { self.new ≡ record { length = self.old.length; waiting = empty_batch } }
+        ensures left { self.new ≡ record self.old { waiting = empty_batch } }
     {
         std::mem::replace(&mut self.waiting, empty)
+    }
+
+    /// Takes the records that wait, and becomes the row of the next epoch. It takes no memory.
+    pub(crate) fn end(&mut self) -> Batch
+        ensures taken { result ≡ self.old.waiting }
+        ensures left { self.new ≡ next_row self.old }
+    {
+        self.length = 0;
+        std::mem::replace(&mut self.waiting, Batch::new(self.alloc))
     }
 }
 
 impl Recorder for Row {
-    ghost use Rattle.std.specs.Prelude.{◌<◌};
+    ghost use Rattle.std.specs.Prelude.{◌-◌, ◌<◌, ◌^◌};
     ghost use Rattle.codes.specs.declared.limits.TheConstants.{MAX_RECORDS};
     ghost use Rattle.system.specs.Halves.{Wrote};
 
-    ghost has_room = { λ row. row.length < MAX_RECORDS };
+    ghost has_room = { λ row. (row.length < MAX_RECORDS) × (row.made < 2 ^ 64 - 1) };
 
     ghost wrote = { Wrote };
 
@@ -90,6 +110,7 @@ impl Recorder for Row {
         push_exchange(self.alloc, &mut self.text, self.length, space, call, reply)?;
         self.waiting.add(&self.text)?;
         self.length += 1;
+        self.made += 1;
         Ok(())
     }
 }

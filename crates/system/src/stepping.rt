@@ -26,6 +26,13 @@ impl<D: Disk> System<D> {
             Event::Append => self.append_event(),
             Event::Durable => self.durable_event(),
             Event::Reply { ticket } => self.reply_event(*ticket),
+            Event::Cut => self.cut_event(),
+            Event::RollClose => self.roll_close_event(),
+            Event::RollHead => self.roll_head_event(),
+            Event::RollOpen => self.roll_open_event(),
+            Event::ImageClose => self.image_close_event(),
+            Event::Piece => self.piece_event(),
+            Event::Finish => self.finish_event(),
         }
     }
 
@@ -92,6 +99,83 @@ impl<D: Disk> System<D> {
         match self.reply(ticket) {
             Some(reply) => Outcome::Reply(reply),
             None => Outcome::NotNow,
+        }
+    }
+
+    fn cut_event(&mut self) -> Outcome
+        ensures steps { Simulates D.honest D.view Event.Cut result self.old self.new }
+        ensures number { IsNumbered self.old result }
+    {
+        match self.cut() {
+            Ok(true) => Outcome::Done,
+            Ok(false) => Outcome::NotNow,
+            Err(_) => Outcome::NoMemory,
+        }
+    }
+
+    fn roll_close_event(&mut self) -> Outcome
+        ensures steps { Simulates D.honest D.view Event.RollClose result self.old self.new }
+        ensures number { IsNumbered self.old result }
+    {
+        match self.roll_close() {
+            Ok(true) => Outcome::Done,
+            Ok(false) => Outcome::NotNow,
+            Err(fault) => Outcome::Store(fault),
+        }
+    }
+
+    fn roll_head_event(&mut self) -> Outcome
+        ensures steps { Simulates D.honest D.view Event.RollHead result self.old self.new }
+        ensures number { IsNumbered self.old result }
+    {
+        match self.roll_head() {
+            Ok(true) => Outcome::Done,
+            Ok(false) => Outcome::NotNow,
+            Err(fault) => Outcome::Store(fault),
+        }
+    }
+
+    fn roll_open_event(&mut self) -> Outcome
+        ensures steps { Simulates D.honest D.view Event.RollOpen result self.old self.new }
+        ensures number { IsNumbered self.old result }
+    {
+        match self.roll_open() {
+            Ok(true) => Outcome::Done,
+            Ok(false) => Outcome::NotNow,
+            Err(fault) => Outcome::Store(fault),
+        }
+    }
+
+    fn image_close_event(&mut self) -> Outcome
+        ensures steps { Simulates D.honest D.view Event.ImageClose result self.old self.new }
+        ensures number { IsNumbered self.old result }
+    {
+        match self.close_image() {
+            Ok(true) => Outcome::Done,
+            Ok(false) => Outcome::NotNow,
+            Err(fault) => Outcome::Store(fault),
+        }
+    }
+
+    fn piece_event(&mut self) -> Outcome
+        ensures steps { Simulates D.honest D.view Event.Piece result self.old self.new }
+        ensures number { IsNumbered self.old result }
+    {
+        match self.write_piece() {
+            Ok(true) => Outcome::Done,
+            Ok(false) => Outcome::NotNow,
+            Err(fault) => Outcome::Store(fault),
+        }
+    }
+
+    fn finish_event(&mut self) -> Outcome
+        ensures steps { Simulates D.honest D.view Event.Finish result self.old self.new }
+        ensures number { IsNumbered self.old result }
+    {
+        match self.finish() {
+            Ok(true) => Outcome::Done,
+            Ok(false) => Outcome::NotNow,
+            Err(fault) => Outcome::Store(fault),
         }
     }
 }

@@ -1,24 +1,25 @@
 ghost use Rattle.std.specs.Prelude.{◌≡◌, ◌⊎◌, ℕ, ◌+◌, ◌-◌, ◌<◌, ◌≤◌, ◌^◌, None, Some, true, false, length, MatchBool, IfOk, IfErr, IfSome, IfNone, OnErr, OnOk, IsErrOf};
 ghost use Rattle.std.specs.FinMap as map;
+ghost use Rattle.codes.specs.declared.limits.TheConstants.{MAX_FRAME_CONTENT, MAX_RECORDS};
 ghost use Rattle.disk.specs.Moments.{one_more};
-ghost use Rattle.ipc_model.specs.world.World.{first_world};
-ghost use Rattle.system.specs.Core.{StandsFor, first_system};
-ghost use Rattle.system.specs.Halves.{TicketValue};
-ghost use Rattle.codes.specs.declared.limits.TheConstants.{MAX_FRAME_CONTENT};
 ghost use Rattle.ipc_model.specs.texts.Texts.{reply_text};
+ghost use Rattle.ipc_model.specs.world.World.{first_world};
 ghost use Rattle.system.specs.Calling.{Calls, FailsToStoreAll, IsResting, StoresAll};
+ghost use Rattle.system.specs.Changes.{Answers, CannotAppend, FailsToStore, FindsFull, HandsIn, IsFullNow, IsNotDue, Stores, Submits, Takes};
+ghost use Rattle.system.specs.Core.{StandsFor, first_system};
 ghost use Rattle.system.specs.Faults.{NotCalled};
-ghost use Rattle.system.specs.Changes.{Answers, FailsToStore, HandsIn, IsFullNow, IsNotDue, Stores, Submits, Takes};
+ghost use Rattle.system.specs.Halves.{CannotTake, TicketValue};
 
 use crate::kernel_half::{KernelHalf, SubmitFault};
-use crate::store_half::{Receipt, StoreHalf};
+use crate::taken::Taken;
 use crate::ticket::Tickets;
 use disk::Disk;
 use ipc_model::{Call, Reply};
-use journal::{Batch, StoreFault};
-use recover::Opened;
+use journal::StoreFault;
+use phases::Opened;
 use std::alloc::Global;
 use std::marker::Model;
+use storing::{Finished, Receipt, StoreHalf};
 
 /// Why a call of a lone caller wasn't answered.
 #[derive(Clone, Copy, Debug, PartialEq, Eq)]
@@ -54,58 +55,72 @@ impl From<StoreFault> for CallFault {
 /// The core of the server, for one thread: the two halves, and what goes between them. A ticket is known by its number, the
 /// first by 0.
 ///
-/// It keeps what waits: records that aren't taken, a batch or its receipt, and tickets that aren't answered. What was stored
-/// and answered it lets go.
+/// It keeps what waits: records that aren't taken, a batch or its receipt, the receipt of an image, and tickets that aren't
+/// answered. What was stored and answered it lets go.
 #[derive(Drop)]
 pub struct System<D: Disk> {
-    core: KernelHalf,
-    store: StoreHalf<D>,
-    out: Option<Batch>,
-    receipt: Option<Receipt>,
-    tickets: Tickets,
+    pub(crate) alloc: Global,
+    pub(crate) core: KernelHalf,
+    pub(crate) store: StoreHalf<D>,
+    pub(crate) out: Option<Taken>,
+    pub(crate) receipt: Option<Receipt>,
+    pub(crate) finished: Option<Finished>,
+
+    // Whether the image's receipt is older than the batch's, where both are out.
+    pub(crate) finished_first: bool,
+    pub(crate) tickets: Tickets,
 }
 
 impl<D: Disk> Model for System<D> {
     ghost use Rattle.system.specs.Core.{SystemValue};
-    ghost use Rattle.system.specs.Phases.{IsInOrder};
+    ghost use Rattle.system.specs.Order.{IsInOrder};
     ghost use Rattle.system.specs.SystemCode.{system_code};
 
     ghost Value = { SystemValue D };
 
     ghost coded = { system_code D.code };
 
-    ghost view = { λ s. record { core = s.core; journal = s.store; out = s.out; receipt = s.receipt; tickets = s.tickets } };
+    ghost view = { λ s. record { core = s.core; store = s.store; out = s.out; receipt = s.receipt; finished = s.finished; finished_first = s.finished_first; tickets = s.tickets } };
 
-    ghost invariant = { λ s. IsInOrder (record { core = s.core; journal = s.store; out = s.out; receipt = s.receipt; tickets = s.tickets }) };
+    ghost invariant = { λ s. IsInOrder (record { core = s.core; store = s.store; out = s.out; receipt = s.receipt; finished = s.finished; finished_first = s.finished_first; tickets = s.tickets }) };
 }
 
 impl<D: Disk> System<D> {
     /// Goes on from an opened store. It takes no memory. Until an event, the core stands for the world in which none was.
     pub fn new(alloc: Global, opened: Opened<D>) -> Self
-        ensures value { result ≡ first_system opened.kernel opened.journal }
-        ensures stands { opened.journal.failed ≡ false
-            → StandsFor D.honest D.view opened.kernel (first_world 0 opened.journal.records) result }
+        ensures value { result ≡ first_system opened.kernel opened.disk opened.segment }
+        ensures stands { StandsFor D.honest D.view opened.kernel (first_world opened.segment.epoch opened.segment.records) result }
     {
-        let Opened { kernel, journal } = opened;
-        let records = journal.records();
+        let Opened {
+            kernel,
+            disk,
+            segment,
+        } = opened;
+        kernel.has_image();
         System {
-            core: KernelHalf::new(alloc, kernel, records),
-            store: StoreHalf::new(journal),
+            alloc,
+            core: KernelHalf::new(alloc, kernel, segment.epoch, segment.records),
+            store: StoreHalf::new(disk, segment),
             out: None,
             receipt: None,
+            finished: None,
+            finished_first: false,
             tickets: Tickets::new(alloc),
         }
     }
 
     /// The disk of the store, which is closed. What isn't stored is lost.
     pub fn into_disk(self) -> D
-        ensures { result ≡ self.journal.disk }
+        ensures { result ≡ self.store.disk }
     {
         let System {
+            alloc: _,
             core: _,
             store,
             out: _,
             receipt: _,
+            finished: _,
+            finished_first: _,
             tickets: _,
         } = self;
         store.into_disk()
@@ -133,54 +148,67 @@ impl<D: Disk> System<D> {
         }
     }
 
-    /// Takes the records that wait, as a batch that is out until its receipt is handed in. Answers whether it did: it doesn't
-    /// where none waits or a batch is out.
+    /// Takes records that wait, as a batch of one epoch that is out until its receipt is handed in. Answers whether it did: it
+    /// doesn't where none waits or a batch is out.
     pub fn take(&mut self) -> bool
-        ensures taken { MatchBool result (Takes self.old self.new)
-            (((self.old.core.row.waiting.count ≡ 0) ⊎ (self.old.core.is_out ≡ true)) × (self.new ≡ self.old)) }
+        ensures taken { MatchBool result (Takes self.old self.new) (CannotTake self.old.core × (self.new ≡ self.old)) }
     {
         match self.core.take() {
-            Some(batch) => {
-                self.out = Some(batch);
+            Some(taken) => {
+                self.out = Some(taken);
                 true
             }
             None => false,
         }
     }
 
-    /// Stores the batch that is out: all of it or nothing. Answers whether there was one to be stored. It takes no memory.
+    /// Stores the batch that is out: all of it or nothing. Answers whether there was one that the segment in use takes. It takes
+    /// no memory.
     ///
     /// `Device`: the device failed, and whether the batch is stored isn't known until the store is opened again. `Failed`: it
-    /// failed before; nothing changed. No other fault comes.
+    /// failed before; nothing changed. `Full`: the segment has no room for it, and nothing changed; that never comes in a world
+    /// of events (`Simulates`). No other fault comes.
     pub fn append(&mut self) -> Result<bool, StoreFault>
         ensures done { IfOk result (λ is_stored. MatchBool is_stored (Stores D.honest D.view self.old self.new)
-            ((self.old.out ≡ None) × (self.old.journal.failed ≡ false) × (self.new ≡ self.old))) }
-        ensures faults { IfErr result (λ fault. ((fault ≡ StoreFault.Failed) × (self.old.journal.failed ≡ true) × (self.new ≡ self.old))
-            ⊎ ((fault ≡ StoreFault.Device) × FailsToStore D.honest D.view self.old self.new)) }
-        ensures device { IsErrOf result StoreFault.Device → D.failed_calls self.new.journal.disk ≡ one_more (D.failed_calls self.old.journal.disk) }
+            (CannotAppend self.old × (self.old.store.failed ≡ false) × (self.new ≡ self.old))) }
+        ensures faults { IfErr result (λ fault. ((fault ≡ StoreFault.Failed) × (self.old.store.failed ≡ true) × (self.new ≡ self.old))
+            ⊎ (((fault ≡ StoreFault.Device) × FailsToStore D.honest D.view self.old self.new) ⊎ ((fault ≡ StoreFault.Full) × FindsFull self.old self.new))) }
+        ensures device { IsErrOf result StoreFault.Device → D.failed_calls self.new.store.disk ≡ one_more (D.failed_calls self.old.store.disk) }
     {
         if self.store.has_failed() {
             return Err(StoreFault::Failed);
         }
-        let Some(batch) = self.out.take() else {
+        let Some(taken) = self.out.take() else {
             return Ok(false);
         };
+        if taken.epoch != self.store.epoch() {
+            self.out = Some(taken);
+            return Ok(false);
+        }
+        let Taken { epoch, batch } = taken;
         match self.store.append(batch) {
             Ok(receipt) => {
                 self.receipt = Some(receipt);
+                self.finished_first = true;
                 Ok(true)
             }
             Err((fault, batch)) => {
-                self.out = Some(batch);
+                self.out = Some(Taken { epoch, batch });
                 Err(fault)
             }
         }
     }
 
-    /// Hands the receipt of the batch that was stored in. Answers whether there was one.
+    /// Hands the oldest receipt in: of a batch that was stored, or of an image that was finished. Answers whether there was one.
     pub fn durable(&mut self) -> bool
-        ensures { MatchBool result (HandsIn self.old self.new) ((self.old.receipt ≡ None) × (self.new ≡ self.old)) }
+        ensures { MatchBool result (HandsIn self.old self.new) ((self.old.receipt ≡ None) × (self.old.finished ≡ None) × (self.new ≡ self.old)) }
     {
+        if self.finished_first || self.receipt.is_none() {
+            if let Some(finished) = self.finished.take() {
+                self.core.finished(finished);
+                return true;
+            }
+        }
         match self.receipt.take() {
             Some(receipt) => {
                 self.core.durable(receipt);
@@ -225,7 +253,11 @@ impl<D: Disk> System<D> {
     /// Takes the records that wait, stores them, and hands their receipt in.
     fn store_waiting(&mut self) -> Result<(), StoreFault>
         requires out { self.old.core.is_out ≡ false }
-        requires unfailed { self.old.journal.failed ≡ false }
+        requires none_older { self.old.core.older.count ≡ 0 }
+        requires epoch { self.old.store.segment.epoch ≡ self.old.core.epoch }
+        requires room { 0 < self.old.core.row.waiting.count → self.old.store.segment.records + self.old.core.row.waiting.count ≤ MAX_RECORDS }
+        requires finished { self.old.finished ≡ None }
+        requires unfailed { self.old.store.failed ≡ false }
         ensures none { OnOk result (self.old.core.row.waiting.count ≡ 0 → self.new ≡ self.old) }
         ensures stored { OnOk result (0 < self.old.core.row.waiting.count → StoresAll D.honest D.view self.old self.new) }
         ensures faults { IfErr result (λ fault. (fault ≡ StoreFault.Device) × FailsToStoreAll D.honest D.view self.old self.new) }

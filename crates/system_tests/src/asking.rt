@@ -58,7 +58,7 @@ pub(crate) fn new_store(alloc: Global) -> Result<MemDisk, Fail> {
 /// How many records a store has.
 pub(crate) fn stored_records(alloc: Global, disk: MemDisk) -> Result<u64, Fail> {
     match open(alloc, disk) {
-        Ok(opened) => Ok(opened.journal.records()),
+        Ok(opened) => Ok(opened.segment.records),
         Err(_) => Err(Fail::from("the store can't be opened")),
     }
 }

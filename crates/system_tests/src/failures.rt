@@ -6,9 +6,9 @@ use disk::{MemDisk, Torn};
 use std::alloc::Global;
 use std::test::Fail;
 
-/// Opening a store makes eleven calls of the device: four syncs, four reads of the fronts, one of the segment, and two that
-/// end it.
-const OPENING: u64 = 11;
+/// Opening a store makes thirteen calls of the device: four syncs, four reads of headers, two of the image, one of the
+/// segment, and two that end it.
+const OPENING: u64 = 13;
 
 /// An append writes the batch, syncs, opens its gate, and syncs. One of these fails.
 static FAILS: [Row; 8] = [

@@ -5,6 +5,7 @@
 mod asking;
 #[cfg(test)]
 mod batches;
+mod checkpoints;
 #[cfg(test)]
 mod expect;
 #[cfg(test)]

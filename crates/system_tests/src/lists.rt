@@ -18,8 +18,10 @@ fn submit(call: Call) -> Event {
 }
 
 /// An event by its letter: a receive right is allocated (`a`), the message is sent to the first one (`s`), the status of that
-/// is asked for (`g`); what waits is taken (`k`), written (`w`), and its receipt handed in (`d`). Any other letter, from `0`
-/// on, asks for the reply of the ticket of its number.
+/// is asked for (`g`); what waits is taken (`k`), written (`w`), and the oldest receipt handed in (`d`); an epoch is cut (`c`),
+/// the next segment's slot closed (`l`), its header written (`h`), its gate opened (`o`); the next image's slot is closed
+/// (`i`), a piece of it written (`p`), and it is finished (`f`). Any other letter, from `0` on, asks for the reply of the ticket
+/// of its number.
 fn event_of(alloc: Global, letter: u8) -> Result<Event, AllocError> {
     Ok(match letter {
         b'a' => submit(Call::Allocate { right: 1 }),
@@ -30,6 +32,13 @@ fn event_of(alloc: Global, letter: u8) -> Result<Event, AllocError> {
         b'k' => Event::Take,
         b'w' => Event::Append,
         b'd' => Event::Durable,
+        b'c' => Event::Cut,
+        b'l' => Event::RollClose,
+        b'h' => Event::RollHead,
+        b'o' => Event::RollOpen,
+        b'i' => Event::ImageClose,
+        b'p' => Event::Piece,
+        b'f' => Event::Finish,
         _ => Event::Reply {
             ticket: u64::from(letter.wrapping_sub(b'0')),
         },
@@ -82,7 +91,11 @@ fn run(core: &mut System<MemDisk>, alloc: Global, letters: &[u8]) -> Result<Vec<
 }
 
 /// What a list of events answers on a disk, and the disk that a stop then leaves.
-fn play(alloc: Global, disk: MemDisk, letters: &[u8]) -> Result<(Vec<u8>, MemDisk), Fail> {
+pub(crate) fn play(
+    alloc: Global,
+    disk: MemDisk,
+    letters: &[u8],
+) -> Result<(Vec<u8>, MemDisk), Fail> {
     let mut core = core_on(alloc, disk)?;
     let answers = run(&mut core, alloc, letters);
     let disk = core.into_disk().after_stop()?;
@@ -140,7 +153,11 @@ fn letters_by(alloc: Global, seed: u64) -> Result<Vec<u8>, AllocError> {
 }
 
 /// How many records were told of by what a list of events answered, and how many were applied.
-fn bounds(alloc: Global, letters: &[u8], answers: &[u8]) -> Result<(u64, u64), AllocError> {
+pub(crate) fn bounds(
+    alloc: Global,
+    letters: &[u8],
+    answers: &[u8],
+) -> Result<(u64, u64), AllocError> {
     let mut seen = Vec::new(alloc);
     let (mut told, mut applied) = (0, 0u64);
     for (letter, answer) in letters.iter().zip(answers) {
@@ -202,7 +219,7 @@ fn is_bounded(alloc: Global, disk: MemDisk, letters: &[u8]) -> Result<(bool, boo
 }
 
 /// A new store whose device fails from this call on or at this call alone.
-fn failing(alloc: Global, at: u64, once: bool, torn: Torn) -> Result<MemDisk, Fail> {
+pub(crate) fn failing(alloc: Global, at: u64, once: bool, torn: Torn) -> Result<MemDisk, Fail> {
     let mut disk = new_store(alloc)?;
     if once {
         disk.plan(None, Some(at), torn);
@@ -212,8 +229,8 @@ fn failing(alloc: Global, at: u64, once: bool, torn: Torn) -> Result<MemDisk, Fa
     Ok(disk)
 }
 
-/// Opening a store makes eleven calls of the device, and each append four.
-const FIRST_CALL: u64 = 12;
+/// Opening a store makes thirteen calls of the device, and each append four.
+pub(crate) const FIRST_CALL: u64 = 14;
 
 /// How many calls of the device a list makes behind those of the opening, by what it answers where none fails.
 fn device_calls(letters: &[u8], answers: &[u8]) -> u64 {
@@ -243,7 +260,7 @@ fn swept(alloc: Global, letters: &[u8], once: bool, torn: Torn) -> Result<Option
     Ok(None)
 }
 
-static KINDS: [Torn; 6] = [
+pub(crate) static KINDS: [Torn; 6] = [
     Torn::Old,
     Torn::New,
     Torn::Half,

@@ -13,7 +13,8 @@ returns-clause-text g c =
     let found = c.in_ok-look.ensures.state in
     record {
       state = found.state;
+      epoch = c.in_ok-look.look.epoch;
       records = c.in_ok-look.look.records;
-      stands = found.stands;
-      lines = c.in_ok-list.ensures found.state found.rows ∙ (λ i. c.new-text.ensures.items i ++ listing (found.epoch i) c.in_ok-look.look.records found.state);
+      reads = found.reads;
+      lines = c.in_ok-list.ensures found.state found.rows ∙ (λ i. c.new-text.ensures.items i ++ listing c.in_ok-look.look.epoch c.in_ok-look.look.records found.state);
     }

@@ -13,7 +13,8 @@ returns-clause-text g c =
     let found = c.in_ok-look.ensures.state in
     record {
       state = found.state;
+      epoch = c.in_ok-look.look.epoch;
       records = c.in_ok-look.look.records;
-      stands = found.stands;
+      reads = found.reads;
       drawn = c.in_ok-draw.ensures found.state found.rows ∙ (λ i. c.new-text.ensures.items i ++ drawing found.state);
     }

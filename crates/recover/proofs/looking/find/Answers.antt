@@ -1,61 +1,55 @@
-use Rattle.std.proofs.Common.{◌≡◌, sym, subst, ◌∙◌}
+use Rattle.std.proofs.Common.{sym, subst}
 use Rattle.std.proofs.lemmas.Result.{err_from_is_err_and}
 use Rattle.disk.specs.Slots.{Slots}
-use Rattle.recover.specs.Fronts.{four_slots, fronts_of}
-use Rattle.recover.specs.Recovered.{Follows, IsOtherVersion}
-use Rattle.recover.specs.Surveyed.{HasBatchesAt}
-use Rattle.recover.proofs.Surveys.{some_is, batches_by_fronts, some_of, none_of, if_ok, other_of_fronts, fronts_of_other, damaged_by_fronts, stored_by_fronts, new_by_fronts, image_by_fronts, follows_of}
+use Rattle.ipc_model.specs.store.Recovery.{Recovered}
+use Rattle.recover.specs.Found.{Reads}
+use Rattle.recover.specs.Headers.{Says}
+use Rattle.recover.specs.Surveyed.{IsInUse as Uses, IsUnused, Surveys}
+use Rattle.standing.specs.Standing.{as_written}
 use Rattle.recover.proofs.looking.find.Goals as goal
 
-pub follow-requires : goal.follow-requires
-follow-requires g c = λ honest.
-    let first = (g.D.Disk.view c.args.disk.now).seen in
-    let same : four_slots c.deref.result.now c.deref-2.result.now c.deref-3.result.now c.deref-4.result.now ≡ fronts_of first =
-    (λ i. four_slots (c.deref.ensures.value i) (c.deref-2.ensures.value i) (c.deref-3.ensures.value i) (c.deref-4.ensures.value i)) ∙ c.in_ok-fronts.ensures.fronts honest in
-    subst (λ (s : Slots). HasBatchesAt s.segment0 c.in-Some.batches) (sym (c.in_ok-fronts.ensures.seen honest))
-    (batches_by_fronts first _ c.in-Some.batches same (some_is _ c.in_ok-batches.field-0 _ c.in-Some.is c.in_ok-batches.ensures.stored))
+pub returns-in_err-survey_store-clause-damaged : goal.returns-in_err-survey_store-clause-damaged
+returns-in_err-survey_store-clause-damaged g c = λ honest told.
+    let p = err_from_is_err_and c.from_residual-in_err-survey_store.result c.from_residual-in_err-survey_store.ensures.1 in
+    let seen = (g.D.Disk.view c.args.disk.now).seen in
+    let said = c.in_ok-headers.ensures.said honest in
+    (c.in_err-survey_store.ensures.no_other seen said (cc (p.1, p.2, told)), λ state found. c.in_err-survey_store.ensures.damaged seen said (cc (p.1, p.2, told)) found.base found.records found.spelled)
 
-pub returns-in_err-batches-clause-version : goal.returns-in_err-batches-clause-version
-returns-in_err-batches-clause-version g c = λ honest is.
-    let p = err_from_is_err_and c.from_residual-in_err-batches.result c.from_residual-in_err-batches.ensures.1 in
-    let first = (g.D.Disk.view c.args.disk.now).seen in
-    let same : four_slots c.deref.result.now c.deref-2.result.now c.deref-3.result.now c.deref-4.result.now ≡ fronts_of first =
-    (λ i. four_slots (c.deref.ensures.value i) (c.deref-2.ensures.value i) (c.deref-3.ensures.value i) (c.deref-4.ensures.value i)) ∙ c.in_ok-fronts.ensures.fronts honest in
-    other_of_fronts first (subst IsOtherVersion same (c.in_err-batches.ensures.version (cc (p.1, p.2, is))))
+pub look_new-requires-clause-unused : goal.look_new-requires-clause-unused
+look_new-requires-clause-unused g c = λ honest.
+    let seen = (g.D.Disk.view c.args.disk.now).seen in
+    subst IsUnused (sym (c.in_ok-headers.ensures.seen honest)) (subst (Surveys seen) c.in-New.is (c.in_ok-survey_store.ensures.surveyed seen (c.in_ok-headers.ensures.said honest)))
 
-pub returns-in_err-batches-clause-damaged : goal.returns-in_err-batches-clause-damaged
-returns-in_err-batches-clause-damaged g c = λ honest is.
-    let p = err_from_is_err_and c.from_residual-in_err-batches.result c.from_residual-in_err-batches.ensures.1 in
-    let first = (g.D.Disk.view c.args.disk.now).seen in
-    let same : four_slots c.deref.result.now c.deref-2.result.now c.deref-3.result.now c.deref-4.result.now ≡ fronts_of first =
-    (λ i. four_slots (c.deref.ensures.value i) (c.deref-2.ensures.value i) (c.deref-3.ensures.value i) (c.deref-4.ensures.value i)) ∙ c.in_ok-fronts.ensures.fronts honest in
-    damaged_by_fronts first _ same (c.in_err-batches.ensures.no_other (cc (p.1, p.2, is))) (c.in_err-batches.ensures.damaged (cc (p.1, p.2, is)))
+pub look_new-requires-clause-says : goal.look_new-requires-clause-says
+look_new-requires-clause-says g c = λ honest.
+    subst (λ (s : Slots). Says 16 s.segment0 c.in_ok-headers.headers.segment0) (sym (c.in_ok-headers.ensures.seen honest)) (c.in_ok-headers.ensures.said honest).segment0
 
-pub returns-in-Some-clause-state : goal.returns-in-Some-clause-state
-returns-in-Some-clause-state g c = λ honest.
-    let first = (g.D.Disk.view c.args.disk.now).seen in
-    let same : four_slots c.deref.result.now c.deref-2.result.now c.deref-3.result.now c.deref-4.result.now ≡ fronts_of first =
-    (λ i. four_slots (c.deref.ensures.value i) (c.deref-2.ensures.value i) (c.deref-3.ensures.value i) (c.deref-4.ensures.value i)) ∙ c.in_ok-fronts.ensures.fronts honest in
-    let image = some_of c.in_ok-batches.field-0 _ c.in-Some.is c.in_ok-batches.ensures.image in
-    if_ok c.follow.result
-    (λ r follows. stored_by_fronts first _ r.0 r.1 same c.in_ok-batches.ensures.second image (subst (λ (s : Slots). Follows s.segment0 r.0 r.1) (c.in_ok-fronts.ensures.seen honest) follows))
-    (c.follow.ensures.state honest)
-
-pub returns-in-Some-clause-damaged : goal.returns-in-Some-clause-damaged
-returns-in-Some-clause-damaged g c = λ honest is.
-    let first = (g.D.Disk.view c.args.disk.now).seen in
-    let same : four_slots c.deref.result.now c.deref-2.result.now c.deref-3.result.now c.deref-4.result.now ≡ fronts_of first =
-    (λ i. four_slots (c.deref.ensures.value i) (c.deref-2.ensures.value i) (c.deref-3.ensures.value i) (c.deref-4.ensures.value i)) ∙ c.in_ok-fronts.ensures.fronts honest in
-    let image = some_of c.in_ok-batches.field-0 _ c.in-Some.is c.in_ok-batches.ensures.image in
-    let at_first = c.in_ok-fronts.ensures.seen honest in (
-      λ other. c.in_ok-batches.ensures.one_version (subst IsOtherVersion (sym same) (fronts_of_other first other)),
-      λ state count recovers. c.follow.ensures.damaged honest is state count
-          (subst (λ (s : Slots). Follows s.segment0 state count) (sym at_first) (follows_of first state count recovers (image_by_fronts first _ same image))),
+pub returns-in_err-kernel-in-New-clause-damaged : goal.returns-in_err-kernel-in-New-clause-damaged
+returns-in_err-kernel-in-New-clause-damaged g c = λ honest told.
+    let p = err_from_is_err_and c.from_residual-in_err-kernel-in-New.result c.from_residual-in_err-kernel-in-New.ensures.1 in
+    let seen = (g.D.Disk.view c.args.disk.now).seen in (
+      c.in_ok-survey_store.ensures.one_version seen (c.in_ok-headers.ensures.said honest),
+      λ state found. c.in_err-kernel-in-New.ensures.damaged honest (cc (p.1, p.2, told)) state (subst (λ (s : Slots). Recovered (as_written s) state) (sym (c.in_ok-headers.ensures.seen honest)) found),
     )
 
-pub returns-clause-state : goal.returns-clause-state
-returns-clause-state g c = λ honest.
-    let first = (g.D.Disk.view c.args.disk.now).seen in
-    let same : four_slots c.deref.result.now c.deref-2.result.now c.deref-3.result.now c.deref-4.result.now ≡ fronts_of first =
-    (λ i. four_slots (c.deref.ensures.value i) (c.deref-2.ensures.value i) (c.deref-3.ensures.value i) (c.deref-4.ensures.value i)) ∙ c.in_ok-fronts.ensures.fronts honest in
-    new_by_fronts first _ c.in_ok-kernel-in-None.kernel same c.in_ok-batches.ensures.second (none_of c.in_ok-batches.field-0 c.in-None.is c.in_ok-batches.ensures.new) c.in_ok-kernel-in-None.ensures
+pub look_in_use-requires-clause-used : goal.look_in_use-requires-clause-used
+look_in_use-requires-clause-used g c = λ honest.
+    let seen = (g.D.Disk.view c.args.disk.now).seen in
+    subst (λ (s : Slots). Uses s c.in-InUse.epoch c.in-InUse.follows) (sym (c.in_ok-headers.ensures.seen honest))
+    (subst (Surveys seen) c.in-InUse.is (c.in_ok-survey_store.ensures.surveyed seen (c.in_ok-headers.ensures.said honest)))
+
+pub returns-in_err-kernel-in-InUse-clause-damaged : goal.returns-in_err-kernel-in-InUse-clause-damaged
+returns-in_err-kernel-in-InUse-clause-damaged g c = λ honest told.
+    let p = err_from_is_err_and c.from_residual-in_err-kernel-in-InUse.result c.from_residual-in_err-kernel-in-InUse.ensures.1 in
+    let seen = (g.D.Disk.view c.args.disk.now).seen in (
+      c.in_ok-survey_store.ensures.one_version seen (c.in_ok-headers.ensures.said honest),
+      λ state found. c.in_err-kernel-in-InUse.ensures.damaged honest (cc (p.1, p.2, told)) state (subst (λ (s : Slots). Recovered (as_written s) state) (sym (c.in_ok-headers.ensures.seen honest)) found),
+    )
+
+pub returns-in_ok-kernel-in-New-clause-reads : goal.returns-in_ok-kernel-in-New-clause-reads
+returns-in_ok-kernel-in-New-clause-reads g c = λ honest.
+    subst (λ (s : Slots). Reads s 0 0 c.in_ok-kernel-in-New.kernel) (c.in_ok-headers.ensures.seen honest) (c.in_ok-kernel-in-New.ensures.reads honest)
+
+pub returns-in_ok-kernel-in-InUse-clause-reads : goal.returns-in_ok-kernel-in-InUse-clause-reads
+returns-in_ok-kernel-in-InUse-clause-reads g c = λ honest.
+    subst (λ (s : Slots). Reads s c.in-InUse.epoch c.in_ok-kernel-in-InUse.records c.in_ok-kernel-in-InUse.kernel) (c.in_ok-headers.ensures.seen honest) (c.in_ok-kernel-in-InUse.ensures.reads honest)

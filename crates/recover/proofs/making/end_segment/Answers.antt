@@ -1,6 +1,6 @@
 use Rattle.std.proofs.Common.{◌+◌}
 use Rattle.disk.specs.Slots.{TornWrite, TornCut}
-use Rattle.recover.proofs.Lengths.{on_ok}
+use Rattle.slot_steps.proofs.Lengths.{on_ok}
 use Rattle.recover.proofs.Rest.{rest_but, rest_but_changed, rest_synced}
 use Rattle.recover.proofs.making.end_segment.Goals as goal
 

@@ -1,17 +1,22 @@
-use Rattle.std.proofs.Common.{Err, ap, ◌∙◌}
-use Rattle.recover.specs.RecoveredLaws.{one_state, no_other_version}
+use Rattle.std.proofs.Common.{Err, ap, sym, subst}
+use Rattle.disk.specs.Slots.{Slots}
+use Rattle.ipc_laws.specs.RecoveryLaws.{recovers_once, recovers_version_one}
+use Rattle.ipc_model.specs.store.Recovery.{Recovered}
+use Rattle.standing.specs.Standing.{as_written}
+use Rattle.recover.proofs.Joined.{kept_recovered}
 use Rattle.recover.proofs.opening.open.Goals as goal
+
+pub returns-in-Ok-clause-stands : goal.returns-in-Ok-clause-stands
+returns-in-Ok-clause-stands g c = λ honest left may. kept_recovered (g.D.Disk.view c.load.new.disk) c.in-Ok.segment c.in-Ok.kernel (c.in-Ok.ensures.kept honest) left may
+
+pub returns-in-Ok-clause-same : goal.returns-in-Ok-clause-same
+returns-in-Ok-clause-same g c = λ honest state found. recovers_once (as_written (g.D.Disk.view c.args.disk).seen) c.in-Ok.kernel state (c.in-Ok.ensures.state honest) found
 
 pub returns-in-Err-clause-damaged : goal.returns-in-Err-clause-damaged
 returns-in-Err-clause-damaged g c = λ honest is. c.in-Err.ensures.damaged honest (ap Err is)
 
-pub returns-in-Ok-clause-same : goal.returns-in-Ok-clause-same
-returns-in-Ok-clause-same g c = λ honest state count recovers.
-    let one = one_state (g.D.Disk.view c.args.disk).seen c.in-Ok.kernel state c.in-Ok.records count (c.in-Ok.ensures.state honest) recovers in
-    (one.0, c.new-journal.ensures.records ∙ one.1)
-
 pub returns-in-Err-clause-opens : goal.returns-in-Err-clause-opens
-returns-in-Err-clause-opens g c = λ honest state count recovers. (
-  λ is. (c.in-Err.ensures.damaged honest (ap Err is)).1 state count recovers,
-  λ is. no_other_version (g.D.Disk.view c.args.disk).seen state count recovers (c.in-Err.ensures.version honest (ap Err is)),
+returns-in-Err-clause-opens g c = λ honest state found. (
+  λ is. (c.in-Err.ensures.damaged honest (ap Err is)).1 state found,
+  λ is. recovers_version_one (as_written (g.D.Disk.view c.args.disk).seen) state found (c.in-Err.ensures.version honest (ap Err is)),
 )

@@ -4,7 +4,7 @@ use Rattle.disk.specs.Slots.{slot_of}
 use Rattle.journal.specs.Readers.{place_of}
 use Rattle.journal.specs.Reading.{Leads, IsNothing}
 use Rattle.journal.specs.Windows.{IsOver}
-use Rattle.recover.proofs.Rest.{rest_kept, unchanged_then}
+use Rattle.slot_steps.proofs.Moments.{unchanged_then}
 use Rattle.recover.proofs.Streams.{left_on, none_left, unread}
 use Rattle.recover.proofs.Surveys.{some_is}
 use Rattle.recover.proofs.reading.replay_all.Goals as goal
@@ -14,7 +14,7 @@ pub returns-in_err-entry-clause-damaged : goal.returns-in_err-entry-clause-damag
 returns-in_err-entry-clause-damaged g c = λ honest told.
     let inv = c.loop-state.invariant in
     let p = err_from_is_err_and c.from_residual.result c.from_residual.ensures.1 in
-    let segment = (g.D.Disk.view c.args.disk.now).seen.segment0 in
+    let segment = slot_of (g.D.Disk.view c.args.disk.now).seen c.args.slot in
     let same : slot_of (g.D.Disk.view c.loop-state.disk).seen c.loop-state.reader.window.slot ≡ segment = λ i. slot_of (inv.seen honest i) (inv.slot i) in
     unread segment (place_of c.args.reader.now) (place_of c.loop-state.reader) c.args.kernel c.loop-state.state (inv.left honest)
     (subst (λ l. IsNothing l (place_of c.loop-state.reader)) same (c.in_err-entry.ensures.damaged honest (cc (p.1, p.2, told))))
@@ -24,7 +24,7 @@ pub returns-in_err-state-clause-damaged : goal.returns-in_err-state-clause-damag
 returns-in_err-state-clause-damaged g c = λ honest told.
     let inv = c.loop-state.invariant in
     let p = err_from_is_err_and c.from_residual-in_err-state.result c.from_residual-in_err-state.ensures.1 in
-    let segment = (g.D.Disk.view c.args.disk.now).seen.segment0 in
+    let segment = slot_of (g.D.Disk.view c.args.disk.now).seen c.args.slot in
     let same : slot_of (g.D.Disk.view c.loop-state.disk).seen c.loop-state.reader.window.slot ≡ segment = λ i. slot_of (inv.seen honest i) (inv.slot i) in
     let leads = some_is _ c.in_ok-entry.field-0 c.in-Some.entry c.in-Some.is (c.in_ok-entry.ensures.leads honest) in
     none_left segment (place_of c.args.reader.now) (place_of c.loop-state.reader) (place_of c.next.new.self) c.in-Some.entry c.args.kernel c.loop-state.state (inv.left honest)
@@ -33,7 +33,7 @@ returns-in_err-state-clause-damaged g c = λ honest told.
 pub loop-state-preserved : goal.loop-state-preserved
 loop-state-preserved g c =
     let inv = c.loop-state.invariant in
-    let segment = (g.D.Disk.view c.args.disk.now).seen.segment0 in
+    let segment = slot_of (g.D.Disk.view c.args.disk.now).seen c.args.slot in
     record {
       left = λ honest.
           let same : slot_of (g.D.Disk.view c.loop-state.disk).seen c.loop-state.reader.window.slot ≡ segment = λ i. slot_of (inv.seen honest i) (inv.slot i) in
@@ -58,8 +58,3 @@ returns-in_err-entry-clause-time g c = λ honest. unchanged_then (g.D.Disk.view 
 
 pub returns-in_err-state-clause-time : goal.returns-in_err-state-clause-time
 returns-in_err-state-clause-time g c = λ honest. unchanged_then (g.D.Disk.view c.args.disk.now) (g.D.Disk.view c.loop-state.disk) (g.D.Disk.view c.next.new.disk) (c.loop-state.invariant.time honest) (c.in_ok-entry.ensures.time honest)
-
-pub returns-clause-rest : goal.returns-clause-rest
-returns-clause-rest g c = λ honest rest.
-    let time = unchanged_then (g.D.Disk.view c.args.disk.now) (g.D.Disk.view c.loop-state.disk) (g.D.Disk.view c.next.new.disk) (c.loop-state.invariant.time honest) (c.in_ok-entry.ensures.time honest) in
-    rest_kept (g.D.Disk.view c.args.disk.now) (g.D.Disk.view c.next.new.disk) time (c.in_ok-entry.ensures.seen honest ∙ c.loop-state.invariant.seen honest) rest

@@ -1,6 +1,6 @@
 use Rattle.std.proofs.Common.{◌≡◌, ◌-◌}
 use Rattle.disk.specs.Moments.{MayLeave, Passes}
-use Rattle.disk.specs.declared.slot.Slot.TheVariants.{Segment0}
+use Rattle.disk.specs.Slots.{slot_of}
 use Rattle.journal.specs.Readers.{place_of}
 use Rattle.journal.specs.Reading.{MAX_RECORDS}
 use Rattle.journal.specs.Windows.{IsOver}
@@ -10,9 +10,9 @@ use Rattle.recover.proofs.reading.replay_all.Given as goal
 -- what is left to be replayed is what was to be replayed, and the disk is as it was
 abbrev pub invariant-loop-state : goal.invariant-loop-state
 invariant-loop-state g l = record {
-  left : g.D.Disk.honest → IsLeft (g.D.Disk.view l.fn.disk).seen.segment0 (place_of l.fn.reader) (place_of l.reader) l.fn.kernel l.state;
-  over : g.D.Disk.honest → IsOver (g.D.Disk.view l.fn.disk).seen.segment0 l.reader.window;
-  slot : l.reader.window.slot ≡ Segment0;
+  left : g.D.Disk.honest → IsLeft (slot_of (g.D.Disk.view l.fn.disk).seen l.fn.slot) (place_of l.fn.reader) (place_of l.reader) l.fn.kernel l.state;
+  over : g.D.Disk.honest → IsOver (slot_of (g.D.Disk.view l.fn.disk).seen l.fn.slot) l.reader.window;
+  slot : l.reader.window.slot ≡ l.fn.slot;
   seen : g.D.Disk.honest → (g.D.Disk.view l.disk).seen ≡ (g.D.Disk.view l.fn.disk).seen;
   time : g.D.Disk.honest → Passes (g.D.Disk.view l.fn.disk) (g.D.Disk.view l.disk) (MayLeave (g.D.Disk.view l.fn.disk));
   quiet : g.D.Disk.failed_calls l.disk ≡ g.D.Disk.failed_calls l.fn.disk;

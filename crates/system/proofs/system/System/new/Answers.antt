@@ -1,28 +1,25 @@
-use Rattle.std.proofs.Common.{◌≡◌, ◌≤◌, ℕ, None, false, refl, sym, ap, subst, ◌∙◌, add-zero}
-use Rattle.std.specs.FinMap as finmap
-use Rattle.recover.specs.Kept.{IsKept}
+use Rattle.std.proofs.Common.{◌≡◌, ◌≤◌, ℕ, None, false, refl, sym, ap, subst, ◌∙◌}
+use Rattle.phases.specs.Passed.{IsKept}
+use Rattle.ipc_model.specs.state.Circular.{Grounded}
+use Rattle.ipc_model.specs.state.Lawful.{Lawful}
 use Rattle.ipc_model.specs.world.World.{first_world}
-use Rattle.journal.specs.Batch.{empty_batch}
-use Rattle.system.specs.Core.{StandsFor, TicketsValue, first_system}
-use Rattle.system.proofs.Simulation.{first_stands}
-use Rattle.system.specs.Halves.{KernelValue}
-use Rattle.system.specs.Phases.{IsPhase}
-use Rattle.system.proofs.Tickets.{none_fresh}
+use Rattle.system.specs.Core.{StandsFor, SystemValue, first_system}
+use Rattle.system.specs.Order.{IsInOrder}
+use Rattle.system.proofs.OrderLaws.{first_in_order}
+use Rattle.system.proofs.Runs.{first_stands}
 use Rattle.system.proofs.system.System.new.Goals as goal
 
 pub invariant_of-result : goal.invariant_of-result
 invariant_of-result g c =
-    let records : c.records-records.result ≡ c.new-2.result.records = c.records-records.ensures ∙ ap (λ j. j.records) (sym c.new-2.ensures) in
-    record {
-      phase = subst (λ (k : KernelValue). IsPhase k c.new-2.result.records None None k.is_out) (sym c.new.ensures) (records, add-zero c.new-2.result.records ∙ sym records);
-      fresh = λ number later. subst (λ (t : TicketsValue). finmap.get t.kept number ≡ None) (sym c.new-3.ensures) (none_fresh number);
-    }
+    let opened = c.opened.inside in
+    let made : SystemValue _ = record { core = c.new.result; store = c.new-2.result; out = None; receipt = None; finished = None; finished_first = false; tickets = c.new-3.result } in
+    let is : made ≡ first_system opened.kernel opened.disk opened.segment = λ i. record { core = c.new.ensures i; store = c.new-2.ensures i; out = None; receipt = None; finished = None; finished_first = false; tickets = c.new-3.ensures i } in
+    subst IsInOrder (sym is) (first_in_order opened.kernel opened.disk opened.segment)
 
 pub returns-clause-stands : goal.returns-clause-stands
-returns-clause-stands g c = λ unfailed.
+returns-clause-stands g c =
     let opened = c.args.opened in
-    let core = c.new.ensures ∙ ap (λ (n : ℕ). record { kernel = c.opened.inside.kernel; row = record { length = n; waiting = empty_batch }; handed = n; is_out = false }) c.records-records.ensures in
-    let is = (λ i. record { core = core i; journal = c.new-2.ensures i; out = None; receipt = None; tickets = c.new-3.ensures i }) ∙ ap (λ o. first_system o.kernel o.journal) c.opened.view_is in
-    subst (StandsFor g.D.Disk.honest g.D.Disk.view opened.kernel (first_world 0 opened.journal.records)) (sym is)
-    (first_stands g.D.Disk.honest g.D.Disk.view opened.kernel opened.kernel opened.journal refl unfailed
-    (subst (λ o. g.D.Disk.honest → IsKept (g.D.Disk.view o.journal.disk) o.kernel o.journal.records) c.opened.view_is c.opened.invariant))
+    let is = (λ i. record { core = c.new.ensures i; store = c.new-2.ensures i; out = None; receipt = None; finished = None; finished_first = false; tickets = c.new-3.ensures i }) ∙ ap (λ o. first_system o.kernel o.disk o.segment) c.opened.view_is in
+    subst (StandsFor g.D.Disk.honest g.D.Disk.view opened.kernel (first_world opened.segment.epoch opened.segment.records)) (sym is)
+    (first_stands g.D.Disk.honest g.D.Disk.view opened.kernel opened.kernel opened.disk opened.segment refl (subst (λ o. Lawful o.kernel) c.opened.view_is c.has_image.ensures.lawful) (subst (λ o. Grounded o.kernel) c.opened.view_is c.has_image.ensures.grounded)
+    (subst (λ o. g.D.Disk.honest → IsKept (g.D.Disk.view o.disk) o.segment o.kernel) c.opened.view_is c.opened.invariant))

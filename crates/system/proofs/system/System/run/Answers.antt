@@ -1,9 +1,10 @@
-use Rattle.std.proofs.Common.{◌∷◌, ◌++◌, [], List, take, sym, ap, subst, ◌∙◌, arith}
+use Rattle.std.proofs.Common.{◌≡◌, ◌∷◌, ◌++◌, [], List, length, take, sym, ap, subst, ◌∙◌, arith}
 use Rattle.std.proofs.lemmas.List.{take_more}
 use Rattle.system.specs.Core.{RunsThrough}
 use Rattle.system.specs.declared.event.Event.{Event}
 use Rattle.system.specs.declared.event.Outcome.{Outcome}
-use Rattle.system.proofs.Simulation.{through_push}
+use Rattle.system.proofs.Lists.{take_end}
+use Rattle.system.proofs.Runs.{through_push}
 use Rattle.system.proofs.system.System.run.Goals as goal
 
 pub loop-event-preserved : goal.loop-event-preserved
@@ -18,3 +19,9 @@ loop-event-preserved g c = (
   omega (arith, c.push_reserved.ensures.len, c.loop-event.invariant.1),
   omega (arith, c.push_reserved.ensures.capacity, c.loop-event.invariant.2),
 )
+
+pub returns-clause-runs : goal.returns-clause-runs
+returns-clause-runs g c = λ base w stands.
+    let events : List Event = c.args.events.now in
+    let last : c.loop-event.event-index ≡ length events = omega (arith, c.loop-event-test.false, c.loop-event.auto.event-index-end) in
+    subst (λ (l : List Event). RunsThrough g.D.Disk.honest g.D.Disk.view base w l c.loop-event.outcomes.items c.args.self.now c.loop-event.self) (ap (λ n. take n events) last ∙ take_end events) (c.loop-event.invariant.0 base w stands)

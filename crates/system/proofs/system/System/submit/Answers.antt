@@ -4,9 +4,9 @@ use Rattle.std.specs.FinMap as finmap
 use Rattle.system.specs.Changes.{Submits}
 use Rattle.system.specs.Core.{SystemValue, TicketsValue}
 use Rattle.system.specs.Halves.{IsFullFor, KernelValue}
+use Rattle.system.specs.Order.{IsInOrder}
 use Rattle.system.specs.declared.kernel_half.SubmitFault.TheVariants.{EpochFull}
-use Rattle.system.specs.Phases.{IsPhase}
-use Rattle.system.proofs.PhaseLaws.{gives_phase}
+use Rattle.system.proofs.OrderLaws.{given_in_order}
 use Rattle.system.proofs.Tickets.{dropped_place, err_same, fresh_more, given_ticket, place_there}
 use Rattle.system.proofs.system.System.submit.Goals as goal
 
@@ -16,29 +16,29 @@ give-requires-clause-place g c =
 
 pub invariant_of-self-in-Ok : goal.invariant_of-self-in-Ok
 invariant_of-self-in-Ok g c =
-    let old = c.self.inside.tickets in
-    let is = given_ticket old c.make_place.new.self c.give.new.self c.in-Ok.ticket c.in_ok-make_place.ensures.ok c.give.ensures.kept in
-    record {
-      phase = gives_phase c.self.inside.core c.args.space c.args.call.now c.in-Ok.ticket c.submit.new.self c.in-Ok.ensures.given c.self.inside.store.records c.self.inside.out c.self.inside.receipt c.self.invariant.phase;
-      fresh = subst (λ (t : TicketsValue). (number : ℕ) → t.given ≤ number → finmap.get t.kept number ≡ None) (sym is) (fresh_more old.kept old.given (Some c.in-Ok.ticket) c.self.invariant.fresh);
-    }
+    let inside = c.self.inside in
+    let old : SystemValue _ = record { core = inside.core; store = inside.store; out = inside.out; receipt = inside.receipt; finished = inside.finished; finished_first = inside.finished_first; tickets = inside.tickets } in
+    let is = given_ticket inside.tickets c.make_place.new.self c.give.new.self c.in-Ok.ticket c.in_ok-make_place.ensures.ok c.give.ensures.kept in
+    given_in_order old c.args.space c.args.call.now c.in-Ok.ticket c.submit.new.self c.give.new.self c.self.invariant c.in-Ok.ensures.given
+    (subst (λ (t : TicketsValue). (number : ℕ) → t.given ≤ number → finmap.get t.kept number ≡ None) (sym is) (fresh_more inside.tickets.kept inside.tickets.given (Some c.in-Ok.ticket) c.self.invariant.fresh))
 
 pub invariant_of-self-in-Err : goal.invariant_of-self-in-Err
 invariant_of-self-in-Err g c =
-    let old = c.self.inside.tickets in
-    let is : c.drop_place.new.self ≡ old = dropped_place old c.make_place.new.self c.drop_place.new.self c.in_ok-make_place.ensures.ok c.drop_place.ensures (c.self.invariant.fresh old.given (omega arith)) in
-    record {
-      phase = subst (λ k. IsPhase k c.self.inside.store.records c.self.inside.out c.self.inside.receipt k.is_out) (sym c.in-Err.ensures.err) c.self.invariant.phase;
-      fresh = subst (λ (t : TicketsValue). (number : ℕ) → t.given ≤ number → finmap.get t.kept number ≡ None) (sym is) c.self.invariant.fresh;
-    }
+    let inside = c.self.inside in
+    let is : c.drop_place.new.self ≡ inside.tickets = dropped_place inside.tickets c.make_place.new.self c.drop_place.new.self c.in_ok-make_place.ensures.ok c.drop_place.ensures (c.self.invariant.fresh inside.tickets.given (omega arith)) in
+    let old : SystemValue _ = record { core = inside.core; store = inside.store; out = inside.out; receipt = inside.receipt; finished = inside.finished; finished_first = inside.finished_first; tickets = inside.tickets } in
+    let new : SystemValue _ = record { core = c.submit.new.self; store = inside.store; out = inside.out; receipt = inside.receipt; finished = inside.finished; finished_first = inside.finished_first; tickets = c.drop_place.new.self } in
+    let whole : new ≡ old = λ i. record { core = c.in-Err.ensures.err i; store = inside.store; out = inside.out; receipt = inside.receipt; finished = inside.finished; finished_first = inside.finished_first; tickets = is i } in
+    subst IsInOrder (sym whole) c.self.invariant
 
 pub returns-in-Ok-clause-given : goal.returns-in-Ok-clause-given
 returns-in-Ok-clause-given g c =
-    let is = given_ticket c.self.inside.tickets c.make_place.new.self c.give.new.self c.in-Ok.ticket c.in_ok-make_place.ensures.ok c.give.ensures.kept in
-    subst (λ s. Submits s c.args.space c.args.call.now (record { core = c.submit.new.self; journal = c.self.inside.store; out = c.self.inside.out; receipt = c.self.inside.receipt; tickets = c.give.new.self })) c.self.view_is (record {
+    let inside = c.self.inside in
+    let is = given_ticket inside.tickets c.make_place.new.self c.give.new.self c.in-Ok.ticket c.in_ok-make_place.ensures.ok c.give.ensures.kept in
+    subst (λ s. Submits s c.args.space c.args.call.now (record { core = c.submit.new.self; store = inside.store; out = inside.out; receipt = inside.receipt; finished = inside.finished; finished_first = inside.finished_first; tickets = c.give.new.self })) c.self.view_is (record {
       ticket = c.in-Ok.ticket;
       gives = c.in-Ok.ensures.given;
-      rest = λ i. record { core = c.submit.new.self; journal = c.self.inside.store; out = c.self.inside.out; receipt = c.self.inside.receipt; tickets = is i };
+      rest = λ i. record { core = c.submit.new.self; store = inside.store; out = inside.out; receipt = inside.receipt; finished = inside.finished; finished_first = inside.finished_first; tickets = is i };
     })
 
 pub returns-in-Err-clause-full : goal.returns-in-Err-clause-full
@@ -46,6 +46,6 @@ returns-in-Err-clause-full g c = λ is. subst (λ (k : KernelValue). IsFullFor k
 
 pub returns-in-Err-clause-err : goal.returns-in-Err-clause-err
 returns-in-Err-clause-err g c =
-    let old = c.self.inside.tickets in
-    let is : c.drop_place.new.self ≡ old = dropped_place old c.make_place.new.self c.drop_place.new.self c.in_ok-make_place.ensures.ok c.drop_place.ensures (c.self.invariant.fresh old.given (omega arith)) in
-    (λ i. record { core = c.in-Err.ensures.err i; journal = c.self.inside.store; out = c.self.inside.out; receipt = c.self.inside.receipt; tickets = is i }) ∙ c.self.view_is
+    let inside = c.self.inside in
+    let is : c.drop_place.new.self ≡ inside.tickets = dropped_place inside.tickets c.make_place.new.self c.drop_place.new.self c.in_ok-make_place.ensures.ok c.drop_place.ensures (c.self.invariant.fresh inside.tickets.given (omega arith)) in
+    (λ i. record { core = c.in-Err.ensures.err i; store = inside.store; out = inside.out; receipt = inside.receipt; finished = inside.finished; finished_first = inside.finished_first; tickets = is i }) ∙ c.self.view_is

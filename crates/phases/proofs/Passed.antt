@@ -1,0 +1,2 @@
+-- Lemmas on runs, for the crates above.
+pub use Rattle.recover.proofs.Stages.{run_join}

@@ -1,0 +1,3 @@
+pub mod Batches
+pub mod Passed
+pub mod Phases

@@ -1,0 +1,126 @@
+-- Images that are read from their slots.
+use Rattle.std.proofs.Common.{◌≡◌, ℕ, ◌+◌, ◌≤◌, ◌<◌, ◌^◌, List, [], ◌∷◌, ◌++◌, length, take, drop, refl, sym, ap, subst, ◌∙◌, arith, append_assoc, length-append, take-append-drop, length-take, length-drop}
+use Rattle.std.specs.Prelude.{◌-◌, min}
+use Rattle.std.proofs.lemmas.List.{append-nil, drop-drop, take_at}
+use Rattle.words.specs.WordLaws.{same_long_word, length-long_word}
+use Rattle.words.specs.Words.{long_word}
+use Rattle.ipc_model.specs.state.Circular.{Grounded}
+use Rattle.ipc_model.specs.state.Lawful.{Lawful, ShortQueues}
+use Rattle.ipc_model.specs.state.State.{State}
+use Rattle.ipc_model.specs.store.Recovery.{HoldsImage, IsOfEpoch}
+use Rattle.ipc_model.specs.store.Store.{epoch_text, image_content, open_gate, segment_header}
+use Rattle.ipc_model.specs.texts.Images.{image_text}
+use Rattle.image.specs.Fitting.{FitsImage}
+use Rattle.image.specs.LawfulFits.{lawful_snapshots_fit}
+use Rattle.image.specs.RowLaws.{image_of_state}
+use Rattle.image.specs.Rows.{snapshot_text}
+use Rattle.snapshot.specs.LawfulSnapshot.{IsLawfulSnapshot}
+use Rattle.snapshot.specs.Rows.{one_state}
+use Rattle.snapshot.specs.Snapshots.{snapshot_of}
+use Rattle.snapshot.specs.declared.rows.Snapshot.{Snapshot}
+use Rattle.recover.specs.Loaded.{HoldsText, IsImageOf}
+
+-- a text that stands there with its length is one
+pub one_text : (a b x y : List ℕ) → length a < 2 ^ 64 → length b < 2 ^ 64 → long_word (length a) ++ (a ++ x) ≡ long_word (length b) ++ (b ++ y) → a ≡ b
+one_text a b x y fits fits_too is =
+    let long : length a ≡ length b = same_long_word (length a) (length b) (a ++ x) (b ++ y) fits fits_too is in
+    let behind : a ++ x ≡ b ++ y = ap (λ (l : List ℕ). drop 8 l) is in
+    sym (take_at a x (length b) long) ∙ ap (take (length b)) behind ∙ take_at b y (length b) refl
+
+-- the image of a state, and its text
+pub image_behind : (epoch : ℕ) (slot : List ℕ) (state : State) → HoldsImage epoch slot state → HoldsText slot (image_text state)
+image_behind epoch slot state image = record {
+  rest = image.rest;
+  fits = image.fits;
+  behind = ap (λ (l : List ℕ). drop 16 l) image.text ∙ append_assoc (long_word (length (image_text state))) (image_text state) image.rest;
+}
+
+pub text_is_image : (number epoch : ℕ) (slot text : List ℕ) (state : State) → IsOfEpoch number epoch slot → HoldsText slot text → IsImageOf text state → HoldsImage epoch slot state
+text_is_image number epoch slot text state is holds image =
+    let same : drop 16 slot ≡ is.rest = ap (λ (l : List ℕ). drop 16 l) is.text in
+    let whole : slot ≡ segment_header open_gate epoch ++ (long_word (length text) ++ (text ++ holds.rest)) = is.text ∙ ap (λ (l : List ℕ). segment_header open_gate epoch ++ l) (sym same ∙ holds.behind) in
+    record {
+      rest = holds.rest;
+      text = whole ∙ ap (λ (l : List ℕ). segment_header open_gate epoch ++ l) (sym (append_assoc (long_word (length text)) text holds.rest))
+          ∙ ap (λ (t : List ℕ). (open_gate ∷ image_content epoch t) ++ holds.rest) image.same;
+      fits = subst (λ (t : List ℕ). length t < 2 ^ 64) image.same holds.fits;
+      lawful = image.lawful;
+      grounded = image.grounded;
+      short = image.short;
+    }
+
+-- a word that is read behind a slot's header
+pub word_read : (slot buffer old behind : List ℕ) (n size : ℕ) → 24 ≤ length slot → length old ≡ 8 → n ≡ min (length old) (length slot - 16) → buffer ≡ take n (drop 16 slot) ++ drop n old → buffer ≡ long_word size ++ behind
+    → (rest : List ℕ) × (drop 16 slot ≡ long_word size ++ rest)
+word_read slot buffer old behind n size long one count bytes found =
+    let all : n ≡ 8 = omega (arith, long, one, count) in
+    let none : drop 8 old ≡ [] = nothing (drop 8 old) (omega (arith, length-drop 8 old, one)) in
+    let front : buffer ≡ take 8 (drop 16 slot) = bytes ∙ (λ i. take (all i) (drop 16 slot) ++ drop (all i) old) ∙ ap (λ (l : List ℕ). take 8 (drop 16 slot) ++ l) none ∙ append-nil (take 8 (drop 16 slot)) in
+    (behind ++ drop 8 (drop 16 slot), sym (take-append-drop 8 (drop 16 slot)) ∙ ap (λ (l : List ℕ). l ++ drop 8 (drop 16 slot)) (sym front ∙ found) ∙ append_assoc (long_word size) behind (drop 8 (drop 16 slot)))
+  where
+    nothing : (l : List ℕ) → length l ≡ 0 → l ≡ []
+    nothing [] is = refl
+    nothing (x ∷ l) is = absurd (omega (arith, is))
+
+-- a text that is read behind a slot's whole header
+pub text_read : (slot buffer old rest : List ℕ) (n size : ℕ) → drop 16 slot ≡ long_word size ++ rest → size < 2 ^ 64 → size ≤ length slot - 24 → 24 ≤ length slot → length old ≡ size → n ≡ min (length old) (length slot - 24)
+    → buffer ≡ take n (drop 24 slot) ++ drop n old → HoldsText slot buffer
+text_read slot buffer old rest n size word fits room long made count bytes =
+    let all : n ≡ size = omega (arith, room, long, made, count) in
+    let none : drop size old ≡ [] = nothing (drop size old) (omega (arith, length-drop size old, made)) in
+    let front : buffer ≡ take size (drop 24 slot) = bytes ∙ (λ i. take (all i) (drop 24 slot) ++ drop (all i) old) ∙ ap (λ (l : List ℕ). take size (drop 24 slot) ++ l) none ∙ append-nil (take size (drop 24 slot)) in
+    let sized : length buffer ≡ size = omega (arith, ap length front, length-take size (drop 24 slot), length-drop 24 slot, room, long) in
+    let behind : drop 24 slot ≡ rest = drop_more slot ∙ ap (λ (l : List ℕ). drop 8 l) word in
+    record {
+      rest = drop size (drop 24 slot);
+      fits = omega (arith, sized, fits);
+      behind = word ∙ ap (λ (l : List ℕ). long_word size ++ l) (sym behind ∙ sym (take-append-drop size (drop 24 slot)) ∙ ap (λ (l : List ℕ). l ++ drop size (drop 24 slot)) (sym front))
+          ∙ ap (λ (k : ℕ). long_word k ++ (buffer ++ drop size (drop 24 slot))) (sym sized);
+    }
+  where
+    nothing : (l : List ℕ) → length l ≡ 0 → l ≡ []
+    nothing [] is = refl
+    nothing (x ∷ l) is = absurd (omega (arith, is))
+
+    drop_more : (l : List ℕ) → drop 24 l ≡ drop 8 (drop 16 l)
+    drop_more l = sym (drop-drop 8 16 l)
+
+-- the image of a lawful state, read as rows
+
+pub image_fits : (text : List ℕ) (state : State) → IsImageOf text state → FitsImage (snapshot_of state)
+image_fits text state is = lawful_snapshots_fit state is.lawful is.short
+
+pub image_as_rows : (text : List ℕ) (state : State) → IsImageOf text state → text ≡ snapshot_text (snapshot_of state)
+image_as_rows text state is = is.same ∙ sym (image_of_state state)
+
+pub rows_are_image : (text : List ℕ) (snapshot : Snapshot) (state : State) → text ≡ snapshot_text snapshot → snapshot ≡ snapshot_of state → IsLawfulSnapshot snapshot → IsImageOf text state
+rows_are_image text snapshot state is same lawful =
+    let one : lawful.state ≡ state = one_state lawful.state state (sym lawful.same ∙ same) in
+    record {
+      same = is ∙ ap snapshot_text same ∙ image_of_state state;
+      lawful = subst Lawful one lawful.lawful;
+      grounded = subst Grounded one lawful.grounded;
+      short = subst ShortQueues one lawful.short;
+    }
+
+pub lawful_rows : (text : List ℕ) (snapshot : Snapshot) (state : State) → snapshot ≡ snapshot_of state → IsImageOf text state → IsLawfulSnapshot snapshot
+lawful_rows text snapshot state same is = record { state = state; same = same; lawful = is.lawful; grounded = is.grounded; short = is.short }
+
+-- a vector that was filled to its end
+pub filled : (buffer items : List ℕ) (len : ℕ) → len ≡ length buffer → take len (buffer ++ drop (length buffer) items) ≡ buffer
+filled buffer items len is = take_at buffer (drop (length buffer) items) len (sym is)
+
+pub read_length : (slot buffer old : List ℕ) (n : ℕ) → n ≡ min (length old) (length slot - 24) → buffer ≡ take n (drop 24 slot) ++ drop n old → length buffer ≡ length old
+read_length slot buffer old n count bytes =
+    omega (arith, ap length bytes, length-append (take n (drop 24 slot)) (drop n old), length-take n (drop 24 slot), length-drop 24 slot, length-drop n old, count)
+
+-- a text that stands in a slot with an image is the image's
+pub text_of_image : (epoch : ℕ) (slot text : List ℕ) (state : State) → HoldsText slot text → HoldsImage epoch slot state → IsImageOf text state
+text_of_image epoch slot text state holds image =
+    let own = image_behind epoch slot state image in
+    record {
+      same = one_text text (image_text state) holds.rest own.rest holds.fits own.fits (sym holds.behind ∙ own.behind);
+      lawful = image.lawful;
+      grounded = image.grounded;
+      short = image.short;
+    }

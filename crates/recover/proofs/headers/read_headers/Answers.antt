@@ -1,0 +1,17 @@
+use Rattle.std.proofs.Common.{ap, subst, ◌∙◌}
+use Rattle.disk.specs.Slots.{Slots}
+use Rattle.ipc_model.specs.store.Recovery.{image_header, segment_header_length}
+use Rattle.recover.specs.Headers.{Says}
+use Rattle.recover.proofs.headers.read_headers.Goals as goal
+
+pub returns-clause-said : goal.returns-clause-said
+returns-clause-said g c = λ honest.
+    let first = c.in_ok-image0.ensures.seen honest in
+    let second = c.in_ok-image1.ensures.seen honest ∙ first in
+    let third = c.in_ok-segment0.ensures.seen honest ∙ second in
+    record {
+      image0 = c.in_ok-image0.ensures.said honest;
+      image1 = subst (λ (s : Slots). Says image_header s.image1 c.in_ok-image1.image1) first (c.in_ok-image1.ensures.said honest);
+      segment0 = subst (λ (s : Slots). Says segment_header_length s.segment0 c.in_ok-segment0.segment0) second (c.in_ok-segment0.ensures.said honest);
+      segment1 = subst (λ (s : Slots). Says segment_header_length s.segment1 c.in_ok-segment1.segment1) third (c.in_ok-segment1.ensures.said honest);
+    }

@@ -1,0 +1,43 @@
+use Rattle.std.proofs.Common.{◌≡◌, ◌+◌, ◌∙◌, ℕ, List, drop, sym, ap, subst, arith, true, false}
+use Rattle.std.proofs.lemmas.Result.{err_from_is_err_and}
+use Rattle.disk.specs.Slots.{Slots, slot_of}
+use Rattle.ipc_model.specs.store.Store.{SpellsBatches}
+use Rattle.recover.specs.Found.{Reads, ReadsOne}
+use Rattle.recover.specs.Replayed.{ReplaysAll}
+use Rattle.recover.specs.Surveyed.{IsInUse as Uses}
+use Rattle.slot_steps.specs.Steps.{segment_slot}
+use Rattle.recover.proofs.Ways.{next_damaged, one_reads, read_damaged, two_few, two_reads}
+use Rattle.recover.proofs.looking.look_in_use.Goals as goal
+
+pub returns-in_err-kernel-clause-damaged : goal.returns-in_err-kernel-clause-damaged
+returns-in_err-kernel-clause-damaged g c = λ honest told.
+    let p = err_from_is_err_and c.from_residual.result c.from_residual.ensures.1 in
+    read_damaged (g.D.Disk.view c.args.disk.now).seen c.args.epoch c.args.follows (c.requires.used honest) (c.in_err-kernel.ensures.damaged honest (cc (p.1, p.2, told)))
+
+pub returns-then-not-follows-clause-reads : goal.returns-then-not-follows-clause-reads
+returns-then-not-follows-clause-reads g c = λ honest.
+    let seen = (g.D.Disk.view c.args.disk.now).seen in
+    one_reads seen c.args.epoch c.in_ok-kernel.kernel c.in_ok-kernel.first c.in_ok-kernel.field-0-2 (subst (Uses seen c.args.epoch) (cc c.if-not-follows.true) (c.requires.used honest)) (c.in_ok-kernel.ensures.read honest)
+
+pub returns-in_err-kernel-2-clause-damaged : goal.returns-in_err-kernel-2-clause-damaged
+returns-in_err-kernel-2-clause-damaged g c = λ honest told.
+    let p = err_from_is_err_and c.from_residual-in_err-kernel-2.result c.from_residual-in_err-kernel-2.ensures.1 in
+    let e = c.args.epoch in
+    let seen = (g.D.Disk.view c.args.disk.now).seen in
+    next_damaged seen e c.in_ok-kernel.kernel c.in_ok-kernel.first c.in_ok-kernel.field-0-2 (subst (Uses seen e) c.if-not-follows.false (c.requires.used honest)) (c.in_ok-kernel.ensures.read honest)
+    (λ rs s spelled. c.in_err-kernel-2.ensures.damaged honest (cc (p.1, p.2, told)) rs s
+    (subst (λ slot. SpellsBatches (drop 16 (slot_of (g.D.Disk.view c.read_epoch.new.disk).seen slot)) rs) (sym c.segment_slot.ensures)
+    (subst (λ (d : Slots). SpellsBatches (drop 16 (slot_of d (segment_slot (e + 1)))) rs) (sym (c.in_ok-kernel.ensures.seen honest)) spelled)))
+
+pub returns-clause-reads : goal.returns-clause-reads
+returns-clause-reads g c = λ honest.
+    let e = c.args.epoch in
+    let seen = (g.D.Disk.view c.args.disk.now).seen in
+    let mid = c.in_ok-kernel.kernel in
+    let next = c.in_ok-kernel-2 in
+    let used = subst (Uses seen e) c.if-not-follows.false (c.requires.used honest) in
+    let replays = subst (λ slot. ReplaysAll (slot_of seen slot) mid next.kernel next.next next.field-0-2) c.segment_slot.ensures
+    (subst (λ (d : Slots). ReplaysAll (slot_of d c.segment_slot.result) mid next.kernel next.next next.field-0-2) (c.in_ok-kernel.ensures.seen honest) (next.ensures.state honest)) in
+    let few = two_few seen e mid next.kernel c.in_ok-kernel.first c.in_ok-kernel.field-0-2 next.next next.field-0-2 (c.in_ok-kernel.ensures.read honest) replays in
+    subst (λ (n : ℕ). Reads seen e n next.kernel) (omega (arith, few, c.saturating_add.ensures))
+    (two_reads seen e mid next.kernel c.in_ok-kernel.first c.in_ok-kernel.field-0-2 next.next next.field-0-2 used (c.in_ok-kernel.ensures.read honest) replays)

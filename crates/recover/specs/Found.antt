@@ -1,0 +1,37 @@
+-- What is read of a store.
+use Rattle.std.specs.Prelude.{◌≡◌, ◌⊎◌, ℕ, ◌+◌, ◌%◌, ◌<◌, List, length}
+use Rattle.disk.specs.Slots.{Slots, slot_of}
+use Rattle.ipc_model.specs.calls.Step.{Run}
+use Rattle.ipc_model.specs.declared.record.Record.{Record}
+use Rattle.ipc_model.specs.state.State.{State}
+use Rattle.ipc_model.specs.store.Recovery.{HoldsImage, IsOfEpoch, IsOpen, Spells, image_header}
+use Rattle.slot_steps.specs.Steps.{image_slot, segment_slot}
+use Rattle.standing.specs.Standing.{as_written, IsPassedImage}
+use Rattle.recover.specs.Replayed.{ReplaysAll}
+
+-- an epoch's image is open, and its segment
+pub record HasOwn (slots : Slots) (epoch : ℕ) : Type 0 where
+  pub image_open : IsOpen image_header (slot_of slots (image_slot epoch))
+  pub image : IsOfEpoch (epoch % 2) epoch (slot_of slots (image_slot epoch))
+  pub segment : IsOfEpoch (epoch % 2) epoch (slot_of slots (segment_slot epoch))
+
+-- The state after an epoch's image and the records of its segment: so many, and the last batch ends at `end`.
+pub record ReadsOne (slots : Slots) (epoch : ℕ) (state : State) (count end : ℕ) : Type 0 where
+  pub base : State
+  pub image : HoldsImage epoch (slot_of slots (image_slot epoch)) base
+  pub replays : ReplaysAll (slot_of slots (segment_slot epoch)) base state count end
+
+-- no image is open, or that of this epoch is the latest
+abbrev pub IsLatestEpoch : Slots → ℕ → Type 0
+IsLatestEpoch slots epoch =
+    (((number : ℕ) → number < 2 → IsOpen image_header ((as_written slots).image number) → ⊥) × (epoch ≡ 0))
+    ⊎ (IsOpen image_header (slot_of slots (image_slot epoch)) × IsOfEpoch (epoch % 2) epoch (slot_of slots (image_slot epoch)) × IsPassedImage epoch (slot_of slots (image_slot (epoch + 1))))
+
+-- What slots spell: the epoch of the image, so many records in the segments, and the state after them.
+pub record Reads (slots : Slots) (epoch count : ℕ) (state : State) : Type 0 where
+  pub latest : IsLatestEpoch slots epoch
+  pub base : State
+  pub records : List Record
+  pub spelled : Spells (as_written slots) base records
+  pub run : Run base records state
+  pub counted : count ≡ length records

@@ -1,0 +1,84 @@
+// What a store in use holds, read from its slots.
+ghost use Rattle.std.specs.Prelude.{◌≡◌, ◌⊎◌, List, drop, Err, IfOk, IsErrOf, OnErr, OnOk, MatchBool};
+ghost use Rattle.disk.specs.Moments.{CountsFailure, MayLeave, Passes, one_more};
+ghost use Rattle.disk.specs.Slots.{slot_of};
+ghost use Rattle.ipc_model.specs.calls.Step.{Run};
+ghost use Rattle.ipc_model.specs.declared.record.Record.{Record};
+ghost use Rattle.ipc_model.specs.state.State.{State};
+ghost use Rattle.ipc_model.specs.store.Recovery.{HoldsImage, IsNew};
+ghost use Rattle.ipc_model.specs.store.Store.{IsClosed, SpellsSegment};
+ghost use Rattle.recover.specs.Found.{HasOwn, ReadsOne};
+ghost use Rattle.recover.specs.Headers.{Says};
+ghost use Rattle.recover.specs.Surveyed.{IsUnused};
+ghost use Rattle.slot_steps.specs.Steps.{image_slot as slot_of_image, segment_slot as slot_of_segment};
+ghost use Rattle.standing.specs.Standing.{as_written};
+
+use crate::headers::Header;
+use crate::loading::load_image;
+use crate::reading::replay_segment;
+use disk::{Disk, DiskFault, Slot};
+use journal::StoreFault;
+use kernel::Kernel;
+use slot_steps::{CLOSED_GATE, OPEN_GATE, SEGMENT_HEADER, image_slot, segment_slot};
+use std::alloc::Global;
+
+/// The state after an epoch's image and the records of its segment, how many they are, and where the last batch ends.
+///
+/// `Damaged`: the image is none of a lawful state, or the records are no run from it.
+pub(crate) fn read_epoch<D: Disk>(
+    alloc: Global,
+    disk: &mut D,
+    epoch: u64,
+) -> Result<(Kernel, u64, u64), StoreFault>
+    requires { D.honest → HasOwn (D.view disk.old).seen epoch }
+    ensures read { D.honest → IfOk result (λ r. ReadsOne (D.view disk.old).seen epoch r.0 r.1 r.2) }
+    ensures damaged { D.honest → IsErrOf result StoreFault.Damaged → (base state : State) → (records : List Record)
+        → HoldsImage epoch (slot_of (D.view disk.old).seen (slot_of_image epoch)) base
+        → SpellsSegment epoch (slot_of (D.view disk.old).seen (slot_of_segment epoch)) records → Run base records state → ⊥ }
+    ensures seen { D.honest → (D.view disk.new).seen ≡ (D.view disk.old).seen }
+    ensures time { D.honest → Passes (D.view disk.old) (D.view disk.new) (MayLeave (D.view disk.old)) }
+    ensures quiet { OnOk result (D.failed_calls disk.new ≡ D.failed_calls disk.old) }
+    ensures still { OnErr result ((result ≡ Err StoreFault.Device) ⊎ (D.failed_calls disk.new ≡ D.failed_calls disk.old)) }
+    ensures device { IsErrOf result StoreFault.Device → D.failed_calls disk.new ≡ one_more (D.failed_calls disk.old) }
+    ensures faults { OnErr result ((result ≡ Err StoreFault.Device) ⊎ ((result ≡ Err StoreFault.Damaged) ⊎ (result ≡ Err StoreFault.NoMemory))) }
+{
+    let base = load_image(alloc, disk, image_slot(epoch))?;
+    let (kernel, records, end) = replay_segment(alloc, base, disk, segment_slot(epoch))?;
+    Ok((kernel, records, end))
+}
+
+/// Whether segment 0 has an open batch.
+fn has_batch<D: Disk>(disk: &mut D) -> Result<bool, DiskFault>
+    ensures batch { D.honest → IfOk result (λ has. MatchBool has (IsClosed (drop 16 (D.view disk.old).seen.segment0) → ⊥) (IsClosed (drop 16 (D.view disk.old).seen.segment0))) }
+    ensures seen { D.honest → (D.view disk.new).seen ≡ (D.view disk.old).seen }
+    ensures time { D.honest → Passes (D.view disk.old) (D.view disk.new) (MayLeave (D.view disk.old)) }
+    ensures failures { CountsFailure (D.failed_calls disk.old) (D.failed_calls disk.new) result }
+{
+    let mut gate = [CLOSED_GATE];
+    disk.read(Slot::Segment0, SEGMENT_HEADER as u64, &mut gate)?;
+    Ok(gate[0] == OPEN_GATE)
+}
+
+/// Tests that a store without an image was never in use: segment 0, if it is open, has no batch.
+///
+/// `Damaged`: it has one.
+pub(crate) fn have_no_batch<D: Disk>(disk: &mut D, segment: Header) -> Result<(), StoreFault>
+    requires unused { D.honest → IsUnused (D.view disk.old).seen }
+    requires says { D.honest → Says 16 (D.view disk.old).seen.segment0 segment }
+    ensures new { D.honest → OnOk result (IsNew (as_written (D.view disk.old).seen)) }
+    ensures damaged { D.honest → IsErrOf result StoreFault.Damaged → IsNew (as_written (D.view disk.old).seen) → ⊥ }
+    ensures seen { D.honest → (D.view disk.new).seen ≡ (D.view disk.old).seen }
+    ensures time { D.honest → Passes (D.view disk.old) (D.view disk.new) (MayLeave (D.view disk.old)) }
+    ensures quiet { OnOk result (D.failed_calls disk.new ≡ D.failed_calls disk.old) }
+    ensures still { OnErr result ((result ≡ Err StoreFault.Device) ⊎ (D.failed_calls disk.new ≡ D.failed_calls disk.old)) }
+    ensures device { IsErrOf result StoreFault.Device → D.failed_calls disk.new ≡ one_more (D.failed_calls disk.old) }
+    ensures faults { OnErr result ((result ≡ Err StoreFault.Device) ⊎ (result ≡ Err StoreFault.Damaged)) }
+{
+    if segment == Header::Closed {
+        return Ok(());
+    }
+    if has_batch(disk)? {
+        return Err(StoreFault::Damaged);
+    }
+    Ok(())
+}

@@ -1,0 +1,102 @@
+// The state whose image stands in a slot.
+ghost use Rattle.std.specs.Prelude.{◌≡◌, ◌⊎◌, ◌%◌, ◌^◌, ◌<◌, ◌++◌, ℕ, List, IfOk, OnOk, OnErr, IsErrOf, drop, length};
+ghost use Rattle.disk.specs.Moments.{CountsFailure, MayLeave, Passes, one_more};
+ghost use Rattle.disk.specs.Slots.{slot_of};
+ghost use Rattle.ipc_model.specs.state.State.{State};
+ghost use Rattle.ipc_model.specs.store.Recovery.{HoldsImage, IsOfEpoch, IsOpen};
+ghost use Rattle.words.specs.Words.{long_word};
+ghost use Rattle.recover.specs.Loaded.{HoldsText, IsImageOf};
+
+use disk::{Disk, DiskFault, Slot};
+use image::{ImageFault, read};
+use journal::StoreFault;
+use kernel::{Kernel, SnapshotFault};
+use slot_steps::IMAGE_HEADER;
+use std::alloc::Global;
+use words::take_long_word;
+
+/// How many bytes an image's text has, as its header says.
+fn text_length<D: Disk>(disk: &mut D, slot: Slot) -> Result<u64, DiskFault>
+    requires { D.honest → IsOpen 24 (slot_of (D.view disk.old).seen slot) }
+    ensures fits { IfOk result (λ size. size < 2 ^ 64) }
+    ensures length { D.honest → IfOk result (λ size. (rest : List ℕ) × (drop 16 (slot_of (D.view disk.old).seen slot) ≡ long_word size ++ rest)) }
+    ensures seen { D.honest → (D.view disk.new).seen ≡ (D.view disk.old).seen }
+    ensures time { D.honest → Passes (D.view disk.old) (D.view disk.new) (MayLeave (D.view disk.old)) }
+    ensures failures { CountsFailure (D.failed_calls disk.old) (D.failed_calls disk.new) result }
+{
+    let mut word = [0; 8];
+    disk.read(slot, 16, &mut word)?;
+    match take_long_word(&word) {
+        Some((size, _)) => Ok(size),
+        None => Ok(0),
+    }
+}
+
+/// The text of an image.
+///
+/// `Damaged`: the slot ends within it.
+fn read_text<D: Disk>(alloc: Global, disk: &mut D, slot: Slot) -> Result<Vec<u8>, StoreFault>
+    requires { D.honest → IsOpen 24 (slot_of (D.view disk.old).seen slot) }
+    ensures text { D.honest → IfOk result (λ text. HoldsText (slot_of (D.view disk.old).seen slot) text.items) }
+    ensures damaged { D.honest → IsErrOf result StoreFault.Damaged → (text : List ℕ) → HoldsText (slot_of (D.view disk.old).seen slot) text → ⊥ }
+    ensures seen { D.honest → (D.view disk.new).seen ≡ (D.view disk.old).seen }
+    ensures time { D.honest → Passes (D.view disk.old) (D.view disk.new) (MayLeave (D.view disk.old)) }
+    ensures quiet { OnOk result (D.failed_calls disk.new ≡ D.failed_calls disk.old) }
+    ensures still { OnErr result ((result ≡ Err StoreFault.Device) ⊎ (D.failed_calls disk.new ≡ D.failed_calls disk.old)) }
+    ensures device { IsErrOf result StoreFault.Device → D.failed_calls disk.new ≡ one_more (D.failed_calls disk.old) }
+    ensures faults { OnErr result ((result ≡ Err StoreFault.Device) ⊎ ((result ≡ Err StoreFault.Damaged) ⊎ (result ≡ Err StoreFault.NoMemory))) }
+{
+    let size = text_length(disk, slot)?;
+    let room = disk.length(slot).saturating_sub(IMAGE_HEADER as u64);
+    if room < size {
+        return Err(StoreFault::Damaged);
+    }
+    let mut text = vec![in alloc; 0; size as usize]?;
+    disk.read(slot, IMAGE_HEADER as u64, &mut text)?;
+    Ok(text)
+}
+
+/// The state whose image these bytes are.
+///
+/// `Damaged`: they are the image of no lawful state.
+fn state_of(alloc: Global, text: &[u8]) -> Result<Kernel, StoreFault>
+    ensures image { IfOk result (λ kernel. IsImageOf text.now kernel) }
+    ensures damaged { IsErrOf result StoreFault.Damaged → (state : State) → IsImageOf text.now state → ⊥ }
+    ensures faults { OnErr result ((result ≡ Err StoreFault.Damaged) ⊎ (result ≡ Err StoreFault.NoMemory)) }
+{
+    let snapshot = match read(alloc, text) {
+        Ok(snapshot) => snapshot,
+        Err(ImageFault::NotCanonical) => return Err(StoreFault::Damaged),
+        Err(ImageFault::NoMemory) => return Err(StoreFault::NoMemory),
+    };
+    match Kernel::from_snapshot(alloc, snapshot) {
+        Ok(kernel) => Ok(kernel),
+        Err(SnapshotFault::NotLawful) => Err(StoreFault::Damaged),
+        Err(SnapshotFault::NoMemory) => Err(StoreFault::NoMemory),
+    }
+}
+
+/// The state whose image an open slot holds.
+///
+/// `Damaged`: it holds no lawful state's.
+pub(crate) fn load_image<D: Disk>(
+    alloc: Global,
+    disk: &mut D,
+    slot: Slot,
+) -> Result<Kernel, StoreFault>
+    requires { D.honest → IsOpen 24 (slot_of (D.view disk.old).seen slot) }
+    ensures image { D.honest → IfOk result (λ kernel. (number epoch : ℕ) → IsOfEpoch number epoch (slot_of (D.view disk.old).seen slot)
+        → HoldsImage epoch (slot_of (D.view disk.old).seen slot) kernel) }
+    ensures damaged { D.honest → IsErrOf result StoreFault.Damaged → (epoch : ℕ) (state : State)
+        → HoldsImage epoch (slot_of (D.view disk.old).seen slot) state → ⊥ }
+    ensures seen { D.honest → (D.view disk.new).seen ≡ (D.view disk.old).seen }
+    ensures time { D.honest → Passes (D.view disk.old) (D.view disk.new) (MayLeave (D.view disk.old)) }
+    ensures quiet { OnOk result (D.failed_calls disk.new ≡ D.failed_calls disk.old) }
+    ensures still { OnErr result ((result ≡ Err StoreFault.Device) ⊎ (D.failed_calls disk.new ≡ D.failed_calls disk.old)) }
+    ensures device { IsErrOf result StoreFault.Device → D.failed_calls disk.new ≡ one_more (D.failed_calls disk.old) }
+    ensures faults { OnErr result ((result ≡ Err StoreFault.Device) ⊎ ((result ≡ Err StoreFault.Damaged) ⊎ (result ≡ Err StoreFault.NoMemory))) }
+{
+    let text = read_text(alloc, disk, slot)?;
+    let kernel = state_of(alloc, &text)?;
+    Ok(kernel)
+}

@@ -1,0 +1,187 @@
+// What the headers of a store's slots tell of the store.
+ghost use Rattle.std.specs.Prelude.{◌≡◌, ◌≢◌, ◌⊎◌, ◌+◌, ◌%◌, ◌^◌, ◌<◌, ℕ, IsTrue, List, Some, None, IfOk, IfSome, IfNone, IsErrOf, OnOk, OnErr, MatchBool};
+ghost use Rattle.disk.specs.Slots.{Slots};
+ghost use Rattle.ipc_model.specs.declared.record.Record.{Record};
+ghost use Rattle.ipc_model.specs.state.State.{State};
+ghost use Rattle.ipc_model.specs.store.Recovery.{IsOtherVersion, Spells};
+ghost use Rattle.standing.specs.Standing.{as_written};
+ghost use Rattle.recover.specs.Headers.{IsForeign, SayAll, TellAll};
+ghost use Rattle.recover.specs.Surveyed.{Adjoins, FitsNext, IsLatestOf, Surveys};
+
+use crate::headers::{Header, Headers};
+use journal::StoreFault;
+
+/// What a store is, by the headers of its slots.
+#[derive(Clone, Copy, Debug, PartialEq, Eq)]
+pub(crate) enum Survey {
+    /// It has no image, and no segment but one of epoch 0.
+    New,
+    /// It has the image of an epoch and its segment, and perhaps the next segment.
+    InUse { epoch: u64, follows: bool },
+}
+
+/// The epoch of a slot of this number, if it is open.
+///
+/// `Damaged`: it is open, and of no epoch of this number.
+fn epoch_in(header: Header, number: u64) -> Result<Option<u64>, StoreFault>
+    ensures open { IfOk result (λ found. IfSome found (λ epoch. (header ≡ Header.Open epoch) × (epoch % 2 ≡ number))) }
+    ensures closed { IfOk result (λ found. IfNone found (header ≡ Header.Closed)) }
+    ensures foreign { OnErr result (IsForeign header number) }
+    ensures faults { OnErr result (result ≡ Err StoreFault.Damaged) }
+{
+    match header {
+        Header::Closed => Ok(None),
+        Header::Open(epoch) if epoch % 2 == number => Ok(Some(epoch)),
+        _ => Err(StoreFault::Damaged),
+    }
+}
+
+/// Whether the next epoch's segment is open, where the image of an epoch is the latest. Its own segment has to be.
+fn follows(epoch: u64, own: Option<u64>, other: Option<u64>) -> Result<bool, StoreFault>
+    ensures own { OnOk result (own ≡ Some epoch) }
+    ensures other { IfOk result (λ follows. MatchBool follows (other ≡ Some (epoch + 1)) (Adjoins epoch other)) }
+    ensures fits { IfOk result (λ follows. IsTrue follows → epoch + 1 < 2 ^ 64) }
+    ensures damaged { OnErr result ((own ≢ Some epoch) ⊎ ((other ≢ Some (epoch + 1)) × (Adjoins epoch other → ⊥))) }
+    ensures faults { OnErr result (result ≡ Err StoreFault.Damaged) }
+{
+    if own != Some(epoch) {
+        return Err(StoreFault::Damaged);
+    }
+    match other {
+        None => Ok(false),
+        Some(other) if epoch.checked_add(1) == Some(other) => Ok(true),
+        Some(other) if other.checked_add(1) == Some(epoch) => Ok(false),
+        Some(_) => Err(StoreFault::Damaged),
+    }
+}
+
+/// Which image is the latest, of the slots of both numbers.
+#[derive(Clone, Copy, Debug, PartialEq, Eq)]
+pub(crate) enum Latest {
+    /// None is open.
+    None,
+    /// That of number 0, of this epoch.
+    First(u64),
+    /// That of number 1, of this epoch.
+    Second(u64),
+}
+
+/// Which image is the latest.
+fn find_latest(first: Option<u64>, second: Option<u64>) -> Latest
+    ensures { IsLatestOf first second result }
+{
+    match (first, second) {
+        (None, None) => Latest::None,
+        (Some(epoch), None) => Latest::First(epoch),
+        (None, Some(epoch)) => Latest::Second(epoch),
+        (Some(epoch), Some(other)) => {
+            if other < epoch {
+                Latest::First(epoch)
+            } else {
+                Latest::Second(other)
+            }
+        }
+    }
+}
+
+/// A store without an image.
+fn survey_new(segment0: Option<u64>, segment1: Option<u64>) -> Result<Survey, StoreFault>
+    ensures new { IfOk result (λ survey. survey ≡ Survey.New) }
+    ensures first { OnOk result ((segment0 ≡ None) ⊎ (segment0 ≡ Some 0)) }
+    ensures second { OnOk result (segment1 ≡ None) }
+    ensures damaged { OnErr result ((segment1 ≢ None) ⊎ ((segment0 ≢ None) × (segment0 ≢ Some 0))) }
+    ensures faults { OnErr result (result ≡ Err StoreFault.Damaged) }
+{
+    match (segment0, segment1) {
+        (None | Some(0), None) => Ok(Survey::New),
+        _ => Err(StoreFault::Damaged),
+    }
+}
+
+/// What a store is, by the epochs of its open slots.
+fn survey_open(
+    image0: Option<u64>,
+    image1: Option<u64>,
+    segment0: Option<u64>,
+    segment1: Option<u64>,
+) -> Result<Survey, StoreFault>
+    ensures surveyed { (slots : Slots) → TellAll slots image0 image1 segment0 segment1 → IfOk result (Surveys slots) }
+    ensures damaged { (slots : Slots) → TellAll slots image0 image1 segment0 segment1
+        → OnErr result ((base : State) → (records : List Record) → Spells (as_written slots) base records → ⊥) }
+    ensures fits { IfOk result FitsNext }
+    ensures faults { OnErr result (result ≡ Err StoreFault.Damaged) }
+{
+    match find_latest(image0, image1) {
+        Latest::First(epoch) => match follows(epoch, segment0, segment1) {
+            Ok(follows) => Ok(Survey::InUse { epoch, follows }),
+            Err(fault) => Err(fault),
+        },
+        Latest::Second(epoch) => match follows(epoch, segment1, segment0) {
+            Ok(follows) => Ok(Survey::InUse { epoch, follows }),
+            Err(fault) => Err(fault),
+        },
+        Latest::None => survey_new(segment0, segment1),
+    }
+}
+
+/// Tests that no header is of another version.
+fn have_one_version(headers: &Headers) -> Result<(), StoreFault>
+    ensures none { OnOk result ((headers.now.image0 ≢ Header.OtherVersion) × (headers.now.image1 ≢ Header.OtherVersion)
+        × (headers.now.segment0 ≢ Header.OtherVersion) × (headers.now.segment1 ≢ Header.OtherVersion)) }
+    ensures some { OnErr result ((headers.now.image0 ≡ Header.OtherVersion) ⊎ ((headers.now.image1 ≡ Header.OtherVersion)
+        ⊎ ((headers.now.segment0 ≡ Header.OtherVersion) ⊎ (headers.now.segment1 ≡ Header.OtherVersion)))) }
+    ensures faults { OnErr result (result ≡ Err StoreFault.Version) }
+{
+    if headers.image0 == Header::OtherVersion {
+        return Err(StoreFault::Version);
+    }
+    if headers.image1 == Header::OtherVersion {
+        return Err(StoreFault::Version);
+    }
+    if headers.segment0 == Header::OtherVersion {
+        return Err(StoreFault::Version);
+    }
+    if headers.segment1 == Header::OtherVersion {
+        return Err(StoreFault::Version);
+    }
+    Ok(())
+}
+
+/// What a store is, by the headers of its slots, where none is of another version.
+fn survey_headers(headers: &Headers) -> Result<Survey, StoreFault>
+    ensures surveyed { (slots : Slots) → SayAll slots headers.now.image0 headers.now.image1 headers.now.segment0 headers.now.segment1
+        → IfOk result (Surveys slots) }
+    ensures damaged { (slots : Slots) → SayAll slots headers.now.image0 headers.now.image1 headers.now.segment0 headers.now.segment1
+        → OnErr result ((base : State) → (records : List Record) → Spells (as_written slots) base records → ⊥) }
+    ensures fits { IfOk result FitsNext }
+    ensures faults { OnErr result (result ≡ Err StoreFault.Damaged) }
+{
+    let image0 = epoch_in(headers.image0, 0)?;
+    let image1 = epoch_in(headers.image1, 1)?;
+    let segment0 = epoch_in(headers.segment0, 0)?;
+    let segment1 = epoch_in(headers.segment1, 1)?;
+    survey_open(image0, image1, segment0, segment1)
+}
+
+/// What a store is, by the headers of its slots.
+///
+/// `Version`: an open slot is of another version. `Damaged`: an open slot is of an epoch of the other number, or the slots
+/// are none that a server leaves.
+pub(crate) fn survey_store(headers: &Headers) -> Result<Survey, StoreFault>
+    ensures surveyed { (slots : Slots) → SayAll slots headers.now.image0 headers.now.image1 headers.now.segment0 headers.now.segment1
+        → IfOk result (Surveys slots) }
+    ensures one_version { (slots : Slots) → SayAll slots headers.now.image0 headers.now.image1 headers.now.segment0 headers.now.segment1
+        → OnOk result (IsOtherVersion (as_written slots) → ⊥) }
+    ensures version { (slots : Slots) → SayAll slots headers.now.image0 headers.now.image1 headers.now.segment0 headers.now.segment1
+        → IsErrOf result StoreFault.Version → IsOtherVersion (as_written slots) }
+    ensures no_other { (slots : Slots) → SayAll slots headers.now.image0 headers.now.image1 headers.now.segment0 headers.now.segment1
+        → IsErrOf result StoreFault.Damaged → IsOtherVersion (as_written slots) → ⊥ }
+    ensures damaged { (slots : Slots) → SayAll slots headers.now.image0 headers.now.image1 headers.now.segment0 headers.now.segment1
+        → IsErrOf result StoreFault.Damaged → (base : State) → (records : List Record) → Spells (as_written slots) base records → ⊥ }
+    ensures fits { IfOk result FitsNext }
+    ensures faults { OnErr result ((result ≡ Err StoreFault.Version) ⊎ (result ≡ Err StoreFault.Damaged)) }
+{
+    have_one_version(headers)?;
+    let survey = survey_headers(headers)?;
+    Ok(survey)
+}

@@ -1,0 +1,87 @@
+ghost use Rattle.std.specs.Prelude.{◌≡◌};
+ghost use Rattle.image.specs.Rows.{snapshot_text};
+ghost use Rattle.storing.specs.Values.{begun};
+
+use checkpoint::Image;
+use snapshot::Snapshot;
+use std::marker::Model;
+
+/// The end of an epoch: a copy of the state after its whole row. It can't be copied.
+#[derive(Drop)]
+pub struct Cut {
+    snapshot: Snapshot,
+    epoch: u64,
+    row: u64,
+}
+
+impl Model for Cut {
+    ghost use Rattle.image.specs.Rows.{snapshot_text};
+    ghost use Rattle.storing.specs.Values.{CutValue, cut_code};
+
+    ghost Value = { CutValue };
+
+    ghost coded = { cut_code };
+
+    ghost view = { λ c. record { epoch = c.epoch; row = c.row; text = snapshot_text c.snapshot } };
+}
+
+impl Cut {
+    /// The epoch that begins with this state, where the row of the epoch before has so many records.
+    pub fn new(snapshot: Snapshot, epoch: u64, row: u64) -> Self
+        ensures { result ≡ record { epoch = epoch; row = row; text = snapshot_text snapshot } }
+    {
+        Cut {
+            snapshot,
+            epoch,
+            row,
+        }
+    }
+}
+
+/// What the next image is made of: the copy of the state, and from its closing on the image in memory.
+#[derive(Drop)]
+pub(crate) enum Making {
+    Cut(Snapshot),
+    Image(Image),
+}
+
+/// A checkpoint under way.
+#[derive(Drop)]
+pub(crate) struct Checkpoint {
+    pub(crate) epoch: u64,
+    pub(crate) row: u64,
+    pub(crate) rolled: u32,
+    pub(crate) making: Making,
+}
+
+impl Model for Checkpoint {
+    ghost use Rattle.std.specs.Prelude.{◌≤◌};
+    ghost use Rattle.storing.specs.Values.{CheckpointValue, IsOfEpoch, checkpoint_code, imaged_of, text_of};
+
+    ghost Value = { CheckpointValue };
+
+    ghost coded = { checkpoint_code };
+
+    ghost view = { λ c. record { epoch = c.epoch; row = c.row; rolled = c.rolled; text = text_of c.making; imaged = imaged_of c.making } };
+
+    ghost invariant = { λ c. IsOfEpoch c.epoch c.making };
+}
+
+impl Checkpoint {
+    /// A checkpoint of which nothing is done.
+    pub(crate) fn new(cut: Cut) -> Self
+        ensures { result ≡ begun cut }
+    {
+        let Cut {
+            snapshot,
+            epoch,
+            row,
+        } = cut;
+        Checkpoint {
+            epoch,
+            row,
+            rolled: 0,
+            making: Making::Cut(snapshot),
+        }
+    }
+}
