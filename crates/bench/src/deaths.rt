@@ -4,7 +4,7 @@ use crate::memory::{HERE, call_of, make, make_line};
 use crate::{Fault, per_call};
 use codes::{Disposition, MACH_NOTIFY_DEAD_NAME};
 use ipc_model::Call;
-use kernel::Kernel;
+use server::Kernel;
 use std::time::{Duration, Instant};
 
 /// The name of the port that dies, and of the one that notices go to.

@@ -3,8 +3,8 @@
 use crate::Fault;
 use codes::Right;
 use ipc_model::Call;
-use kernel::Kernel;
 use script::read_request_line;
+use server::Kernel;
 use std::alloc::Global;
 use std::time::{Duration, Instant};
 

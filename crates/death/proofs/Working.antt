@@ -4,8 +4,7 @@ use Rattle.std.specs.Cmp.{nat_cmp_total}
 use Rattle.std.specs.FinMap.{get, insert, get-insert}
 use Rattle.ipc_laws.specs.MapSums.{same_key}
 use Rattle.ipc_model.specs.declared.port.PortState.{PortState}
-use Rattle.live_ports.specs.Changed.{numbers_of}
-use Rattle.live_ports.specs.declared.port.PortNumbers.{PortNumbers}
+use Rattle.notify.specs.Passed.{numbers_of, PortNumbers}
 use Rattle.ipc_model.specs.effects.Effects.{Effect, Settles, settled, next_effect, effect}
 use Rattle.ipc_laws.specs.Settling.{measure, effects_lower}
 use Rattle.ipc_model.specs.state.State.{State, lives, with_port}

@@ -3,7 +3,7 @@ ghost use Rattle.std.specs.FinMap as map;
 ghost use Rattle.ipc_model.specs.effects.Effects.{released_if_live, after_death, effects_of_death, sent_to_target};
 ghost use Rattle.ipc_model.specs.declared.port.PortState.{PortState};
 ghost use Rattle.death.specs.Taking.{taker};
-ghost use Rattle.live_ports.specs.Changed.{numbers_of};
+ghost use Rattle.notify.specs.Passed.{numbers_of};
 
 use crate::notices::notify_port_destroyed;
 use effects::Effects;

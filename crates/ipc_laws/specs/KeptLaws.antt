@@ -5,7 +5,7 @@ use Rattle.std.specs.FinMap as finmap
 use Rattle.std.proofs.Common.{◌∙◌, ap, sym, subst, arith}
 use Rattle.std.proofs.lemmas.Nat.{and_assoc, and_le_l, and_le_r, and_mask}
 use Rattle.std.proofs.lemmas.Nat.Bits.{and_pow}
-use Rattle.byteorder.specs.Endian.{little_number}
+use Rattle.words.specs.Numbers.{little_number}
 use Rattle.codes.specs.declared.kern_return.KernReturn.TheVariants.{Success}
 use Rattle.codes.specs.declared.limits.TheConstants.{MAX_FRAME_CONTENT}
 use Rattle.codes.specs.declared.name.TheConstants.{MACH_PORT_NULL}

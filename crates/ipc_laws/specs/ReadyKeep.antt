@@ -5,8 +5,7 @@ use Rattle.std.proofs.lemmas.Bool.{ltb-false, eqb-true}
 use Rattle.std.proofs.lemmas.List.{length-map, length-replicate, nil_from_length}
 use Rattle.std.specs.List.{list_any}
 use Rattle.std.specs.FinMap as finmap
-use Rattle.byteorder.specs.Endian.{little_bytes}
-use Rattle.byteorder.specs.Numbers.{little_from-lt}
+use Rattle.words.specs.Numbers.{little_bytes, little_from-lt}
 use Rattle.codes.specs.declared.kern_return.KernReturn.{KernReturn}
 use Rattle.codes.specs.declared.kern_return.KernReturn.TheVariants.{SendInvalidDest, SendInvalidRight, SendInvalidHeader, SendMsgTooSmall, SendNoBuffer}
 use Rattle.codes.specs.declared.limits.TheConstants.{MAX_MESSAGE_SIZE, MAX_MESSAGE_PORTS}

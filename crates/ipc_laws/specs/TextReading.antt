@@ -1,7 +1,7 @@
 -- Calls and replies are read back from their bytes.
 use Rattle.std.specs.Prelude.{◌≡◌, ℕ, zero, suc, ◌*◌, ◌^◌, ◌<◌, Bool, true, false, ◌==◌, ◌&&◌, ◌||◌, List, [], ◌∷◌, ◌++◌, length, drop, flat_map, All, if◌then◌else◌, refl}
 use Rattle.std.proofs.Common.{◌∙◌, ap, arith}
-use Rattle.byteorder.specs.Endian.{little_number}
+use Rattle.words.specs.Numbers.{little_number}
 use Rattle.codes.specs.KernReturn.{number_of}
 use Rattle.codes.specs.declared.kern_return.KernReturn.{KernReturn}
 use Rattle.codes.specs.declared.kern_return.KernReturn.TheVariants as code

@@ -9,7 +9,7 @@ use Rattle.ipc_model.specs.declared.message.PortInMessage.TheVariants as in_mess
 use Rattle.ipc_model.specs.state.Circular.{is_port}
 use Rattle.ipc_model.specs.state.State.{State, lives}
 use Rattle.ipc_state.specs.Live.{carries_live, is_live, is_live_port, is_live_reply}
-use Rattle.live_ports.specs.Seen.{Ports, AreLive, lives_in, mentions, reply_is_to, is_to}
+use Rattle.ports.specs.Passed.{Ports, AreLive, lives_in, mentions, reply_is_to, is_to}
 
 both : (a b : Bool) → (a && b) ≡ true → (a ≡ true) × (b ≡ true)
 both true b e = (refl, e)

@@ -15,18 +15,12 @@ use Rattle.ipc_model.specs.effects.Effects.{after_death, entry_after_death, map_
 use Rattle.ipc_model.specs.state.State.{State, Names, entry_at, new_port, ports_are_used_up, received_port, with_changed, with_names, with_port, without_name}
 use Rattle.ipc_model.specs.calls.PortCalls.{names_in}
 use Rattle.ipc_state.specs.Members.{AreMembers, AreMoving, DifferAt, one_moved, changed_members, same_members, set_in, set_place, set_place_of, state_of}
-use Rattle.live_ports.specs.Changed.{changed, numbers_of, with_message, with_numbers}
-use Rattle.live_ports.specs.declared.port.PortNumbers.{PortNumbers}
-use Rattle.live_ports.specs.PortTable.{PortTable, TrackedPorts}
-use Rattle.live_ports.specs.Seen.{Ports}
-use Rattle.place_index.specs.Indexed.{alike_indexed}
-use Rattle.place_index.specs.Places.{Numbers, moved}
+use Rattle.ports.specs.Passed.{changed, numbers_of, with_message, with_numbers, PortNumbers, PortTable, TrackedPorts, Ports}
+use Rattle.spaces.specs.Passed.{alike_indexed, Numbers, moved, under_other_name, Tracked}
 use Rattle.spaces.specs.Indexes.{IsNextAt, opened_alike, closed_alike}
-use Rattle.port_space.specs.Renaming.{under_other_name}
 use Rattle.spaces.specs.Laws.{get_names_changed}
 use Rattle.spaces.specs.Looking.{at_place, entry_in, place}
 use Rattle.spaces.specs.Slots.{SpaceMap, TrackedSpaces, names_changed}
-use Rattle.tracked_map.specs.Tracked.{Tracked}
 
 -- which members there were, and are
 abbrev pub Members : TrackedSpaces → TrackedPorts → Tracked (Unit {0}) → Type 0

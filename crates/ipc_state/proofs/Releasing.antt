@@ -4,7 +4,7 @@ use Rattle.std.proofs.Common.{ap, sym, ◌∙◌, append_assoc}
 use Rattle.ipc_model.specs.declared.message.CarriedRight.{CarriedRight}
 use Rattle.ipc_model.specs.declared.message.Message.{Message}
 use Rattle.ipc_model.specs.effects.Effects.{Effect, release_of, release_of_reply, releases_of}
-use Rattle.live_ports.specs.Seen.{seen_message, seen_right}
+use Rattle.ports.specs.Passed.{seen_message, seen_right}
 
 pub seen_each : {A B C : Type 0} (f : B → List C) (g : A → B) (xs : List A) → flat_map f (map g xs) ≡ flat_map (λ x. f (g x)) xs
 seen_each f g [] = refl

@@ -8,10 +8,7 @@ use Rattle.ipc_model.specs.declared.message.Message.{Message}
 use Rattle.ipc_model.specs.declared.port.PortState.{PortState}
 use Rattle.ipc_model.specs.effects.Effects.{Effect, releases_of}
 use Rattle.ipc_state.specs.Oldest.{IsOldest, counted_on, oldest_gone}
-use Rattle.live_ports.specs.Changed.{changed, numbers_of, with_numbers, without_first}
-use Rattle.live_ports.specs.declared.port.PortNumbers.{PortNumbers}
-use Rattle.live_ports.specs.PortTable.{TrackedPorts}
-use Rattle.live_ports.specs.Seen.{Ports, seen_message}
+use Rattle.ports.specs.Passed.{changed, numbers_of, with_numbers, without_first, PortNumbers, TrackedPorts, Ports, seen_message}
 
 pub is_oldest : (live : ℕ → Bool) (messages : List Message) (found : Option (Bor Message))
     → MatchOption found (length messages ≤ 0) (λ message. (0 < length messages) × (seen_message live message.now ≡ slice_index_or messages 0 (seen_message live message.now))) → IsOldest live messages found

@@ -7,7 +7,7 @@ use Rattle.ipc_laws.specs.Weights.{names_weigh, port_weigh, right_weigh, state_w
 use Rattle.ipc_model.specs.declared.message.RightKind.{RightKind}
 use Rattle.ipc_model.specs.state.Placed.{Right, count_of, placed, same_kind}
 use Rattle.ipc_model.specs.state.State.{State}
-use Rattle.pair_counts.specs.Rights.{right_weight}
+use Rattle.spaces.specs.Passed.{right_weight}
 
 count_weighs : {X : Type 0} (test : X → Bool) (xs : List X) → count_by test xs ≡ weigh (λ x. cond (test x) 1 0) xs
 count_weighs test [] = refl

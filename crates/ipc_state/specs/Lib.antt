@@ -3,7 +3,8 @@ pub mod Added
 pub mod Counts
 pub mod Live
 pub mod Members
-pub mod Running
-pub mod There
-pub mod SetNames
 pub mod Oldest
+pub mod Passed
+pub mod Running
+pub mod SetNames
+pub mod There

@@ -7,10 +7,8 @@ use Rattle.ipc_laws.specs.MapSums.{key_is, same_key}
 use Rattle.ipc_model.specs.declared.entry.Entry.{Entry}
 use Rattle.ipc_model.specs.declared.port.PortState.{PortState}
 use Rattle.ipc_model.specs.state.State.{State, Names, is_number, received_port}
-use Rattle.live_ports.specs.PortTable.{PortTable}
-use Rattle.live_ports.specs.Seen.{Ports}
-use Rattle.place_index.specs.Indexed.{IsIndexed, alike_indexed, nothing_indexed, place_moved}
-use Rattle.place_index.specs.Places.{Numbers, moved}
+use Rattle.ports.specs.Passed.{PortTable, Ports}
+use Rattle.spaces.specs.Passed.{IsIndexed, alike_indexed, nothing_indexed, place_moved, Numbers, moved}
 use Rattle.spaces.specs.Indexes.{IsNextAt}
 use Rattle.spaces.specs.Looking.{at_place, entry_in, parts_of, place, place_changed}
 use Rattle.spaces.specs.Slots.{SpaceMap, names_changed}

@@ -4,8 +4,7 @@ use Rattle.std.specs.Borrow.{Bor}
 use Rattle.ipc_model.specs.declared.message.Message.{Message}
 use Rattle.ipc_model.specs.declared.port.PortState.{PortState}
 use Rattle.ipc_model.specs.state.State.{next_count}
-use Rattle.live_ports.specs.declared.port.PortNumbers.{PortNumbers}
-use Rattle.live_ports.specs.Seen.{seen_message}
+use Rattle.ports.specs.Passed.{PortNumbers, seen_message}
 
 -- the oldest of these messages as it was sent, where there is one, and what it is seen as among these live ports
 abbrev pub IsOldest : (ℕ → Bool) → List Message → Option (Bor Message) → Type 0

@@ -10,9 +10,8 @@ use Rattle.ipc_model.specs.declared.port.PortState.{PortState}
 use Rattle.ipc_model.specs.state.State.{State, Names, is_member, is_number, received_port}
 use Rattle.ipc_state.specs.Members.{AreMembers, set_in, set_place, state_of}
 use Rattle.ipc_state.specs.There.{entry_named}
-use Rattle.live_ports.specs.PortTable.{PortTable}
-use Rattle.place_index.specs.Places.{Numbers, stands_at, IsNext}
-use Rattle.port_space.specs.Walking.{above_all, below_none, entries_alike, entries_none, entries_split, from_on, nothing_from}
+use Rattle.ports.specs.Passed.{PortTable}
+use Rattle.spaces.specs.Passed.{Numbers, stands_at, IsNext, above_all, below_none, entries_alike, entries_none, entries_split, from_on, nothing_from}
 use Rattle.spaces.specs.Indexes.{AreSmall}
 use Rattle.spaces.specs.Looking.{entry_in, parts_of, place}
 use Rattle.spaces.specs.Slots.{SpaceMap}

@@ -7,8 +7,7 @@ ghost use Rattle.ipc_model.specs.state.State.{next_count};
 ghost use Rattle.ipc_state.specs.Live.{carries_live};
 ghost use Rattle.ipc_state.specs.Oldest.{counted_on, oldest_gone, IsOldest};
 ghost use Rattle.ipc_state.specs.Running.{at_rest};
-ghost use Rattle.live_ports.specs.Changed.{changed, messages_at};
-ghost use Rattle.live_ports.specs.Seen.{lives_in, seen_message, seen_right};
+ghost use Rattle.ports.specs.Passed.{changed, messages_at, lives_in, seen_message, seen_right};
 
 use crate::IpcState;
 use effects::Effects;

@@ -3,10 +3,8 @@
 ghost use Rattle.std.specs.Prelude.{◌≡◌, ◌<◌, ◌-◌, ◌^◌, IfOk, IfSome, map as mapped, option_map};
 ghost use Rattle.std.specs.FinMap as map;
 ghost use Rattle.ipc_model.specs.calls.PortCalls.{names_in};
-ghost use Rattle.live_ports.specs.Changed.{messages_at};
-ghost use Rattle.live_ports.specs.NextPort.{IsNextPort};
-ghost use Rattle.live_ports.specs.Seen.{lives_in, seen_message, seen_right};
-ghost use Rattle.port_space.specs.Walking.{IsNextEntry};
+ghost use Rattle.ports.specs.Passed.{messages_at, IsNextPort, lives_in, seen_message, seen_right};
+ghost use Rattle.spaces.specs.Passed.{IsNextEntry};
 ghost use Rattle.spaces.specs.NextSpace.{IsNextSpace};
 
 use crate::IpcState;

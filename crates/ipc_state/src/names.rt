@@ -4,9 +4,7 @@ ghost use Rattle.ipc_model.specs.calls.PortCalls.{names_in, stands_elsewhere};
 ghost use Rattle.ipc_model.specs.state.State.{IsUnused, Names, entry_at, with_changed, with_entry, without_name, name_of_port, received_port, request_of};
 ghost use Rattle.ipc_state.specs.Members.{set_place_of};
 ghost use Rattle.ipc_state.specs.Running.{at_rest};
-ghost use Rattle.place_index.specs.Places.{moved};
-ghost use Rattle.port_space.specs.References.{AreFewReferences};
-ghost use Rattle.port_space.specs.Renaming.{under_other_name};
+ghost use Rattle.spaces.specs.Passed.{moved, AreFewReferences, under_other_name};
 ghost use Rattle.spaces.specs.Looking.{entry_in, place};
 ghost use Rattle.spaces.specs.Slots.{names_changed, spaces_at_rest};
 
@@ -14,9 +12,8 @@ use crate::IpcState;
 use crate::sets::{place, set_place};
 use codes::{FIRST_NAME, MAX_NAMES};
 use ipc_model::Entry;
-use place_index::PlaceIndex;
 use ports::Ports;
-use spaces::Spaces;
+use spaces::{PlaceIndex, Spaces};
 use std::alloc::{AllocError, Global};
 
 /// What is asked of the names of a space. A space that isn't there has none.

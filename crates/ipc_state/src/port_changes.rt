@@ -4,16 +4,14 @@ ghost use Rattle.std.specs.FinMap as map;
 ghost use Rattle.ipc_model.specs.state.State.{lives, new_port, ports_are_used_up, with_port};
 ghost use Rattle.ipc_state.specs.Members.{set_in, AreMembers, AreMoving, DifferAt};
 ghost use Rattle.ipc_state.specs.Running.{at_rest};
-ghost use Rattle.live_ports.specs.Changed.{changed, numbers_of, with_numbers};
-ghost use Rattle.live_ports.specs.Seen.{Ports as PortMap};
-ghost use Rattle.place_index.specs.Places.{moved};
+ghost use Rattle.ports.specs.Passed.{changed, numbers_of, with_numbers, Ports as PortMap};
+ghost use Rattle.spaces.specs.Passed.{moved};
 ghost use Rattle.spaces.specs.Looking.{place};
 
 use crate::IpcState;
 use crate::sets::place_in;
-use place_index::PlaceIndex;
 use ports::{PortNumbers, Ports};
-use spaces::Spaces;
+use spaces::{PlaceIndex, Spaces};
 use std::alloc::AllocError;
 
 impl IpcState {

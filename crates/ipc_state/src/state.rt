@@ -5,9 +5,8 @@ ghost use Rattle.ipc_model.specs.state.State.{opening_state};
 ghost use Rattle.ipc_state.specs.Running.{at_rest};
 
 use codes::FIRST_SPACE;
-use place_index::PlaceIndex;
 use ports::Ports;
-use spaces::Spaces;
+use spaces::{PlaceIndex, Spaces};
 use std::alloc::{AllocError, Global};
 use std::marker::Model;
 

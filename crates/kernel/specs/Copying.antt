@@ -8,7 +8,7 @@ use Rattle.ipc_model.specs.declared.entry.Entry.{Entry}
 use Rattle.ipc_model.specs.declared.port.PortState.{PortState}
 use Rattle.ipc_model.specs.state.Lawful.{Lawful}
 use Rattle.ipc_model.specs.state.State.{Names, State}
-use Rattle.port_space.specs.Walking.{entries_from, from_end, from_first, from_next, IsNextEntry}
+use Rattle.port_calls.specs.Passed.{entries_from, from_end, from_first, from_next, IsNextEntry}
 use Rattle.snapshot.specs.Snapshots.{names_of}
 use Rattle.snapshot.specs.declared.rows.LivePort.{LivePort}
 use Rattle.snapshot.specs.declared.rows.NamedEntry.{NamedEntry}

@@ -2,4 +2,4 @@
 //! keeps it.
 #![tactic(auto)]
 
-pub use recover::{Opened, open};
+pub use recover::{Kernel, Opened, Recorder, open};

@@ -7,8 +7,7 @@ use Rattle.ipc_model.specs.declared.port.PortState.{PortState}
 use Rattle.ipc_model.specs.calls.Actions.{renamed, serials_of_members, with_ports}
 use Rattle.ipc_model.specs.calls.PortCalls.{names_in}
 use Rattle.ipc_model.specs.state.State.{State, Names, with_changed, with_names, with_port}
-use Rattle.rights.specs.Passed.{changed_there}
-use Rattle.port_space.specs.Renaming.{under_other_name}
+use Rattle.rights.specs.Passed.{changed_there, under_other_name}
 
 port_beside : (state : State) (space : ℕ) (names : Names) (serial : ℕ) (change : PortState → PortState) → with_port (with_names state space names) serial change ≡ with_names (with_port state serial change) space names
 port_beside state space names serial change =

@@ -7,7 +7,7 @@ ghost use Rattle.ipc_model.specs.calls.PortCalls.{names_in, is_no_name, sum_is_n
 ghost use Rattle.ipc_model.specs.state.State.{entry_at};
 ghost use Rattle.ipc_model.specs.calls.Step.{ActsIn};
 ghost use Rattle.codes.specs.Right.{number_of};
-ghost use Rattle.port_space.specs.References.{AreFewReferences};
+ghost use Rattle.rights.specs.Passed.{AreFewReferences};
 
 use crate::name_lookup::named;
 use crate::references::{release, send_left, send_once_gone};

@@ -2,7 +2,7 @@ ghost use Rattle.std.specs.Prelude.{◌≡◌, ◌&&◌, not, IfSome, IfNone, So
 ghost use Rattle.std.specs.FinMap as map;
 ghost use Rattle.ipc_model.specs.calls.PortCalls.{is_no_name, names_in};
 ghost use Rattle.ipc_model.specs.state.State.{entry_at, is_null_or_dead};
-ghost use Rattle.port_space.specs.References.{AreFewReferences};
+ghost use Rattle.rights.specs.Passed.{AreFewReferences};
 
 use codes::{MACH_PORT_DEAD, MACH_PORT_NULL};
 use ipc_model::Entry;

@@ -8,7 +8,7 @@ ghost use Rattle.ipc_model.specs.state.State.{State, entry_at};
 ghost use Rattle.ipc_model.specs.calls.Step.{ActsIn};
 ghost use Rattle.ipc_model.specs.calls.Tests.{first_failing};
 ghost use Rattle.port_calls.specs.Trying.{Tries};
-ghost use Rattle.port_space.specs.References.{AreFewReferences};
+ghost use Rattle.rights.specs.Passed.{AreFewReferences};
 
 use crate::allocation::chosen_name;
 use crate::name_lookup::named;

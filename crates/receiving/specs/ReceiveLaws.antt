@@ -13,7 +13,7 @@ use Rattle.ipc_model.specs.declared.port.PortState.{PortState}
 use Rattle.ipc_model.specs.effects.Effects.{Effect}
 use Rattle.ipc_model.specs.messages.Receiving.{HoldsReceiveRight, Receipt, Received, Receives, TakesOut, TooLarge, lacks_names, message_size, oldest, received_text, receive_refusal, without_message}
 use Rattle.ipc_model.specs.state.State.{Names, State}
-use Rattle.live_ports.specs.Changed.{messages_at}
+use Rattle.rights.specs.Passed.{messages_at}
 use Rattle.receiving.specs.Shows.{preferred_by}
 use Rattle.receiving.specs.SourceLaws.{one_serial}
 use Rattle.receiving.specs.Sources.{IsPreferred, IsSource, has_message, oldest_lacks, source_list}

@@ -17,8 +17,7 @@ use Rattle.ipc_model.specs.state.State.{State, Names, is_member, members_of, rec
 use Rattle.ipc_laws.specs.Dangling.{later_found, front_of, back_of}
 use Rattle.ipc_laws.specs.ListLaws.{some_same}
 use Rattle.ipc_laws.specs.MapSums.{same_key}
-use Rattle.rights.specs.Passed.{member_under, member_names}
-use Rattle.live_ports.specs.Changed.{messages_at}
+use Rattle.rights.specs.Passed.{member_under, member_names, messages_at}
 use Rattle.receiving.specs.Sources.{IsPreferred, IsSource, giver_of, port_giver, gives, has_message, is_in_set, is_preferred, port_refusal, source_list}
 use Rattle.receiving.specs.declared.asked.Preference.{Preference}
 use Rattle.receiving.specs.declared.asked.Preference.TheVariants as preference

@@ -8,7 +8,7 @@ use Rattle.ipc_model.specs.declared.entry.Entry.TheVariants.{Port, SendOnce, Set
 use Rattle.ipc_model.specs.declared.message.Message.{Message}
 use Rattle.ipc_model.specs.messages.Receiving.{Receipt, HoldsReceiveRight, lacks_names, message_size, oldest, receive_refusal, source_names, sources}
 use Rattle.ipc_model.specs.state.State.{State, Names}
-use Rattle.live_ports.specs.Changed.{messages_at}
+use Rattle.rights.specs.Passed.{messages_at}
 use Rattle.receiving.specs.declared.asked.Preference.{Preference}
 use Rattle.receiving.specs.declared.asked.Preference.TheVariants as preference
 use Rattle.receiving.specs.declared.source.Giver.{Giver}

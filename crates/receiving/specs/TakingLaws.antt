@@ -19,9 +19,7 @@ use Rattle.ipc_model.specs.state.State.{Names, State, next_count, with_names}
 use Rattle.ipc_laws.specs.ListLaws.{same_head}
 use Rattle.ipc_laws.specs.ReceiptLaws.{as_many_names}
 use Rattle.ipc_laws.specs.RecordedReceipts.{body_long, names_left}
-use Rattle.live_ports.specs.Changed.{messages_at, messages_in, numbers_of}
-use Rattle.live_ports.specs.Seen.{lives_in, seen_message, seen_right}
-use Rattle.live_ports.specs.declared.port.PortNumbers.{PortNumbers}
+use Rattle.rights.specs.Passed.{messages_at, messages_in, numbers_of, lives_in, seen_message, seen_right, PortNumbers}
 use Rattle.msg_header.specs.declared.header.Header.{Header}
 use Rattle.msg_header.specs.HeaderLaws.{header_and_body}
 use Rattle.msg_header.specs.Headers.{header_bits, header_text}

@@ -5,7 +5,7 @@ ghost use Rattle.codes.specs.declared.limits.TheConstants.{MAX_NAMES};
 ghost use Rattle.ipc_model.specs.calls.PortCalls.{names_in};
 ghost use Rattle.ipc_model.specs.messages.Receiving.{arriving, lacks_names, message_size, reply_right};
 ghost use Rattle.ipc_model.specs.rights.CopyOut.{names_wanted};
-ghost use Rattle.live_ports.specs.Seen.{lives_in, seen_message, seen_right};
+ghost use Rattle.rights.specs.Passed.{lives_in, seen_message, seen_right};
 
 use codes::{HEADER_LENGTH, MAX_NAMES};
 use ipc_model::{CarriedRight, Message};

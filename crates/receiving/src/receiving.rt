@@ -11,7 +11,7 @@ ghost use Rattle.ipc_model.specs.messages.Receiving.{Received, TakesOut, TooLarg
 ghost use Rattle.ipc_model.specs.rights.CopyOut.{Arrives, names_wanted};
 ghost use Rattle.ipc_model.specs.state.Lawful.{Lawful, LawfulMessage};
 ghost use Rattle.ipc_model.specs.state.State.{Names, State};
-ghost use Rattle.live_ports.specs.Changed.{messages_at};
+ghost use Rattle.rights.specs.Passed.{messages_at};
 ghost use Rattle.receiving.specs.ShownNames.{names_shown};
 ghost use Rattle.receiving.specs.Shows.{preferred_by, receipt_of, text_in};
 ghost use Rattle.receiving.specs.Sources.{IsSource};

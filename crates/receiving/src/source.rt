@@ -3,7 +3,7 @@ ghost use Rattle.std.specs.Prelude.{◌≡◌, ◌&&◌, None, Some, IfOk, IfErr
 ghost use Rattle.std.specs.FinMap as map;
 ghost use Rattle.ipc_model.specs.calls.PortCalls.{names_in};
 ghost use Rattle.ipc_model.specs.messages.Receiving.{receive_refusal};
-ghost use Rattle.live_ports.specs.Changed.{messages_at};
+ghost use Rattle.rights.specs.Passed.{messages_at};
 ghost use Rattle.receiving.specs.Shows.{receipt_of};
 ghost use Rattle.receiving.specs.Sources.{IsPreferred, IsSource, gives, giver_of, has_message, is_in_set, is_preferred, oldest_lacks, port_refusal, source_value};
 

@@ -11,7 +11,7 @@ mod opening;
 mod reading;
 mod survey;
 
-pub use kernel::Kernel;
+pub use kernel::{Kernel, Recorder};
 pub use laws::append_keeps_gate;
 pub use looking::{Looked, look};
 pub use opening::{Opened, open};

@@ -27,9 +27,7 @@ use Rattle.ipc_model.specs.state.State.{Names, State, lives, new_port, with_entr
 use Rattle.ipc_state.specs.Running.{Running}
 use Rattle.ipc_model.specs.state.Lawful.{LawfulEntry}
 use Rattle.ipc_state.specs.Live.{carries_live, is_live, is_live_port, is_live_reply}
-use Rattle.live_ports.specs.Changed.{numbers_of, with_numbers}
-use Rattle.live_ports.specs.declared.port.PortNumbers.{PortNumbers}
-use Rattle.port_space.specs.References.{AreFewReferences}
+use Rattle.ipc_state.specs.Passed.{numbers_of, with_numbers, PortNumbers, AreFewReferences}
 use Rattle.snapshot.specs.Rising.{RisesFrom}
 use Rattle.snapshot.specs.declared.rows.LivePort.{LivePort}
 use Rattle.snapshot.specs.declared.rows.NamedEntry.{NamedEntry}

@@ -8,7 +8,7 @@ use Rattle.ipc_laws.specs.MapSums.{key_is, same_key}
 use Rattle.ipc_laws.specs.Others.{number_decided}
 use Rattle.ipc_model.specs.state.Circular.{carrier_of}
 use Rattle.ipc_model.specs.state.State.{State, lives}
-use Rattle.live_ports.specs.NextPort.{IsNextPort}
+use Rattle.ipc_state.specs.Passed.{IsNextPort}
 use Rattle.restoring.specs.Climbing.{EndsSomewhere, doubled, twice, up_of, with_hop}
 
 abbrev pub Hops : Type 0

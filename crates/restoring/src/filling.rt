@@ -3,7 +3,7 @@ ghost use Rattle.std.specs.Prelude.{◌≡◌, ◌∷◌, ◌-◌, ◌^◌, ◌<
 ghost use Rattle.std.specs.FinMap as map;
 ghost use Rattle.codes.specs.declared.limits.TheConstants.{MAX_PORTS, MAX_SPACES};
 ghost use Rattle.ipc_model.specs.state.State.{State};
-ghost use Rattle.live_ports.specs.Changed.{numbers_of};
+ghost use Rattle.ipc_state.specs.Passed.{numbers_of};
 ghost use Rattle.restoring.specs.FillLaws.{AreAlike, MayName, MayOpen, MaySpace};
 ghost use Rattle.restoring.specs.Filling.{filled_all, named_all, opened, opened_all, queued_all, spaced, spaced_all};
 ghost use Rattle.restoring.specs.Linked.{is_linked_message, is_linked_row, looks_of};

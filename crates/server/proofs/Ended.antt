@@ -116,7 +116,7 @@ module _ {C : Type 0} (answers : C → Call → Reply → C → Type 0) (fails :
   })))
 
 -- an opened store that was served
-pub serves_both : {D : Type 0} (honest : Type 0) (view : D → View) (old new : AloneValue D) (o p left written : Option (List ℕ)) (result is : Result (Unit {0}) ServeFault) → old.space ≡ 1 → old.failed ≡ false → (honest → IsHeld (view old.disk) old.kernel) → result ≡ is
+pub serves_both : {D : Type 0} (honest : Type 0) (view : D → View) (old new : AloneValue D) (o p left written : Option (List ℕ)) (result is : Result (Unit {0}) ServeFault) → old.space ≡ 1 → old.failed ≡ false → (honest → IsHeld (view old.store.disk) old.kernel) → result ≡ is
     → IfSome o (λ input. IfSome p (λ before. Ends (AnswersKept honest view) (FailsKept honest view) (RestsKept honest view) (BreaksKept honest view) old new input before left written is)) → IfSome o (λ input. IfSome p (λ before. ServesOpened honest view input before left written result))
 serves_both honest view old new None p left written result is attached works held same ends = tt
 serves_both honest view old new (Some input) None left written result is attached works held same ends = tt

@@ -9,6 +9,8 @@ use Rattle.ipc_model.specs.declared.call.Reply.{Reply}
 use Rattle.ipc_model.specs.state.State.{State}
 use Rattle.ipc_model.specs.texts.Texts.{FitsCall, kept_record, IsRecord}
 use Rattle.journal.specs.Batch.{BatchValue, Holds}
+use Rattle.journal.specs.declared.fault.StoreFault.{StoreFault}
+use Rattle.journal.specs.declared.fault.StoreFault.TheVariants.{Device, NoMemory}
 use Rattle.journal.specs.declared.segment.Segment.{Segment}
 use Rattle.system.specs.Passed.{IsReadyBatch, with_more}
 use Rattle.system.specs.Passed.{Keeps}
@@ -19,7 +21,8 @@ use Rattle.slot_steps.specs.Steps.{segment_slot}
 use Rattle.std.proofs.lemmas.Bool.{cases_lt}
 use Rattle.system.specs.Passed.{IsAppended, PassesAppend}
 use Rattle.system.specs.Passed.{CheckpointValue, StoreValue}
-use Rattle.system.specs.GoingOn.{IsStanding}
+use Rattle.system.specs.Core.{SystemValue}
+use Rattle.system.specs.GoingOn.{IsStanding, TakesMemory}
 use Rattle.system.specs.Halves.{entry_of}
 
 -- a stop while a store is kept leaves its state
@@ -73,3 +76,9 @@ since_held old new before after space call held time c left = elim (later_or_now
 pub no_time : {D : Type 0} (view : D → View) (old new : D) (P : Slots → Type 0) → new ≡ old → Passes (view old) (view new) P
 no_time view old new P same =
     subst (λ d. Passes (view old) (view d) P) (sym same) (record { later = omega arith; past = λ k c _. (λ left. left, λ left. left); since = λ k c later until _. absurd (omega arith) })
+
+-- a fault that is want of memory, and no other: it is wanted for what is due, and nothing changed
+pub is_wanted : {D : Type 0} (records : ℕ) (old new : SystemValue D) (fault : StoreFault) → fault ≡ NoMemory
+    → (fault ≡ Device) ⊎ ((fault ≡ NoMemory) × TakesMemory records old.store old.store.checkpoint × (new ≡ old)) → TakesMemory records old.store old.store.checkpoint × (new ≡ old)
+is_wanted records old new fault short is =
+    elim is as (λ _. TakesMemory records old.store old.store.checkpoint × (new ≡ old)) [ inl device ↦ absurd (cc (device, short)) | inr wanted ↦ (wanted.1, wanted.2) ]

@@ -90,27 +90,27 @@ recorded_step old space c answer new (inr shortage) recorded = absurd (cc (sym r
 
 -- What a call made, and what it left at each moment and at its end.
 record Reach {D : Type 0} (view : D → View) (old : AloneValue D) (records : List Record) (new : AloneValue D) : Type 0 where
-  held : IsHeld (view new.disk) new.kernel
+  held : IsHeld (view new.store.disk) new.kernel
   run : Run old.kernel records new.kernel
-  time : Passes (view old.disk) (view new.disk) (StandsWithin old.kernel records)
+  time : Passes (view old.store.disk) (view new.store.disk) (StandsWithin old.kernel records)
 
 module _ {D : Type 0} (honest : Type 0) (view : D → View) where
   joined : (old mid new : AloneValue D) (records more : List Record) → Reach view old records mid → Reach view mid more new → Reach view old (records ++ more) new
   joined old mid new records more first second = record {
     held = second.held;
     run = run_append old.kernel mid.kernel new.kernel records more first.run second.run;
-    time = passes_join (view old.disk) (view mid.disk) (view new.disk) _ _ _ first.time second.time (in_front old.kernel records more) (λ c. behind old.kernel mid.kernel records more c first.run);
+    time = passes_join (view old.store.disk) (view mid.store.disk) (view new.store.disk) _ _ _ first.time second.time (in_front old.kernel records more) (λ c. behind old.kernel mid.kernel records more c first.run);
   }
 
-  same_reach : (old new : AloneValue D) → IsHeld (view old.disk) old.kernel → new ≡ old → Reach view old [] new
+  same_reach : (old new : AloneValue D) → IsHeld (view old.store.disk) old.kernel → new ≡ old → Reach view old [] new
   same_reach old new held same = subst (λ (a : AloneValue D). Reach view old [] a) (sym same) (record {
     held = held;
     run = refl;
-    time = no_time view old.disk old.disk _ refl;
+    time = no_time view old.store.disk old.store.disk _ refl;
   })
 
   -- one call
-  call_reach : (old : AloneValue D) (c : Call) (answer : Reply) (new : AloneValue D) → honest → IsHeld (view old.disk) old.kernel → AnswersKept honest view old c answer new → Reach view old (record_of old.space c answer) new
+  call_reach : (old : AloneValue D) (c : Call) (answer : Reply) (new : AloneValue D) → honest → IsHeld (view old.store.disk) old.kernel → AnswersKept honest view old c answer new → Reach view old (record_of old.space c answer) new
   call_reach old c answer new is_honest held answered = by (has_record c answer) refl
     where
       by : (b : Bool) → has_record c answer ≡ b → Reach view old (if b then (record { space = old.space; call = c; reply = answer }) ∷ [] else []) new
@@ -119,7 +119,7 @@ module _ {D : Type 0} (honest : Type 0) (view : D → View) where
           record {
             held = answered.held is_honest;
             run = run;
-            time = passes_so (view old.disk) (view new.disk) _ _ (answered.passes is_honest) (λ s stands. elim stands [
+            time = passes_so (view old.store.disk) (view new.store.disk) _ _ (answered.passes is_honest) (λ s stands. elim stands [
               | inl before ↦ at_first old.kernel _ s before
               | inr after ↦ record { first = 1; within = omega arith; state = new.kernel; run = run; stands = after.3 }
             ]);
@@ -129,15 +129,15 @@ module _ {D : Type 0} (honest : Type 0) (view : D → View) where
           record {
             held = answered.held is_honest;
             run = ap (λ (a : AloneValue D). a.kernel) moved;
-            time = no_time view old.disk new.disk _ (ap (λ (a : AloneValue D). a.disk) moved);
+            time = no_time view old.store.disk new.store.disk _ (ap (λ (a : AloneValue D). a.store.disk) moved);
           }
 
   -- time that no call is made in
-  rest_reach : (old new : AloneValue D) → honest → IsHeld (view old.disk) old.kernel → RestsKept honest view old new → Reach view old [] new
+  rest_reach : (old new : AloneValue D) → honest → IsHeld (view old.store.disk) old.kernel → RestsKept honest view old new → Reach view old [] new
   rest_reach old new is_honest held rested = record {
     held = rested.held is_honest;
     run = ap (λ (a : AloneValue D). a.kernel) rested.same;
-    time = passes_so (view old.disk) (view new.disk) _ _ (rested.passes is_honest) (at_first old.kernel []);
+    time = passes_so (view old.store.disk) (view new.store.disk) _ _ (rested.passes is_honest) (at_first old.kernel []);
   }
 
   -- what was made of a frame
@@ -146,7 +146,7 @@ module _ {D : Type 0} (honest : Type 0) (view : D → View) where
     made : P new records
     reach : Reach view old records new
 
-  message_made : (send receive : Option Call) (old : AloneValue D) (answer : Reply) (new : AloneValue D) → honest → IsHeld (view old.disk) old.kernel → AnswersMessage (AnswersKept honest view) old send receive answer new
+  message_made : (send receive : Option Call) (old : AloneValue D) (answer : Reply) (new : AloneValue D) → honest → IsHeld (view old.store.disk) old.kernel → AnswersMessage (AnswersKept honest view) old send receive answer new
       → Made (λ n. MakesMessage (AnswersKept honest view) old send receive answer n) old new
   message_made None None old answer new is_honest held (said, same) = record { records = []; made = (said, same, refl); reach = same_reach old new held same }
   message_made (Some send) None old answer new is_honest held answered = record { records = record_of old.space send answer; made = (answered, refl); reach = call_reach old send answer new is_honest held answered }
@@ -168,7 +168,7 @@ module _ {D : Type 0} (honest : Type 0) (view : D → View) where
         reach = subst (λ (a : AloneValue D). Reach view old (record_of old.space send sent) a) (sym done.1) reach;
       }
 
-  request_made : (asks : Request) (old : AloneValue D) (answer : Reply) (new : AloneValue D) → honest → IsHeld (view old.disk) old.kernel → AnswersRequest (AnswersKept honest view) old asks answer new
+  request_made : (asks : Request) (old : AloneValue D) (answer : Reply) (new : AloneValue D) → honest → IsHeld (view old.store.disk) old.kernel → AnswersRequest (AnswersKept honest view) old asks answer new
       → Made (λ n. MakesRequest (AnswersKept honest view) old asks answer n) old new
   request_made (request.One c) old answer new is_honest held answered = record { records = record_of old.space c answer; made = (answered, refl); reach = call_reach old c answer new is_honest held answered }
   request_made (request.Message m) old answer new is_honest held answered =
@@ -176,7 +176,7 @@ module _ {D : Type 0} (honest : Type 0) (view : D → View) where
       record { records = all.records; made = all.made; reach = all.reach }
   request_made (request.Answered code) old answer new is_honest held (said, same) = record { records = []; made = (said, same, refl); reach = same_reach old new held same }
 
-  frame_made : (content : List ℕ) (old : AloneValue D) (answer : Reply) (new : AloneValue D) → honest → IsHeld (view old.disk) old.kernel → IsAnswered (AnswersKept honest view) old content answer new
+  frame_made : (content : List ℕ) (old : AloneValue D) (answer : Reply) (new : AloneValue D) → honest → IsHeld (view old.store.disk) old.kernel → IsAnswered (AnswersKept honest view) old content answer new
       → Made (λ n. Makes (AnswersKept honest view) old content answer n) old new
   frame_made content old answer new is_honest held (inl (asks, asked, answered)) =
       let all = request_made asks old answer new is_honest held answered in
@@ -184,7 +184,7 @@ module _ {D : Type 0} (honest : Type 0) (view : D → View) where
   frame_made content old answer new is_honest held (inr (inl refused)) = record { records = []; made = inr (inl refused, refl); reach = same_reach old new held refused.2 }
   frame_made content old answer new is_honest held (inr (inr lacks)) = record { records = []; made = inr (inr lacks, refl); reach = same_reach old new held lacks.2 }
 
-  all_made : (exchanges : Exchanges) (old new : AloneValue D) → honest → IsHeld (view old.disk) old.kernel → Answers (AnswersKept honest view) (RestsKept honest view) old exchanges new
+  all_made : (exchanges : Exchanges) (old new : AloneValue D) → honest → IsHeld (view old.store.disk) old.kernel → Answers (AnswersKept honest view) (RestsKept honest view) old exchanges new
       → Made (λ n. MakesAll (AnswersKept honest view) (RestsKept honest view) old exchanges n) old new
   all_made [] old new is_honest held same = record { records = []; made = (same, refl); reach = same_reach old new held same }
   all_made (exchange ∷ exchanges) old new is_honest held (mid, later, first, rested, rest) =
@@ -197,24 +197,24 @@ module _ {D : Type 0} (honest : Type 0) (view : D → View) where
         reach = joined old mid new _ _ here.reach (joined mid later new [] _ between there.reach);
       }
 
-  pub stored_whole : (old : AloneValue D) (exchanges : Exchanges) (new : AloneValue D) → honest → IsHeld (view old.disk) old.kernel → Answers (AnswersKept honest view) (RestsKept honest view) old exchanges new → IsStoredWhole honest view old exchanges new
+  pub stored_whole : (old : AloneValue D) (exchanges : Exchanges) (new : AloneValue D) → honest → IsHeld (view old.store.disk) old.kernel → Answers (AnswersKept honest view) (RestsKept honest view) old exchanges new → IsStoredWhole honest view old exchanges new
   stored_whole old exchanges new is_honest held answered =
       let all = all_made exchanges old new is_honest held answered in
       record {
         records = all.records;
         made = all.made;
         held = all.reach.held;
-        any_moment = left_within (view old.disk) (view new.disk) old.kernel _ held all.reach.time (at_first old.kernel all.records);
+        any_moment = left_within (view old.store.disk) (view new.store.disk) old.kernel _ held all.reach.time (at_first old.kernel all.records);
       }
 
-  pub stored_frame : (old : AloneValue D) (content : List ℕ) (answer : Reply) (new : AloneValue D) → honest → IsHeld (view old.disk) old.kernel → IsAnswered (AnswersKept honest view) old content answer new → IsStoredFrame honest view old content answer new
+  pub stored_frame : (old : AloneValue D) (content : List ℕ) (answer : Reply) (new : AloneValue D) → honest → IsHeld (view old.store.disk) old.kernel → IsAnswered (AnswersKept honest view) old content answer new → IsStoredFrame honest view old content answer new
   stored_frame old content answer new is_honest held answered =
       let all = frame_made content old answer new is_honest held answered in
       record {
         records = all.records;
         made = all.made;
         held = all.reach.held;
-        any_moment = left_within (view old.disk) (view new.disk) old.kernel _ held all.reach.time (at_first old.kernel all.records);
+        any_moment = left_within (view old.store.disk) (view new.store.disk) old.kernel _ held all.reach.time (at_first old.kernel all.records);
       }
 
   -- slots that stand for a state, or for the one after records of these calls
@@ -225,8 +225,8 @@ module _ {D : Type 0} (honest : Type 0) (view : D → View) where
   stood_first calls old s stands = ([], tt, at_first old.kernel [] s stands)
 
   -- one call that failed
-  one_failed : (old : AloneValue D) (c : Call) (fault : StoreFault) (new : AloneValue D) → honest → IsHeld (view old.disk) old.kernel → FailsKept honest view old c fault new → Passes (view old.disk) (view new.disk) (Stood (c ∷ []) old)
-  one_failed old c fault new is_honest held failed = passes_so (view old.disk) (view new.disk) _ _ (failed.passes is_honest) (λ s stands. elim stands [
+  one_failed : (old : AloneValue D) (c : Call) (fault : StoreFault) (new : AloneValue D) → honest → IsHeld (view old.store.disk) old.kernel → FailsKept honest view old c fault new → Passes (view old.store.disk) (view new.store.disk) (Stood (c ∷ []) old)
+  one_failed old c fault new is_honest held failed = passes_so (view old.store.disk) (view new.store.disk) _ _ (failed.passes is_honest) (λ s stands. elim stands [
     | inl before ↦ stood_first (c ∷ []) old s before
     | inr after ↦ (
       (record { space = old.space; call = c; reply = after.0 }) ∷ [],
@@ -252,36 +252,36 @@ module _ {D : Type 0} (honest : Type 0) (view : D → View) where
   record_among c d space answer true = (inl refl, tt)
   record_among c d space answer false = tt
 
-  message_failed : (send receive : Option Call) (old : AloneValue D) (fault : StoreFault) (new : AloneValue D) → honest → IsHeld (view old.disk) old.kernel
-      → FailsMessage (AnswersKept honest view) (FailsKept honest view) old send receive fault new → Passes (view old.disk) (view new.disk) (Stood (given send ++ given receive) old)
+  message_failed : (send receive : Option Call) (old : AloneValue D) (fault : StoreFault) (new : AloneValue D) → honest → IsHeld (view old.store.disk) old.kernel
+      → FailsMessage (AnswersKept honest view) (FailsKept honest view) old send receive fault new → Passes (view old.store.disk) (view new.store.disk) (Stood (given send ++ given receive) old)
   message_failed None None old fault new is_honest held failed = absurd failed
   message_failed (Some send) None old fault new is_honest held failed = one_failed old send fault new is_honest held failed
   message_failed None (Some receive) old fault new is_honest held failed = one_failed old receive fault new is_honest held failed
   message_failed (Some send) (Some receive) old fault new is_honest held (inl failed) =
-      passes_so (view old.disk) (view new.disk) _ _ (one_failed old send fault new is_honest held failed) (λ s stood. (stood.0, any_more send receive stood.0 stood.1, stood.2))
+      passes_so (view old.store.disk) (view new.store.disk) _ _ (one_failed old send fault new is_honest held failed) (λ s stood. (stood.0, any_more send receive stood.0 stood.1, stood.2))
   message_failed (Some send) (Some receive) old fault new is_honest held (inr (sent, mid, first, done, failed)) =
       let reach = call_reach old send sent mid is_honest held first in
       let made = record_of old.space send sent in
       let among = record_among send receive old.space sent (has_record send sent) in
-      passes_join (view old.disk) (view mid.disk) (view new.disk) _ _ _ reach.time (one_failed mid receive fault new is_honest reach.held failed)
+      passes_join (view old.store.disk) (view mid.store.disk) (view new.store.disk) _ _ _ reach.time (one_failed mid receive fault new is_honest reach.held failed)
       (λ s w. (made, among, w))
       (λ s stood. (made ++ stood.0, all_both (send ∷ receive ∷ []) made stood.0 among (any_later send receive stood.0 stood.1), behind old.kernel mid.kernel made stood.0 s reach.run stood.2))
 
-  request_failed : (asks : Request) (old : AloneValue D) (fault : StoreFault) (new : AloneValue D) → honest → IsHeld (view old.disk) old.kernel
-      → FailsRequest (AnswersKept honest view) (FailsKept honest view) old asks fault new → Passes (view old.disk) (view new.disk) (Stood (calls_of asks) old)
+  request_failed : (asks : Request) (old : AloneValue D) (fault : StoreFault) (new : AloneValue D) → honest → IsHeld (view old.store.disk) old.kernel
+      → FailsRequest (AnswersKept honest view) (FailsKept honest view) old asks fault new → Passes (view old.store.disk) (view new.store.disk) (Stood (calls_of asks) old)
   request_failed (request.One c) old fault new is_honest held failed = one_failed old c fault new is_honest held failed
   request_failed (request.Message m) old fault new is_honest held failed = message_failed m.send m.receive old fault new is_honest held failed
   request_failed (request.Answered code) old fault new is_honest held failed = absurd failed
 
-  pub lost_nothing : (old : AloneValue D) (content : List ℕ) (fault : StoreFault) (new : AloneValue D) → honest → IsHeld (view old.disk) old.kernel
-      → IsFailed (AnswersKept honest view) (FailsKept honest view) old content fault new → (c : Slots) → LeftSince (view new.disk) (view old.disk).moment c
+  pub lost_nothing : (old : AloneValue D) (content : List ℕ) (fault : StoreFault) (new : AloneValue D) → honest → IsHeld (view old.store.disk) old.kernel
+      → IsFailed (AnswersKept honest view) (FailsKept honest view) old content fault new → (c : Slots) → LeftSince (view new.store.disk) (view old.store.disk).moment c
       → (asks : Request) × Asks content asks × Stood (calls_of asks) old c
   lost_nothing old content fault new is_honest held (asks, asked, failed) c left = (
     asks,
     asked,
-    left_within (view old.disk) (view new.disk) old.kernel _ held (request_failed asks old fault new is_honest held failed) (stood_first (calls_of asks) old) c left,
+    left_within (view old.store.disk) (view new.store.disk) old.kernel _ held (request_failed asks old fault new is_honest held failed) (stood_first (calls_of asks) old) c left,
   )
 
-  pub broken_nothing : (old : AloneValue D) (fault : StoreFault) (new : AloneValue D) → honest → IsHeld (view old.disk) old.kernel → BreaksKept honest view old fault new
-      → (c : Slots) → LeftSince (view new.disk) (view old.disk).moment c → Recovered (as_written c) old.kernel
-  broken_nothing old fault new is_honest held broken = left_within (view old.disk) (view new.disk) old.kernel _ held (broken.passes is_honest) (λ _ stands. stands)
+  pub broken_nothing : (old : AloneValue D) (fault : StoreFault) (new : AloneValue D) → honest → IsHeld (view old.store.disk) old.kernel → BreaksKept honest view old fault new
+      → (c : Slots) → LeftSince (view new.store.disk) (view old.store.disk).moment c → Recovered (as_written c) old.kernel
+  broken_nothing old fault new is_honest held broken = left_within (view old.store.disk) (view new.store.disk) old.kernel _ held (broken.passes is_honest) (λ _ stands. stands)

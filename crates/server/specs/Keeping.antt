@@ -1,5 +1,5 @@
 -- What a clause sees of a lone caller, and what a stop during a call leaves.
-use Rattle.std.specs.Prelude.{◌≡◌, ◌⊎◌, ℕ, Bool, true, false, if◌then◌else◌, refl}
+use Rattle.std.specs.Prelude.{◌≡◌, ◌⊎◌, ℕ, ◌+◌, Bool, true, false, if◌then◌else◌, refl}
 use Rattle.std.specs.Coded.{Coded, code_by, coded×, coded_ℕ, coded_bool}
 use Rattle.disk.specs.Moments.{View, MayLeave, Passes}
 use Rattle.disk.specs.Slots.{Slots}
@@ -13,19 +13,22 @@ use Rattle.journal.specs.declared.fault.StoreFault.{StoreFault}
 use Rattle.journal.specs.declared.fault.StoreFault.TheVariants.{Failed}
 use Rattle.ipc_model.specs.store.Recovery.{Recovered}
 use Rattle.standing.specs.Standing.{as_written}
+use Rattle.system.specs.GoingOn.{GoesOn, TakesMemory}
+use Rattle.system.specs.Passed.{StoreValue, store_code}
 use Rattle.server.specs.Serving.{StepOrShortage}
+use Rattle.server.specs.declared.alone.TheConstants.{CHECKPOINT_RECORDS}
 
--- The state after the calls so far, the store's disk, the space that the caller is attached to, and whether a call failed.
+-- The state after the calls so far, the store, the space that the caller is attached to, and whether a call failed.
 pub record AloneValue (D : Type 0) : Type 0 where
   pub kernel : State
-  pub disk : D
+  pub store : StoreValue D
   pub space : ℕ
   pub failed : Bool
 
 abbrev pub alone_code : {D : Type 0} → Coded D → Coded (AloneValue D)
 alone_code {D = D} code =
-    code_by (State × (D × (ℕ × Bool))) (coded× state_code (coded× code (coded× coded_ℕ coded_bool))) (λ a. (a.kernel, (a.disk, (a.space, a.failed))))
-    (λ p. record { kernel = p.0; disk = p.1.0; space = p.1.1.0; failed = p.1.1.1 }) (λ _. refl)
+    code_by (State × (StoreValue D × (ℕ × Bool))) (coded× state_code (coded× (store_code code) (coded× coded_ℕ coded_bool))) (λ a. (a.kernel, (a.store, (a.space, a.failed))))
+    (λ p. record { kernel = p.0; store = p.1.0; space = p.1.1.0; failed = p.1.1.1 }) (λ _. refl)
 
 -- the space that a call attaches its caller to where it is done
 abbrev pub attached_by : ℕ → Call → ℕ
@@ -38,7 +41,12 @@ space_after space c answer = if succeeded c answer then attached_by space c else
 
 -- nothing changed but the space that the caller is attached to
 abbrev pub IsMoved : {D : Type 0} → AloneValue D → AloneValue D → Type 0
-IsMoved old new = new ≡ record { kernel = old.kernel; disk = old.disk; space = new.space; failed = old.failed }
+IsMoved old new = new ≡ record { kernel = old.kernel; store = old.store; space = new.space; failed = old.failed }
+
+-- A call's record is one more in the segment in use; a checkpoint under way stays as it is.
+pub record IsCounted {D : Type 0} (old : StoreValue D) (call : Call) (answer : Reply) (new : StoreValue D) : Type 0 where
+  pub segment : new.segment ≡ record old.segment { records = old.segment.records + (if has_record call answer then 1 else 0) }
+  pub checkpoint : new.checkpoint ≡ old.checkpoint
 
 -- what a stop leaves is a store from which this state is recovered
 abbrev pub IsHeld : View → State → Type 0
@@ -55,28 +63,34 @@ IsBeforeOrAfter before space call after c =
 abbrev pub AnswersStored : {D : Type 0} → AloneValue D → Call → Reply → AloneValue D → Type 0
 AnswersStored old call answer new = StepOrShortage old.kernel old.space call answer new.kernel × (new.space ≡ space_after old.space call answer) × (new.failed ≡ false)
 
+-- memory is wanted for what is due of a checkpoint, and nothing changed
+abbrev pub IsShortOf : {D : Type 0} → AloneValue D → AloneValue D → Type 0
+IsShortOf old new = TakesMemory CHECKPOINT_RECORDS old.store old.store.checkpoint × (new ≡ old)
+
 -- A call of a lone caller that didn't fail before. On an honest disk, a stop at any moment of the call leaves the state
 -- before it or the state after it, and a stop after it the state after it.
 module _ {D : Type 0} (honest : Type 0) (view : D → View) where
   pub record AnswersKept (old : AloneValue D) (call : Call) (answer : Reply) (new : AloneValue D) : Type 0 where
     pub stored : AnswersStored old call answer new
     pub unrecorded : has_record call answer ≡ false → IsMoved old new
-    pub passes : honest → Passes (view old.disk) (view new.disk) (IsBeforeOrAfter old.kernel old.space call new.kernel)
-    pub held : honest → IsHeld (view new.disk) new.kernel
+    pub counted : IsCounted old.store call answer new.store
+    pub passes : honest → Passes (view old.store.disk) (view new.store.disk) (IsBeforeOrAfter old.kernel old.space call new.kernel)
+    pub held : honest → IsHeld (view new.store.disk) new.kernel
 
   -- A call that fails in the store. The caller is of no further use; a stop at any moment of the call leaves the state before
   -- it or the state after it.
   pub record FailsKept (old : AloneValue D) (call : Call) (fault : StoreFault) (new : AloneValue D) : Type 0 where
     pub failed : new.failed ≡ true
     pub failed_before : old.failed ≡ true → (fault ≡ Failed) × (new ≡ old)
-    pub passes : honest → Passes (view old.disk) (view new.disk) (IsBeforeOrAfter old.kernel old.space call new.kernel)
+    pub passes : honest → Passes (view old.store.disk) (view new.store.disk) (IsBeforeOrAfter old.kernel old.space call new.kernel)
 
-  -- Time after a reply of a lone caller that didn't fail. Only the disk may change; on an honest one, a stop at any moment of
-  -- that time and after it leaves the state it had.
+  -- Time after a reply of a lone caller that didn't fail. Of a checkpoint that is done which is due, but where memory is wanted
+  -- for it; only the store changes. On an honest disk, a stop at any moment of that time and after it leaves the state it had.
   pub record RestsKept (old new : AloneValue D) : Type 0 where
-    pub same : new ≡ record old { disk = new.disk }
-    pub passes : honest → Passes (view old.disk) (view new.disk) (λ c. Recovered (as_written c) old.kernel)
-    pub held : honest → IsHeld (view new.disk) new.kernel
+    pub same : new ≡ record old { store = new.store }
+    pub goes : GoesOn honest view CHECKPOINT_RECORDS old.kernel old.store.checkpoint old.store new.store ⊎ IsShortOf old new
+    pub passes : honest → Passes (view old.store.disk) (view new.store.disk) (λ c. Recovered (as_written c) old.kernel)
+    pub held : honest → IsHeld (view new.store.disk) new.kernel
 
   -- Time after a reply that ends with a fault of the store. The caller is of no further use; a stop at any moment of that time
   -- leaves the state it had.
@@ -85,4 +99,4 @@ module _ {D : Type 0} (honest : Type 0) (view : D → View) where
     pub kernel : new.kernel ≡ old.kernel
     pub space : new.space ≡ old.space
     pub failed_before : old.failed ≡ true → (fault ≡ Failed) × (new ≡ old)
-    pub passes : honest → Passes (view old.disk) (view new.disk) (λ c. Recovered (as_written c) old.kernel)
+    pub passes : honest → Passes (view old.store.disk) (view new.store.disk) (λ c. Recovered (as_written c) old.kernel)

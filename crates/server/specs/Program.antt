@@ -43,7 +43,7 @@ module _ {D : Type 0} (honest : Type 0) (view : D → View) (input before : List
     pub new : AloneValue D
     pub attached : old.space ≡ 1
     pub works : old.failed ≡ false
-    pub held : honest → IsHeld (view old.disk) old.kernel
+    pub held : honest → IsHeld (view old.store.disk) old.kernel
     pub ends : Ends (AnswersKept honest view) (FailsKept honest view) (RestsKept honest view) (BreaksKept honest view) old new input before left written result
 
   abbrev pub IsRun : Result (Unit {0}) ServeFault → Type 0

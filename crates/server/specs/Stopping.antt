@@ -90,12 +90,12 @@ AreOf calls (entry ∷ records) = IsAmong entry.call calls × AreOf calls record
 pub record IsStoredWhole {D : Type 0} (honest : Type 0) (view : D → View) (old : AloneValue D) (exchanges : Exchanges) (new : AloneValue D) : Type 0 where
   pub records : List Record
   pub made : MakesAll (AnswersKept honest view) (RestsKept honest view) old exchanges new records
-  pub held : IsHeld (view new.disk) new.kernel
-  pub any_moment : (c : Slots) → LeftSince (view new.disk) (view old.disk).moment c → StandsWithin old.kernel records c
+  pub held : IsHeld (view new.store.disk) new.kernel
+  pub any_moment : (c : Slots) → LeftSince (view new.store.disk) (view old.store.disk).moment c → StandsWithin old.kernel records c
 
 abbrev pub AnsweredIsStored : {D : Type 0} → Type 0 → (D → View) → Type 0
 AnsweredIsStored {D} honest view =
-    (old : AloneValue D) (exchanges : Exchanges) (new : AloneValue D) → honest → IsHeld (view old.disk) old.kernel
+    (old : AloneValue D) (exchanges : Exchanges) (new : AloneValue D) → honest → IsHeld (view old.store.disk) old.kernel
     → Answers (AnswersKept honest view) (RestsKept honest view) old exchanges new → IsStoredWhole honest view old exchanges new
 
 -- One frame that was answered, before any time is given: the last one of a connection whose reply couldn't be written, or
@@ -103,24 +103,24 @@ AnsweredIsStored {D} honest view =
 pub record IsStoredFrame {D : Type 0} (honest : Type 0) (view : D → View) (old : AloneValue D) (content : List ℕ) (answer : Reply) (new : AloneValue D) : Type 0 where
   pub records : List Record
   pub made : Makes (AnswersKept honest view) old content answer new records
-  pub held : IsHeld (view new.disk) new.kernel
-  pub any_moment : (c : Slots) → LeftSince (view new.disk) (view old.disk).moment c → StandsWithin old.kernel records c
+  pub held : IsHeld (view new.store.disk) new.kernel
+  pub any_moment : (c : Slots) → LeftSince (view new.store.disk) (view old.store.disk).moment c → StandsWithin old.kernel records c
 
 abbrev pub FrameIsStored : {D : Type 0} → Type 0 → (D → View) → Type 0
 FrameIsStored {D} honest view =
-    (old : AloneValue D) (content : List ℕ) (answer : Reply) (new : AloneValue D) → honest → IsHeld (view old.disk) old.kernel
+    (old : AloneValue D) (content : List ℕ) (answer : Reply) (new : AloneValue D) → honest → IsHeld (view old.store.disk) old.kernel
     → IsAnswered (AnswersKept honest view) old content answer new → IsStoredFrame honest view old content answer new
 
 -- A frame whose calls failed in the store: a stop at any moment since leaves the state before it, or the one after the first
 -- of its calls.
 abbrev pub FailureLosesNothing : {D : Type 0} → Type 0 → (D → View) → Type 0
 FailureLosesNothing {D} honest view =
-    (old : AloneValue D) (content : List ℕ) (fault : StoreFault) (new : AloneValue D) → honest → IsHeld (view old.disk) old.kernel
-    → IsFailed (AnswersKept honest view) (FailsKept honest view) old content fault new → (c : Slots) → LeftSince (view new.disk) (view old.disk).moment c
+    (old : AloneValue D) (content : List ℕ) (fault : StoreFault) (new : AloneValue D) → honest → IsHeld (view old.store.disk) old.kernel
+    → IsFailed (AnswersKept honest view) (FailsKept honest view) old content fault new → (c : Slots) → LeftSince (view new.store.disk) (view old.store.disk).moment c
     → (asks : Request) × Asks content asks × ((records : List Record) × AreOf (calls_of asks) records × StandsWithin old.kernel records c)
 
 -- Time after a reply that ended with a fault of the store: a stop at any moment since it began leaves the state as it was.
 abbrev pub BreakingLosesNothing : {D : Type 0} → Type 0 → (D → View) → Type 0
 BreakingLosesNothing {D} honest view =
-    (old : AloneValue D) (fault : StoreFault) (new : AloneValue D) → honest → IsHeld (view old.disk) old.kernel
-    → BreaksKept honest view old fault new → (c : Slots) → LeftSince (view new.disk) (view old.disk).moment c → Recovered (as_written c) old.kernel
+    (old : AloneValue D) (fault : StoreFault) (new : AloneValue D) → honest → IsHeld (view old.store.disk) old.kernel
+    → BreaksKept honest view old fault new → (c : Slots) → LeftSince (view new.store.disk) (view old.store.disk).moment c → Recovered (as_written c) old.kernel

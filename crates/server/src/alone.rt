@@ -1,11 +1,12 @@
-ghost use Rattle.std.specs.Prelude.{◌≡◌, ◌+◌, ◌<◌, ◌≤◌, true, false, if◌then◌else◌, length, IfErr, IfOk, OnOk, OnErr, IsErrOf};
+ghost use Rattle.std.specs.Prelude.{◌≡◌, ◌+◌, ◌<◌, ◌≤◌, true, false, if◌then◌else◌, length, IfErr, IfOk, MatchBool, OnOk, OnErr, IsErrOf};
 ghost use Rattle.disk.specs.Moments.{LeftSince, MayLeave, Passes};
 ghost use Rattle.disk.specs.Slots.{Slots};
 ghost use Rattle.ipc_model.specs.store.Recovery.{Recovered};
 ghost use Rattle.standing.specs.Standing.{as_written};
 ghost use Rattle.system.specs.Calling.{IsResting};
-ghost use Rattle.system.specs.GoingOn.{IsStanding};
-ghost use Rattle.server.specs.Keeping.{AnswersKept, BreaksKept, FailsKept, IsBeforeOrAfter, IsHeld, IsMoved, RestsKept, attached_by};
+ghost use Rattle.system.specs.Core.{first_system};
+ghost use Rattle.system.specs.GoingOn.{GoesOn, IsStanding};
+ghost use Rattle.server.specs.Keeping.{AnswersKept, BreaksKept, FailsKept, IsBeforeOrAfter, IsCounted, IsHeld, IsMoved, IsShortOf, RestsKept, attached_by};
 ghost use Rattle.server.specs.Serving.{StepOrShortage, shortage_of};
 ghost use Rattle.ipc_model.specs.calls.Step.{has_record, succeeded};
 ghost use Rattle.ipc_model.specs.texts.Texts.{reply_text};
@@ -45,8 +46,8 @@ pub trait Caller {
         ensures fits { IfOk result (λ reply. length (reply_text reply) ≤ MAX_FRAME_CONTENT) }
         ensures fails { IfErr result (λ fault. fails self.old call fault self.new) };
 
-    /// Takes time after a frame's reply was written, for what no reply waits for.
-    fn rest(&mut self) -> Result<(), StoreFault>
+    /// Takes time after a frame's reply was written, for what no reply waits for. Answers whether memory was there for it.
+    fn rest(&mut self) -> Result<bool, StoreFault>
         ensures rests { OnOk result (rests self.old self.new) }
         ensures breaks { IfErr result (λ fault. breaks self.old fault self.new) };
 }
@@ -70,7 +71,7 @@ impl<D: Disk> Model for Alone<D> {
 
     ghost coded = { alone_code D.code };
 
-    ghost view = { λ a. record { kernel = a.system.core.kernel; disk = a.system.store.disk; space = a.space; failed = a.failed } };
+    ghost view = { λ a. record { kernel = a.system.core.kernel; store = a.system.store; space = a.space; failed = a.failed } };
 
     // Until a call fails, nothing waits between calls, and the store holds what the kernel holds.
     ghost invariant = { λ a. a.failed ≡ false → IsResting a.system × (D.honest → IsStanding D.view a.system.store a.system.core.kernel) };
@@ -80,11 +81,11 @@ impl<D: Disk> Alone<D> {
     /// A caller that goes on from an opened store. It is attached to space 1.
     pub fn new(alloc: Global, opened: Opened<D>) -> Self
         ensures kernel { result.kernel ≡ opened.kernel }
-        ensures disk { result.disk ≡ opened.disk }
+        ensures store { result.store ≡ (first_system opened.kernel opened.disk opened.segment).store }
         ensures space { result.space ≡ 1 }
         ensures failed { result.failed ≡ false }
         // A stop leaves the state that was opened.
-        ensures held { D.honest → IsHeld (D.view result.disk) result.kernel }
+        ensures held { D.honest → IsHeld (D.view result.store.disk) result.kernel }
     {
         Alone {
             alloc,
@@ -96,7 +97,7 @@ impl<D: Disk> Alone<D> {
 
     /// The disk of the store, which is closed.
     pub fn into_disk(self) -> D
-        ensures disk { result ≡ self.disk }
+        ensures disk { result ≡ self.store.disk }
         // Until a call fails, a stop leaves what was answered.
         ensures held { D.honest → self.failed ≡ false → IsHeld (D.view result) self.kernel }
     {
@@ -130,12 +131,12 @@ impl<D: Disk> Caller for Alone<D> {
         ensures fails { IfErr result (λ fault. FailsKept D.honest D.view self.old call fault self.new) }
         // A stop at any moment from the beginning of the call to its end leaves the state before it or the state after
         // it, also where the call fails.
-        ensures any_moment { D.honest → self.old.failed ≡ false → (c : Slots) → LeftSince (D.view self.new.disk) (D.view self.old.disk).moment c
+        ensures any_moment { D.honest → self.old.failed ≡ false → (c : Slots) → LeftSince (D.view self.new.store.disk) (D.view self.old.store.disk).moment c
             → IsBeforeOrAfter self.old.kernel self.old.space call self.new.kernel c }
-        ensures passes { D.honest → Passes (D.view self.old.disk) (D.view self.new.disk)
+        ensures passes { D.honest → Passes (D.view self.old.store.disk) (D.view self.new.store.disk)
             (IsBeforeOrAfter self.old.kernel self.old.space call self.new.kernel) }
         // A stop after the reply leaves the state after the call, so nothing that was answered is lost.
-        ensures stored { D.honest → OnOk result (IsHeld (D.view self.new.disk) self.new.kernel) }
+        ensures stored { D.honest → OnOk result (IsHeld (D.view self.new.store.disk) self.new.kernel) }
         // A call without a record, refused or a read, changes neither the state nor the disk, and what attaches to no
         // other space changes nothing at all.
         ensures unrecorded { IfOk result (λ reply. has_record call reply ≡ false → IsMoved self.old self.new) }
@@ -159,13 +160,16 @@ impl<D: Disk> Caller for Alone<D> {
     }
 
     /// Takes time after a reply: where the epoch's row has `CHECKPOINT_RECORDS` records a checkpoint is begun, and while one is
-    /// under way its image goes on by a step. After a fault it answers `Failed`, as `call` does.
-    fn rest(&mut self) -> Result<(), StoreFault>
+    /// under way its image goes on by a step. Where memory is wanted for that, nothing changes, and it is tried again the next
+    /// time. After a fault it answers `Failed`, as `call` does.
+    fn rest(&mut self) -> Result<bool, StoreFault>
         ensures rests { OnOk result (RestsKept D.honest D.view self.old self.new) }
+        ensures goes { IfOk result (λ is_done. MatchBool is_done
+            (GoesOn D.honest D.view CHECKPOINT_RECORDS self.old.kernel self.old.store.checkpoint self.old.store self.new.store) (IsShortOf self.old self.new)) }
         ensures breaks { IfErr result (λ fault. BreaksKept D.honest D.view self.old fault self.new) }
         // A stop at any moment from the beginning of that time to its end leaves the state as it was, also where it
         // fails.
-        ensures any_moment { D.honest → self.old.failed ≡ false → (c : Slots) → LeftSince (D.view self.new.disk) (D.view self.old.disk).moment c
+        ensures any_moment { D.honest → self.old.failed ≡ false → (c : Slots) → LeftSince (D.view self.new.store.disk) (D.view self.old.store.disk).moment c
             → Recovered (as_written c) self.old.kernel }
         ensures failed { self.old.failed ≡ true → (IsErrOf result StoreFault.Failed) × (self.new ≡ self.old) }
     {
@@ -173,8 +177,11 @@ impl<D: Disk> Caller for Alone<D> {
             return Err(StoreFault::Failed);
         }
         match self.system.go_on(CHECKPOINT_RECORDS) {
-            Ok(()) => Ok(()),
+            Ok(()) => Ok(true),
             Err(broken) => {
+                if broken == StoreFault::NoMemory {
+                    return Ok(false);
+                }
                 self.failed = true;
                 Err(broken)
             }
@@ -216,6 +223,7 @@ fn make_call<D: Disk>(
         → OnOk result (IsStanding D.view system.new.store system.new.core.kernel) }
     ensures unrecorded { IfOk result (λ reply. has_record call.now reply ≡ false
         → (system.new.core.kernel ≡ system.old.core.kernel) × (system.new.store ≡ system.old.store)) }
+    ensures counted { IfOk result (λ reply. IsCounted system.old.store call.now reply system.new.store) }
     ensures rests { OnOk result (IsResting system.new) }
 {
     match system.call(space, call) {

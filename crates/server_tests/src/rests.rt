@@ -30,11 +30,11 @@ impl Caller for Tiring {
         self.alone.call(call)
     }
 
-    fn rest(&mut self) -> Result<(), StoreFault> {
+    fn rest(&mut self) -> Result<bool, StoreFault> {
         match self.bears.checked_sub(1) {
             Some(left) => {
                 self.bears = left;
-                Ok(())
+                Ok(true)
             }
             None => Err(StoreFault::Device),
         }

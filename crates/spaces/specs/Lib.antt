@@ -3,9 +3,10 @@ pub mod Counting
 pub mod Indexes
 pub mod Laws
 pub mod Looking
+pub mod NextSpace
 pub mod Numbers
+pub mod Passed
 pub mod Reading
 pub mod Renamed
 pub mod Slots
 pub mod Walks
-pub mod NextSpace

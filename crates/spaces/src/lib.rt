@@ -14,5 +14,6 @@ mod spaces;
 mod table;
 mod walks;
 
+pub use place_index::PlaceIndex;
 pub use spaces::Spaces;
 pub use table::SpaceTable;

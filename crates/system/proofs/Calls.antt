@@ -1,6 +1,6 @@
 -- The five events of a call, one after another.
 use Rattle.std.proofs.Common.{◌≡◌, ◌⊎◌, inl, inr, ℕ, ◌+◌, ◌≤◌, ◌<◌, Bool, true, false, List, [], ◌∷◌, ◌++◌, length, Option, None, Some, Result, Ok, Err, IfErr, refl, sym, ap, subst, ◌∙◌, arith}
-use Rattle.std.specs.Prelude.{MatchBool, if◌then◌else◌}
+use Rattle.std.specs.Prelude.{MatchBool, if◌then◌else◌, is_some}
 use Rattle.std.specs.Result.{IsErrAnd}
 use Rattle.std.specs.FinMap as finmap
 use Rattle.std.proofs.lemmas.List.{append-nil}
@@ -202,6 +202,7 @@ module _ {D : Type 0} (honest : Type 0) (view : D → View) where
           epoch = ap (λ (j : StoreValue D). j.segment.epoch) store ∙ rests.epoch ∙ sym (ap (λ (k : KernelValue). k.epoch) rest);
           length = ap (λ (r : RowValue). r.length) row ∙ rests.length ∙ sym records;
           handed = handed;
+          is_cut = ap (λ (k : KernelValue). k.is_cut) rest ∙ rests.is_cut ∙ sym (ap (λ (j : StoreValue D). is_some j.checkpoint) store);
           unfailed = ap (λ (j : StoreValue D). j.failed) store ∙ rests.unfailed;
         });
         kernel = sym (ap (λ (s : SystemValue D). s.core.kernel) is);
@@ -257,6 +258,7 @@ module _ {D : Type 0} (honest : Type 0) (view : D → View) where
           epoch = ap (λ (g : Segment). g.epoch) segment ∙ rests.epoch ∙ sym (ap (λ (k : KernelValue). k.epoch) core ∙ ap (λ (k : KernelValue). k.epoch) rest);
           length = ap (λ (k : KernelValue). k.row.length) core ∙ length ∙ sym records;
           handed = handed ∙ sym (ap (λ (k : KernelValue). k.row.made) core ∙ made_is);
+          is_cut = ap (λ (k : KernelValue). k.is_cut) core ∙ ap (λ (k : KernelValue). k.is_cut) rest ∙ rests.is_cut ∙ sym (ap (λ (j : StoreValue D). is_some j.checkpoint) (store ∙ after) ∙ ap (λ (j : StoreValue D). is_some j.checkpoint) before);
           unfailed = ap (λ (j : StoreValue D). j.failed) (store ∙ after) ∙ all.stores.unfailed;
         };
         kernel = sym (ap (λ (k : KernelValue). k.kernel) core);
@@ -318,6 +320,7 @@ module _ {D : Type 0} (honest : Type 0) (view : D → View) where
           epoch = settles.rests.epoch;
           length = settles.rests.length;
           handed = settles.rests.handed;
+          is_cut = settles.rests.is_cut;
           unfailed = settles.rests.unfailed;
         });
         counted = ap (λ (s : SystemValue D). s.store.segment) last_is ∙ settles.counted;

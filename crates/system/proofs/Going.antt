@@ -1,5 +1,5 @@
 -- A checkpoint between the calls of a lone caller keeps the store.
-use Rattle.std.proofs.Common.{◌≡◌, ◌⊎◌, inl, inr, ℕ, ◌+◌, ◌≤◌, ◌<◌, ◌^◌, Bool, true, false, Option, None, Some, refl, sym, ap, subst, ◌∙◌, arith}
+use Rattle.std.proofs.Common.{◌≡◌, ◌⊎◌, inl, inr, ℕ, ◌+◌, ◌-◌, ◌≤◌, ◌<◌, ◌^◌, Bool, true, false, Option, None, Some, refl, sym, ap, subst, ◌∙◌, arith}
 use Rattle.std.specs.Prelude.{MatchBool, is_none, is_some}
 use Rattle.disk.specs.Moments.{View, Passes}
 use Rattle.disk.specs.Slots.{Slots}
@@ -14,14 +14,15 @@ use Rattle.phases.proofs.Appends.{begin_keeps}
 use Rattle.phases.proofs.Images.{finish_fails, finish_keeps, finish_passes, image_close_fails, image_close_keeps, image_close_passes, piece_fails, piece_keeps, piece_passes}
 use Rattle.phases.proofs.Rolls.{roll_close_fails, roll_close_keeps, roll_close_passes, roll_head_fails, roll_head_keeps, roll_head_passes, roll_open_fails, roll_open_keeps, roll_open_passes}
 use Rattle.slot_steps.proofs.Moments.{passes_then}
+use Rattle.std.proofs.lemmas.Bool.{cases_lt}
 use Rattle.standing.specs.Standing.{as_written}
-use Rattle.storing.specs.Changes.{CanOpen, ClosesImage, FailsToCloseImage, FailsToFinish, FailsToRollClose, FailsToRollHead, FailsToRollOpen, FailsToWritePiece, Finishes, HasImaged, HasPieceLeft, IsFault, IsFaultOrShortage, IsNotNow, IsRolled, RollsClose, RollsHead, RollsOpen, WritesPiece}
+use Rattle.storing.specs.Changes.{CanFinish, CanOpen, ClosesImage, FailsToCloseImage, FailsToFinish, FailsToRollClose, FailsToRollHead, FailsToRollOpen, FailsToWritePiece, Finishes, HasImaged, HasPieceLeft, IsFault, IsFaultOrShortage, IsNotNow, IsRolled, RollsClose, RollsHead, RollsOpen, WritesPiece}
 use Rattle.storing.specs.Values.{CheckpointValue, StoreValue, begun}
 use Rattle.system.specs.Calling.{IsResting}
 use Rattle.system.specs.Changes.{BeginsEpoch, FinishesImage, HandsFinished, HandsIn, HandsReceipt}
 use Rattle.system.specs.Core.{SystemValue}
-use Rattle.system.specs.GoingOn.{IsFirstStep, IsRolledOver, IsStanding, Recovers}
-use Rattle.system.specs.Halves.{KernelValue}
+use Rattle.system.specs.GoingOn.{BeginsNext, GoesOn, GoesOnImage, GoesOnInEpoch, GoesOnPieces, IsFirstStep, IsRolledOver, IsStanding, Recovers, RollsOver}
+use Rattle.system.specs.Halves.{CanCut, KernelValue}
 use Rattle.system.proofs.Between.{some_is}
 use Rattle.system.proofs.Simulation.{no_time}
 
@@ -160,6 +161,7 @@ module _ {D : Type 0} (honest : Type 0) (view : D → View) where
         checkpoint = first.checkpoint;
         under_way = first.under_way;
         segment = ap (λ (s : StoreValue D). s.segment) opened.rest ∙ ap (λ (c : CheckpointValue). record { epoch = c.epoch; records = 0 }) c2;
+        still = ap (λ (s : StoreValue D). is_some s.checkpoint) opened.rest;
         unfailed = ap (λ (s : StoreValue D). s.failed) opened.rest ∙ opened.unfailed;
       }
 
@@ -169,8 +171,8 @@ module _ {D : Type 0} (honest : Type 0) (view : D → View) where
 
   -- The core rests between the steps.
 
-  pub rests_with : (old new : SystemValue D) → IsResting old → new ≡ record old { store = new.store } → new.store.segment ≡ old.store.segment → new.store.failed ≡ old.store.failed → IsResting new
-  rests_with old new rests rest segment failed = subst IsResting (sym rest) (record {
+  pub rests_with : (old new : SystemValue D) → IsResting old → new ≡ record old { store = new.store } → new.store.segment ≡ old.store.segment → is_some new.store.checkpoint ≡ is_some old.store.checkpoint → new.store.failed ≡ old.store.failed → IsResting new
+  rests_with old new rests rest segment under_way failed = subst IsResting (sym rest) (record {
     none_out = rests.none_out;
     out = rests.out;
     receipt = rests.receipt;
@@ -180,11 +182,20 @@ module _ {D : Type 0} (honest : Type 0) (view : D → View) where
     epoch = ap (λ (g : Segment). g.epoch) segment ∙ rests.epoch;
     length = rests.length ∙ sym (ap (λ (g : Segment). g.records) segment);
     handed = rests.handed;
+    is_cut = rests.is_cut ∙ sym under_way;
     unfailed = failed ∙ rests.unfailed;
   })
 
   pub rests_same : (old new : SystemValue D) → IsResting old → new ≡ record old { store = new.store } → new.store ≡ old.store → IsResting new
-  rests_same old new rests rest same = rests_with old new rests rest (ap (λ (s : StoreValue D). s.segment) same) (ap (λ (s : StoreValue D). s.failed) same)
+  rests_same old new rests rest same = rests_with old new rests rest (ap (λ (s : StoreValue D). s.segment) same) (ap (λ (s : StoreValue D). is_some s.checkpoint) same) (ap (λ (s : StoreValue D). s.failed) same)
+
+  pub closes_rests : (old new : SystemValue D) → IsResting old → new ≡ record old { store = new.store } → ClosesImage honest view old.store new.store → IsResting new
+  closes_rests old new rests rest closes =
+      rests_with old new rests rest (ap (λ (s : StoreValue D). s.segment) closes.rest) (ap (λ (s : StoreValue D). is_some s.checkpoint) closes.rest ∙ sym (ap (λ (c : Option CheckpointValue). is_some c) closes.under_way)) (ap (λ (s : StoreValue D). s.failed) closes.rest)
+
+  pub writes_rests : (old new : SystemValue D) → IsResting old → new ≡ record old { store = new.store } → WritesPiece honest view old.store new.store → IsResting new
+  writes_rests old new rests rest writes =
+      rests_with old new rests rest (ap (λ (s : StoreValue D). s.segment) writes.rest) (ap (λ (s : StoreValue D). is_some s.checkpoint) writes.rest ∙ sym (ap (λ (c : Option CheckpointValue). is_some c) writes.under_way)) (ap (λ (s : StoreValue D). s.failed) writes.rest)
 
   -- the image was finished, and its receipt handed in
   pub finished_rests : (old between new : SystemValue D) → IsResting old → FinishesImage honest view old between → HandsIn between new → IsResting new × (new.core.kernel ≡ old.core.kernel) × (new.store ≡ between.store)
@@ -207,6 +218,7 @@ module _ {D : Type 0} (honest : Type 0) (view : D → View) where
                 epoch = ap (λ (g : Segment). g.epoch) segment ∙ rests.epoch ∙ sym (ap (λ (k : KernelValue). k.epoch) core);
                 length = ap (λ (k : KernelValue). k.row.length) core ∙ rests.length ∙ sym (ap (λ (g : Segment). g.records) segment);
                 handed = ap (λ (k : KernelValue). k.handed) core ∙ rests.handed ∙ sym (ap (λ (k : KernelValue). k.row.made) core);
+                is_cut = ap (λ (k : KernelValue). k.is_cut) core ∙ sym (ap (λ (s : StoreValue D). is_some s.checkpoint) (store ∙ done.rest));
                 unfailed = ap (λ (s : StoreValue D). s.failed) (store ∙ done.rest) ∙ rests.unfailed;
               },
               ap (λ (k : KernelValue). k.kernel) core,
@@ -247,6 +259,7 @@ module _ {D : Type 0} (honest : Type 0) (view : D → View) where
           epoch = ap (λ (g : Segment). g.epoch) segment ∙ begins.cuts.epoch ∙ sym (ap (λ (k : KernelValue). k.epoch) core);
           length = ap (λ (k : KernelValue). k.row.length) core ∙ sym (ap (λ (g : Segment). g.records) segment);
           handed = ap (λ (k : KernelValue). k.handed) core ∙ rests.handed ∙ sym (ap (λ (k : KernelValue). k.row.made) core);
+          is_cut = ap (λ (k : KernelValue). k.is_cut) core ∙ sym rolled.still;
           unfailed = rolled.unfailed;
         },
         ap (λ (k : KernelValue). k.kernel) core,
@@ -325,3 +338,12 @@ module _ {D : Type 0} (honest : Type 0) (view : D → View) where
   rolled_standing old between new begins rest kept =
       let kernel : new.core.kernel ≡ old.core.kernel = kernel_same between new rest ∙ ap (λ (k : KernelValue). k.kernel) begins.cuts.rest in
       (old.core.kernel, subst (Keeps (view new.store.disk) new.store.segment new.store.checkpoint old.core.kernel) (sym kernel) kept)
+
+  -- Which step was done.
+
+  pub all_rolled : (b d e : Bool) (s0 s1 s2 s3 : StoreValue D) → IsFirstStep s0 → MatchBool b (RollsClose honest view s0 s1) (IsNotNow s0 (IsRolled s0.checkpoint 0) s1) → MatchBool d (RollsHead honest view s1 s2) (IsNotNow s1 (IsRolled s1.checkpoint 1) s2)
+      → MatchBool e (RollsOpen honest view s2 s3) (IsNotNow s2 (CanOpen s2 s2.checkpoint) s3) → RollsOver honest view s0 s3
+  all_rolled b d e s0 s1 s2 s3 first done more last =
+      let closed = (close_done b s0 s1 first done).1 in
+      let headed = (head_done d s0 s1 s2 closed more).1 in
+      record { closed = s1; headed = s2; closes = closed; heads = headed; opens = (open_done e s0 s1 s2 s3 first closed headed last).1 }

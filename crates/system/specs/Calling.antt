@@ -1,5 +1,5 @@
 -- A call whose five events come one after another, of a core in which nothing waits.
-use Rattle.std.specs.Prelude.{◌≡◌, ℕ, ◌+◌, ◌<◌, true, false, [], ◌∷◌, Option, None, Some, if◌then◌else◌}
+use Rattle.std.specs.Prelude.{◌≡◌, ℕ, ◌+◌, ◌<◌, true, false, [], ◌∷◌, Option, None, Some, is_some, if◌then◌else◌}
 use Rattle.codes.specs.declared.limits.TheConstants.{MAX_RECORDS}
 use Rattle.disk.specs.Moments.{View, IsSynced}
 use Rattle.ipc_model.specs.calls.Step.{Step, has_record}
@@ -13,8 +13,8 @@ use Rattle.system.specs.Changes.{FailsToStore, HandsIn, Stores, Takes}
 use Rattle.system.specs.Core.{SystemValue}
 use Rattle.system.specs.Halves.{entry_of}
 
--- Nothing waits: all records are stored, and their receipts were handed in. The segment in use is the epoch's; the device
--- didn't fail.
+-- Nothing waits: all records are stored, and their receipts were handed in. The segment in use is the epoch's, and the halves
+-- agree whether a checkpoint is under way; the device didn't fail.
 pub record IsResting {D : Type 0} (system : SystemValue D) : Type 0 where
   pub none_out : system.core.is_out ≡ false
   pub out : system.out ≡ None
@@ -25,6 +25,7 @@ pub record IsResting {D : Type 0} (system : SystemValue D) : Type 0 where
   pub epoch : system.store.segment.epoch ≡ system.core.epoch
   pub length : system.core.row.length ≡ system.store.segment.records
   pub handed : system.core.handed ≡ system.core.row.made
+  pub is_cut : system.core.is_cut ≡ is_some system.store.checkpoint
   pub unfailed : system.store.failed ≡ false
 
 module _ {D : Type 0} (honest : Type 0) (view : D → View) where

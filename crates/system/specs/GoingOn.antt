@@ -1,13 +1,14 @@
 -- A checkpoint between the calls of a lone caller.
-use Rattle.std.specs.Prelude.{◌≡◌, ◌⊎◌, ℕ, true, false, Option, None, Some}
+use Rattle.std.specs.Prelude.{◌≡◌, ◌⊎◌, ℕ, ◌+◌, ◌-◌, ◌^◌, ◌<◌, ◌≤◌, true, false, Option, None, Some, is_some}
 use Rattle.disk.specs.Moments.{View, Passes}
 use Rattle.disk.specs.Slots.{Slots}
 use Rattle.ipc_model.specs.state.State.{State}
 use Rattle.ipc_model.specs.store.Recovery.{Recovered}
 use Rattle.journal.specs.declared.segment.Segment.{Segment}
-use Rattle.phases.specs.Phases.{Keeps}
+use Rattle.phases.specs.Phases.{IsImageOf, Keeps}
 use Rattle.standing.specs.Standing.{as_written}
-use Rattle.storing.specs.Values.{CheckpointValue, StoreValue}
+use Rattle.storing.specs.Changes.{CanFinish, ClosesImage, Finishes, HasImaged, HasPieceLeft, RollsClose, RollsHead, RollsOpen, WritesPiece}
+use Rattle.storing.specs.Values.{CheckpointValue, CutValue, StoreValue, begun}
 use Rattle.system.specs.Core.{SystemValue}
 
 -- slots from which this state is recovered
@@ -35,4 +36,47 @@ pub record IsRolledOver {D : Type 0} (old new : StoreValue D) : Type 0 where
   pub checkpoint : CheckpointValue
   pub under_way : old.checkpoint ≡ Some checkpoint
   pub segment : new.segment ≡ record { epoch = checkpoint.epoch; records = 0 }
+  pub still : is_some new.checkpoint ≡ true
   pub unfailed : new.failed ≡ false
+
+module _ {D : Type 0} (honest : Type 0) (view : D → View) where
+  -- The three steps of rolling came one after another: the next segment is in use.
+  pub record RollsOver (old new : StoreValue D) : Type 0 where
+    pub closed : StoreValue D
+    pub headed : StoreValue D
+    pub closes : RollsClose honest view old closed
+    pub heads : RollsHead honest view closed headed
+    pub opens : RollsOpen honest view headed new
+
+  -- The next epoch began: a checkpoint is under way, whose image is of this state, and the next segment is in use.
+  pub record BeginsNext (state : State) (old new : StoreValue D) : Type 0 where
+    pub cut : CutValue
+    pub epoch : cut.epoch ≡ old.segment.epoch + 1
+    pub row : cut.row ≡ old.segment.records
+    pub image : IsImageOf cut.text state
+    pub rolls : RollsOver (record old { checkpoint = Some (begun cut) }) new
+
+  -- What is done where no checkpoint is under way: the next epoch begins, where the segment in use has so many records and
+  -- there is a next one; else nothing changes.
+  abbrev pub GoesOnInEpoch : ℕ → State → StoreValue D → StoreValue D → Type 0
+  GoesOnInEpoch records state old new =
+      (((old.segment.records < records) ⊎ (2 ^ 64 - 1 ≤ old.segment.epoch)) × (new ≡ old))
+      ⊎ ((records ≤ old.segment.records) × (old.segment.epoch < 2 ^ 64 - 1) × BeginsNext state old new)
+
+  -- What is done of an image that was closed: a piece is written where one is left, else it is finished.
+  abbrev pub GoesOnPieces : StoreValue D → StoreValue D → Type 0
+  GoesOnPieces old new = WritesPiece honest view old new ⊎ (Finishes honest view old new ⊎ ((HasPieceLeft old.checkpoint → ⊥) × (CanFinish old.checkpoint → ⊥) × (new ≡ old)))
+
+  -- What is done where a checkpoint is under way: its image is closed, where that wasn't done, else goes on.
+  abbrev pub GoesOnImage : StoreValue D → StoreValue D → Type 0
+  GoesOnImage old new = ClosesImage honest view old new ⊎ ((HasImaged old.checkpoint 0 → ⊥) × GoesOnPieces old new)
+
+  -- What is done between two calls, by the checkpoint that is under way.
+  abbrev pub GoesOn : ℕ → State → Option CheckpointValue → StoreValue D → StoreValue D → Type 0
+  GoesOn records state None old new = GoesOnInEpoch records state old new
+  GoesOn records state (Some checkpoint) old new = GoesOnImage old new
+
+-- What is due between two calls takes memory: the state's copy, or its image.
+abbrev pub TakesMemory : {D : Type 0} → ℕ → StoreValue D → Option CheckpointValue → Type 0
+TakesMemory records store None = (records ≤ store.segment.records) × (store.segment.epoch < 2 ^ 64 - 1)
+TakesMemory records store (Some checkpoint) = checkpoint.imaged ≡ 0

@@ -2,4 +2,4 @@
 pub use Rattle.phases.specs.Batches.{IsReadyBatch, with_more}
 pub use Rattle.phases.specs.Phases.{Keeps}
 pub use Rattle.storing.specs.Changes.{IsAppended, PassesAppend}
-pub use Rattle.storing.specs.Values.{CheckpointValue, StoreValue}
+pub use Rattle.storing.specs.Values.{CheckpointValue, StoreValue, store_code}

@@ -4,26 +4,32 @@ ghost use Rattle.disk.specs.Moments.{Passes};
 ghost use Rattle.ipc_model.specs.state.State.{State};
 ghost use Rattle.phases.specs.Phases.{Keeps};
 ghost use Rattle.system.specs.Calling.{IsResting};
-ghost use Rattle.system.specs.GoingOn.{IsFirstStep, IsRolledOver, IsStanding, Recovers};
+ghost use Rattle.journal.specs.declared.fault.StoreFault.{StoreFault};
+ghost use Rattle.storing.specs.Changes.{HasImaged};
+ghost use Rattle.system.specs.GoingOn.{GoesOn, GoesOnImage, GoesOnPieces, IsFirstStep, IsRolledOver, IsStanding, Recovers, RollsOver, TakesMemory};
 
 use crate::system::System;
 use disk::Disk;
 use journal::StoreFault;
 
 impl<D: Disk> System<D> {
-    /// What is done between two calls: where the row has so many records and no checkpoint is under way, one is begun and the
-    /// next segment taken into use; else one step is done of the image that is being made. The state stays as it is, at any
-    /// moment of a stop too. Where memory is wanted for it nothing changed, and it is tried again the next time.
+    /// What is done between two calls: where the segment in use has so many records and no checkpoint is under way, one is
+    /// begun and the next segment taken into use; else one step is done of the image that is being made. The state stays as it
+    /// is, at any moment of a stop too.
     ///
-    /// `Device`: the device failed, and the core is of no further use.
+    /// `NoMemory`: memory is wanted for what is due, and nothing changed. `Device`: the device failed, and the core is of no
+    /// further use.
     pub fn go_on(&mut self, records: u64) -> Result<(), StoreFault>
         requires { IsResting self.old }
+        ensures goes { OnOk result (GoesOn D.honest D.view records self.old.core.kernel self.old.store.checkpoint self.old.store self.new.store) }
         ensures rests { OnOk result (IsResting self.new) }
         ensures kernel { self.new.core.kernel ≡ self.old.core.kernel }
+        ensures tickets { (self.new.core.row.made ≡ self.old.core.row.made) × (self.new.tickets ≡ self.old.tickets) }
         ensures kept { D.honest → IsStanding D.view self.old.store self.old.core.kernel → OnOk result (IsStanding D.view self.new.store self.new.core.kernel) }
         ensures passes { D.honest → IsStanding D.view self.old.store self.old.core.kernel
             → Passes (D.view self.old.store.disk) (D.view self.new.store.disk) (Recovers self.old.core.kernel) }
-        ensures faults { IfErr result (λ fault. fault ≡ StoreFault.Device) }
+        ensures faults { IfErr result (λ fault. (fault ≡ StoreFault.Device)
+            ⊎ ((fault ≡ StoreFault.NoMemory) × TakesMemory records self.old.store self.old.store.checkpoint × (self.new ≡ self.old))) }
     {
         if self.store.is_checkpointing() {
             return self.go_on_image();
@@ -31,10 +37,11 @@ impl<D: Disk> System<D> {
         if self.core.row_length() < records {
             return Ok(());
         }
-        let Ok(true) = self.cut() else {
-            return Ok(());
-        };
-        self.roll()
+        match self.cut() {
+            Ok(true) => self.roll(),
+            Ok(false) => Ok(()),
+            Err(_) => Err(StoreFault::NoMemory),
+        }
     }
 
     /// The three steps of rolling, by which the next segment is taken into use.
@@ -42,6 +49,7 @@ impl<D: Disk> System<D> {
         requires { IsFirstStep self.old.store }
         ensures rest { self.new ≡ record self.old { store = self.new.store } }
         ensures rolled { OnOk result (IsRolledOver self.old.store self.new.store) }
+        ensures rolls { OnOk result (RollsOver D.honest D.view self.old.store self.new.store) }
         ensures kept { D.honest → (state : State) → Keeps (D.view self.old.store.disk) self.old.store.segment self.old.store.checkpoint state state
             → OnOk result (Keeps (D.view self.new.store.disk) self.new.store.segment self.new.store.checkpoint state state) }
         ensures passes { D.honest → (state : State) → Keeps (D.view self.old.store.disk) self.old.store.segment self.old.store.checkpoint state state
@@ -60,33 +68,33 @@ impl<D: Disk> System<D> {
         Ok(())
     }
 
-    /// One step of the image of a checkpoint under way: its closing, a piece, or, where all of it is written, its end.
+    /// One step of the image of a checkpoint under way: its closing, a piece, or, where all of it is written, its end. Its
+    /// faults are those of `go_on`.
     fn go_on_image(&mut self) -> Result<(), StoreFault>
         requires { IsResting self.old }
+        ensures goes { OnOk result (GoesOnImage D.honest D.view self.old.store self.new.store) }
         ensures rests { OnOk result (IsResting self.new) }
         ensures kernel { self.new.core.kernel ≡ self.old.core.kernel }
+        ensures tickets { (self.new.core.row.made ≡ self.old.core.row.made) × (self.new.tickets ≡ self.old.tickets) }
         ensures kept { D.honest → IsStanding D.view self.old.store self.old.core.kernel → OnOk result (IsStanding D.view self.new.store self.new.core.kernel) }
         ensures passes { D.honest → IsStanding D.view self.old.store self.old.core.kernel
             → Passes (D.view self.old.store.disk) (D.view self.new.store.disk) (Recovers self.old.core.kernel) }
-        ensures faults { IfErr result (λ fault. fault ≡ StoreFault.Device) }
+        ensures faults { IfErr result (λ fault. (fault ≡ StoreFault.Device)
+            ⊎ ((fault ≡ StoreFault.NoMemory) × HasImaged self.old.store.checkpoint 0 × (self.new ≡ self.old))) }
     {
-        match self.close_image() {
-            Ok(false) => self.go_on_pieces(),
-            Ok(true) => Ok(()),
-            Err(fault) => {
-                if fault == StoreFault::NoMemory {
-                    return Ok(());
-                }
-                Err(fault)
-            }
+        if self.close_image()? {
+            return Ok(());
         }
+        self.go_on_pieces()
     }
 
     /// The next piece of an image that was closed, or its end.
     fn go_on_pieces(&mut self) -> Result<(), StoreFault>
         requires { IsResting self.old }
+        ensures goes { OnOk result (GoesOnPieces D.honest D.view self.old.store self.new.store) }
         ensures rests { OnOk result (IsResting self.new) }
         ensures kernel { self.new.core.kernel ≡ self.old.core.kernel }
+        ensures tickets { (self.new.core.row.made ≡ self.old.core.row.made) × (self.new.tickets ≡ self.old.tickets) }
         ensures kept { D.honest → IsStanding D.view self.old.store self.old.core.kernel → OnOk result (IsStanding D.view self.new.store self.new.core.kernel) }
         ensures passes { D.honest → IsStanding D.view self.old.store self.old.core.kernel
             → Passes (D.view self.old.store.disk) (D.view self.new.store.disk) (Recovers self.old.core.kernel) }

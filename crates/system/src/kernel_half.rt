@@ -10,7 +10,7 @@ use codes::MAX_RECORDS;
 use image::image_is_of_state;
 use ipc_model::{Call, Reply, call_in_range};
 use journal::Batch;
-use kernel::Kernel;
+use phases::Kernel;
 use std::alloc::{AllocError, Global};
 use std::marker::Model;
 use storing::{Cut, Finished, Receipt};

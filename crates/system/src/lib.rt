@@ -13,7 +13,7 @@ mod ticket;
 
 pub use event::{Event, Outcome};
 pub use kernel_half::{KernelHalf, SubmitFault};
-pub use phases::{Opened, open};
+pub use phases::{Kernel, Opened, open};
 pub use system::{CallFault, System};
 pub use taken::Taken;
 pub use ticket::Ticket;

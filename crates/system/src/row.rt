@@ -6,7 +6,7 @@ ghost use Rattle.system.specs.Halves.{next_row};
 use codes::MAX_RECORDS;
 use ipc_model::{Call, Reply};
 use journal::Batch;
-use kernel::Recorder;
+use phases::Recorder;
 use record::{in_range, push_exchange};
 use std::alloc::{AllocError, Global};
 use std::marker::Model;

@@ -2,10 +2,9 @@
 //! test's proof doesn't carry it along.
 use disk::MemDisk;
 use ipc_model::{Call, Reply};
-use recover::open;
 use std::alloc::Global;
 use std::test::Fail;
-use system::{SubmitFault, System};
+use system::{SubmitFault, System, open};
 
 /// No reply is given now.
 pub(crate) const NOT_NOW: u64 = 1 << 40;

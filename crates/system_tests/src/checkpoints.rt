@@ -2,9 +2,9 @@
 use crate::expect::{same, same_in_row};
 use crate::lists::{FIRST_CALL, KINDS, bounds, failing, play};
 use disk::{Disk, MemDisk, Slot, Torn};
-use recover::open;
 use std::alloc::Global;
 use std::test::Fail;
+use system::open;
 
 /// A checkpoint of a store with one record, step by step.
 static CHECKPOINT: (&[u8], &[u8]) = (b"akwd0clhoipfd", b"#+++A++++++++");
@@ -69,6 +69,14 @@ fn copy_of(alloc: Global, disk: &MemDisk) -> Result<MemDisk, Fail> {
     )?)
 }
 
+// The disk of a store that was opened or couldn't be, and which of these.
+fn opened(alloc: Global, disk: MemDisk) -> (MemDisk, bool) {
+    match open(alloc, disk) {
+        Ok(opened) => (opened.disk, true),
+        Err((_, disk)) => (disk, false),
+    }
+}
+
 // Opens a store whose device fails from this call of the opening on; gives what a stop then leaves, and whether it was opened.
 fn opened_until(
     alloc: Global,
@@ -78,10 +86,8 @@ fn opened_until(
 ) -> Result<(MemDisk, bool), Fail> {
     let mut copy = copy_of(alloc, disk)?;
     copy.plan(Some(at), None, torn);
-    match open(alloc, copy) {
-        Ok(opened) => Ok((opened.disk.after_stop()?, true)),
-        Err((_, disk)) => Ok((disk.after_stop()?, false)),
-    }
+    let (disk, is_opened) = opened(alloc, copy);
+    Ok((disk.after_stop()?, is_opened))
 }
 
 // How many calls of the device an opening makes until it is stopped by none, where a stop at each leaves as many ports.

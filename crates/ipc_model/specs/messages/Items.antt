@@ -1,7 +1,7 @@
 -- The items of a message's body: descriptors, each with its data behind it.
 -- (Kernel Interfaces, mach_msg, mach_msg_type_t and mach_msg_type_long_t.)
 use Rattle.std.specs.Prelude.{ℕ, zero, suc, ◌+◌, ◌*◌, ◌/◌, ◌%◌, ◌^◌, Bool, true, false, ◌==◌, ◌&&◌, ◌||◌, not, nat_le, nat_lt, List, [], ◌∷◌, ◌++◌, length, take, drop, replicate, flat_map, None, Some, Result, Ok, Err, if◌then◌else◌}
-use Rattle.byteorder.specs.Endian.{little_number, little_bytes}
+use Rattle.words.specs.Numbers.{little_number, little_bytes}
 use Rattle.codes.specs.declared.kern_return.KernReturn.{KernReturn}
 use Rattle.codes.specs.declared.kern_return.KernReturn.TheVariants.{SendMsgTooSmall, SendInvalidMemory, SendInvalidType}
 use Rattle.ipc_model.specs.rights.Dispositions.{disposition_of, received_kind, number_of_kind}

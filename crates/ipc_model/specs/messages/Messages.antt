@@ -1,6 +1,6 @@
 -- Messages in bytes: a header of six words, and a body. (Kernel Interfaces, mach_msg, mach_msg_header_t.)
 use Rattle.std.specs.Prelude.{◌≡◌, ℕ, ◌+◌, ◌/◌, ◌%◌, ◌^◌, ◌≤◌, Bool, ◌==◌, List, ◌++◌, length, drop, if◌then◌else◌}
-use Rattle.byteorder.specs.Endian.{little_number}
+use Rattle.words.specs.Numbers.{little_number}
 use Rattle.words.specs.Words.{word}
 
 -- how many bytes a header has

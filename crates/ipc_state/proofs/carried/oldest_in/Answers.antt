@@ -1,5 +1,4 @@
-use Rattle.live_ports.specs.Changed.{messages_at}
-use Rattle.live_ports.specs.Seen.{lives_in}
+use Rattle.ports.specs.Passed.{messages_at, lives_in}
 use Rattle.ipc_state.proofs.Taking.{is_oldest}
 use Rattle.ipc_state.proofs.carried.oldest_in.Goals as goal
 

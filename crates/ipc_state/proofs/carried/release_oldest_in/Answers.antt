@@ -1,5 +1,4 @@
-use Rattle.live_ports.specs.Changed.{messages_at}
-use Rattle.live_ports.specs.Seen.{lives_in, seen_message}
+use Rattle.ports.specs.Passed.{messages_at, lives_in, seen_message}
 use Rattle.ipc_state.proofs.Taking.{none_released, oldest_released}
 use Rattle.ipc_state.proofs.carried.release_oldest_in.Goals as goal
 

@@ -1,7 +1,7 @@
 use Rattle.std.proofs.Common.{◌≡◌, ◌++◌, flat_map, take}
 use Rattle.ipc_model.specs.declared.message.CarriedRight.{CarriedRight}
 use Rattle.ipc_model.specs.effects.Effects.{release_of}
-use Rattle.live_ports.specs.Seen.{lives_in, seen_right}
+use Rattle.ports.specs.Passed.{lives_in, seen_right}
 use Rattle.ipc_state.proofs.carried.release_rights.Given as goal
 
 -- what was added so far

@@ -1,5 +1,5 @@
 use Rattle.std.proofs.Common.{◌≡◌, take}
-use Rattle.live_ports.specs.Changed.{messages_at}
+use Rattle.ports.specs.Passed.{messages_at}
 use Rattle.ipc_state.proofs.copying.copy_of_messages.Given as goal
 
 -- the messages so far

@@ -1,5 +1,5 @@
 use Rattle.std.proofs.Common.{◌≡◌, map, take}
-use Rattle.live_ports.specs.Seen.{lives_in, seen_right}
+use Rattle.ports.specs.Passed.{lives_in, seen_right}
 use Rattle.ipc_state.proofs.copying.rights_as_seen.Given as goal
 
 -- the rights so far

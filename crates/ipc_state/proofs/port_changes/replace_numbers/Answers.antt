@@ -1,6 +1,6 @@
 use Rattle.std.proofs.Common.{◌≡◌, ap, sym, ◌∙◌, subst}
 use Rattle.ipc_state.specs.Members.{AreMembers}
-use Rattle.live_ports.specs.PortTable.{TrackedPorts}
+use Rattle.ports.specs.Passed.{TrackedPorts}
 use Rattle.ipc_state.proofs.Kept.{numbers_replaced}
 use Rattle.ipc_state.proofs.port_changes.replace_numbers.Goals as goal
 

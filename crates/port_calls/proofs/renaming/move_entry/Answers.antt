@@ -4,8 +4,7 @@ use Rattle.ipc_model.specs.declared.port.PortState.{PortState}
 use Rattle.ipc_model.specs.calls.Actions.{renamed, serials_of_members, with_ports}
 use Rattle.ipc_model.specs.calls.PortCalls.{names_in}
 use Rattle.ipc_model.specs.state.State.{State, with_changed}
-use Rattle.rights.specs.Passed.{Running}
-use Rattle.port_space.specs.Renaming.{under_other_name}
+use Rattle.rights.specs.Passed.{Running, under_other_name}
 use Rattle.port_calls.proofs.Moved.{set_renamed}
 use Rattle.port_calls.proofs.renaming.move_entry.Goals as goal
 

@@ -1,5 +1,5 @@
 use Rattle.std.proofs.Common.{◌≡◌, ◌++◌, map, drop}
-use Rattle.live_ports.specs.Seen.{lives_in, seen_right}
+use Rattle.rights.specs.Passed.{lives_in, seen_right}
 use Rattle.receiving.proofs.looking.push_body.Given as goal
 
 -- the rights before this one are added

@@ -1,7 +1,7 @@
 use Rattle.std.proofs.Common.{◌≡◌, ap}
 use Rattle.ipc_state.specs.Members.{no_members}
 use Rattle.spaces.specs.Slots.{TrackedSpaces}
-use Rattle.tracked_map.specs.Tracked.{Tracked}
+use Rattle.spaces.specs.Passed.{Tracked}
 use Rattle.ipc_state.proofs.state.IpcState.new.Goals as goal
 
 pub invariant_of-result : goal.invariant_of-result

@@ -1,7 +1,7 @@
 use Rattle.std.proofs.Common.{◌≡◌, ℕ, ◌≤◌, ◌^◌, ◌/◌, ◌%◌, Option, None, Some, ap, sym, subst, ◌∙◌, arith}
 use Rattle.ipc_state.specs.Running.{Running}
 use Rattle.ipc_state.specs.SetNames.{IsNextPlace, name_found, none_found, other_space, past_names}
-use Rattle.place_index.specs.Places.{Numbers, IsNext}
+use Rattle.spaces.specs.Passed.{Numbers, IsNext}
 use Rattle.spaces.specs.Looking.{place}
 use Rattle.ipc_state.proofs.state.IpcState.next_place.Goals as goal
 

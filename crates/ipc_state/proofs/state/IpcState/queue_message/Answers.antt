@@ -1,6 +1,6 @@
 use Rattle.std.proofs.Common.{◌≡◌, ap, sym, ◌∙◌, refl}
 use Rattle.ipc_state.specs.Running.{Running}
-use Rattle.live_ports.specs.Changed.{with_message}
+use Rattle.ports.specs.Passed.{with_message}
 use Rattle.ipc_state.proofs.Kept.{port_changed}
 use Rattle.ipc_state.proofs.Alive.{carried_alive}
 use Rattle.ipc_state.proofs.state.IpcState.queue_message.Goals as goal

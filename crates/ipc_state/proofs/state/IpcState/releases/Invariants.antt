@@ -1,6 +1,6 @@
 use Rattle.std.proofs.Common.{◌≡◌, ◌++◌, flat_map, take}
 use Rattle.ipc_model.specs.effects.Effects.{releases_of}
-use Rattle.live_ports.specs.Changed.{messages_at}
+use Rattle.ports.specs.Passed.{messages_at}
 use Rattle.ipc_state.proofs.state.IpcState.releases.Given as goal
 
 -- what was added so far

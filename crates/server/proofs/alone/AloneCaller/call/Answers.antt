@@ -20,7 +20,8 @@ returns-in-Ok-clause-answers g c =
       stored = (c.in-Ok.ensures.answers, c.space_after-self-inside.ensures c.args.call ∙ attached, c.if-self.false);
       unrecorded = λ none.
           let same = c.in-Ok.ensures.unrecorded none in
-          λ i. record { kernel = same.0 i; disk = (same.1 i).disk; space = after; failed = c.self.inside.failed };
+          λ i. record { kernel = same.0 i; store = same.1 i; space = after; failed = c.self.inside.failed };
+      counted = c.in-Ok.ensures.counted;
       passes = λ honest. c.make_call.ensures.passes honest ((c.self.invariant c.if-self.false).1 honest);
       held = λ honest. kept_held g.D.Disk.view c.make_call.new.system.store c.make_call.new.system.core.kernel (c.in-Ok.ensures.kept honest ((c.self.invariant c.if-self.false).1 honest));
     })

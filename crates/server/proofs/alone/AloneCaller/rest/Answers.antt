@@ -1,6 +1,11 @@
-use Rattle.std.proofs.Common.{refl}
-use Rattle.server.proofs.Keeping.{kept_held, no_time}
+use Rattle.std.proofs.Common.{rules, ◌≡◌, inl, inr, refl, subst, sym}
+use Rattle.journal.specs.declared.fault.StoreFault.TheVariants.{NoMemory}
+use Rattle.system.specs.Calling.{IsResting}
+use Rattle.system.specs.GoingOn.{IsStanding}
+use Rattle.server.proofs.Keeping.{is_wanted, kept_held, no_time}
 use Rattle.server.proofs.Stopping.{left_within}
+use Rattle.server.specs.Keeping.{IsHeld}
+use Rattle.server.specs.declared.alone.TheConstants.{CHECKPOINT_RECORDS}
 use Rattle.server.proofs.alone.AloneCaller.rest.Goals as goal
 
 pub returns-then-self-clause-breaks : goal.returns-then-self-clause-breaks
@@ -18,7 +23,8 @@ returns-in-Ok-clause-rests g c =
     let new = c.go_on.new.self in
     let standing = (c.self.invariant c.if-self.false).1 in
     rw (← c.self.view_is) (record {
-      same = λ i. record { kernel = c.go_on.ensures.kernel i; disk = new.store.disk; space = c.self.inside.space; failed = c.self.inside.failed };
+      same = λ i. record { kernel = c.go_on.ensures.kernel i; store = new.store; space = c.self.inside.space; failed = c.self.inside.failed };
+      goes = inl c.in-Ok.ensures.goes;
       passes = λ honest. c.go_on.ensures.passes honest (standing honest);
       held = λ honest. kept_held g.D.Disk.view new.store new.core.kernel (c.in-Ok.ensures.kept honest (standing honest));
     })
@@ -30,8 +36,39 @@ returns-in-Ok-clause-any_moment g c = λ honest _.
     let held = kept_held g.D.Disk.view system.store system.core.kernel standing in
     rw (← c.self.view_is) (left_within (g.D.Disk.view system.store.disk) (g.D.Disk.view c.go_on.new.self.store.disk) system.core.kernel _ held (c.go_on.ensures.passes honest standing) (λ _ stands. stands))
 
-pub returns-in-Err-clause-breaks : goal.returns-in-Err-clause-breaks
-returns-in-Err-clause-breaks g c =
+-- where memory is wanted nothing changed
+
+pub returns-then-eq-clause-rests : goal.returns-then-eq-clause-rests
+returns-then-eq-clause-rests g c =
+    let old = c.self.inside.system in
+    let new = c.go_on.new.self in
+    let standing = (c.self.invariant c.if-self.false).1 in
+    let short : c.in-Err.broken ≡ NoMemory = search rules in
+    let wanted = is_wanted CHECKPOINT_RECORDS c.self.inside.system c.go_on.new.self c.in-Err.broken short c.in-Err.ensures.faults in
+    rw (← c.self.view_is) (record {
+      same = λ i. record { kernel = c.go_on.ensures.kernel i; store = new.store; space = c.self.inside.space; failed = c.self.inside.failed };
+      goes = inr (wanted.0, λ i. record { kernel = (wanted.1 i).core.kernel; store = (wanted.1 i).store; space = c.self.inside.space; failed = c.self.inside.failed });
+      passes = λ honest. c.go_on.ensures.passes honest (standing honest);
+      held = λ honest. subst (λ s. IsHeld (g.D.Disk.view s.store.disk) s.core.kernel) (sym wanted.1) (kept_held g.D.Disk.view old.store old.core.kernel (standing honest));
+    })
+
+pub returns-then-eq-clause-any_moment : goal.returns-then-eq-clause-any_moment
+returns-then-eq-clause-any_moment g c = λ honest _.
+    let system = c.self.inside.system in
+    let standing = (c.self.invariant c.if-self.false).1 honest in
+    let held = kept_held g.D.Disk.view system.store system.core.kernel standing in
+    rw (← c.self.view_is) (left_within (g.D.Disk.view system.store.disk) (g.D.Disk.view c.go_on.new.self.store.disk) system.core.kernel _ held (c.go_on.ensures.passes honest standing) (λ _ stands. stands))
+
+pub invariant_of-self-then-eq : goal.invariant_of-self-then-eq
+invariant_of-self-then-eq g c = λ _.
+    let short : c.in-Err.broken ≡ NoMemory = search rules in
+    let wanted = is_wanted CHECKPOINT_RECORDS c.self.inside.system c.go_on.new.self c.in-Err.broken short c.in-Err.ensures.faults in (
+      subst IsResting (sym wanted.1) (c.self.invariant c.if-self.false).0,
+      λ honest. subst (λ s. IsStanding g.D.Disk.view s.store s.core.kernel) (sym wanted.1) ((c.self.invariant c.if-self.false).1 honest),
+    )
+
+pub returns-else-eq-clause-breaks : goal.returns-else-eq-clause-breaks
+returns-else-eq-clause-breaks g c =
     let standing = (c.self.invariant c.if-self.false).1 in
     rw (← c.self.view_is) (record {
       failed = refl;
@@ -41,8 +78,8 @@ returns-in-Err-clause-breaks g c =
       passes = λ honest. c.go_on.ensures.passes honest (standing honest);
     })
 
-pub returns-in-Err-clause-any_moment : goal.returns-in-Err-clause-any_moment
-returns-in-Err-clause-any_moment g c = λ honest _.
+pub returns-else-eq-clause-any_moment : goal.returns-else-eq-clause-any_moment
+returns-else-eq-clause-any_moment g c = λ honest _.
     let system = c.self.inside.system in
     let standing = (c.self.invariant c.if-self.false).1 honest in
     let held = kept_held g.D.Disk.view system.store system.core.kernel standing in
