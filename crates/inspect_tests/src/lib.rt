@@ -2,6 +2,8 @@
 #![tactic(auto)]
 
 #[cfg(test)]
+mod phases;
+#[cfg(test)]
 mod programs;
 #[cfg(test)]
 mod stores;

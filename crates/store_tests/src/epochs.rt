@@ -1,7 +1,8 @@
 //! Stores of later epochs, and of a checkpoint that was half done.
-use crate::expect::same_in_row;
-use crate::making::{append_allocations, planned};
-use disk::{Disk, MemDisk, Torn};
+use crate::expect::{same, same_in_row};
+use crate::making::{SEGMENT, append_allocations, append_from, disk_of, keeps_all, planned, slot};
+use crate::written::{image_of_name, image_of_none, opened_slot};
+use disk::{Disk, MemDisk, Slot, Torn};
 use ipc_model::Reply;
 use journal::{Segment, StoreFault, roll_close, roll_head, roll_open};
 use recover::{Opened, look, open};
@@ -13,19 +14,24 @@ use std::test::Fail;
 // receive rights.
 type Found = Result<(u64, u64, [bool; 3]), StoreFault>;
 
-// Opens a store. It has no clause, so that a test's proof carries nothing of it.
-fn opened(alloc: Global, disk: MemDisk) -> Result<Opened<MemDisk>, (StoreFault, MemDisk)> {
+/// Opens a store. It has no clause, so that a test's proof carries nothing of it.
+pub(crate) fn opened(
+    alloc: Global,
+    disk: MemDisk,
+) -> Result<Opened<MemDisk>, (StoreFault, MemDisk)> {
     open(alloc, disk)
 }
 
-fn is_receive(opened: &Opened<MemDisk>, name: u32) -> bool {
+/// Whether a name of space 1 is a receive right.
+pub(crate) fn is_receive(opened: &Opened<MemDisk>, name: u32) -> bool {
     matches!(
         opened.kernel.port_type(1, name),
         Reply::Type { bits: 0x20000 }
     )
 }
 
-fn found(alloc: Global, disk: MemDisk) -> Found {
+// What opening a store gives, and its disk.
+fn reopened(alloc: Global, disk: MemDisk) -> (Found, MemDisk) {
     match opened(alloc, disk) {
         Ok(opened) => {
             let names = [
@@ -33,14 +39,20 @@ fn found(alloc: Global, disk: MemDisk) -> Found {
                 is_receive(&opened, 0x101),
                 is_receive(&opened, 0x102),
             ];
-            Ok((opened.segment.epoch, opened.segment.records, names))
+            let found = (opened.segment.epoch, opened.segment.records, names);
+            (Ok(found), opened.disk)
         }
-        Err((fault, _)) => Err(fault),
+        Err((fault, disk)) => (Err(fault), disk),
     }
 }
 
-// Opens a store, appends a record to its segment, and makes the next epoch's segment with a record, but not its image.
-fn half_done(alloc: Global, disk: MemDisk) -> Result<MemDisk, Fail> {
+fn found(alloc: Global, disk: MemDisk) -> Found {
+    let (found, _) = reopened(alloc, disk);
+    found
+}
+
+// Opens a store, appends a record to its segment, and makes the next epoch's segment, but not its image.
+fn rolled(alloc: Global, disk: MemDisk) -> Result<(MemDisk, Segment), Fail> {
     let Ok(opened) = opened(alloc, disk) else {
         return Err("it is opened".into());
     };
@@ -50,7 +62,13 @@ fn half_done(alloc: Global, disk: MemDisk) -> Result<MemDisk, Fail> {
         mut segment,
     } = opened;
     append_allocations(alloc, &mut segment, &mut disk, 1)?;
-    let mut next = next_segment(&mut disk, segment.epoch.saturating_add(1))?;
+    let next = next_segment(&mut disk, segment.epoch.saturating_add(1))?;
+    Ok((disk, next))
+}
+
+// The same, with a record in the next epoch's segment.
+fn half_done(alloc: Global, disk: MemDisk) -> Result<MemDisk, Fail> {
+    let (mut disk, mut next) = rolled(alloc, disk)?;
     append_allocations(alloc, &mut next, &mut disk, 1)?;
     Ok(disk)
 }
@@ -81,6 +99,90 @@ fn checkpoints_are_finished(rt: HostRuntime) -> Result<(), Fail> {
     };
     same_in_row(&rt, 1, (first.segment.epoch, first.segment.records), (1, 1));
     same_in_row(&rt, 2, looked(rt.alloc(), &mut first.disk), Ok((1, 1)));
+    Ok(())
+}
+
+// The slots of a store in epoch 1, whose image has the name 0x100, and whose segment has no record.
+fn in_epoch_one(alloc: Global) -> Result<[Vec<u8>; 4], Fail> {
+    Ok([
+        image_of_none(alloc, 0)?,
+        image_of_name(alloc, 1, 0)?,
+        SEGMENT.to_vec(alloc)?,
+        opened_slot(alloc, 1, &[0])?,
+    ])
+}
+
+// The next segment is open, without a record, and the image of epoch 0 is alone.
+#[test]
+fn a_checkpoint_without_its_image_is_finished(rt: HostRuntime) -> Result<(), Fail> {
+    let wanted = in_epoch_one(rt.alloc())?;
+    let (disk, _) = rolled(rt.alloc(), MemDisk::new(rt.alloc()))?;
+    let lengths = [Slot::Image1, Slot::Segment1].map(|which| slot(&disk, which).len());
+    same(&rt, lengths, [0, 17]);
+    let (first, disk) = reopened(rt.alloc(), disk);
+    let is_first = keeps_all(&disk, &wanted);
+    let (second, disk) = reopened(rt.alloc(), disk);
+    let is_second = keeps_all(&disk, &wanted);
+    let found = Ok((1, 0, [true, false, false]));
+    same(
+        &rt,
+        [(first, is_first), (second, is_second)],
+        [(found, true), (found, true)],
+    );
+    Ok(())
+}
+
+// The slots of epochs 4 and 5, each whole: the image of epoch 4 has no name, its segment allocates 0x100, and with that name
+// epoch 5 begins.
+fn in_epoch_five(alloc: Global, segment1: &[u8]) -> Result<[Vec<u8>; 4], Fail> {
+    Ok([
+        image_of_none(alloc, 4)?,
+        image_of_name(alloc, 5, 0)?,
+        opened_slot(alloc, 4, &SEGMENT[16..])?,
+        opened_slot(alloc, 5, segment1)?,
+    ])
+}
+
+// Opens a store, and appends the record of the name 0x101.
+fn appended(alloc: Global, disk: MemDisk) -> Result<MemDisk, Fail> {
+    let Ok(opened) = opened(alloc, disk) else {
+        return Err("it is opened".into());
+    };
+    let Opened {
+        kernel: _,
+        mut disk,
+        mut segment,
+    } = opened;
+    append_from(alloc, &mut segment, &mut disk, 1, 1)?;
+    Ok(disk)
+}
+
+// A segment's content with the record of the name 0x101.
+fn second_batch(alloc: Global) -> Result<Vec<u8>, Fail> {
+    let mut batch = SEGMENT[16..].to_vec(alloc)?;
+    let Some(name) = batch.get_mut(49) else {
+        return Err("the batch has a name".into());
+    };
+    *name = 1;
+    Ok(batch)
+}
+
+#[test]
+fn records_go_to_the_segment_of_the_newest_image(rt: HostRuntime) -> Result<(), Fail> {
+    let before = in_epoch_five(rt.alloc(), &[0])?;
+    let after = in_epoch_five(rt.alloc(), &second_batch(rt.alloc())?)?;
+    let (first, disk) = reopened(rt.alloc(), disk_of(rt.alloc(), &before)?);
+    let is_first = keeps_all(&disk, &before);
+    let (second, disk) = reopened(rt.alloc(), appended(rt.alloc(), disk)?);
+    let is_second = keeps_all(&disk, &after);
+    same(
+        &rt,
+        [(first, is_first), (second, is_second)],
+        [
+            (Ok((5, 0, [true, false, false])), true),
+            (Ok((5, 1, [true, true, false])), true),
+        ],
+    );
     Ok(())
 }
 

@@ -2,7 +2,11 @@
 #![tactic(auto)]
 
 #[cfg(test)]
+mod bending;
+#[cfg(test)]
 mod counted;
+#[cfg(test)]
+mod damage;
 #[cfg(test)]
 mod disk_tests;
 #[cfg(test)]
@@ -19,3 +23,7 @@ mod making;
 mod recover_tests;
 #[cfg(test)]
 mod streams;
+#[cfg(test)]
+mod two_epochs;
+#[cfg(test)]
+mod written;

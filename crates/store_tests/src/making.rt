@@ -83,6 +83,17 @@ pub(crate) fn append_allocations(
     count: u8,
 ) -> Result<(), StoreFault> {
     let [first, ..] = segment.epoch.to_le_bytes();
+    append_from(alloc, segment, disk, first, count)
+}
+
+/// Appends a batch of so many records, where record 0 of the segment allocates this name behind 0x100.
+pub(crate) fn append_from(
+    alloc: Global,
+    segment: &mut Segment,
+    disk: &mut MemDisk,
+    first: u8,
+    count: u8,
+) -> Result<(), StoreFault> {
     let batch = batch_of(alloc, segment.records, count, first)?;
     if batch.count() == 0 || disk.length(segment_slot(segment.epoch)) == 0 {
         return Ok(());
@@ -109,4 +120,29 @@ pub(crate) fn planned(
 /// The bytes of a slot.
 pub(crate) fn slot(disk: &MemDisk, slot: Slot) -> &[u8] {
     disk.content(slot)
+}
+
+/// A disk whose slots hold these bytes: image 0, image 1, segment 0, segment 1.
+pub(crate) fn disk_of(alloc: Global, slots: &[Vec<u8>; 4]) -> Result<MemDisk, Fail> {
+    let [image0, image1, segment0, segment1] = slots;
+    Ok(MemDisk::with_slots(alloc, image0, image1, segment0, segment1)?)
+}
+
+/// Whether a disk's slots of number 0 hold these bytes.
+pub(crate) fn keeps_first(disk: &MemDisk, slots: &[Vec<u8>; 4]) -> bool {
+    let [image0, _, segment0, _] = slots;
+    slot(disk, Slot::Image0) == image0.as_slice()
+        && slot(disk, Slot::Segment0) == segment0.as_slice()
+}
+
+/// Whether those of number 1 do.
+pub(crate) fn keeps_second(disk: &MemDisk, slots: &[Vec<u8>; 4]) -> bool {
+    let [_, image1, _, segment1] = slots;
+    slot(disk, Slot::Image1) == image1.as_slice()
+        && slot(disk, Slot::Segment1) == segment1.as_slice()
+}
+
+/// Whether all four do.
+pub(crate) fn keeps_all(disk: &MemDisk, slots: &[Vec<u8>; 4]) -> bool {
+    keeps_first(disk, slots) && keeps_second(disk, slots)
 }
