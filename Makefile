@@ -17,6 +17,7 @@ bin:
 	done; rm -r "$$empty"
 
 # Acknowledged calls a second on a new store in files, beside pairs of syncs in the same folder; and calls and
-# messages in memory.
+# messages in memory. Then what checkpoints cost, and a store that goes on for long.
 bench:
-	@folder=$$(mktemp -d) && mkdir "$$folder/store" && (cd crates/bench && rt run -- "$$folder") && rm -r "$$folder"
+	@folder=$$(mktemp -d) && mkdir "$$folder/store" && (cd crates/bench && rt run -- "$$folder") && \
+	  (cd crates/bench_store && rt run -- "$$folder") && rm -r "$$folder"

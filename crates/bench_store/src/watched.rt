@@ -1,0 +1,120 @@
+//! A disk that tells how it is used, and on which a sync can be left out, so that stores are made in a short time.
+
+use crate::Fault;
+use disk::{Disk, DiskFault, Slot};
+use server::{Alone, open};
+use std::alloc::Global;
+use std::cell::Cell;
+
+/// What was done with a disk so far, and whether its syncs are done.
+#[derive(Drop)]
+pub(crate) struct Watch {
+    writes: Cell<u64>,
+    bytes: Cell<u64>,
+    is_syncing: Cell<bool>,
+}
+
+impl Watch {
+    /// Nothing was done, and syncs aren't.
+    pub(crate) fn new() -> Watch {
+        Watch {
+            writes: Cell::new(0),
+            bytes: Cell::new(0),
+            is_syncing: Cell::new(false),
+        }
+    }
+
+    /// How often it was written to or cut.
+    pub(crate) fn writes(&self) -> u64 {
+        self.writes.get()
+    }
+
+    /// How many bytes its slots have together.
+    pub(crate) fn bytes(&self) -> u64 {
+        self.bytes.get()
+    }
+
+    /// From now on syncs are done, or left out.
+    pub(crate) fn set_syncing(&self, is_syncing: bool) {
+        self.is_syncing.set(is_syncing);
+    }
+}
+
+/// A disk and who watches it.
+#[derive(Drop)]
+pub(crate) struct Watched<'a, D> {
+    pub(crate) disk: D,
+    pub(crate) watch: &'a Watch,
+}
+
+impl<'a, D: Disk> Watched<'a, D> {
+    /// Tells the watch what the slots have after one more write.
+    fn tell(&self) {
+        let images = self
+            .disk
+            .length(Slot::Image0)
+            .saturating_add(self.disk.length(Slot::Image1));
+        let segments = self
+            .disk
+            .length(Slot::Segment0)
+            .saturating_add(self.disk.length(Slot::Segment1));
+        self.watch.bytes.set(images.saturating_add(segments));
+        self.watch
+            .writes
+            .set(self.watch.writes.get().saturating_add(1));
+    }
+}
+
+impl<'a, D: Disk> Disk for Watched<'a, D> {
+    // It keeps no disk model: where syncs are left out a stop may leave anything.
+    ghost honest = { ⊥ };
+
+    ghost view = { λ watched. D.view watched.disk };
+
+    ghost failed_calls = { λ watched. D.failed_calls watched.disk };
+
+    fn failures(&self) -> u64 {
+        self.disk.failures()
+    }
+
+    fn length(&self, slot: Slot) -> u64 {
+        self.disk.length(slot)
+    }
+
+    fn read(&mut self, slot: Slot, at: u64, buffer: &mut [u8]) -> Result<usize, DiskFault> {
+        self.disk.read(slot, at, buffer)
+    }
+
+    fn write_at(&mut self, slot: Slot, at: u64, bytes: &[u8]) -> Result<(), DiskFault> {
+        let at = at.min(self.disk.length(slot));
+        let written = self.disk.write_at(slot, at, bytes);
+        self.tell();
+        written
+    }
+
+    fn cut(&mut self, slot: Slot, len: u64) -> Result<(), DiskFault> {
+        let len = len.min(self.disk.length(slot));
+        let cut = self.disk.cut(slot, len);
+        self.tell();
+        cut
+    }
+
+    fn sync(&mut self, slot: Slot) -> Result<(), DiskFault> {
+        if self.watch.is_syncing.get() {
+            return self.disk.sync(slot);
+        }
+        Ok(())
+    }
+}
+
+/// A lone caller on a new store on a disk that is watched.
+pub(crate) fn open_watched<'a, D: Disk + Drop>(
+    alloc: Global,
+    disk: D,
+    watch: &'a Watch,
+) -> Result<Alone<Watched<'a, D>>, Fault> {
+    let Ok(opened) = open(alloc, Watched { disk, watch }) else {
+        return Err(Fault::Store);
+    };
+    Ok(Alone::new(alloc, opened))
+}
