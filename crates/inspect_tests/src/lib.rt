@@ -2,7 +2,7 @@
 #![tactic(auto)]
 
 #[cfg(test)]
-mod phases;
+mod checkpoint_phases;
 #[cfg(test)]
 mod programs;
 #[cfg(test)]
