@@ -5,6 +5,7 @@
 mod asking;
 #[cfg(test)]
 mod batches;
+#[cfg(test)]
 mod checkpoints;
 #[cfg(test)]
 mod expect;
