@@ -4,10 +4,9 @@ use crate::states::{LEAST, Parts, Shape, make_state, time_checkpoint};
 use crate::{Fault, nanos_of, print_row};
 use disk::{Disk, Slot};
 use plain_disk::PlainDisk;
-use server::{Opened, open};
+use server::{Opened, System, open};
 use std::alloc::Global;
 use std::time::Instant;
-use system::System;
 
 /// How many checkpoints are made of a state: the shortest time of each part counts, since other work can only make one
 /// longer. A store is opened as often.

@@ -1,5 +1,5 @@
 -- How a run of an inspector ends: its status and its line of errors.
-use Rattle.std.specs.Prelude.{◌≡◌, ◌≢◌, ℕ, List, [], ◌++◌, Option, codes}
+use Rattle.std.specs.Prelude.{◌≡◌, ◌≢◌, ℕ, List, [], ◌++◌, Option, Some, codes}
 use Rattle.std.specs.Io.KnownBytes.{Appends, Keeps}
 use Rattle.ipc_model.specs.state.State.{State}
 use Rattle.listing.specs.Drawing.{drawing}
@@ -12,7 +12,7 @@ use Rattle.journal.specs.Fault as store
 use Rattle.wire.specs.Fault as wire
 use Rattle.wire.specs.declared.fault.WireFault.TheVariants.{Device}
 
--- 0: the store was printed; 1: a fault; 2: the words are not one
+-- 0: the store was printed; 1: a fault; 2: the words are not one, or can't be read
 abbrev pub status_of : ShowEnd → ℕ
 status_of Shown = 0
 status_of CommandLine = 2
@@ -38,10 +38,10 @@ IsSomeListing text = (state : State) × (epoch records : ℕ) × (text ≡ listi
 abbrev pub IsSomeDrawing : List ℕ → Type 0
 IsSomeDrawing text = (state : State) × (text ≡ drawing state)
 
--- What was written by a run that ended so, for so many words: the whole text, some first bytes of it where the output can't
--- be written, nothing else.
-abbrev pub Prints : (List ℕ → Type 0) → ℕ → Option (List ℕ) → Option (List ℕ) → ShowEnd → Type 0
-Prints IsText words old new CommandLine = (words ≢ 1) × Keeps old new
-Prints IsText words old new Shown = (words ≡ 1) × ((text : List ℕ) × IsText text × Appends old new text)
-Prints IsText words old new (Fault Write) = (words ≡ 1) × ((text : List ℕ) × IsText text × AppendsPart old new text)
-Prints IsText words old new (Fault (Store fault)) = (words ≡ 1) × Keeps old new
+-- What was written by a run that ended so, for so many words, or for words that can't be read: the whole text, some first
+-- bytes of it where the output can't be written, nothing else.
+abbrev pub Prints : (List ℕ → Type 0) → Option ℕ → Option (List ℕ) → Option (List ℕ) → ShowEnd → Type 0
+Prints IsText words old new CommandLine = (words ≢ Some 1) × Keeps old new
+Prints IsText words old new Shown = (words ≡ Some 1) × ((text : List ℕ) × IsText text × Appends old new text)
+Prints IsText words old new (Fault Write) = (words ≡ Some 1) × ((text : List ℕ) × IsText text × AppendsPart old new text)
+Prints IsText words old new (Fault (Store fault)) = (words ≡ Some 1) × Keeps old new

@@ -1,4 +1,4 @@
-ghost use Rattle.std.specs.Prelude.{◌≡◌, ◌≢◌, ◌++◌, ℕ, List, codes, length, IfErr, IsErrOf, OnErr, OnOk};
+ghost use Rattle.std.specs.Prelude.{◌≡◌, ◌≢◌, ◌++◌, ℕ, List, codes, length, option_map, IfErr, IsErrOf, OnErr, OnOk};
 ghost use Rattle.std.specs.Io.KnownBytes.{Appends, Keeps};
 ghost use Rattle.inspect.specs.Program.{IsSomeDrawing, IsSomeListing, Prints, line_of, status_of, words_of};
 ghost use Rattle.wire.specs.Writing.{AppendsPart};
@@ -16,14 +16,14 @@ use wire::{WireFault, write_bytes};
 pub enum ShowEnd {
     /// The store was printed.
     Shown,
-    /// The words are not one.
+    /// The words are not one, or can't be read.
     CommandLine,
     /// The store can't be read, or the output can't be written.
     Fault(ListFault),
 }
 
 impl ShowEnd {
-    /// The status to end with: 0 without a fault, 1 after a fault, 2 where the words are not one.
+    /// The status to end with: 0 without a fault, 1 after a fault, 2 where the words are not one or can't be read.
     pub fn status(self) -> u8
         ensures { result ≡ status_of self }
     {
@@ -71,19 +71,20 @@ fn write_line<E: Write>(errors: &mut E, name: &str, words: &str) -> Result<(), W
     write_bytes(errors, words.as_bytes())
 }
 
-/// All of `machls`: the words of its command line, its output and errors. It gives the status to end with.
+/// All of `machls`: the words of its command line, or none where they can't be read as text, its output and errors. It
+/// gives the status to end with.
 ///
 /// The one word is the store's folder; its files are opened for reading alone. 0: its lines were written. 1: after a
-/// fault, which is a line of errors. 2: the words are not one, which is a line of errors too.
+/// fault, which is a line of errors. 2: the words are not one or can't be read, which is a line of errors too.
 pub fn show<F: Files, W: Write, E: Write>(
     alloc: Global,
     files: &F,
-    words: &[String],
+    words: Option<&[String]>,
     output: &mut W,
     errors: &mut E,
 ) -> u8
     ensures ended { (end : ShowEnd) × (result ≡ status_of end) × AppendsPart (E.contents errors.old) (E.contents errors.new) (line_of (codes "machls: ") end)
-        × Prints IsSomeListing (length words.now) (W.contents output.old) (W.contents output.new) end }
+        × Prints IsSomeListing (option_map (λ texts. length texts.now) words.entry) (W.contents output.old) (W.contents output.new) end }
 {
     let end = run_show(alloc, files, words, output);
     let _ = end.tell("machls: ", errors);
@@ -94,12 +95,12 @@ pub fn show<F: Files, W: Write, E: Write>(
 pub fn run_show<F: Files, W: Write>(
     alloc: Global,
     files: &F,
-    words: &[String],
+    words: Option<&[String]>,
     output: &mut W,
 ) -> ShowEnd
-    ensures ended { Prints IsSomeListing (length words.now) (W.contents output.old) (W.contents output.new) result }
+    ensures ended { Prints IsSomeListing (option_map (λ texts. length texts.now) words.entry) (W.contents output.old) (W.contents output.new) result }
 {
-    let [store] = words else {
+    let Some([store]) = words else {
         return ShowEnd::CommandLine;
     };
     match list_folder(alloc, files, store.as_str(), output) {
@@ -129,12 +130,12 @@ fn list_folder<F: Files, W: Write>(
 pub fn show_drawing<F: Files, W: Write, E: Write>(
     alloc: Global,
     files: &F,
-    words: &[String],
+    words: Option<&[String]>,
     output: &mut W,
     errors: &mut E,
 ) -> u8
     ensures ended { (end : ShowEnd) × (result ≡ status_of end) × AppendsPart (E.contents errors.old) (E.contents errors.new) (line_of (codes "machmap: ") end)
-        × Prints IsSomeDrawing (length words.now) (W.contents output.old) (W.contents output.new) end }
+        × Prints IsSomeDrawing (option_map (λ texts. length texts.now) words.entry) (W.contents output.old) (W.contents output.new) end }
 {
     let end = run_drawing(alloc, files, words, output);
     let _ = end.tell("machmap: ", errors);
@@ -145,12 +146,12 @@ pub fn show_drawing<F: Files, W: Write, E: Write>(
 pub fn run_drawing<F: Files, W: Write>(
     alloc: Global,
     files: &F,
-    words: &[String],
+    words: Option<&[String]>,
     output: &mut W,
 ) -> ShowEnd
-    ensures ended { Prints IsSomeDrawing (length words.now) (W.contents output.old) (W.contents output.new) result }
+    ensures ended { Prints IsSomeDrawing (option_map (λ texts. length texts.now) words.entry) (W.contents output.old) (W.contents output.new) result }
 {
-    let [store] = words else {
+    let Some([store]) = words else {
         return ShowEnd::CommandLine;
     };
     match draw_folder(alloc, files, store.as_str(), output) {

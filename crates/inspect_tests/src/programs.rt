@@ -15,7 +15,7 @@ struct Ended {
     errors: String,
 }
 
-fn run(rt: &HostRuntime, words: &[String]) -> Result<Ended, Fail> {
+fn run(rt: &HostRuntime, words: Option<&[String]>) -> Result<Ended, Fail> {
     let mut output = Vec::new(rt.alloc());
     let mut errors = Vec::new(rt.alloc());
     let status = show(rt.alloc(), rt, words, &mut output, &mut errors);
@@ -38,35 +38,37 @@ fn folder(rt: &HostRuntime, name: &str) -> Result<Vec<String>, Fail> {
     Ok(words)
 }
 
+/// A path that is no folder, so often.
+fn paths(rt: &HostRuntime, count: u32) -> Result<Vec<String>, Fail> {
+    let mut words = Vec::new(rt.alloc());
+    for _ in 0..count {
+        words.push(String::from_str(rt.alloc(), "/nowhere/at/all")?)?;
+    }
+    Ok(words)
+}
+
+/// Whether a run wrote nothing but this line of errors, and ended with this status.
+fn is_told(ended: &Ended, status: u8, line: &str) -> bool {
+    ended.status == status && ended.output.is_empty() && ended.errors.as_str() == line
+}
+
 #[test]
 fn words_have_a_status_and_a_line(rt: HostRuntime) -> Result<(), Fail> {
-    let alloc = rt.alloc();
-    let mut words = Vec::new(alloc);
-    let none = run(&rt, &words)?;
-    assert!(rt;
-        none.status == 2
-            && none.output.is_empty()
-            && none.errors.as_str() == "machls: command line\n"
-    );
-    words.push(String::from_str(alloc, "/nowhere/at/all")?)?;
-    let nowhere = run(&rt, &words)?;
-    assert!(rt;
-        nowhere.status == 1
-            && nowhere.output.is_empty()
-            && nowhere.errors.as_str() == "machls: store fault 1: device\n"
-    );
-    words.push(String::from_str(alloc, "/")?)?;
-    let two = run(&rt, &words)?;
-    assert!(rt;
-        two.status == 2 && two.output.is_empty() && two.errors.as_str() == "machls: command line\n"
-    );
+    for count in [0, 2, 3] {
+        let ended = run(&rt, Some(&paths(&rt, count)?))?;
+        assert!(rt; is_told(&ended, 2, "machls: command line\n"));
+    }
+    let unreadable = run(&rt, None)?;
+    assert!(rt; is_told(&unreadable, 2, "machls: command line\n"));
+    let nowhere = run(&rt, Some(&paths(&rt, 1)?))?;
+    assert!(rt; is_told(&nowhere, 1, "machls: store fault 1: device\n"));
     Ok(())
 }
 
 #[test]
 fn an_empty_folder_stays_empty(rt: HostRuntime) -> Result<(), Fail> {
     let words = folder(&rt, "machls_empty_folder")?;
-    let ended = run(&rt, &words)?;
+    let ended = run(&rt, Some(&words))?;
     assert!(rt;
         ended.status == 0
             && ended.errors.is_empty()
@@ -114,7 +116,7 @@ fn list_read_only(rt: &HostRuntime, words: &[String], folder: &str) -> Result<(E
     make_store(rt, folder)?;
     set_modes(rt, folder, 0o444, 0o555)?;
     let before = (seen(rt, folder, "image0")?, seen(rt, folder, "segment0")?);
-    let ended = run(rt, words)?;
+    let ended = run(rt, Some(words))?;
     let after = (seen(rt, folder, "image0")?, seen(rt, folder, "segment0")?);
     set_modes(rt, folder, 0o644, 0o755)?;
     Ok((ended, before == after))
@@ -136,16 +138,24 @@ fn a_folder_that_can_only_be_read_is_listed(rt: HostRuntime) -> Result<(), Fail>
     Ok(())
 }
 
-#[test]
-fn the_drawing_has_a_name_of_its_own(rt: HostRuntime) -> Result<(), Fail> {
-    let words = Vec::new(rt.alloc());
+/// The status and the line of errors of the drawing program.
+fn told_by_drawing(rt: &HostRuntime, words: Option<&[String]>) -> Result<(u8, String), Fail> {
     let mut output = Vec::new(rt.alloc());
     let mut errors = Vec::new(rt.alloc());
-    let status = show_drawing(rt.alloc(), &rt, &words, &mut output, &mut errors);
-    assert!(rt;
-        status == 2
-            && output.is_empty()
-            && errors.as_slice() == b"machmap: command line\n".as_slice()
-    );
+    let status = show_drawing(rt.alloc(), rt, words, &mut output, &mut errors);
+    if !output.is_empty() {
+        return Err(Fail::from("something was written"));
+    }
+    Ok((status, String::from_utf8(errors)?))
+}
+
+#[test]
+fn the_drawing_has_a_name_of_its_own(rt: HostRuntime) -> Result<(), Fail> {
+    for count in [0, 2, 3] {
+        let told = told_by_drawing(&rt, Some(&paths(&rt, count)?))?;
+        assert!(rt; told.0 == 2 && told.1.as_str() == "machmap: command line\n");
+    }
+    let told = told_by_drawing(&rt, None)?;
+    assert!(rt; told.0 == 2 && told.1.as_str() == "machmap: command line\n");
     Ok(())
 }

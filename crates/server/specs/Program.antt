@@ -11,7 +11,7 @@ use Rattle.server.specs.declared.service.ServeFault.{ServeFault}
 use Rattle.server.specs.declared.service.ServeFault.TheVariants.{Wire, Store}
 use Rattle.wire.specs.Fault as wire
 
--- 0: the input was served to its end; 1: a fault; 2: the words are not one
+-- 0: the input was served to its end; 1: a fault; 2: the words are not one, or can't be read
 abbrev pub status_of : LoneEnd → ℕ
 status_of Served = 0
 status_of CommandLine = 2
@@ -49,8 +49,8 @@ module _ {D : Type 0} (honest : Type 0) (view : D → View) (input before : List
   abbrev pub IsRun : Result (Unit {0}) ServeFault → Type 0
   IsRun result = Unopened input before left written result ⊎ ServesOpened result
 
-  -- how the program ends for so many words
-  abbrev pub EndsAlone : ℕ → LoneEnd → Type 0
-  EndsAlone words CommandLine = (words ≢ 1) × (left ≡ Some input) × (written ≡ Some before)
-  EndsAlone words Served = (words ≡ 1) × IsRun (Ok tt)
-  EndsAlone words (Fault fault) = (words ≡ 1) × IsRun (Err fault)
+  -- how the program ends for so many words, or for words that can't be read
+  abbrev pub EndsAlone : Option ℕ → LoneEnd → Type 0
+  EndsAlone words CommandLine = (words ≢ Some 1) × (left ≡ Some input) × (written ≡ Some before)
+  EndsAlone words Served = (words ≡ Some 1) × IsRun (Ok tt)
+  EndsAlone words (Fault fault) = (words ≡ Some 1) × IsRun (Err fault)

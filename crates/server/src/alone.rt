@@ -5,6 +5,7 @@ ghost use Rattle.ipc_model.specs.store.Recovery.{Recovered};
 ghost use Rattle.standing.specs.Standing.{as_written};
 ghost use Rattle.system.specs.Calling.{IsResting};
 ghost use Rattle.system.specs.Core.{first_system};
+ghost use Rattle.system.specs.Counting.{counted};
 ghost use Rattle.system.specs.GoingOn.{GoesOn, IsStanding};
 ghost use Rattle.server.specs.Keeping.{AnswersKept, BreaksKept, FailsKept, IsBeforeOrAfter, IsCounted, IsHeld, IsMoved, IsShortOf, RestsKept, attached_by};
 ghost use Rattle.server.specs.Serving.{StepOrShortage, shortage_of};
@@ -129,6 +130,7 @@ impl<D: Disk> Caller for Alone<D> {
         ensures answers { IfOk result (λ reply. AnswersKept D.honest D.view self.old call reply self.new) }
         ensures fits { IfOk result (λ reply. length (reply_text reply) ≤ MAX_FRAME_CONTENT) }
         ensures fails { IfErr result (λ fault. FailsKept D.honest D.view self.old call fault self.new) }
+        ensures failures { D.failed_calls self.new.store.disk ≡ counted result (D.failed_calls self.old.store.disk) }
         // A stop at any moment from the beginning of the call to its end leaves the state before it or the state after
         // it, also where the call fails.
         ensures any_moment { D.honest → self.old.failed ≡ false → (c : Slots) → LeftSince (D.view self.new.store.disk) (D.view self.old.store.disk).moment c
@@ -167,6 +169,7 @@ impl<D: Disk> Caller for Alone<D> {
         ensures goes { IfOk result (λ is_done. MatchBool is_done
             (GoesOn D.honest D.view CHECKPOINT_RECORDS self.old.kernel self.old.store.checkpoint self.old.store self.new.store) (IsShortOf self.old self.new)) }
         ensures breaks { IfErr result (λ fault. BreaksKept D.honest D.view self.old fault self.new) }
+        ensures failures { D.failed_calls self.new.store.disk ≡ counted result (D.failed_calls self.old.store.disk) }
         // A stop at any moment from the beginning of that time to its end leaves the state as it was, also where it
         // fails.
         ensures any_moment { D.honest → self.old.failed ≡ false → (c : Slots) → LeftSince (D.view self.new.store.disk) (D.view self.old.store.disk).moment c
@@ -225,6 +228,7 @@ fn make_call<D: Disk>(
         → (system.new.core.kernel ≡ system.old.core.kernel) × (system.new.store ≡ system.old.store)) }
     ensures counted { IfOk result (λ reply. IsCounted system.old.store call.now reply system.new.store) }
     ensures rests { OnOk result (IsResting system.new) }
+    ensures failures { D.failed_calls system.new.store.disk ≡ counted result (D.failed_calls system.old.store.disk) }
 {
     match system.call(space, call) {
         Ok(reply) => Ok(reply),

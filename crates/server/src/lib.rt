@@ -12,4 +12,4 @@ pub use laws::{
 };
 pub use program::{LoneEnd, lone, run_alone};
 pub use service::{ServeFault, serve};
-pub use system::{Kernel, Opened, open};
+pub use system::{Event, Kernel, Opened, Outcome, SubmitFault, System, open};

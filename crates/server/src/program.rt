@@ -1,4 +1,4 @@
-ghost use Rattle.std.specs.Prelude.{◌≡◌, ◌++◌, false, length, codes, IfErr, IfSome, OnErr, OnOk};
+ghost use Rattle.std.specs.Prelude.{◌≡◌, ◌++◌, false, length, codes, option_map, IfErr, IfSome, OnErr, OnOk};
 ghost use Rattle.std.specs.Io.KnownBytes.{Appends};
 ghost use Rattle.server.specs.Program.{EndsAlone, IsRun, ServesOpened, line_of, status_of, words_of};
 ghost use Rattle.wire.specs.Writing.{AppendsPart};
@@ -17,14 +17,14 @@ use wire::{WireFault, write_bytes};
 pub enum LoneEnd {
     /// The input was served to its end.
     Served,
-    /// The words are not one.
+    /// The words are not one, or can't be read.
     CommandLine,
     /// The store or the connection failed.
     Fault(ServeFault),
 }
 
 impl LoneEnd {
-    /// The status to end with: 0 without a fault, 1 after a fault, 2 where the words are not one.
+    /// The status to end with: 0 without a fault, 1 after a fault, 2 where the words are not one or can't be read.
     pub fn status(self) -> u8
         ensures { result ≡ status_of self }
     {
@@ -72,15 +72,15 @@ fn write_line<E: Write>(errors: &mut E, words: &str) -> Result<(), WireFault>
     write_bytes(errors, words.as_bytes())
 }
 
-/// All of the program for one connection: the words of its command line, its input, output and errors. It gives
-/// the status to end with.
+/// All of the program for one connection: the words of its command line, or none where they can't be read as text, its
+/// input, output and errors. It gives the status to end with.
 ///
 /// The one word is the store's folder. 0: the input was served to its end. 1: after a fault, which is a line
-/// of errors. 2: the words are not one, which is a line of errors too.
+/// of errors. 2: the words are not one or can't be read, which is a line of errors too.
 pub fn lone<'a, F: Files, I: Read, O: Write, E: Write>(
     alloc: Global,
     files: &'a F,
-    words: &[String],
+    words: Option<&[String]>,
     input: &mut I,
     output: &mut O,
     errors: &mut E,
@@ -88,7 +88,7 @@ pub fn lone<'a, F: Files, I: Read, O: Write, E: Write>(
     // The status and the line of errors are those of how the run ended. A writer of errors that fails has a part of the line.
     ensures ended { IfSome (I.remaining input.old) (λ bytes. IfSome (O.contents output.old) (λ before.
         (end : LoneEnd) × (result ≡ status_of end) × AppendsPart (E.contents errors.old) (E.contents errors.new) (line_of end)
-        × EndsAlone ⟦<FileDisk<&'a F> as Disk>⟧.honest ⟦<FileDisk<&'a F> as Disk>⟧.view bytes before (I.remaining input.new) (O.contents output.new) (length words.now) end)) }
+        × EndsAlone ⟦<FileDisk<&'a F> as Disk>⟧.honest ⟦<FileDisk<&'a F> as Disk>⟧.view bytes before (I.remaining input.new) (O.contents output.new) (option_map (λ texts. length texts.now) words.entry) end)) }
 {
     let end = run_alone(alloc, files, words, input, output);
     let _ = end.tell(errors);
@@ -99,14 +99,14 @@ pub fn lone<'a, F: Files, I: Read, O: Write, E: Write>(
 pub fn run_alone<'a, F: Files, I: Read, O: Write>(
     alloc: Global,
     files: &'a F,
-    words: &[String],
+    words: Option<&[String]>,
     input: &mut I,
     output: &mut O,
 ) -> LoneEnd
     ensures ended { IfSome (I.remaining input.old) (λ bytes. IfSome (O.contents output.old) (λ before.
-        EndsAlone ⟦<FileDisk<&'a F> as Disk>⟧.honest ⟦<FileDisk<&'a F> as Disk>⟧.view bytes before (I.remaining input.new) (O.contents output.new) (length words.now) result)) }
+        EndsAlone ⟦<FileDisk<&'a F> as Disk>⟧.honest ⟦<FileDisk<&'a F> as Disk>⟧.view bytes before (I.remaining input.new) (O.contents output.new) (option_map (λ texts. length texts.now) words.entry) result)) }
 {
-    let [store] = words else {
+    let Some([store]) = words else {
         return LoneEnd::CommandLine;
     };
     match serve_folder(alloc, files, store.as_str(), input, output) {

@@ -1,6 +1,7 @@
 ghost use Rattle.std.specs.Io.{WritesAtMost};
 
 use crate::frames::{ALLOCATE, ALLOCATED, TYPE};
+use command_line::read_words;
 use server::lone;
 use std::env::FillError;
 use std::rt::Env;
@@ -15,7 +16,7 @@ struct Ended {
     errors: String,
 }
 
-fn run(rt: &HostRuntime, words: &[String], bytes: &[u8]) -> Result<Ended, Fail> {
+fn run(rt: &HostRuntime, words: Option<&[String]>, bytes: &[u8]) -> Result<Ended, Fail> {
     let mut input = bytes;
     let mut output = Vec::new(rt.alloc());
     let mut errors = Vec::new(rt.alloc());
@@ -48,7 +49,11 @@ fn removed(rt: &HostRuntime, words: &[String]) -> Result<(), Fail> {
 }
 
 /// The status and the line of errors of a run in which nothing is written.
-fn told(rt: &HostRuntime, words: &[String], bytes: &[u8]) -> Result<(u8, String), Fail> {
+fn told(
+    rt: &HostRuntime,
+    words: Option<&[String]>,
+    bytes: &[u8],
+) -> Result<(u8, String), Fail> {
     let ended = run(rt, words, bytes)?;
     if !ended.output.is_empty() {
         return Err(Fail::from("something was written"));
@@ -56,28 +61,10 @@ fn told(rt: &HostRuntime, words: &[String], bytes: &[u8]) -> Result<(u8, String)
     Ok((ended.status, ended.errors))
 }
 
-#[test]
-fn words_have_a_status_and_a_line(rt: HostRuntime) -> Result<(), Fail> {
-    let alloc = rt.alloc();
-    let mut words = Vec::new(alloc);
-    let none = told(&rt, &words, &ALLOCATE)?;
-    assert!(rt; none.0 == 2 && none.1.as_str() == "machipcd: command line\n");
-    words.push(String::from_str(alloc, "/nowhere/at/all")?)?;
-    let nowhere = told(&rt, &words, &ALLOCATE)?;
-    assert!(rt; nowhere.0 == 1 && nowhere.1.as_str() == "machipcd: store fault 1: device\n");
-    words.push(String::from_str(alloc, "/")?)?;
-    let two = told(&rt, &words, &ALLOCATE)?;
-    assert!(rt; two.0 == 2 && two.1.as_str() == "machipcd: command line\n");
-    words.push(String::from_str(alloc, "/")?)?;
-    let three = told(&rt, &words, &ALLOCATE)?;
-    assert!(rt; three.0 == 2 && three.1.as_str() == "machipcd: command line\n");
-    Ok(())
-}
-
-/// The words of a command line, of any bytes.
+/// A command line of any bytes, with a space between its words.
 #[derive(Clone, Copy)]
-struct Words<'a> {
-    words: &'a [&'a [u8]],
+struct Line<'a> {
+    bytes: &'a [u8],
 }
 
 /// Copies a word to the front of a buffer.
@@ -93,9 +80,9 @@ fn fill(word: &[u8], buffer: &mut [u8]) -> Result<usize, FillError>
     }
 }
 
-impl<'a> Env for Words<'a> {
+impl<'a> Env for Line<'a> {
     fn arg(&self, i: usize, buffer: &mut [u8]) -> Result<usize, FillError> {
-        match self.words.get(i) {
+        match self.bytes.split(|byte| *byte == b' ').nth(i) {
             Some(word) => fill(word, buffer),
             None => Err(FillError::NotPresent),
         }
@@ -110,15 +97,25 @@ impl<'a> Env for Words<'a> {
     }
 }
 
-// The program's `main` reads its words so, and where they can't be read it tells the line of the test above and ends with
-// the same status. It can't be run with such words here.
+/// The status and the line of errors of a program that was started by such a line.
+fn told_for(rt: &HostRuntime, bytes: &[u8]) -> Result<(u8, String), Fail> {
+    let words = read_words(&(Line { bytes }, rt.alloc()));
+    told(rt, words.as_deref(), &ALLOCATE)
+}
+
 #[test]
-fn a_word_that_is_no_text_cannot_be_read(rt: HostRuntime) -> Result<(), Fail> {
-    for (word, is_read) in [(b"store".as_slice(), true), (b"st\xffre".as_slice(), false)] {
-        let words = Words {
-            words: &[b"machipcd".as_slice(), word],
-        };
-        assert!(rt; env::args(&(words, rt.alloc())).is_ok() == is_read);
+fn words_have_a_status_and_a_line(rt: HostRuntime) -> Result<(), Fail> {
+    let lines: [(&[u8], u8, &str); 6] = [
+        (b"machipcd", 2, "machipcd: command line\n"),
+        (b"machipcd /nowhere", 1, "machipcd: store fault 1: device\n"),
+        (b"machipcd / /", 2, "machipcd: command line\n"),
+        (b"machipcd / / /", 2, "machipcd: command line\n"),
+        (b"machipcd /nowher\xff", 2, "machipcd: command line\n"),
+        (b"machipcd / \xff", 2, "machipcd: command line\n"),
+    ];
+    for (bytes, status, line) in lines {
+        let seen = told_for(&rt, bytes)?;
+        assert!(rt; seen.0 == status && seen.1.as_str() == line);
     }
     Ok(())
 }
@@ -140,7 +137,7 @@ fn a_damaged_slot_is_told(rt: HostRuntime) -> Result<(), Fail> {
     image[1] = 1;
     image[2] = 1;
     write_file(&rt, &words, "image0", &image)?;
-    let (status, line) = told(&rt, &words, &[])?;
+    let (status, line) = told(&rt, Some(&words), &[])?;
     assert!(rt; status == 1 && line.as_str() == "machipcd: store fault 3: damaged\n");
     removed(&rt, &words)
 }
@@ -148,9 +145,9 @@ fn a_damaged_slot_is_told(rt: HostRuntime) -> Result<(), Fail> {
 #[test]
 fn wire_faults_have_a_line(rt: HostRuntime) -> Result<(), Fail> {
     let words = folder(&rt, "machipcd_wire_faults")?;
-    let (status, line) = told(&rt, &words, &[3, 0, 0, 0])?;
+    let (status, line) = told(&rt, Some(&words), &[3, 0, 0, 0])?;
     assert!(rt; status == 1 && line.as_str() == "machipcd: wire fault 1: short\n");
-    let (status, line) = told(&rt, &words, &[253, 255, 0, 0])?;
+    let (status, line) = told(&rt, Some(&words), &[253, 255, 0, 0])?;
     assert!(rt; status == 1 && line.as_str() == "machipcd: wire fault 2: too long\n");
     removed(&rt, &words)
 }
@@ -172,7 +169,7 @@ fn lengths(rt: &HostRuntime, words: &[String]) -> Result<(usize, usize), Fail> {
 #[test]
 fn a_second_run_knows_the_name(rt: HostRuntime) -> Result<(), Fail> {
     let words = folder(&rt, "machipcd_second_run")?;
-    let first = run(&rt, &words, &ALLOCATE)?;
+    let first = run(&rt, Some(&words), &ALLOCATE)?;
     assert!(rt;
         first.status == 0
             && first.output.as_slice() == ALLOCATED.as_slice()
@@ -180,7 +177,7 @@ fn a_second_run_knows_the_name(rt: HostRuntime) -> Result<(), Fail> {
     );
     let bytes = lengths(&rt, &words)?;
     assert_eq!(rt; bytes, (48, 70));
-    let second = run(&rt, &words, &TYPE)?;
+    let second = run(&rt, Some(&words), &TYPE)?;
     let bits = [12, 0, 0, 0, 2, 0, 0, 0, 0, 0, 0, 0, 0, 0, 2, 0];
     assert!(rt; second.status == 0 && second.output.as_slice() == bits.as_slice());
     let bytes = lengths(&rt, &words)?;

@@ -1,9 +1,10 @@
-ghost use Rattle.std.specs.Prelude.{◌≡◌, ◌↔◌, ◌⊎◌, ◌+◌, ◌<◌, ◌≤◌, true, false, length, None, Some, IfOk, IfErr, IfSome, IfNone, MatchBool, OnOk, OnErr, IsErrOf, is_some};
+ghost use Rattle.std.specs.Prelude.{◌≡◌, ◌↔◌, ◌⊎◌, ◌+◌, ◌<◌, ◌≤◌, true, false, length, None, Some, IfOk, IfErr, IfSome, IfNone, MatchBool, MatchResult, OnOk, OnErr, is_some};
 ghost use Rattle.codes.specs.declared.limits.TheConstants.{MAX_RECORDS};
 ghost use Rattle.disk.specs.Moments.{IsSynced, one_more};
 ghost use Rattle.disk.specs.Slots.{slot_of};
 ghost use Rattle.slot_steps.specs.Steps.{segment_slot};
 ghost use Rattle.storing.specs.Changes.{CanFinish, CanOpen, ClosesImage, FailsToCloseImage, FailsToFinish, FailsToRollClose, FailsToRollHead, FailsToRollOpen, FailsToWritePiece, Finishes, HasImaged, HasPieceLeft, IsAppended, IsFault, IsFaultOrShortage, IsNotNow, IsRolled, PassesAppend, RollsClose, RollsHead, RollsOpen, WritesPiece};
+ghost use Rattle.storing.specs.Counting.{counted, counted_fault};
 ghost use Rattle.storing.specs.Values.{begun};
 
 use crate::receipt::{Finished, Receipt};
@@ -101,6 +102,8 @@ impl<D: Disk> StoreHalf<D> {
         ensures under_way { self.new.checkpoint ≡ self.old.checkpoint }
         ensures open { OnOk result ((self.old.failed ≡ false) × (self.old.segment.records + batch.count ≤ MAX_RECORDS)) }
         ensures back { IfErr result (λ fault. fault.1 ≡ batch) }
+        ensures failures { MatchResult result (λ _. D.failed_calls self.new.disk ≡ D.failed_calls self.old.disk)
+            (λ fault. D.failed_calls self.new.disk ≡ counted_fault fault.0 (D.failed_calls self.old.disk)) }
 
         ensures failed { IfErr result (λ fault. fault.0 ≡ StoreFault.Failed ↔ (self.old.failed ≡ true)) }
         ensures full { IfErr result (λ fault. fault.0 ≡ StoreFault.Full
@@ -139,7 +142,7 @@ impl<D: Disk> StoreHalf<D> {
     pub fn roll_close(&mut self) -> Result<bool, StoreFault>
         ensures done { IfOk result (λ is_done. MatchBool is_done (RollsClose D.honest D.view self.old self.new) (IsNotNow self.old (IsRolled self.old.checkpoint 0) self.new)) }
         ensures faults { IfErr result (λ fault. IsFault self.old fault (FailsToRollClose D.honest D.view self.old self.new) self.new) }
-        ensures device { IsErrOf result StoreFault.Device → D.failed_calls self.new.disk ≡ one_more (D.failed_calls self.old.disk) }
+        ensures failures { D.failed_calls self.new.disk ≡ counted result (D.failed_calls self.old.disk) }
     {
         if self.failed {
             return Err(StoreFault::Failed);
@@ -162,7 +165,7 @@ impl<D: Disk> StoreHalf<D> {
     pub fn roll_head(&mut self) -> Result<bool, StoreFault>
         ensures done { IfOk result (λ is_done. MatchBool is_done (RollsHead D.honest D.view self.old self.new) (IsNotNow self.old (IsRolled self.old.checkpoint 1) self.new)) }
         ensures faults { IfErr result (λ fault. IsFault self.old fault (FailsToRollHead D.honest D.view self.old self.new) self.new) }
-        ensures device { IsErrOf result StoreFault.Device → D.failed_calls self.new.disk ≡ one_more (D.failed_calls self.old.disk) }
+        ensures failures { D.failed_calls self.new.disk ≡ counted result (D.failed_calls self.old.disk) }
     {
         if self.failed {
             return Err(StoreFault::Failed);
@@ -186,7 +189,7 @@ impl<D: Disk> StoreHalf<D> {
     pub fn roll_open(&mut self) -> Result<bool, StoreFault>
         ensures done { IfOk result (λ is_done. MatchBool is_done (RollsOpen D.honest D.view self.old self.new) (IsNotNow self.old (CanOpen self.old self.old.checkpoint) self.new)) }
         ensures faults { IfErr result (λ fault. IsFault self.old fault (FailsToRollOpen D.honest D.view self.old self.new) self.new) }
-        ensures device { IsErrOf result StoreFault.Device → D.failed_calls self.new.disk ≡ one_more (D.failed_calls self.old.disk) }
+        ensures failures { D.failed_calls self.new.disk ≡ counted result (D.failed_calls self.old.disk) }
     {
         if self.failed {
             return Err(StoreFault::Failed);
@@ -213,7 +216,7 @@ impl<D: Disk> StoreHalf<D> {
     pub fn close_image(&mut self, alloc: Global) -> Result<bool, StoreFault>
         ensures done { IfOk result (λ is_done. MatchBool is_done (ClosesImage D.honest D.view self.old self.new) (IsNotNow self.old (HasImaged self.old.checkpoint 0) self.new)) }
         ensures faults { IfErr result (λ fault. IsFaultOrShortage self.old fault (HasImaged self.old.checkpoint 0) (FailsToCloseImage D.honest D.view self.old self.new) self.new) }
-        ensures device { IsErrOf result StoreFault.Device → D.failed_calls self.new.disk ≡ one_more (D.failed_calls self.old.disk) }
+        ensures failures { D.failed_calls self.new.disk ≡ counted result (D.failed_calls self.old.disk) }
     {
         if self.failed {
             return Err(StoreFault::Failed);
@@ -240,7 +243,7 @@ impl<D: Disk> StoreHalf<D> {
     pub fn write_piece(&mut self) -> Result<bool, StoreFault>
         ensures done { IfOk result (λ is_done. MatchBool is_done (WritesPiece D.honest D.view self.old self.new) (IsNotNow self.old (HasPieceLeft self.old.checkpoint) self.new)) }
         ensures faults { IfErr result (λ fault. IsFault self.old fault (FailsToWritePiece D.honest D.view self.old self.new) self.new) }
-        ensures device { IsErrOf result StoreFault.Device → D.failed_calls self.new.disk ≡ one_more (D.failed_calls self.old.disk) }
+        ensures failures { D.failed_calls self.new.disk ≡ counted result (D.failed_calls self.old.disk) }
     {
         if self.failed {
             return Err(StoreFault::Failed);
@@ -267,7 +270,7 @@ impl<D: Disk> StoreHalf<D> {
         ensures done { IfOk result (λ receipt. IfSome receipt (λ finished. (finished ≡ self.old.segment.epoch) × Finishes D.honest D.view self.old self.new)) }
         ensures not_now { IfOk result (λ receipt. IfNone receipt (IsNotNow self.old (CanFinish self.old.checkpoint) self.new)) }
         ensures faults { IfErr result (λ fault. IsFault self.old fault (FailsToFinish D.honest D.view self.old self.new) self.new) }
-        ensures device { IsErrOf result StoreFault.Device → D.failed_calls self.new.disk ≡ one_more (D.failed_calls self.old.disk) }
+        ensures failures { D.failed_calls self.new.disk ≡ counted result (D.failed_calls self.old.disk) }
     {
         if self.failed {
             return Err(StoreFault::Failed);

@@ -1,6 +1,7 @@
 pub mod Calling
 pub mod Changes
 pub mod Core
+pub mod Counting
 pub mod Events
 pub mod Faults
 pub mod GoingOn

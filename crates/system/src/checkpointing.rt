@@ -1,8 +1,8 @@
 //! The steps of a checkpoint, by which a core goes over to the next epoch.
-ghost use Rattle.std.specs.Prelude.{◌≡◌, ◌⊎◌, true, false, None, MatchBool, IfOk, IfErr, OnErr, IsErrOf};
-ghost use Rattle.disk.specs.Moments.{one_more};
+ghost use Rattle.std.specs.Prelude.{◌≡◌, ◌⊎◌, true, false, None, MatchBool, IfOk, IfErr, OnErr};
 ghost use Rattle.storing.specs.Changes.{CanFinish, CanOpen, ClosesImage, FailsToCloseImage, FailsToFinish, FailsToRollClose, FailsToRollHead, FailsToRollOpen, FailsToWritePiece, HasImaged, HasPieceLeft, IsFault, IsFaultOrShortage, IsNotNow, IsRolled, RollsClose, RollsHead, RollsOpen, WritesPiece};
 ghost use Rattle.system.specs.Changes.{BeginsEpoch, FinishesImage};
+ghost use Rattle.system.specs.Counting.{counted};
 ghost use Rattle.system.specs.Halves.{CanCut};
 
 use crate::system::System;
@@ -32,6 +32,7 @@ impl<D: Disk> System<D> {
         ensures done { IfOk result (λ is_done. MatchBool is_done (RollsClose D.honest D.view self.old.store self.new.store)
             (IsNotNow self.old.store (IsRolled self.old.store.checkpoint 0) self.new.store)) }
         ensures faults { IfErr result (λ fault. IsFault self.old.store fault (FailsToRollClose D.honest D.view self.old.store self.new.store) self.new.store) }
+        ensures failures { D.failed_calls self.new.store.disk ≡ counted result (D.failed_calls self.old.store.disk) }
         ensures rest { self.new ≡ record self.old { store = self.new.store } }
     {
         self.store.roll_close()
@@ -42,6 +43,7 @@ impl<D: Disk> System<D> {
         ensures done { IfOk result (λ is_done. MatchBool is_done (RollsHead D.honest D.view self.old.store self.new.store)
             (IsNotNow self.old.store (IsRolled self.old.store.checkpoint 1) self.new.store)) }
         ensures faults { IfErr result (λ fault. IsFault self.old.store fault (FailsToRollHead D.honest D.view self.old.store self.new.store) self.new.store) }
+        ensures failures { D.failed_calls self.new.store.disk ≡ counted result (D.failed_calls self.old.store.disk) }
         ensures rest { self.new ≡ record self.old { store = self.new.store } }
     {
         self.store.roll_head()
@@ -53,6 +55,7 @@ impl<D: Disk> System<D> {
         ensures done { IfOk result (λ is_done. MatchBool is_done (RollsOpen D.honest D.view self.old.store self.new.store)
             (IsNotNow self.old.store (CanOpen self.old.store self.old.store.checkpoint) self.new.store)) }
         ensures faults { IfErr result (λ fault. IsFault self.old.store fault (FailsToRollOpen D.honest D.view self.old.store self.new.store) self.new.store) }
+        ensures failures { D.failed_calls self.new.store.disk ≡ counted result (D.failed_calls self.old.store.disk) }
         ensures rest { self.new ≡ record self.old { store = self.new.store } }
     {
         self.store.roll_open()
@@ -66,6 +69,7 @@ impl<D: Disk> System<D> {
             (IsNotNow self.old.store (HasImaged self.old.store.checkpoint 0) self.new.store)) }
         ensures faults { IfErr result (λ fault. IsFaultOrShortage self.old.store fault (HasImaged self.old.store.checkpoint 0)
             (FailsToCloseImage D.honest D.view self.old.store self.new.store) self.new.store) }
+        ensures failures { D.failed_calls self.new.store.disk ≡ counted result (D.failed_calls self.old.store.disk) }
         ensures rest { self.new ≡ record self.old { store = self.new.store } }
     {
         self.store.close_image(self.alloc)
@@ -77,6 +81,7 @@ impl<D: Disk> System<D> {
         ensures done { IfOk result (λ is_done. MatchBool is_done (WritesPiece D.honest D.view self.old.store self.new.store)
             (IsNotNow self.old.store (HasPieceLeft self.old.store.checkpoint) self.new.store)) }
         ensures faults { IfErr result (λ fault. IsFault self.old.store fault (FailsToWritePiece D.honest D.view self.old.store self.new.store) self.new.store) }
+        ensures failures { D.failed_calls self.new.store.disk ≡ counted result (D.failed_calls self.old.store.disk) }
         ensures rest { self.new ≡ record self.old { store = self.new.store } }
     {
         self.store.write_piece()
@@ -88,6 +93,7 @@ impl<D: Disk> System<D> {
         ensures done { IfOk result (λ is_done. MatchBool is_done (FinishesImage D.honest D.view self.old self.new)
             ((self.old.store.failed ≡ false) × (CanFinish self.old.store.checkpoint → ⊥) × (self.new ≡ self.old))) }
         ensures faults { IfErr result (λ fault. IsFault self.old.store fault (FailsToFinish D.honest D.view self.old.store self.new.store) self.new.store) }
+        ensures failures { D.failed_calls self.new.store.disk ≡ counted result (D.failed_calls self.old.store.disk) }
         ensures rest { OnErr result (self.new ≡ record self.old { store = self.new.store }) }
     {
         let Some(finished) = self.store.finish()? else {

@@ -6,6 +6,7 @@ ghost use Rattle.phases.specs.Phases.{Keeps};
 ghost use Rattle.system.specs.Calling.{IsResting};
 ghost use Rattle.journal.specs.declared.fault.StoreFault.{StoreFault};
 ghost use Rattle.storing.specs.Changes.{HasImaged};
+ghost use Rattle.system.specs.Counting.{counted};
 ghost use Rattle.system.specs.GoingOn.{GoesOn, GoesOnImage, GoesOnPieces, IsFirstStep, IsRolledOver, IsStanding, Recovers, RollsOver, TakesMemory};
 
 use crate::system::System;
@@ -30,6 +31,7 @@ impl<D: Disk> System<D> {
             → Passes (D.view self.old.store.disk) (D.view self.new.store.disk) (Recovers self.old.core.kernel) }
         ensures faults { IfErr result (λ fault. (fault ≡ StoreFault.Device)
             ⊎ ((fault ≡ StoreFault.NoMemory) × TakesMemory records self.old.store self.old.store.checkpoint × (self.new ≡ self.old))) }
+        ensures failures { D.failed_calls self.new.store.disk ≡ counted result (D.failed_calls self.old.store.disk) }
     {
         if self.store.is_checkpointing() {
             return self.go_on_image();
@@ -55,6 +57,7 @@ impl<D: Disk> System<D> {
         ensures passes { D.honest → (state : State) → Keeps (D.view self.old.store.disk) self.old.store.segment self.old.store.checkpoint state state
             → Passes (D.view self.old.store.disk) (D.view self.new.store.disk) (Recovers state) }
         ensures faults { IfErr result (λ fault. fault ≡ StoreFault.Device) }
+        ensures failures { D.failed_calls self.new.store.disk ≡ counted result (D.failed_calls self.old.store.disk) }
     {
         if !self.roll_close()? {
             unreachable!()
@@ -81,6 +84,7 @@ impl<D: Disk> System<D> {
             → Passes (D.view self.old.store.disk) (D.view self.new.store.disk) (Recovers self.old.core.kernel) }
         ensures faults { IfErr result (λ fault. (fault ≡ StoreFault.Device)
             ⊎ ((fault ≡ StoreFault.NoMemory) × HasImaged self.old.store.checkpoint 0 × (self.new ≡ self.old))) }
+        ensures failures { D.failed_calls self.new.store.disk ≡ counted result (D.failed_calls self.old.store.disk) }
     {
         if self.close_image()? {
             return Ok(());
@@ -99,6 +103,7 @@ impl<D: Disk> System<D> {
         ensures passes { D.honest → IsStanding D.view self.old.store self.old.core.kernel
             → Passes (D.view self.old.store.disk) (D.view self.new.store.disk) (Recovers self.old.core.kernel) }
         ensures faults { IfErr result (λ fault. fault ≡ StoreFault.Device) }
+        ensures failures { D.failed_calls self.new.store.disk ≡ counted result (D.failed_calls self.old.store.disk) }
     {
         if self.write_piece()? {
             return Ok(());

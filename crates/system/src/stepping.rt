@@ -3,6 +3,7 @@ ghost use Rattle.std.specs.Prelude.{◌≡◌, IfOk, OnErr};
 ghost use Rattle.ipc_model.specs.state.State.{State};
 ghost use Rattle.ipc_model.specs.world.World.{World};
 ghost use Rattle.system.specs.Core.{IsNumbered, RunsThrough, Simulates, StandsFor};
+ghost use Rattle.system.specs.Counting.{counted_event, counted_events};
 
 use crate::event::{Event, Outcome};
 use crate::kernel_half::SubmitFault;
@@ -19,6 +20,7 @@ impl<D: Disk> System<D> {
     pub fn step(&mut self, event: &Event) -> Outcome
         ensures steps { Simulates D.honest D.view event.now result self.old self.new }
         ensures number { IsNumbered self.old result }
+        ensures failures { D.failed_calls self.new.store.disk ≡ counted_event result (D.failed_calls self.old.store.disk) }
     {
         match event {
             Event::Submit { space, call } => self.submit_event(*space, call),
@@ -41,6 +43,7 @@ impl<D: Disk> System<D> {
     pub fn run(&mut self, alloc: Global, events: &[Event]) -> Result<Vec<Outcome>, AllocError>
         ensures runs { IfOk result (λ outcomes. (base : State) (world : World) → StandsFor D.honest D.view base world self.old
             → RunsThrough D.honest D.view base world events.now outcomes.items self.old self.new) }
+        ensures failures { IfOk result (λ outcomes. D.failed_calls self.new.store.disk ≡ counted_events outcomes.items (D.failed_calls self.old.store.disk)) }
         ensures err { OnErr result (self.new ≡ self.old) }
     {
         let mut outcomes = Vec::with_capacity(alloc, events.len())?;
@@ -53,6 +56,7 @@ impl<D: Disk> System<D> {
     fn submit_event(&mut self, space: u32, call: &Call) -> Outcome
         ensures steps { Simulates D.honest D.view (Event.Submit space call.now) result self.old self.new }
         ensures number { IsNumbered self.old result }
+        ensures failures { D.failed_calls self.new.store.disk ≡ counted_event result (D.failed_calls self.old.store.disk) }
     {
         match self.submit(space, call) {
             Ok(number) => Outcome::Ticket(number),
@@ -64,6 +68,7 @@ impl<D: Disk> System<D> {
     fn take_event(&mut self) -> Outcome
         ensures steps { Simulates D.honest D.view Event.Take result self.old self.new }
         ensures number { IsNumbered self.old result }
+        ensures failures { D.failed_calls self.new.store.disk ≡ counted_event result (D.failed_calls self.old.store.disk) }
     {
         if self.take() {
             return Outcome::Done;
@@ -74,6 +79,7 @@ impl<D: Disk> System<D> {
     fn append_event(&mut self) -> Outcome
         ensures steps { Simulates D.honest D.view Event.Append result self.old self.new }
         ensures number { IsNumbered self.old result }
+        ensures failures { D.failed_calls self.new.store.disk ≡ counted_event result (D.failed_calls self.old.store.disk) }
     {
         match self.append() {
             Ok(true) => Outcome::Done,
@@ -85,6 +91,7 @@ impl<D: Disk> System<D> {
     fn durable_event(&mut self) -> Outcome
         ensures steps { Simulates D.honest D.view Event.Durable result self.old self.new }
         ensures number { IsNumbered self.old result }
+        ensures failures { D.failed_calls self.new.store.disk ≡ counted_event result (D.failed_calls self.old.store.disk) }
     {
         if self.durable() {
             return Outcome::Done;
@@ -95,6 +102,7 @@ impl<D: Disk> System<D> {
     fn reply_event(&mut self, ticket: u64) -> Outcome
         ensures steps { Simulates D.honest D.view (Event.Reply ticket) result self.old self.new }
         ensures number { IsNumbered self.old result }
+        ensures failures { D.failed_calls self.new.store.disk ≡ counted_event result (D.failed_calls self.old.store.disk) }
     {
         match self.reply(ticket) {
             Some(reply) => Outcome::Reply(reply),
@@ -105,6 +113,7 @@ impl<D: Disk> System<D> {
     fn cut_event(&mut self) -> Outcome
         ensures steps { Simulates D.honest D.view Event.Cut result self.old self.new }
         ensures number { IsNumbered self.old result }
+        ensures failures { D.failed_calls self.new.store.disk ≡ counted_event result (D.failed_calls self.old.store.disk) }
     {
         match self.cut() {
             Ok(true) => Outcome::Done,
@@ -116,6 +125,7 @@ impl<D: Disk> System<D> {
     fn roll_close_event(&mut self) -> Outcome
         ensures steps { Simulates D.honest D.view Event.RollClose result self.old self.new }
         ensures number { IsNumbered self.old result }
+        ensures failures { D.failed_calls self.new.store.disk ≡ counted_event result (D.failed_calls self.old.store.disk) }
     {
         match self.roll_close() {
             Ok(true) => Outcome::Done,
@@ -127,6 +137,7 @@ impl<D: Disk> System<D> {
     fn roll_head_event(&mut self) -> Outcome
         ensures steps { Simulates D.honest D.view Event.RollHead result self.old self.new }
         ensures number { IsNumbered self.old result }
+        ensures failures { D.failed_calls self.new.store.disk ≡ counted_event result (D.failed_calls self.old.store.disk) }
     {
         match self.roll_head() {
             Ok(true) => Outcome::Done,
@@ -138,6 +149,7 @@ impl<D: Disk> System<D> {
     fn roll_open_event(&mut self) -> Outcome
         ensures steps { Simulates D.honest D.view Event.RollOpen result self.old self.new }
         ensures number { IsNumbered self.old result }
+        ensures failures { D.failed_calls self.new.store.disk ≡ counted_event result (D.failed_calls self.old.store.disk) }
     {
         match self.roll_open() {
             Ok(true) => Outcome::Done,
@@ -149,6 +161,7 @@ impl<D: Disk> System<D> {
     fn image_close_event(&mut self) -> Outcome
         ensures steps { Simulates D.honest D.view Event.ImageClose result self.old self.new }
         ensures number { IsNumbered self.old result }
+        ensures failures { D.failed_calls self.new.store.disk ≡ counted_event result (D.failed_calls self.old.store.disk) }
     {
         match self.close_image() {
             Ok(true) => Outcome::Done,
@@ -160,6 +173,7 @@ impl<D: Disk> System<D> {
     fn piece_event(&mut self) -> Outcome
         ensures steps { Simulates D.honest D.view Event.Piece result self.old self.new }
         ensures number { IsNumbered self.old result }
+        ensures failures { D.failed_calls self.new.store.disk ≡ counted_event result (D.failed_calls self.old.store.disk) }
     {
         match self.write_piece() {
             Ok(true) => Outcome::Done,
@@ -171,6 +185,7 @@ impl<D: Disk> System<D> {
     fn finish_event(&mut self) -> Outcome
         ensures steps { Simulates D.honest D.view Event.Finish result self.old self.new }
         ensures number { IsNumbered self.old result }
+        ensures failures { D.failed_calls self.new.store.disk ≡ counted_event result (D.failed_calls self.old.store.disk) }
     {
         match self.finish() {
             Ok(true) => Outcome::Done,

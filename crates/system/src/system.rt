@@ -1,12 +1,12 @@
 ghost use Rattle.std.specs.Prelude.{◌≡◌, ◌⊎◌, ℕ, ◌+◌, ◌-◌, ◌<◌, ◌≤◌, ◌^◌, None, Some, true, false, length, MatchBool, IfOk, IfErr, IfSome, IfNone, OnErr, OnOk, IsErrOf};
 ghost use Rattle.std.specs.FinMap as map;
 ghost use Rattle.codes.specs.declared.limits.TheConstants.{MAX_FRAME_CONTENT, MAX_RECORDS};
-ghost use Rattle.disk.specs.Moments.{one_more};
 ghost use Rattle.ipc_model.specs.texts.Texts.{reply_text};
 ghost use Rattle.ipc_model.specs.world.World.{first_world};
 ghost use Rattle.system.specs.Calling.{Calls, FailsToStoreAll, IsResting, StoresAll};
 ghost use Rattle.system.specs.Changes.{Answers, CannotAppend, FailsToStore, FindsFull, HandsIn, IsFullNow, IsNotDue, Stores, Submits, Takes};
 ghost use Rattle.system.specs.Core.{StandsFor, first_system};
+ghost use Rattle.system.specs.Counting.{counted, counted_call};
 ghost use Rattle.system.specs.Faults.{NotCalled};
 ghost use Rattle.system.specs.Halves.{CannotTake, TicketValue};
 
@@ -173,7 +173,7 @@ impl<D: Disk> System<D> {
             (CannotAppend self.old × (self.old.store.failed ≡ false) × (self.new ≡ self.old))) }
         ensures faults { IfErr result (λ fault. ((fault ≡ StoreFault.Failed) × (self.old.store.failed ≡ true) × (self.new ≡ self.old))
             ⊎ (((fault ≡ StoreFault.Device) × FailsToStore D.honest D.view self.old self.new) ⊎ ((fault ≡ StoreFault.Full) × FindsFull self.old self.new))) }
-        ensures device { IsErrOf result StoreFault.Device → D.failed_calls self.new.store.disk ≡ one_more (D.failed_calls self.old.store.disk) }
+        ensures failures { D.failed_calls self.new.store.disk ≡ counted result (D.failed_calls self.old.store.disk) }
     {
         if self.store.has_failed() {
             return Err(StoreFault::Failed);
@@ -241,6 +241,7 @@ impl<D: Disk> System<D> {
         ensures answered { IfOk result (λ answer. Calls D.honest D.view self.old space call.now answer self.new) }
         ensures frame { IfOk result (λ answer. length (reply_text answer) ≤ MAX_FRAME_CONTENT) }
         ensures faults { IfErr result (λ fault. NotCalled D.honest D.view self.old space call.now fault self.new) }
+        ensures failures { D.failed_calls self.new.store.disk ≡ counted_call result (D.failed_calls self.old.store.disk) }
     {
         let number = self.submit(space, call)?;
         self.store_waiting()?;
@@ -261,6 +262,7 @@ impl<D: Disk> System<D> {
         ensures none { OnOk result (self.old.core.row.waiting.count ≡ 0 → self.new ≡ self.old) }
         ensures stored { OnOk result (0 < self.old.core.row.waiting.count → StoresAll D.honest D.view self.old self.new) }
         ensures faults { IfErr result (λ fault. (fault ≡ StoreFault.Device) × FailsToStoreAll D.honest D.view self.old self.new) }
+        ensures failures { D.failed_calls self.new.store.disk ≡ counted result (D.failed_calls self.old.store.disk) }
     {
         if !self.take() {
             return Ok(());
