@@ -3,9 +3,9 @@
 use crate::{Fault, nanos_of};
 use disk::Disk;
 use ipc_model::{Call, Sequence};
+use server::{Event, Outcome, SubmitFault, System};
 use std::alloc::{AllocError, Global};
 use std::time::Instant;
-use server::{Event, Outcome, SubmitFault, System};
 use words::push_word;
 
 /// The space of the first port, and the name of its receive right. Send rights of other spaces to it have this name too.

@@ -21,7 +21,7 @@ loop-event-preserved g c = (
   omega (arith, c.push_reserved.ensures.len, c.loop-event.invariant.1),
   omega (arith, c.push_reserved.ensures.capacity, c.loop-event.invariant.2),
   subst (λ (l : List Outcome). g.D.Disk.failed_calls c.step.new.self.store.disk ≡ counted_events l (g.D.Disk.failed_calls c.args.self.now.store.disk)) (sym c.push_reserved.ensures.items)
-  (c.step.ensures.failures ∙ ap (counted_event c.step.result) c.loop-event.invariant.3 ∙ sym (counted_push c.loop-event.outcomes.items c.step.result (g.D.Disk.failed_calls c.args.self.now.store.disk))),
+      (c.step.ensures.failures ∙ ap (counted_event c.step.result) c.loop-event.invariant.3 ∙ sym (counted_push c.loop-event.outcomes.items c.step.result (g.D.Disk.failed_calls c.args.self.now.store.disk))),
 )
 
 pub returns-clause-runs : goal.returns-clause-runs
