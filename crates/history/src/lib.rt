@@ -2,9 +2,13 @@
 #![tactic(auto)]
 
 mod entry;
+mod fault;
 mod held;
 mod notes;
+mod past;
 mod row;
 
 pub use entry::Entry;
+pub use fault::AddFault;
+pub use past::{FirstRow, Past};
 pub use row::Row;

@@ -1,8 +1,9 @@
-ghost use Rattle.std.specs.Prelude.{◌≡◌, ◌<◌, length, IfOk, slice_get};
-ghost use Rattle.once_cell.specs.Once.{cell_name};
+ghost use Rattle.std.specs.Prelude.{◌≡◌, ◌≤◌, Some, None, MatchOption, length, IfOk, IsErrOf, slice_get};
+ghost use Rattle.once_cell.specs.Once.{cell_name, Agrees};
 
+use crate::AddFault;
 use crate::held::Held;
-use once_cell::race::OnceBox;
+use once_cell::race::{Note, OnceBox};
 use std::alloc::{AllocError, Global};
 use std::marker::Model;
 
@@ -34,9 +35,44 @@ impl Row {
     }
 
     /// How many cells it has.
-    pub fn len(&self) -> usize
+    pub fn capacity(&self) -> usize
         ensures { result ≡ length self.now }
     {
         self.cells.len()
     }
+
+    /// Sets the cell at a place, and gives a note that knows what lies there now.
+    pub(crate) fn set(&self, alloc: Global, at: usize, held: Held) -> Result<Note<Held>, AddFault>
+        ensures cell { IfOk result (λ note. slice_get self.now at ≡ Some note.cell) }
+        ensures known { IfOk result (λ note. note.known ≡ Some held) }
+        ensures full { IsErrOf result AddFault.RowFull → length self.now ≤ at }
+    {
+        let Some(cell) = self.cells.get(at) else {
+            return Err(AddFault::RowFull);
+        };
+        let value = boxed(alloc, held)?;
+        let mut note = cell.note();
+        if cell.set_as(value, &mut note).is_err() {
+            return Err(AddFault::CellTaken);
+        }
+        Ok(note)
+    }
+
+    /// What lies in the cell at a place, of which a note knows it.
+    pub(crate) fn look<'a>(&'a self, at: usize, note: &mut Note<Held>) -> Option<&'a Held>
+        requires { slice_get self.now at ≡ Some note.old.cell }
+        ensures cell { note.new.cell ≡ note.old.cell }
+        ensures value { MatchOption result ((note.old.known ≡ None) × (note.new.known ≡ None)) (λ r. (note.new.known ≡ Some r.now) × Agrees note.old.known r.now) }
+    {
+        match self.cells.get(at) {
+            Some(cell) => cell.get_as(note),
+            None => None,
+        }
+    }
+}
+
+fn boxed(alloc: Global, held: Held) -> Result<Box<Held>, AllocError>
+    ensures { IfOk result (λ value. value.value ≡ held) }
+{
+    Ok(Box::new(alloc, held)?)
 }
