@@ -1,17 +1,23 @@
 -- Beginnings of the history, as notes of cells tell them.
-use Rattle.std.specs.Prelude.{◌≡◌, ℕ, Option, Some, None, List, [], ◌∷◌, length, map, take, refl}
+use Rattle.std.specs.Prelude.{◌≡◌, ℕ, ◌+◌, ◌≤◌, ◌<◌, Option, Some, None, List, [], ◌∷◌, length, map, take, drop, if◌then◌else◌, refl}
 use Rattle.std.specs.Coded.{Coded, code_by, coded×, coded_ℕ, coded_list}
 use Rattle.history.specs.declared.entry.Entry.{Entry}
 use Rattle.history.specs.contracts.entry.Entry as entry
 use Rattle.history.specs.Entries.{PlacedValue, placed}
+use Rattle.history.specs.Rows.{RowNames, PlaceValue, names_after, Leads}
 
--- A beginning of the history: its entries, and how many of them were read.
+-- A beginning of the history: its entries, how many rows came before its row, where that row begins and how many cells it
+-- has, and how many of the row's entries were read.
 pub record PastValue : Type 0 where
   pub entries : List Entry
+  pub rows : ℕ
+  pub start : ℕ
+  pub capacity : ℕ
   pub read : ℕ
 
 abbrev pub past_code : Coded PastValue
-past_code = code_by (List Entry × ℕ) (coded× (coded_list entry.the_row.coded) coded_ℕ) (λ p. (p.entries, p.read)) (λ p. record { entries = p.0; read = p.1 }) (λ _. refl)
+past_code =
+    code_by (List Entry × (ℕ × (ℕ × (ℕ × ℕ)))) (coded× (coded_list entry.the_row.coded) (coded× coded_ℕ (coded× coded_ℕ (coded× coded_ℕ coded_ℕ)))) (λ p. (p.entries, (p.rows, (p.start, (p.capacity, p.read))))) (λ p. record { entries = p.0; rows = p.1.0; start = p.1.1.0; capacity = p.1.1.1.0; read = p.1.1.1.1 }) (λ _. refl)
 
 -- the entries that notes know
 abbrev pub known_entries : List (Option PlacedValue) → List Entry
@@ -19,14 +25,15 @@ known_entries [] = []
 known_entries (None ∷ known) = known_entries known
 known_entries (Some p ∷ known) = p.entry ∷ known_entries known
 
--- There is a note for each of the first cells of a row. It knows an entry, with all entries before it.
+-- There is a note for each of the first cells. It knows an entry, with all entries before it.
 pub record AreNotes (cells noted : List ℕ) (known : List (Option PlacedValue)) : Type 0 where
   pub names : noted ≡ take (length noted) cells
   pub entries : known ≡ map Some (placed (known_entries known))
 
--- Of a beginning of the history with this first row: the row is that one, its notes are of that row, and what was read are the
--- first entries.
-pub record IsPast (cells names noted : List ℕ) (known : List (Option PlacedValue)) (seen : List PlacedValue) : Type 0 where
-  pub row : names ≡ cells
-  pub notes : AreNotes cells noted known
-  pub read : seen ≡ take (length seen) (placed (known_entries known))
+-- Of a beginning of the history: its notes are of the cells of all rows that led there, and what was read are the row's first
+-- entries.
+pub record IsPast (first : RowNames) (place : PlaceValue) (noted : List ℕ) (known : List (Option PlacedValue)) (seen : List PlacedValue) : Type 0 where
+  pub notes : AreNotes (names_after first place.links).cells noted known
+  pub leads : Leads first place.links (names_after first place.links).cells (length noted)
+  pub begun : place.start ≤ length noted
+  pub read : seen ≡ take (length seen) (drop place.start (placed (known_entries known)))

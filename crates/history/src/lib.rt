@@ -1,14 +1,16 @@
 //! One history of all sessions, in rows of cells that are set once and read with no lock.
 #![tactic(auto)]
 
+mod cell;
 mod entry;
 mod fault;
 mod held;
+mod link;
 mod notes;
-mod past;
+mod place;
 mod row;
 
 pub use entry::Entry;
 pub use fault::AddFault;
-pub use past::{FirstRow, Past};
+pub use place::FirstRow;
 pub use row::Row;

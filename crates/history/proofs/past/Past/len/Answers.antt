@@ -1,8 +1,0 @@
-use Rattle.std.proofs.Common.{◌≡◌, length, map, ap, arith, ◌∙◌}
-use Rattle.std.proofs.lemmas.List.{length-map}
-use Rattle.history.proofs.Knowing.{known_long}
-use Rattle.history.proofs.past.Past.len.Goals as goal
-
-pub returns : goal.returns
-returns g c =
-    rw (← c.self.view_is) (let long = known_long _ _ _ c.self.invariant.notes in omega (arith, long, length-map c.self.inside.notes.items (λ n. n.known), c.self.inside.notes.ok))
