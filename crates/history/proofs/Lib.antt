@@ -1,3 +1,3 @@
 pub mod Placed
-
 pub mod Places
+pub mod Links

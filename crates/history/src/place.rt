@@ -1,6 +1,6 @@
 ghost use Rattle.std.specs.Prelude.{◌≡◌, ◌≤◌, ◌<◌, Some, [], IfOk, OnOk, OnErr, IfSome, length, map, take, slice_get, option_map};
 ghost use Rattle.std.specs.Arc.{arc_value};
-ghost use Rattle.history.specs.Rows.{names_after, place_after};
+ghost use Rattle.history.specs.Rows.{names_after, place_after, known_links, AreLinks};
 
 use crate::link::Link;
 use crate::notes::{again_at, compare_at, copy_rest};
@@ -109,5 +109,64 @@ impl<L: FirstRow> Place<L> {
             start,
             of: PhantomData,
         })
+    }
+
+    /// Of two places of one history, the links that led to one begin those that led to the other.
+    pub(crate) fn agree(&mut self, other: &mut Place<L>)
+        ensures same { (self.new ≡ self.old) × (other.new ≡ other.old) }
+        ensures begins { length self.old.links ≤ length other.old.links → take (length self.old.links) other.old.links ≡ self.old.links }
+        ensures goes_on { length other.old.links ≤ length self.old.links → take (length other.old.links) self.old.links ≡ other.old.links }
+    {
+        let both = self.links.len().min(other.links.len());
+        agree_links::<L>(&mut self.links, &mut other.links, both);
+    }
+
+    /// Moves on to another row, after so many entries.
+    pub(crate) fn begin(&mut self, alloc: Global, long: usize, row: Arc<Row, Global>) -> Result<(), AddFault>
+        requires { long ≤ length (names_after L.first self.old.links).cells }
+        ensures ok { OnOk result (self.new ≡ place_after L.first self.old long (arc_value row)) }
+        ensures err { OnErr result (self.new ≡ self.old) }
+    {
+        let here = Tag::of::<Place<L>, Here>(self);
+        let own = Tag::of::<Row, Own>(&row);
+        let link = Link::new(here, long, own);
+        self.links.reserve(1)?;
+        match self.row.set_link(alloc, link) {
+            Ok(note) => {
+                self.links.push_reserved(note);
+                self.row = row;
+                self.start = long;
+                Ok(())
+            }
+            Err(fault) => Err(fault),
+        }
+    }
+
+    /// How many entries there were when this row was left, as the links of a place further on tell it too. None where the row
+    /// wasn't left yet.
+    pub(crate) fn left(&self, other: &mut Place<L>) -> Option<usize>
+        requires more { length self.now.links < length other.old.links }
+        requires begins { take (length self.now.links) other.old.links ≡ self.now.links }
+        ensures same { other.new ≡ other.old }
+        ensures start { IfSome result (λ s. option_map (λ l. l.start) (slice_get other.old.links (length self.now.links)) ≡ Some s) }
+    {
+        let (start, note) = self.row.left()?;
+        compare_at(&mut other.links, self.links.len(), note);
+        Some(start)
+    }
+}
+
+/// The first links that two places have are the same.
+fn agree_links<L: FirstRow>(mine: &mut Vec<Note<Link>>, theirs: &mut Vec<Note<Link>>, both: usize)
+    requires mine { AreLinks L.first (map (λ n. n.cell) mine.old.items) (map (λ n. n.known) mine.old.items) }
+    requires theirs { AreLinks L.first (map (λ n. n.cell) theirs.old.items) (map (λ n. n.known) theirs.old.items) }
+    requires both { (both ≤ length mine.old.items) × (both ≤ length theirs.old.items) }
+    ensures same_mine { mine.new.items ≡ mine.old.items }
+    ensures same_theirs { theirs.new.items ≡ theirs.old.items }
+    ensures agree { take both (known_links (map (λ n. n.known) mine.old.items)) ≡ take both (known_links (map (λ n. n.known) theirs.old.items)) }
+{
+    for at in 0..both {
+        let note = again_at(theirs, at);
+        compare_at(mine, at, note);
     }
 }
