@@ -1,3 +1,5 @@
 pub mod Placed
 pub mod Places
 pub mod Links
+pub mod Leading
+pub mod Knowing

@@ -23,3 +23,8 @@ drop_next (suc i) (y ∷ xs) x at = simp unary_clauses (simp unary_clauses at (d
 -- an item more was copied
 pub copy_next : {X : Type 0} (mine all whole : List X) (i : ℕ) (x : X) → slice_get all i ≡ Some x → mine ++ drop i all ≡ whole → (mine ++ x ∷ []) ++ drop (i + 1) all ≡ whole
 copy_next mine all whole i x at so_far = append_assoc mine (x ∷ []) (drop (i + 1) all) ∙ (ap (λ rest. mine ++ rest) (sym (drop_next i all x at)) ∙ so_far)
+
+pub slice_get-drop : {X : Type 0} (n i : ℕ) (xs : List X) → slice_get (drop n xs) i ≡ slice_get xs (n + i)
+slice_get-drop zero i xs = ap (slice_get xs) (omega arith)
+slice_get-drop (suc n) i [] = refl
+slice_get-drop (suc n) i (x ∷ xs) = let e : suc (n + i) ≡ suc n + i = omega arith in slice_get-drop n i xs ∙ ap (slice_get (x ∷ xs)) e

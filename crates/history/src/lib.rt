@@ -7,10 +7,12 @@ mod fault;
 mod held;
 mod link;
 mod notes;
+mod past;
 mod place;
 mod row;
 
 pub use entry::Entry;
 pub use fault::AddFault;
+pub use past::Past;
 pub use place::FirstRow;
 pub use row::Row;

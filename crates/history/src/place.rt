@@ -1,6 +1,6 @@
 ghost use Rattle.std.specs.Prelude.{◌≡◌, ◌≤◌, ◌<◌, Some, [], IfOk, OnOk, OnErr, IfSome, length, map, take, slice_get, option_map};
 ghost use Rattle.std.specs.Arc.{arc_value};
-ghost use Rattle.history.specs.Rows.{names_after, place_after, known_links, AreLinks};
+ghost use Rattle.history.specs.Rows.{names_after, place_after, known_links, AreLinks, IsRowAt};
 
 use crate::link::Link;
 use crate::notes::{again_at, compare_at, copy_rest};
@@ -75,7 +75,8 @@ impl<L: FirstRow> Place<L> {
 
     /// Its row.
     pub(crate) fn row(&self) -> &Row
-        ensures { result.now ≡ self.now.row }
+        ensures row { result.now ≡ self.now.row }
+        ensures here { IsRowAt L.first self.now.links self.now.start self.now.row }
     {
         &self.row
     }
