@@ -1,17 +1,17 @@
 -- What notes of cells tell. f gives a note's cell, and g what it knows.
-use Rattle.std.proofs.Common.{◌≡◌, ℕ, zero, suc, ◌+◌, ◌-◌, ◌<◌, ◌≤◌, Option, Some, None, List, [], ◌∷◌, ◌++◌, length, map, take, drop, slice_get, IfSome, refl, ap, sym, ◌∙◌, subst, arith, inl, inr, length-append}
+use Rattle.std.proofs.Common.{◌≡◌, ℕ, zero, suc, ◌+◌, ◌-◌, ◌<◌, ◌≤◌, Option, Some, None, List, [], ◌∷◌, ◌++◌, length, map, take, drop, slice_get, is_some, true, IfSome, refl, ap, sym, ◌∙◌, subst, arith, inl, inr, length-append}
 use Rattle.std.specs.Option.{option_map}
-use Rattle.std.proofs.lemmas.List.{append-nil, map-append, length-map, length-take, length-drop, drop-append-le, take-append-le, take_all}
+use Rattle.std.proofs.lemmas.List.{append-nil, map-append, length-map, length-take, length-drop, drop-append-le, take-append-le, take-take, take-map, take-append-drop}
 use Rattle.std.proofs.lemmas.Option.{slice_get-map, slice_get_within, slice_get_cases}
 use Rattle.history.specs.declared.entry.Entry.{Entry}
 use Rattle.history.specs.Entries.{numbers_of, PlacedValue, place_after, placed, Begins}
 use Rattle.history.specs.Rows.{RowNames, LinkValue, PlaceValue, names_after, IsRowAt, Leads}
 use Rattle.history.specs.Rows as rows
-use Rattle.history.specs.Pasts.{known_entries, AreNotes, IsPast}
-use Rattle.history.proofs.Places.{slice_get-take, slice_get-drop, take_next}
-use Rattle.history.proofs.Placed.{begins_at, length-placed_from, placed-append, placed_from_at}
+use Rattle.history.specs.Pasts.{known_entries, AreKnown, AreNotes, IsPast}
+use Rattle.history.proofs.Places.{slice_get-take, slice_get-drop, take_next, drop_map, take_within}
+use Rattle.history.proofs.Placed.{begins_at, length-placed_from, placed-append, placed-take, placed_from_at}
 use Rattle.history.proofs.Links.{compared, names_after-append}
-use Rattle.history.proofs.Leading.{take_front, leads_more, leads_next}
+use Rattle.history.proofs.Leading.{take_front, leads_more, leads_next, leads_at, leads_cell}
 
 map_some-append : (xs : List PlacedValue) (p : PlacedValue) → map Some (xs ++ p ∷ []) ≡ map Some xs ++ Some p ∷ []
 map_some-append [] p = refl
@@ -21,10 +21,6 @@ known_more : (known : List (Option PlacedValue)) (p : PlacedValue) → known_ent
 known_more [] p = refl
 known_more (None ∷ known) p = known_more known p
 known_more (Some q ∷ known) p = ap (λ rest. q.entry ∷ rest) (known_more known p)
-
--- each note knows the entry of its place, with all entries before it
-abbrev pub AreKnown : List (Option PlacedValue) → Type 0
-AreKnown known = known ≡ map Some (placed (known_entries known))
 
 pub known_long : (known : List (Option PlacedValue)) → AreKnown known → length (known_entries known) ≡ length known
 known_long known are =
@@ -151,3 +147,94 @@ past_next first row place noted known seen long is at =
       begun = omega arith;
       read = refl;
     }
+
+-- Where a row was left, its notes are of the cells of those who went on.
+pub behind : (first : RowNames) (mine theirs : List LinkValue) (own other : List ℕ) (known others : List (Option PlacedValue)) (s : ℕ) → AreNotes (names_after first mine).cells own known
+    → AreNotes (names_after first theirs).cells other others → Leads first theirs (names_after first theirs).cells (length other) → take (length mine) theirs ≡ mine
+    → option_map (λ (l : LinkValue). l.start) (slice_get theirs (length mine)) ≡ Some s → (s ≤ length other) × ((i : ℕ) → i < length own → i < s → slice_get own i ≡ slice_get other i)
+behind first mine theirs own other known others s are go leads begins starts =
+    let cells = (names_after first theirs).cells in
+    let left = leads_at first theirs cells (length other) (length mine) s leads starts in (
+      left.0,
+      λ (i : ℕ) (within : i < length own) (less : i < s). name_at (names_after first mine).cells own known i are within
+          ∙ (ap (λ (l : List LinkValue). slice_get (names_after first l).cells i) (sym begins)
+              ∙ (leads_cell first theirs cells (length other) (length mine) s i leads starts less ∙ sym (name_at cells other others i go (omega (arith, left.0))))),
+    )
+
+-- in one row the notes are of the same cells
+pub beside : (first : RowNames) (mine theirs : List LinkValue) (own other : List ℕ) (known others : List (Option PlacedValue)) (i : ℕ) → AreNotes (names_after first mine).cells own known
+    → AreNotes (names_after first theirs).cells other others → mine ≡ theirs → i < length own → i < length other → slice_get own i ≡ slice_get other i
+beside first mine theirs own other known others i are go same within inside =
+    name_at (names_after first mine).cells own known i are within
+    ∙ (ap (λ (l : List LinkValue). slice_get (names_after first l).cells i) same ∙ sym (name_at (names_after first theirs).cells other others i go inside))
+
+module _ {X : Type 0} (f : X → ℕ) (g : X → Option PlacedValue) where
+  pub knows : (notes : List X) (x : X) (i : ℕ) → AreKnown (map g notes) → slice_get notes i ≡ Some x → is_some (g x) ≡ true
+  knows notes x i are at =
+      let here = known_at (map g notes) i are (omega (arith, length-map notes g, slice_get_within notes i x at)) in
+      let one : Some (g x) ≡ Some (Some here.0) = ap (option_map g) (sym at) ∙ (sym (slice_get-map g notes i) ∙ here.1) in
+      let known : g x ≡ Some here.0 = cc one in
+      ap is_some known
+
+  pub seen_cell : (first row : RowNames) (links : List LinkValue) (start i : ℕ) (notes : List X) (x : X) → IsRowAt first links start row → AreNotes (names_after first links).cells (map f notes) (map g notes)
+      → slice_get notes (start + i) ≡ Some x → slice_get row.cells i ≡ Some (f x)
+  seen_cell first row links start i notes x is are at =
+      let cells = (names_after first links).cells in
+      ap (λ (l : List ℕ). slice_get l i) is.same_cells
+      ∙ (slice_get-drop start i cells
+          ∙ (sym (name_at cells (map f notes) (map g notes) (start + i) are (omega (arith, length-map notes f, slice_get_within notes (start + i) x at)))
+              ∙ (slice_get-map f notes (start + i) ∙ ap (option_map f) at)))
+
+  -- one entry more was read
+  pub read_more : (first : RowNames) (place : PlaceValue) (notes : List X) (x : X) (p : PlacedValue) (seen more : List PlacedValue) → IsPast first place (map f notes) (map g notes) seen
+      → slice_get notes (place.start + length seen) ≡ Some x → g x ≡ Some p → more ≡ seen ++ p ∷ [] → IsPast first place (map f notes) (map g notes) more
+  read_more first place notes x p seen more is at knows grown =
+      let i = place.start + length seen in
+      let lie = placed (known_entries (map g notes)) in
+      let here = known_at (map g notes) i is.notes.entries (omega (arith, length-map notes g, slice_get_within notes i x at)) in
+      let one : Some (g x) ≡ Some (Some here.0) = ap (option_map g) (sym at) ∙ (sym (slice_get-map g notes i) ∙ here.1) in
+      let same : here.0 ≡ p = cc (one, knows) in
+      let next : slice_get (drop place.start lie) (length seen) ≡ Some p = slice_get-drop place.start (length seen) lie ∙ (here.2 ∙ ap Some same) in
+      record {
+        notes = is.notes;
+        leads = is.leads;
+        begun = is.begun;
+        read = grown ∙ (ap (λ (l : List PlacedValue). l ++ p ∷ []) is.read
+            ∙ (sym (take_next (length seen) (drop place.start lie) p next) ∙ ap (λ (n : ℕ). take n (drop place.start lie)) (sym (ap length grown ∙ length-append seen (p ∷ [])))));
+      }
+
+  -- what another has more in the same row
+  pub learned : (first : RowNames) (place other : PlaceValue) (mine theirs new : List X) (seen others : List PlacedValue) → IsPast first place (map f mine) (map g mine) seen
+      → IsPast first other (map f theirs) (map g theirs) others → place.links ≡ other.links → length mine ≤ length theirs → Begins (known_entries (map g mine)) (known_entries (map g theirs))
+      → new ≡ mine ++ drop (length mine) theirs → IsPast first place (map f new) (map g new) seen × (known_entries (map g new) ≡ known_entries (map g theirs))
+  learned first place other mine theirs new seen others is are links less begins more =
+      let own = known_entries (map g mine) in
+      let all = known_entries (map g theirs) in
+      let n = length mine in
+      let cells = (names_after first place.links).cells in
+      let long : length own ≡ n = known_long (map g mine) is.notes.entries ∙ length-map mine g in
+      let front : own ≡ take n all = sym begins ∙ ap (λ (k : ℕ). take k all) long in
+      let lie : placed own ≡ take n (placed all) = ap placed front ∙ placed-take all n in
+      let known_front : map g mine ≡ take n (map g theirs) =
+          is.notes.entries ∙ (ap (map Some) lie ∙ (sym (take-map Some n (placed all)) ∙ ap (take n) (sym are.notes.entries))) in
+      let theirs_noted : map f theirs ≡ take (length (map f theirs)) cells = are.notes.names ∙ ap (λ (l : List LinkValue). take (length (map f theirs)) (names_after first l).cells) (sym links) in
+      let noted_front : map f mine ≡ take n (map f theirs) =
+          is.notes.names ∙ (ap (λ (k : ℕ). take k cells) (length-map mine f)
+              ∙ (sym (take-take n (length (map f theirs)) cells (omega (arith, length-map theirs f))) ∙ ap (take n) (sym theirs_noted))) in
+      let known : map g new ≡ map g theirs =
+          ap (map g) more ∙ (map-append g mine (drop n theirs) ∙ (ap (λ (l : List (Option PlacedValue)). l ++ map g (drop n theirs)) known_front
+              ∙ (ap (λ (l : List (Option PlacedValue)). take n (map g theirs) ++ l) (sym (drop_map g n theirs)) ∙ take-append-drop n (map g theirs)))) in
+      let noted : map f new ≡ map f theirs =
+          ap (map f) more ∙ (map-append f mine (drop n theirs) ∙ (ap (λ (l : List ℕ). l ++ map f (drop n theirs)) noted_front
+              ∙ (ap (λ (l : List ℕ). take n (map f theirs) ++ l) (sym (drop_map f n theirs)) ∙ take-append-drop n (map f theirs)))) in
+      let fits = read_within first place (map f mine) (map g mine) seen is in
+      let whole : IsPast first place (map f theirs) (map g theirs) seen = record {
+        notes = subst (λ (l : List LinkValue). AreNotes (names_after first l).cells (map f theirs) (map g theirs)) (sym links) are.notes;
+        leads = subst (λ (l : List LinkValue). Leads first l (names_after first l).cells (length (map f theirs))) (sym links) are.leads;
+        begun = omega (arith, is.begun, length-map mine f, length-map theirs f);
+        read = is.read ∙ (ap (λ (l : List PlacedValue). take (length seen) (drop place.start l)) lie
+            ∙ take_within (length seen) place.start n (placed all) (omega (arith, is.begun, length-map mine f)));
+      } in (
+        subst (λ (l : List ℕ). IsPast first place l (map g new) seen) (sym noted) (subst (λ (l : List (Option PlacedValue)). IsPast first place (map f theirs) l seen) (sym known) whole),
+        ap known_entries known,
+      )

@@ -1,6 +1,6 @@
 -- Entries in their cells: which numbers tell them, and which list stands before each.
-use Rattle.std.proofs.Common.{◌≡◌, ℕ, zero, suc, ◌+◌, ◌<◌, ◌≤◌, Option, Some, None, List, [], ◌∷◌, ◌++◌, length, map, take, slice_get, refl, ap, sym, ◌∙◌, subst, arith, append_assoc, length-append}
-use Rattle.std.proofs.lemmas.List.{append-nil, take_all, take_more_same}
+use Rattle.std.proofs.Common.{◌≡◌, ℕ, zero, suc, ◌+◌, ◌<◌, ◌≤◌, Option, Some, None, List, [], ◌∷◌, ◌++◌, length, take, drop, slice_get, refl, ap, sym, ◌∙◌, arith, append_assoc}
+use Rattle.std.proofs.lemmas.List.{append-nil, take_all, take_more_same, take-append-drop, drop_all}
 use Rattle.std.proofs.lemmas.Option.{get_or_from_slice_get, slice_get_within}
 use Rattle.std.specs.Coded.{coded_list}
 use base.Stored.{Gv, gnil, gnum, gcons}
@@ -66,3 +66,22 @@ begins_at xs ys i p q long mine theirs same =
     let other = get_or_from_slice_get ys i q.entry d there.0 in
     let more = take_more_same xs ys i d (omega arith) (slice_get_within ys i q.entry there.0) before (one ∙ ap (λ (v : PlacedValue). v.entry) same ∙ sym other) in
     ap (λ n. take n ys) long ∙ sym more ∙ take_all (i + 1) xs (omega arith)
+
+placed_from-take : (before entries : List Entry) (n : ℕ) → placed_from before (take n entries) ≡ take n (placed_from before entries)
+placed_from-take before entries zero = refl
+placed_from-take before [] (suc n) = refl
+placed_from-take before (e ∷ entries) (suc n) = ap (λ rest. place_after before e ∷ rest) (placed_from-take (before ++ e ∷ []) entries n)
+
+pub placed-take : (entries : List Entry) (n : ℕ) → placed (take n entries) ≡ take n (placed entries)
+placed-take entries n = placed_from-take [] entries n
+
+pub begins_itself : (xs : List Entry) → Begins xs xs
+begins_itself xs = take_all (length xs) xs (omega arith)
+
+-- what goes on from a list is that list, and what it has more
+pub begins_split : (xs ys : List Entry) → Begins xs ys → ys ≡ xs ++ drop (length xs) ys
+begins_split xs ys begins = sym (take-append-drop (length xs) ys) ∙ ap (λ l. l ++ drop (length xs) ys) begins
+
+-- a list that isn't longer has nothing more
+pub nothing_more : (xs ys : List Entry) → length ys ≤ length xs → xs ≡ xs ++ drop (length xs) ys
+nothing_more xs ys less = sym (append-nil xs) ∙ ap (λ l. xs ++ l) (sym (drop_all (length xs) ys less))

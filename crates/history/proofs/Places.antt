@@ -1,6 +1,7 @@
 -- Lists by their places.
-use Rattle.std.proofs.Common.{◌≡◌, ℕ, zero, suc, ◌+◌, ◌<◌, Some, List, [], ◌∷◌, ◌++◌, take, drop, slice_get, refl, ap, sym, ◌∙◌, append_assoc, arith}
+use Rattle.std.proofs.Common.{◌≡◌, ℕ, zero, suc, ◌+◌, ◌<◌, Some, List, [], ◌∷◌, ◌++◌, ◌-◌, ◌≤◌, map, take, drop, slice_get, refl, ap, sym, ◌∙◌, append_assoc, arith}
 use native.Mathlib.Numerals.{unary_clauses}
+use Rattle.std.proofs.lemmas.List.{drop-take, take-take}
 
 pub slice_get-take : {X : Type 0} (n i : ℕ) (xs : List X) → i < n → slice_get (take n xs) i ≡ slice_get xs i
 slice_get-take zero i xs less = absurd (omega arith)
@@ -28,3 +29,14 @@ pub slice_get-drop : {X : Type 0} (n i : ℕ) (xs : List X) → slice_get (drop 
 slice_get-drop zero i xs = ap (slice_get xs) (omega arith)
 slice_get-drop (suc n) i [] = refl
 slice_get-drop (suc n) i (x ∷ xs) = let e : suc (n + i) ≡ suc n + i = omega arith in slice_get-drop n i xs ∙ ap (slice_get (x ∷ xs)) e
+
+pub drop_map : {X Y : Type 0} (f : X → Y) (n : ℕ) (xs : List X) → drop n (map f xs) ≡ map f (drop n xs)
+drop_map f zero xs = refl
+drop_map f (suc n) [] = refl
+drop_map f (suc n) (x ∷ xs) = drop_map f n xs
+
+-- the first items behind a place, within a front
+pub take_within : {X : Type 0} (k s n : ℕ) (xs : List X) → s + k ≤ n → take k (drop s (take n xs)) ≡ take k (drop s xs)
+take_within k s n xs less =
+    let e : n ≡ s + (n - s) = omega arith in
+    ap (λ m. take k (drop s (take m xs))) e ∙ (ap (take k) (drop-take s (n - s) xs) ∙ take-take k (n - s) (drop s xs) (omega arith))

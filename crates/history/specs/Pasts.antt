@@ -25,10 +25,14 @@ known_entries [] = []
 known_entries (None ∷ known) = known_entries known
 known_entries (Some p ∷ known) = p.entry ∷ known_entries known
 
--- There is a note for each of the first cells. It knows an entry, with all entries before it.
+-- each note knows the entry of its place, with all entries before it
+abbrev pub AreKnown : List (Option PlacedValue) → Type 0
+AreKnown known = known ≡ map Some (placed (known_entries known))
+
+-- there is a note for each of the first cells
 pub record AreNotes (cells noted : List ℕ) (known : List (Option PlacedValue)) : Type 0 where
   pub names : noted ≡ take (length noted) cells
-  pub entries : known ≡ map Some (placed (known_entries known))
+  pub entries : AreKnown known
 
 -- Of a beginning of the history: its notes are of the cells of all rows that led there, and what was read are the row's first
 -- entries.

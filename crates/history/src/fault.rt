@@ -21,3 +21,23 @@ impl From<AllocError> for AddFault {
         AddFault::NoMemory
     }
 }
+
+/// Why nothing was learned of another beginning. Nothing changed.
+#[derive(Clone, Copy, Debug, PartialEq, Eq)]
+pub enum CatchUpFault {
+    /// A growth was refused.
+    NoMemory,
+    /// They are in rows of which it can't be told that one leads to the other.
+    Apart,
+}
+
+impl From<AllocError> for CatchUpFault {
+    ghost use Rattle.std.specs.Prelude.{◌≡◌};
+    ghost use Rattle.history.specs.declared.fault.CatchUpFault.TheVariants.{NoMemory};
+
+    ghost from_gives = { λ _ e. e ≡ NoMemory };
+
+    fn from(_: AllocError) -> Self {
+        CatchUpFault::NoMemory
+    }
+}

@@ -6,13 +6,15 @@ mod entry;
 mod fault;
 mod held;
 mod link;
+mod meeting;
 mod notes;
 mod past;
 mod place;
+mod reading;
 mod row;
 
 pub use entry::Entry;
-pub use fault::AddFault;
+pub use fault::{AddFault, CatchUpFault};
 pub use past::Past;
 pub use place::FirstRow;
 pub use row::Row;
