@@ -203,30 +203,37 @@ module _ {X : Type 0} (f : X → ℕ) (g : X → Option PlacedValue) where
             ∙ (sym (take_next (length seen) (drop place.start lie) p next) ∙ ap (λ (n : ℕ). take n (drop place.start lie)) (sym (ap length grown ∙ length-append seen (p ∷ [])))));
       }
 
+  -- notes of the same cells that know a beginning, with what others have more
+  grown : (mine theirs new : List X) → AreKnown (map g mine) → AreKnown (map g theirs) → map f mine ≡ take (length mine) (map f theirs) → Begins (known_entries (map g mine)) (known_entries (map g theirs))
+      → new ≡ mine ++ drop (length mine) theirs → (map f new ≡ map f theirs) × (map g new ≡ map g theirs)
+  grown mine theirs new own other cells begins more =
+      let all = known_entries (map g theirs) in
+      let n = length mine in
+      let long : length (known_entries (map g mine)) ≡ n = known_long (map g mine) own ∙ length-map mine g in
+      let front : known_entries (map g mine) ≡ take n all = sym begins ∙ ap (λ (k : ℕ). take k all) long in
+      let lie : placed (known_entries (map g mine)) ≡ take n (placed all) = ap placed front ∙ placed-take all n in
+      let known_front : map g mine ≡ take n (map g theirs) = own ∙ (ap (map Some) lie ∙ (sym (take-map Some n (placed all)) ∙ ap (take n) (sym other))) in (
+        ap (map f) more ∙ (map-append f mine (drop n theirs) ∙ (ap (λ (l : List ℕ). l ++ map f (drop n theirs)) cells
+            ∙ (ap (λ (l : List ℕ). take n (map f theirs) ++ l) (sym (drop_map f n theirs)) ∙ take-append-drop n (map f theirs)))),
+        ap (map g) more ∙ (map-append g mine (drop n theirs) ∙ (ap (λ (l : List (Option PlacedValue)). l ++ map g (drop n theirs)) known_front
+            ∙ (ap (λ (l : List (Option PlacedValue)). take n (map g theirs) ++ l) (sym (drop_map g n theirs)) ∙ take-append-drop n (map g theirs)))),
+      )
+
   -- what another has more in the same row
   pub learned : (first : RowNames) (place other : PlaceValue) (mine theirs new : List X) (seen others : List PlacedValue) → IsPast first place (map f mine) (map g mine) seen
       → IsPast first other (map f theirs) (map g theirs) others → place.links ≡ other.links → length mine ≤ length theirs → Begins (known_entries (map g mine)) (known_entries (map g theirs))
       → new ≡ mine ++ drop (length mine) theirs → IsPast first place (map f new) (map g new) seen × (known_entries (map g new) ≡ known_entries (map g theirs))
   learned first place other mine theirs new seen others is are links less begins more =
-      let own = known_entries (map g mine) in
       let all = known_entries (map g theirs) in
       let n = length mine in
       let cells = (names_after first place.links).cells in
-      let long : length own ≡ n = known_long (map g mine) is.notes.entries ∙ length-map mine g in
-      let front : own ≡ take n all = sym begins ∙ ap (λ (k : ℕ). take k all) long in
-      let lie : placed own ≡ take n (placed all) = ap placed front ∙ placed-take all n in
-      let known_front : map g mine ≡ take n (map g theirs) =
-          is.notes.entries ∙ (ap (map Some) lie ∙ (sym (take-map Some n (placed all)) ∙ ap (take n) (sym are.notes.entries))) in
+      let long : length (known_entries (map g mine)) ≡ n = known_long (map g mine) is.notes.entries ∙ length-map mine g in
+      let lie : placed (known_entries (map g mine)) ≡ take n (placed all) = ap placed (sym begins ∙ ap (λ (k : ℕ). take k all) long) ∙ placed-take all n in
       let theirs_noted : map f theirs ≡ take (length (map f theirs)) cells = are.notes.names ∙ ap (λ (l : List LinkValue). take (length (map f theirs)) (names_after first l).cells) (sym links) in
       let noted_front : map f mine ≡ take n (map f theirs) =
           is.notes.names ∙ (ap (λ (k : ℕ). take k cells) (length-map mine f)
               ∙ (sym (take-take n (length (map f theirs)) cells (omega (arith, length-map theirs f))) ∙ ap (take n) (sym theirs_noted))) in
-      let known : map g new ≡ map g theirs =
-          ap (map g) more ∙ (map-append g mine (drop n theirs) ∙ (ap (λ (l : List (Option PlacedValue)). l ++ map g (drop n theirs)) known_front
-              ∙ (ap (λ (l : List (Option PlacedValue)). take n (map g theirs) ++ l) (sym (drop_map g n theirs)) ∙ take-append-drop n (map g theirs)))) in
-      let noted : map f new ≡ map f theirs =
-          ap (map f) more ∙ (map-append f mine (drop n theirs) ∙ (ap (λ (l : List ℕ). l ++ map f (drop n theirs)) noted_front
-              ∙ (ap (λ (l : List ℕ). take n (map f theirs) ++ l) (sym (drop_map f n theirs)) ∙ take-append-drop n (map f theirs)))) in
+      let same = grown mine theirs new is.notes.entries are.notes.entries noted_front begins more in
       let fits = read_within first place (map f mine) (map g mine) seen is in
       let whole : IsPast first place (map f theirs) (map g theirs) seen = record {
         notes = subst (λ (l : List LinkValue). AreNotes (names_after first l).cells (map f theirs) (map g theirs)) (sym links) are.notes;
@@ -235,6 +242,29 @@ module _ {X : Type 0} (f : X → ℕ) (g : X → Option PlacedValue) where
         read = is.read ∙ (ap (λ (l : List PlacedValue). take (length seen) (drop place.start l)) lie
             ∙ take_within (length seen) place.start n (placed all) (omega (arith, is.begun, length-map mine f)));
       } in (
-        subst (λ (l : List ℕ). IsPast first place l (map g new) seen) (sym noted) (subst (λ (l : List (Option PlacedValue)). IsPast first place (map f theirs) l seen) (sym known) whole),
-        ap known_entries known,
+        subst (λ (l : List ℕ). IsPast first place l (map g new) seen) (sym same.0) (subst (λ (l : List (Option PlacedValue)). IsPast first place (map f theirs) l seen) (sym same.1) whole),
+        ap known_entries same.1,
       )
+
+  -- what another has more, with its place
+  pub followed : (first : RowNames) (other : PlaceValue) (mine theirs new : List X) (others : List PlacedValue) → AreKnown (map g mine) → IsPast first other (map f theirs) (map g theirs) others
+      → map f mine ≡ take (length mine) (map f theirs) → Begins (known_entries (map g mine)) (known_entries (map g theirs)) → new ≡ mine ++ drop (length mine) theirs
+      → IsPast first other (map f new) (map g new) [] × (known_entries (map g new) ≡ known_entries (map g theirs))
+  followed first other mine theirs new others own are cells begins more =
+      let same = grown mine theirs new own are.notes.entries cells begins more in
+      let whole : IsPast first other (map f theirs) (map g theirs) [] = record { notes = are.notes; leads = are.leads; begun = are.begun; read = refl } in (
+        subst (λ (l : List ℕ). IsPast first other l (map g new) []) (sym same.0) (subst (λ (l : List (Option PlacedValue)). IsPast first other (map f theirs) l []) (sym same.1) whole),
+        ap known_entries same.1,
+      )
+
+-- up to where a row was left the notes are of the first cells of those who went on
+pub front_cells : (first : RowNames) (mine theirs : List LinkValue) (own other : List ℕ) (known others : List (Option PlacedValue)) (s : ℕ) → AreNotes (names_after first mine).cells own known
+    → AreNotes (names_after first theirs).cells other others → Leads first theirs (names_after first theirs).cells (length other) → take (length mine) theirs ≡ mine
+    → option_map (λ (l : LinkValue). l.start) (slice_get theirs (length mine)) ≡ Some s → length own ≤ s → own ≡ take (length own) other
+front_cells first mine theirs own other known others s are go leads begins starts less =
+    let n = length own in
+    let cells = (names_after first theirs).cells in
+    let left = leads_at first theirs cells (length other) (length mine) s leads starts in
+    let before : take s (names_after first mine).cells ≡ take s cells = ap (λ (l : List LinkValue). take s (names_after first l).cells) (sym begins) ∙ left.1 in
+    are.names ∙ (sym (take-take n s (names_after first mine).cells less)
+        ∙ (ap (take n) before ∙ (take-take n s cells less ∙ (sym (take-take n (length other) cells (omega (arith, left.0))) ∙ ap (take n) (sym go.names)))))

@@ -1,9 +1,11 @@
-ghost use Rattle.std.specs.Prelude.{◌≡◌, ◌≢◌, ◌+◌, ◌-◌, ◌<◌, ◌≤◌, ◌++◌, length, drop, map, slice_get, true, OnOk, OnErr, IsErrOf};
+ghost use Rattle.std.specs.Prelude.{◌≡◌, ◌≢◌, ◌+◌, ◌-◌, ◌<◌, ◌≤◌, ◌++◌, length, take, drop, map, slice_get, true, false, Ok, OnOk, OnErr, IsErrOf};
 ghost use Rattle.history.specs.Entries.{Begins};
-ghost use Rattle.history.specs.Pasts.{known_entries, AreKnown};
+ghost use Rattle.history.specs.Pasts.{known_entries, AreKnown, AreNotes};
+ghost use Rattle.history.specs.Rows.{names_after, Leads};
 
 use crate::held::Held;
 use crate::notes::{again_at, compare_at, copy_rest};
+use crate::place::Place;
 use crate::{CatchUpFault, FirstRow, Past};
 use once_cell::race::Note;
 use std::alloc::AllocError;
@@ -49,16 +51,26 @@ impl<L: FirstRow> Past<L> {
         ensures same { (self.new ≡ self.old) × (other.new ≡ other.old) }
         ensures begins { result ≡ true → (length self.old.entries ≤ length other.old.entries) × Begins self.old.entries other.old.entries }
     {
-        self.place.agree(&mut other.place);
-        let Some(start) = self.place.left(&mut other.place) else {
-            return false;
-        };
-        let long = self.notes.len();
-        if start < long {
-            return false;
+        begin_in_row_before(&mut self.place, &mut self.notes, &mut other.place, &mut other.notes)
+    }
+
+    /// Moves on to the later row of one that it is seen to begin. Says whether it is.
+    fn follow(&mut self, other: &mut Past<L>) -> Result<bool, AllocError>
+        requires { self.old.rows < other.old.rows }
+        ensures same { other.new ≡ other.old }
+        ensures moved { result ≡ Ok true → (self.new ≡ record other.old { read = 0 }) × (length self.old.entries ≤ length other.old.entries) × Begins self.old.entries other.old.entries }
+        ensures apart { result ≡ Ok false → self.new ≡ self.old }
+        ensures err { OnErr result (self.new ≡ self.old) }
+    {
+        if !begin_in_row_before(&mut self.place, &mut self.notes, &mut other.place, &mut other.notes) {
+            return Ok(false);
         }
-        compare_last(&mut self.notes, &mut other.notes, long);
-        true
+        let place = other.place.again(self.alloc)?;
+        self.notes.reserve(other.notes.len() - self.notes.len())?;
+        copy_rest(&mut self.notes, &mut other.notes);
+        self.seen.clear();
+        self.place = place;
+        Ok(true)
     }
 
     /// Learns what another beginning has more, and moves on to its row. It has then the longer of the two.
@@ -77,13 +89,16 @@ impl<L: FirstRow> Past<L> {
             self.learn(other)?;
             return Ok(());
         }
-        if !self.agree(other) {
+        if own < theirs {
+            if self.follow(other)? {
+                return Ok(());
+            }
             return Err(CatchUpFault::Apart);
         }
-        if own < theirs {
-            *self = other.again()?;
+        if other.begins(self) {
+            return Ok(());
         }
-        Ok(())
+        Err(CatchUpFault::Apart)
     }
 
     /// Learns what another beginning in its row has more.
@@ -104,6 +119,35 @@ impl<L: FirstRow> Past<L> {
         }
         Ok(())
     }
+}
+
+/// Whether notes up to an earlier row are seen to be of the same cells as the first ones up to a later row, and to know a beginning
+/// of what those know.
+fn begin_in_row_before<L: FirstRow>(
+    place: &mut Place<L>,
+    notes: &mut Vec<Note<Held>>,
+    later: &mut Place<L>,
+    more: &mut Vec<Note<Held>>,
+) -> bool
+    requires rows { length place.old.links < length later.old.links }
+    requires notes { AreNotes (names_after L.first place.old.links).cells (map (λ n. n.cell) notes.old.items) (map (λ n. n.known) notes.old.items) }
+    requires more { AreNotes (names_after L.first later.old.links).cells (map (λ n. n.cell) more.old.items) (map (λ n. n.known) more.old.items) }
+    requires leads { Leads L.first later.old.links (names_after L.first later.old.links).cells (length (map (λ n. n.cell) more.old.items)) }
+    ensures same { (place.new ≡ place.old) × (later.new ≡ later.old) × (notes.new.items ≡ notes.old.items) × (more.new.items ≡ more.old.items) }
+    ensures less { result ≡ true → length notes.old.items ≤ length more.old.items }
+    ensures cells { result ≡ true → map (λ n. n.cell) notes.old.items ≡ take (length notes.old.items) (map (λ n. n.cell) more.old.items) }
+    ensures begins { result ≡ true → Begins (known_entries (map (λ n. n.known) notes.old.items)) (known_entries (map (λ n. n.known) more.old.items)) }
+{
+    place.agree(later);
+    let Some(start) = place.left(later) else {
+        return false;
+    };
+    let long = notes.len();
+    if start < long {
+        return false;
+    }
+    compare_last(notes, more, long);
+    true
 }
 
 /// Compares what is known of the last one of so many cells: it is one entry, with all entries before it.

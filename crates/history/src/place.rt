@@ -8,7 +8,7 @@ use crate::{AddFault, Row};
 use boxcar::tag::{Names, Tag};
 use once_cell::race::Note;
 use std::alloc::{AllocError, Global};
-use std::marker::{Model, PhantomData};
+use std::marker::{Brand, Model, PhantomData};
 use std::sync::Arc;
 
 /// Which history it is, by the names of its first row's cells. A program picks it at a call.
@@ -16,6 +16,10 @@ pub trait FirstRow {
     ghost use Rattle.history.specs.Rows.{RowNames};
 
     ghost first: { RowNames };
+}
+
+impl FirstRow for Brand {
+    ghost first = { record { link = 0; cells = [] } };
 }
 
 /// A row of the history, and the notes of the links that lead there from the first row.
