@@ -3,3 +3,4 @@ pub mod Places
 pub mod Links
 pub mod Leading
 pub mod Knowing
+pub mod Beginnings

@@ -1,7 +1,7 @@
 -- Lists by their places.
-use Rattle.std.proofs.Common.{◌≡◌, ℕ, zero, suc, ◌+◌, ◌<◌, Some, List, [], ◌∷◌, ◌++◌, ◌-◌, ◌≤◌, map, take, drop, slice_get, refl, ap, sym, ◌∙◌, append_assoc, arith}
+use Rattle.std.proofs.Common.{◌≡◌, ℕ, zero, suc, ◌+◌, ◌<◌, Some, List, [], ◌∷◌, ◌++◌, ◌-◌, ◌≤◌, length, map, take, drop, slice_get, refl, ap, sym, ◌∙◌, append_assoc, arith}
 use native.Mathlib.Numerals.{unary_clauses}
-use Rattle.std.proofs.lemmas.List.{drop-take, take-take}
+use Rattle.std.proofs.lemmas.List.{drop-take, take-take, take_all}
 
 pub slice_get-take : {X : Type 0} (n i : ℕ) (xs : List X) → i < n → slice_get (take n xs) i ≡ slice_get xs i
 slice_get-take zero i xs less = absurd (omega arith)
@@ -40,3 +40,7 @@ pub take_within : {X : Type 0} (k s n : ℕ) (xs : List X) → s + k ≤ n → t
 take_within k s n xs less =
     let e : n ≡ s + (n - s) = omega arith in
     ap (λ m. take k (drop s (take m xs))) e ∙ (ap (take k) (drop-take s (n - s) xs) ∙ take-take k (n - s) (drop s xs) (omega arith))
+
+-- a list that begins one as long is that one
+pub same_whole : {X : Type 0} (xs ys : List X) → length xs ≡ length ys → (length xs ≤ length ys → take (length xs) ys ≡ xs) → xs ≡ ys
+same_whole xs ys long begins = sym (begins (omega (arith, long))) ∙ take_all (length xs) ys (omega (arith, long))

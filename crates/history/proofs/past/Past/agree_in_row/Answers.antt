@@ -1,6 +1,7 @@
 use Rattle.std.proofs.Common.{◌≡◌, ◌-◌, List, length, map, take, sym, ◌∙◌, ap, arith}
-use Rattle.std.proofs.lemmas.List.{length-map, take_all}
+use Rattle.std.proofs.lemmas.List.{length-map}
 use Rattle.history.specs.Pasts.{PastValue}
+use Rattle.history.proofs.Places.{same_whole}
 use Rattle.history.proofs.Knowing.{beside}
 use Rattle.history.proofs.past.Past.agree_in_row.Goals as goal
 
@@ -9,6 +10,6 @@ compare_last-requires-clause-cell g c = λ some.
     let mine = c.self.inside.place.links in
     let theirs = c.other.inside.place.links in
     let long : length mine ≡ length theirs = ap (λ (v : PastValue). v.rows) c.self.view_is ∙ (c.requires ∙ sym (ap (λ (v : PastValue). v.rows) c.other.view_is)) in
-    let same : mine ≡ theirs = sym (c.agree.ensures.begins (omega (arith, long))) ∙ take_all (length mine) theirs (omega (arith, long)) in
+    let same = same_whole mine theirs long c.agree.ensures.begins in
     beside g.L.FirstRow.first mine theirs _ _ _ _ (c.min-both.result - 1) c.self.invariant.notes c.other.invariant.notes same
         (omega (arith, some, c.self.inside.notes.ok, length-map c.self.inside.notes.items (λ n. n.cell))) (omega (arith, some, c.other.inside.notes.ok, length-map c.other.inside.notes.items (λ n. n.cell)))

@@ -1,8 +1,8 @@
 use Rattle.std.proofs.Common.{◌≡◌, ◌≤◌, List, ◌++◌, length, map, take, drop, sym, ◌∙◌, ap, subst, arith}
-use Rattle.std.proofs.lemmas.List.{take_all}
 use Rattle.history.specs.Entries.{Begins}
 use Rattle.history.specs.Rows.{PlaceValue}
 use Rattle.history.specs.Pasts.{PastValue, known_entries}
+use Rattle.history.proofs.Places.{same_whole}
 use Rattle.history.proofs.Knowing.{learned}
 use Rattle.history.proofs.Placed.{begins_split, begins_itself}
 use Rattle.history.proofs.past.Past.learn.Goals as goal
@@ -14,7 +14,7 @@ invariant_of-self-then-own-theirs g c =
     let mine = c.self.inside.notes.items in
     let theirs = c.other.inside.notes.items in
     let long : length place.links ≡ length other.links = ap (λ (v : PastValue). v.rows) c.self.view_is ∙ (c.requires ∙ sym (ap (λ (v : PastValue). v.rows) c.other.view_is)) in
-    let links : place.links ≡ other.links = sym (c.agree.ensures.begins (omega (arith, long))) ∙ take_all (length place.links) other.links (omega (arith, long)) in
+    let links = same_whole place.links other.links long c.agree.ensures.begins in
     let more : c.copy_rest.new.notes.items ≡ mine ++ drop (length mine) theirs = cc (c.copy_rest.ensures.new, c.in_ok-reserve.ensures.items, c.compare_last.ensures.same_mine, c.compare_last.ensures.same_theirs) in
     let begins = c.compare_last.ensures.begins (omega (arith, c.self.inside.notes.ok, c.other.inside.notes.ok)) in
     rw c.agree.ensures.same.0 (learned (λ n. n.cell) (λ n. n.known) g.L.FirstRow.first place other mine theirs c.copy_rest.new.notes.items c.self.inside.seen.items c.other.inside.seen.items c.self.invariant c.other.invariant links
@@ -27,7 +27,7 @@ returns-in_ok-reserve-clause-ok g c =
     let mine = c.self.inside.notes.items in
     let theirs = c.other.inside.notes.items in
     let long : length place.links ≡ length other.links = ap (λ (v : PastValue). v.rows) c.self.view_is ∙ (c.requires ∙ sym (ap (λ (v : PastValue). v.rows) c.other.view_is)) in
-    let links : place.links ≡ other.links = sym (c.agree.ensures.begins (omega (arith, long))) ∙ take_all (length place.links) other.links (omega (arith, long)) in
+    let links = same_whole place.links other.links long c.agree.ensures.begins in
     let more : c.copy_rest.new.notes.items ≡ mine ++ drop (length mine) theirs = cc (c.copy_rest.ensures.new, c.in_ok-reserve.ensures.items, c.compare_last.ensures.same_mine, c.compare_last.ensures.same_theirs) in
     let begins = c.compare_last.ensures.begins (omega (arith, c.self.inside.notes.ok, c.other.inside.notes.ok)) in
     let all = (learned (λ n. n.cell) (λ n. n.known) g.L.FirstRow.first place other mine theirs c.copy_rest.new.notes.items c.self.inside.seen.items c.other.inside.seen.items c.self.invariant c.other.invariant links
@@ -49,7 +49,7 @@ returns-in_ok-reserve-clause-begins g c =
     let mine = c.self.inside.notes.items in
     let theirs = c.other.inside.notes.items in
     let long : length place.links ≡ length other.links = ap (λ (v : PastValue). v.rows) c.self.view_is ∙ (c.requires ∙ sym (ap (λ (v : PastValue). v.rows) c.other.view_is)) in
-    let links : place.links ≡ other.links = sym (c.agree.ensures.begins (omega (arith, long))) ∙ take_all (length place.links) other.links (omega (arith, long)) in
+    let links = same_whole place.links other.links long c.agree.ensures.begins in
     let more : c.copy_rest.new.notes.items ≡ mine ++ drop (length mine) theirs = cc (c.copy_rest.ensures.new, c.in_ok-reserve.ensures.items, c.compare_last.ensures.same_mine, c.compare_last.ensures.same_theirs) in
     let begins = c.compare_last.ensures.begins (omega (arith, c.self.inside.notes.ok, c.other.inside.notes.ok)) in
     let all = (learned (λ n. n.cell) (λ n. n.known) g.L.FirstRow.first place other mine theirs c.copy_rest.new.notes.items c.self.inside.seen.items c.other.inside.seen.items c.self.invariant c.other.invariant links
