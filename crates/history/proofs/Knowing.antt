@@ -56,8 +56,8 @@ notes_more cells noted known name p are at before =
       names = ap (λ (l : List ℕ). l ++ name ∷ []) are.names ∙ (sym (take_next (length noted) cells name at) ∙ ap (λ n. take n cells) (sym (length-append noted (name ∷ []))));
       entries = ap (λ (l : List (Option PlacedValue)). l ++ Some p ∷ []) are.entries
           ∙ (ap (λ (v : PlacedValue). map Some (placed entries) ++ Some v ∷ []) (sym here)
-              ∙ (sym (map_some-append (placed entries) (place_after entries p.entry))
-                  ∙ (ap (map Some) (sym (placed-append entries p.entry)) ∙ ap (λ es. map Some (placed es)) (sym (known_more known p)))));
+          ∙ (sym (map_some-append (placed entries) (place_after entries p.entry))
+          ∙ (ap (map Some) (sym (placed-append entries p.entry)) ∙ ap (λ es. map Some (placed es)) (sym (known_more known p)))));
     }
 
 -- no more was read of a row than is known of it
@@ -74,8 +74,8 @@ read_at first place noted known seen i p is at =
     let entries = known_entries known in
     let lie = placed entries in
     let here : slice_get lie (place.start + i) ≡ Some p =
-        sym (slice_get-drop place.start i lie) ∙ (sym (slice_get-take (length seen) i (drop place.start lie) (slice_get_within seen i p at))
-            ∙ (sym (ap (λ (l : List PlacedValue). slice_get l i) is.read) ∙ at)) in
+    sym (slice_get-drop place.start i lie) ∙ (sym (slice_get-take (length seen) i (drop place.start lie) (slice_get_within seen i p at))
+    ∙ (sym (ap (λ (l : List PlacedValue). slice_get l i) is.read) ∙ at)) in
     (placed_from_at [] entries (place.start + i) p here).0
 
 -- a place of the row, among those of all rows
@@ -143,7 +143,7 @@ past_next first row place noted known seen long is at =
       };
       leads = subst (λ (l : List ℕ). Leads first (place.links ++ last ∷ []) l (length noted)) (sym cells)
           (subst (λ (n : ℕ). Leads first (place.links ++ last ∷ []) (take long here.cells ++ row.cells) n) at
-              (leads_next first place.links here.cells row.cells long last (subst (λ (n : ℕ). Leads first place.links here.cells n) (sym at) is.leads) refl refl (omega arith)));
+          (leads_next first place.links here.cells row.cells long last (subst (λ (n : ℕ). Leads first place.links here.cells n) (sym at) is.leads) refl refl (omega arith)));
       begun = omega arith;
       read = refl;
     }
@@ -158,7 +158,7 @@ behind first mine theirs own other known others s are go leads begins starts =
       left.0,
       λ (i : ℕ) (within : i < length own) (less : i < s). name_at (names_after first mine).cells own known i are within
           ∙ (ap (λ (l : List LinkValue). slice_get (names_after first l).cells i) (sym begins)
-              ∙ (leads_cell first theirs cells (length other) (length mine) s i leads starts less ∙ sym (name_at cells other others i go (omega (arith, left.0))))),
+          ∙ (leads_cell first theirs cells (length other) (length mine) s i leads starts less ∙ sym (name_at cells other others i go (omega (arith, left.0))))),
     )
 
 -- in one row the notes are of the same cells
@@ -182,8 +182,8 @@ module _ {X : Type 0} (f : X → ℕ) (g : X → Option PlacedValue) where
       let cells = (names_after first links).cells in
       ap (λ (l : List ℕ). slice_get l i) is.same_cells
       ∙ (slice_get-drop start i cells
-          ∙ (sym (name_at cells (map f notes) (map g notes) (start + i) are (omega (arith, length-map notes f, slice_get_within notes (start + i) x at)))
-              ∙ (slice_get-map f notes (start + i) ∙ ap (option_map f) at)))
+      ∙ (sym (name_at cells (map f notes) (map g notes) (start + i) are (omega (arith, length-map notes f, slice_get_within notes (start + i) x at)))
+      ∙ (slice_get-map f notes (start + i) ∙ ap (option_map f) at)))
 
   -- one entry more was read
   pub read_more : (first : RowNames) (place : PlaceValue) (notes : List X) (x : X) (p : PlacedValue) (seen more : List PlacedValue) → IsPast first place (map f notes) (map g notes) seen
@@ -231,8 +231,8 @@ module _ {X : Type 0} (f : X → ℕ) (g : X → Option PlacedValue) where
       let lie : placed (known_entries (map g mine)) ≡ take n (placed all) = ap placed (sym begins ∙ ap (λ (k : ℕ). take k all) long) ∙ placed-take all n in
       let theirs_noted : map f theirs ≡ take (length (map f theirs)) cells = are.notes.names ∙ ap (λ (l : List LinkValue). take (length (map f theirs)) (names_after first l).cells) (sym links) in
       let noted_front : map f mine ≡ take n (map f theirs) =
-          is.notes.names ∙ (ap (λ (k : ℕ). take k cells) (length-map mine f)
-              ∙ (sym (take-take n (length (map f theirs)) cells (omega (arith, length-map theirs f))) ∙ ap (take n) (sym theirs_noted))) in
+      is.notes.names ∙ (ap (λ (k : ℕ). take k cells) (length-map mine f)
+      ∙ (sym (take-take n (length (map f theirs)) cells (omega (arith, length-map theirs f))) ∙ ap (take n) (sym theirs_noted))) in
       let same = grown mine theirs new is.notes.entries are.notes.entries noted_front begins more in
       let fits = read_within first place (map f mine) (map g mine) seen is in
       let whole : IsPast first place (map f theirs) (map g theirs) seen = record {
@@ -267,4 +267,4 @@ front_cells first mine theirs own other known others s are go leads begins start
     let left = leads_at first theirs cells (length other) (length mine) s leads starts in
     let before : take s (names_after first mine).cells ≡ take s cells = ap (λ (l : List LinkValue). take s (names_after first l).cells) (sym begins) ∙ left.1 in
     are.names ∙ (sym (take-take n s (names_after first mine).cells less)
-        ∙ (ap (take n) before ∙ (take-take n s cells less ∙ (sym (take-take n (length other) cells (omega (arith, left.0))) ∙ ap (take n) (sym go.names)))))
+    ∙ (ap (take n) before ∙ (take-take n s cells less ∙ (sym (take-take n (length other) cells (omega (arith, left.0))) ∙ ap (take n) (sym go.names)))))

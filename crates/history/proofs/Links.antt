@@ -67,7 +67,7 @@ module _ {X : Type 0} (f : X → ℕ) (g : X → Option LinkValue) (first : RowN
   same_link_cell mine theirs x i own other same at within =
       cell_at mine i own within
       ∙ (ap (λ (l : List LinkValue). Some (names_after first l).link) same
-          ∙ (sym (cell_at theirs i other (slice_get_within theirs i x at)) ∙ (slice_get-map f theirs i ∙ ap (option_map f) at)))
+      ∙ (sym (cell_at theirs i other (slice_get_within theirs i x at)) ∙ (slice_get-map f theirs i ∙ ap (option_map f) at)))
 
   -- and where the comparison says so, one link more is the same
   pub links_next : (mine theirs : List X) (x : X) (i : ℕ) → AreLinks first (map f mine) (map g mine) → AreLinks first (map f theirs) (map g theirs)
@@ -81,7 +81,7 @@ module _ {X : Type 0} (f : X → ℕ) (g : X → Option LinkValue) (first : RowN
       let one : here.0 ≡ there.0 = compared (g x) (slice_get (map g mine) i) here.0 there.0 (cc knows) here.1 clause in
       take_next i (known_links (map g mine)) here.0 here.2
       ∙ (ap (λ (l : List LinkValue). l ++ here.0 ∷ []) same
-          ∙ (ap (λ (l : LinkValue). take i (known_links (map g theirs)) ++ l ∷ []) one ∙ sym (take_next i (known_links (map g theirs)) there.0 there.2)))
+      ∙ (ap (λ (l : LinkValue). take i (known_links (map g theirs)) ++ l ∷ []) one ∙ sym (take_next i (known_links (map g theirs)) there.0 there.2)))
 
   pub links_more : (old new : List X) (x : X) (l : LinkValue) → new ≡ old ++ x ∷ [] → g x ≡ Some l → known_links (map g new) ≡ known_links (map g old) ++ l ∷ []
   links_more old new x l more knows =
@@ -118,7 +118,7 @@ module _ {X : Type 0} (f : X → ℕ) (g : X → Option LinkValue) (first : RowN
       let same : here.0 ≡ k = compared (Some k) (slice_get (map g notes) i) here.0 k refl here.1 clause in
       ap (λ (l : List LinkValue). option_map (λ (v : LinkValue). v.start) (slice_get l (length links))) (sym is)
       ∙ (ap (λ (n : ℕ). option_map (λ (v : LinkValue). v.start) (slice_get (known_links (map g notes)) n)) (sym at)
-          ∙ (ap (option_map (λ (v : LinkValue). v.start)) here.2 ∙ (ap (λ (v : LinkValue). Some v.start) same ∙ starts)))
+      ∙ (ap (option_map (λ (v : LinkValue). v.start)) here.2 ∙ (ap (λ (v : LinkValue). Some v.start) same ∙ starts)))
 
   -- the place behind a link more
   pub begins_row : (old new : List X) (x : X) (l : LinkValue) (left row : RowNames) (start long : ℕ) (links : List LinkValue) → IsPlace first left (map f old) (map g old) start → known_links (map g old) ≡ links
@@ -126,7 +126,7 @@ module _ {X : Type 0} (f : X → ℕ) (g : X → Option LinkValue) (first : RowN
       → IsPlace first row (map f new) (map g new) long
   begins_row old new x l left row start long links is same more at knows tells fits =
       let next : names_after first (known_links (map g new)) ≡ next_names (names_after first links) long row =
-          ap (names_after first) (links_more old new x l more knows) ∙ (names_after-append first (known_links (map g old)) l ∙ ap (λ (v : LinkValue). v.next) tells) in
+      ap (names_after first) (links_more old new x l more knows) ∙ (names_after-append first (known_links (map g old)) l ∙ ap (λ (v : LinkValue). v.next) tells) in
       let cells = (names_after first links).cells in
       record {
         notes = are_links-more old new x l is.notes more (at ∙ is.here.same_link) knows;

@@ -22,7 +22,7 @@ same_tree (gcons a b) (gnum n) xs ys e = absurd (cc e)
 same_tree (gcons a b) (gcons c d) xs ys e =
     let behind : (numbers_of_tree a ++ numbers_of_tree b) ++ xs ≡ (numbers_of_tree c ++ numbers_of_tree d) ++ ys = cc e in
     let left = same_tree a c (numbers_of_tree b ++ xs) (numbers_of_tree d ++ ys)
-        (sym (append_assoc (numbers_of_tree a) (numbers_of_tree b) xs) ∙ behind ∙ append_assoc (numbers_of_tree c) (numbers_of_tree d) ys) in
+    (sym (append_assoc (numbers_of_tree a) (numbers_of_tree b) xs) ∙ behind ∙ append_assoc (numbers_of_tree c) (numbers_of_tree d) ys) in
     let right = same_tree b d xs ys left.1 in
     (cc (left.0, right.0), right.1)
 
@@ -36,7 +36,7 @@ placed_from-append : (before entries : List Entry) (e : Entry) → placed_from b
 placed_from-append before [] e = ap (λ all. place_after all e ∷ []) (sym (append-nil before))
 placed_from-append before (x ∷ entries) e =
     ap (λ rest. place_after before x ∷ rest) (placed_from-append (before ++ x ∷ []) entries e
-        ∙ ap (λ all. placed_from (before ++ x ∷ []) entries ++ place_after all e ∷ []) (append_assoc before (x ∷ []) entries))
+    ∙ ap (λ all. placed_from (before ++ x ∷ []) entries ++ place_after all e ∷ []) (append_assoc before (x ∷ []) entries))
 
 -- one entry more lies behind all entries before it
 pub placed-append : (entries : List Entry) (e : Entry) → placed (entries ++ e ∷ []) ≡ placed entries ++ place_after entries e ∷ []

@@ -38,4 +38,3 @@ placed entries = placed_from [] entries
 -- one list begins the other
 abbrev pub Begins : List Entry → List Entry → Type 0
 Begins short long = take (length short) long ≡ short
-

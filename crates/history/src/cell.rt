@@ -6,7 +6,11 @@ use once_cell::race::{Note, OnceBox};
 use std::alloc::{AllocError, Global};
 
 /// Sets an empty cell, and gives a note that knows what lies there now.
-pub(crate) fn set_cell<T: Drop>(alloc: Global, cell: &OnceBox<T>, value: T) -> Result<Note<T>, AddFault>
+pub(crate) fn set_cell<T: Drop>(
+    alloc: Global,
+    cell: &OnceBox<T>,
+    value: T,
+) -> Result<Note<T>, AddFault>
     ensures cell { IfOk result (λ note. note.cell ≡ cell_name cell.now) }
     ensures known { IfOk result (λ note. note.known ≡ Some value) }
     ensures full { IsErrOf result AddFault.RowFull → ⊥ }

@@ -51,7 +51,12 @@ impl<L: FirstRow> Past<L> {
         ensures same { (self.new ≡ self.old) × (other.new ≡ other.old) }
         ensures begins { result ≡ true → (length self.old.entries ≤ length other.old.entries) × Begins self.old.entries other.old.entries }
     {
-        begin_in_row_before(&mut self.place, &mut self.notes, &mut other.place, &mut other.notes)
+        begin_in_row_before(
+            &mut self.place,
+            &mut self.notes,
+            &mut other.place,
+            &mut other.notes,
+        )
     }
 
     /// Moves on to the later row of one that it is seen to begin. Says whether it is.
@@ -62,7 +67,12 @@ impl<L: FirstRow> Past<L> {
         ensures apart { result ≡ Ok false → self.new ≡ self.old }
         ensures err { OnErr result (self.new ≡ self.old) }
     {
-        if !begin_in_row_before(&mut self.place, &mut self.notes, &mut other.place, &mut other.notes) {
+        if !begin_in_row_before(
+            &mut self.place,
+            &mut self.notes,
+            &mut other.place,
+            &mut other.notes,
+        ) {
             return Ok(false);
         }
         let place = other.place.again(self.alloc)?;

@@ -127,7 +127,12 @@ impl<L: FirstRow> Place<L> {
     }
 
     /// Moves on to another row, after so many entries.
-    pub(crate) fn begin(&mut self, alloc: Global, long: usize, row: Arc<Row, Global>) -> Result<(), AddFault>
+    pub(crate) fn begin(
+        &mut self,
+        alloc: Global,
+        long: usize,
+        row: Arc<Row, Global>,
+    ) -> Result<(), AddFault>
         requires { long ≤ length (names_after L.first self.old.links).cells }
         ensures ok { OnOk result (self.new ≡ place_after L.first self.old long (arc_value row)) }
         ensures err { OnErr result (self.new ≡ self.old) }

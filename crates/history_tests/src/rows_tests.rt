@@ -9,7 +9,19 @@ use std::marker::Brand;
 use std::sync::Arc;
 use std::test::Fail;
 
-/// What becomes of four more entries, of which the row has room for one, and the next one for two.
+/// What is seen of one beginning that goes on in a second row, and of another that was left behind.
+#[derive(Debug, Drop, PartialEq)]
+struct Seen {
+    /// What became of an entry more, of one more than there is room for, of the second row and of an entry there.
+    added: [Result<(), AddFault>; 4],
+    agreed: bool,
+    caught_up: Result<(), CatchUpFault>,
+    /// How many entries the one that was left behind has then, and how many came before its row.
+    places: [usize; 2],
+    /// The spaces of the first two calls of that row, before and after it reads them.
+    spaces: [Option<u32>; 4],
+}
+
 fn fill<L: FirstRow>(alloc: Global, past: &mut Past<L>) -> [Result<(), AddFault>; 4] {
     let last = add(past, 11);
     let full = add(past, 12);
@@ -17,51 +29,51 @@ fn fill<L: FirstRow>(alloc: Global, past: &mut Past<L>) -> [Result<(), AddFault>
     [last, full, begun, add(past, 13)]
 }
 
-/// What one that was left behind learns: whether it catches up, how many entries it has then and how many came before its row, and
-/// the spaces of the first two calls there, before and after it reads them.
-fn learn<L: FirstRow>(
-    late: &mut Past<L>,
-    past: &mut Past<L>,
-) -> (Result<(), CatchUpFault>, [usize; 2], [Option<u32>; 4]) {
-    let caught_up = late.catch_up(past);
-    let unread = [space_at(late, 0), space_at(late, 1)];
+fn read<L: FirstRow>(late: &mut Past<L>) -> [Option<u32>; 4] {
+    let first = space_at(late, 0);
+    let second = space_at(late, 1);
     let _ = late.read();
-    let [none, nothing] = unread;
-    let spaces = [none, nothing, space_at(late, 0), space_at(late, 1)];
-    (caught_up, [late.len(), late.start()], spaces)
+    [first, second, space_at(late, 0), space_at(late, 1)]
 }
 
-/// One beginning goes on in a second row while another stays where the first entry was added.
-fn in_two_rows<L: FirstRow>(
-    alloc: Global,
-    past: &mut Past<L>,
-    late: &mut Past<L>,
-) -> ([Result<(), AddFault>; 4], bool, (Result<(), CatchUpFault>, [usize; 2], [Option<u32>; 4])) {
+fn see<L: FirstRow>(alloc: Global, past: &mut Past<L>, late: &mut Past<L>) -> Seen {
     let added = fill(alloc, past);
     let agreed = late.agree(past);
-    (added, agreed, learn(late, past))
+    let caught_up = late.catch_up(past);
+    let places = [late.len(), late.start()];
+    let spaces = read(late);
+    Seen {
+        added,
+        agreed,
+        caught_up,
+        places,
+        spaces,
+    }
 }
 
-/// The same from a new row.
-fn from_new<L: FirstRow>(
-    alloc: Global,
-    row: Arc<Row, Global>,
-) -> Result<([Result<(), AddFault>; 4], bool, (Result<(), CatchUpFault>, [usize; 2], [Option<u32>; 4])), AllocError>
+/// Both have the first entry of a row of two.
+fn see_from<L: FirstRow>(alloc: Global, row: Arc<Row, Global>) -> Result<Seen, AllocError>
     requires { arc_value row ≡ L.first }
 {
     let mut past: Past<L> = Past::new(alloc, row);
     let _ = add(&mut past, 10);
     let late = past.again();
     let mut late = late?;
-    let seen = in_two_rows(alloc, &mut past, &mut late);
+    let seen = see(alloc, &mut past, &mut late);
     Ok(seen)
 }
 
 #[test]
 fn one_that_was_left_behind_catches_up(rt: HostRuntime) -> Result<(), Fail> {
     let row = row_of(rt.alloc(), 2)?;
-    let seen = from_new::<Brand>(rt.alloc(), row)?;
-    let added = [Ok(()), Err(AddFault::RowFull), Ok(()), Ok(())];
-    same(&rt, seen, (added, true, (Ok(()), [3, 2], [None, None, Some(13), None])));
+    let seen = see_from::<Brand>(rt.alloc(), row)?;
+    let wanted = Seen {
+        added: [Ok(()), Err(AddFault::RowFull), Ok(()), Ok(())],
+        agreed: true,
+        caught_up: Ok(()),
+        places: [3, 2],
+        spaces: [None, None, Some(13), None],
+    };
+    same(&rt, seen, wanted);
     Ok(())
 }

@@ -37,5 +37,5 @@ returns-clause-cells g c = λ told.
     let starts = rw (c.agree.ensures.same.0, c.agree.ensures.same.1) at c.in-Some.ensures.start in
     let less : length mine ≤ length theirs = omega (arith, c.requires.rows) in
     let front = front_cells g.L.FirstRow.first mine theirs _ _ _ _ c.in-Some.start c.requires.notes c.requires.more c.requires.leads (c.agree.ensures.begins less) starts
-        (omega (arith, c.args.notes.now.ok, length-map c.args.notes.now.items (λ n. n.cell))) in
+    (omega (arith, c.args.notes.now.ok, length-map c.args.notes.now.items (λ n. n.cell))) in
     front ∙ ap (λ k. take k (map (λ n. n.cell) c.args.more.now.items)) (length-map c.args.notes.now.items (λ n. n.cell))

@@ -17,7 +17,7 @@ returns-in-Ok-clause-ok g c =
     let old = c.self.view_is in
     let entries = ap (λ (v : PastValue). v.entries) old in
     let long : c.len.result ≡ length c.args.self.now.entries =
-        omega (arith, c.self.inside.notes.ok, length-map c.self.inside.notes.items (λ n. n.known), known_long _ c.self.invariant.notes.entries, ap length entries) in
+    omega (arith, c.self.inside.notes.ok, length-map c.self.inside.notes.items (λ n. n.known), known_long _ c.self.invariant.notes.entries, ap length entries) in
     let rows : length c.begin.new.self.links ≡ c.args.self.now.rows + 1 = ap (λ (v : PlaceValue). length v.links) moved ∙ (length_push c.self.inside.place.links _ ∙ ap (λ (v : PastValue). v.rows + 1) old) in
     let start = ap (λ (v : PlaceValue). v.start) moved ∙ long in
     let capacity = ap (λ (v : PlaceValue). length v.row.cells) moved in

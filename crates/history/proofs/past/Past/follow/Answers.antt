@@ -13,8 +13,8 @@ invariant_of-self-2 g c =
     let same = c.begin_in_row_before.ensures.same in
     let more : c.copy_rest.new.notes.items ≡ mine ++ drop (length mine) theirs = cc (c.copy_rest.ensures.new, c.in_ok-reserve.ensures.items, same.2, same.3) in
     rw (c.in_ok-place.ensures.place ∙ same.1, c.clear.ensures.items)
-        (followed (λ n. n.cell) (λ n. n.known) g.L.FirstRow.first c.other.inside.place mine theirs c.copy_rest.new.notes.items c.other.inside.seen.items c.self.invariant.notes.entries c.other.invariant
-            (c.begin_in_row_before.ensures.cells told) (c.begin_in_row_before.ensures.begins told) more).0
+    (followed (λ n. n.cell) (λ n. n.known) g.L.FirstRow.first c.other.inside.place mine theirs c.copy_rest.new.notes.items c.other.inside.seen.items c.self.invariant.notes.entries c.other.invariant
+    (c.begin_in_row_before.ensures.cells told) (c.begin_in_row_before.ensures.begins told) more).0
 
 pub returns-clause-moved : goal.returns-clause-moved
 returns-clause-moved g c = λ done.
@@ -24,7 +24,7 @@ returns-clause-moved g c = λ done.
     let same = c.begin_in_row_before.ensures.same in
     let more : c.copy_rest.new.notes.items ≡ mine ++ drop (length mine) theirs = cc (c.copy_rest.ensures.new, c.in_ok-reserve.ensures.items, same.2, same.3) in
     let all = (followed (λ n. n.cell) (λ n. n.known) g.L.FirstRow.first c.other.inside.place mine theirs c.copy_rest.new.notes.items c.other.inside.seen.items c.self.invariant.notes.entries c.other.invariant
-        (c.begin_in_row_before.ensures.cells told) (c.begin_in_row_before.ensures.begins told) more).1 in
+    (c.begin_in_row_before.ensures.cells told) (c.begin_in_row_before.ensures.begins told) more).1 in
     let old = c.other.view_is in
     let place = c.in_ok-place.ensures.place ∙ same.1 in
     let entries = all ∙ ap (λ (v : PastValue). v.entries) old in

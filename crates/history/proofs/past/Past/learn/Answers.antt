@@ -18,7 +18,7 @@ invariant_of-self-then-own-theirs g c =
     let more : c.copy_rest.new.notes.items ≡ mine ++ drop (length mine) theirs = cc (c.copy_rest.ensures.new, c.in_ok-reserve.ensures.items, c.compare_last.ensures.same_mine, c.compare_last.ensures.same_theirs) in
     let begins = c.compare_last.ensures.begins (omega (arith, c.self.inside.notes.ok, c.other.inside.notes.ok)) in
     rw c.agree.ensures.same.0 (learned (λ n. n.cell) (λ n. n.known) g.L.FirstRow.first place other mine theirs c.copy_rest.new.notes.items c.self.inside.seen.items c.other.inside.seen.items c.self.invariant c.other.invariant links
-        (omega (arith, c.self.inside.notes.ok, c.other.inside.notes.ok)) begins more).0
+    (omega (arith, c.self.inside.notes.ok, c.other.inside.notes.ok)) begins more).0
 
 pub returns-in_ok-reserve-clause-ok : goal.returns-in_ok-reserve-clause-ok
 returns-in_ok-reserve-clause-ok g c =
@@ -31,7 +31,7 @@ returns-in_ok-reserve-clause-ok g c =
     let more : c.copy_rest.new.notes.items ≡ mine ++ drop (length mine) theirs = cc (c.copy_rest.ensures.new, c.in_ok-reserve.ensures.items, c.compare_last.ensures.same_mine, c.compare_last.ensures.same_theirs) in
     let begins = c.compare_last.ensures.begins (omega (arith, c.self.inside.notes.ok, c.other.inside.notes.ok)) in
     let all = (learned (λ n. n.cell) (λ n. n.known) g.L.FirstRow.first place other mine theirs c.copy_rest.new.notes.items c.self.inside.seen.items c.other.inside.seen.items c.self.invariant c.other.invariant links
-        (omega (arith, c.self.inside.notes.ok, c.other.inside.notes.ok)) begins more).1 in
+    (omega (arith, c.self.inside.notes.ok, c.other.inside.notes.ok)) begins more).1 in
     let own = ap (λ (v : PastValue). v.entries) c.self.view_is in
     let others = ap (λ (v : PastValue). v.entries) c.other.view_is in
     let entries = all ∙ (begins_split (known_entries (map (λ n. n.known) mine)) (known_entries (map (λ n. n.known) theirs)) begins ∙ (λ i. own i ++ drop (length (own i)) (others i))) in
@@ -53,5 +53,5 @@ returns-in_ok-reserve-clause-begins g c =
     let more : c.copy_rest.new.notes.items ≡ mine ++ drop (length mine) theirs = cc (c.copy_rest.ensures.new, c.in_ok-reserve.ensures.items, c.compare_last.ensures.same_mine, c.compare_last.ensures.same_theirs) in
     let begins = c.compare_last.ensures.begins (omega (arith, c.self.inside.notes.ok, c.other.inside.notes.ok)) in
     let all = (learned (λ n. n.cell) (λ n. n.known) g.L.FirstRow.first place other mine theirs c.copy_rest.new.notes.items c.self.inside.seen.items c.other.inside.seen.items c.self.invariant c.other.invariant links
-        (omega (arith, c.self.inside.notes.ok, c.other.inside.notes.ok)) begins more).1 in
+    (omega (arith, c.self.inside.notes.ok, c.other.inside.notes.ok)) begins more).1 in
     rw (all, ← c.self.view_is, ← c.other.view_is) (begins, begins_itself _)

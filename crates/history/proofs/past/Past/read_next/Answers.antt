@@ -28,4 +28,4 @@ invariant_of-self-2 g c =
     let long : c.len-at.result ≡ length seen = omega (arith, c.in_ok-reserve.ensures.len, c.self.inside.seen.ok) in
     let at : slice_get items (place.start + length seen) ≡ Some c.again_at-note.result = cc (c.start.ensures, long, c.again_at-note.ensures.note) in
     rw c.again_at-note.ensures.same (read_more (λ n. n.cell) (λ n. n.known) g.L.FirstRow.first place items c.again_at-note.result c.in_ok-held.held seen c.push_reserved.new.self.items c.self.invariant at c.in_ok-held.ensures
-        (c.push_reserved.ensures.items ∙ ap (λ l. l ++ c.in_ok-held.held ∷ []) c.in_ok-reserve.ensures.items))
+    (c.push_reserved.ensures.items ∙ ap (λ l. l ++ c.in_ok-held.held ∷ []) c.in_ok-reserve.ensures.items))
