@@ -102,6 +102,20 @@ impl<L: FirstRow> Past<L> {
         self.place.start()
     }
 
+    /// How many entries its row has room for.
+    pub fn capacity(&self) -> usize
+        ensures { result ≡ self.now.capacity }
+    {
+        self.place.row().capacity()
+    }
+
+    /// Its row once more. Who keeps it lets the row go, and not the beginning that moves on, which may do so under a lock.
+    pub fn row(&self) -> Result<Arc<Row, Global>, AllocError>
+        ensures { IfOk result (λ row. length (arc_value row).cells ≡ self.now.capacity) }
+    {
+        self.place.share_row()
+    }
+
     /// Adds an entry behind all that it has.
     pub fn add(&mut self, entry: Entry) -> Result<(), AddFault>
         ensures ok { OnOk result (self.new ≡ record self.old { entries = self.old.entries ++ entry ∷ [] }) }

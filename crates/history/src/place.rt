@@ -85,6 +85,13 @@ impl<L: FirstRow> Place<L> {
         &self.row
     }
 
+    /// Its row once more.
+    pub(crate) fn share_row(&self) -> Result<Arc<Row, Global>, AllocError>
+        ensures { IfOk result (λ row. arc_value row ≡ self.now.row) }
+    {
+        Arc::try_clone(&self.row)
+    }
+
     /// How many entries are before its row.
     pub(crate) fn start(&self) -> usize
         ensures { result ≡ self.now.start }
