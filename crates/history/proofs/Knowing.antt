@@ -1,9 +1,8 @@
 -- What notes of cells tell. f gives a note's cell, and g what it knows.
-use Rattle.std.proofs.Common.{◌≡◌, ℕ, zero, suc, ◌+◌, ◌-◌, ◌<◌, ◌≤◌, Option, Some, None, List, [], ◌∷◌, ◌++◌, length, map, take, drop, slice_get, is_some, true, IfSome, refl, ap, sym, ◌∙◌, subst, arith, inl, inr, length-append}
+use Rattle.std.proofs.Common.{◌≡◌, ℕ, ◌+◌, ◌-◌, ◌<◌, ◌≤◌, Option, Some, None, List, [], ◌∷◌, ◌++◌, length, map, take, drop, slice_get, is_some, true, IfSome, refl, ap, sym, ◌∙◌, subst, arith, inl, inr, length-append}
 use Rattle.std.specs.Option.{option_map}
-use Rattle.std.proofs.lemmas.List.{append-nil, map-append, length-map, length-take, length-drop, drop-append-le, take-append-le, take-take, take-map, take-append-drop}
+use Rattle.std.proofs.lemmas.List.{map-append, length-map, length-take, length-drop, drop-append-le, take-append-le, take-take, take-map, take-append-drop}
 use Rattle.std.proofs.lemmas.Option.{slice_get-map, slice_get_within, slice_get_cases}
-use Rattle.history.specs.declared.entry.Entry.{Entry}
 use Rattle.history.specs.Entries.{numbers_of, PlacedValue, place_after, placed, Begins}
 use Rattle.history.specs.Rows.{RowNames, LinkValue, PlaceValue, names_after, IsRowAt, Leads}
 use Rattle.history.specs.Rows as rows

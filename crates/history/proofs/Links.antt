@@ -1,9 +1,9 @@
 -- What notes of links tell. f gives a note's cell, and g what it knows.
-use Rattle.std.proofs.Common.{◌≡◌, ℕ, zero, suc, ◌+◌, ◌<◌, ◌≤◌, Option, Some, None, List, [], ◌∷◌, ◌++◌, length, map, take, drop, slice_get, IfSome, refl, ap, sym, ◌∙◌, subst, arith, inl, inr, length-append}
+use Rattle.std.proofs.Common.{◌≡◌, ℕ, zero, suc, ◌+◌, ◌<◌, ◌≤◌, Option, Some, None, List, [], ◌∷◌, ◌++◌, length, map, take, drop, slice_get, IfSome, refl, ap, sym, ◌∙◌, arith, inl, inr}
 use Rattle.std.specs.Option.{option_map}
 use Rattle.std.proofs.lemmas.List.{map-append, length-map, drop_at, length-take-le}
 use Rattle.std.proofs.lemmas.Option.{slice_get-map, slice_get_within, slice_get_cases}
-use Rattle.history.specs.Rows.{RowNames, LinkValue, names_after, next_names, link_cells, known_links, AreLinks, IsRowAt, IsPlace}
+use Rattle.history.specs.Rows.{RowNames, LinkValue, names_after, next_names, link_cells, known_links, AreLinks, IsPlace}
 use Rattle.history.proofs.Places.{take_next}
 
 -- two notes of one cell, in the words of their comparison

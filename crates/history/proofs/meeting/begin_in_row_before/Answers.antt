@@ -1,4 +1,4 @@
-use Rattle.std.proofs.Common.{◌≡◌, ◌-◌, ◌≤◌, Some, length, map, take, slice_get, ap, ◌∙◌, arith}
+use Rattle.std.proofs.Common.{◌-◌, ◌≤◌, length, map, take, ap, ◌∙◌, arith}
 use Rattle.std.proofs.lemmas.List.{length-map}
 use Rattle.history.proofs.Knowing.{behind, front_cells}
 use Rattle.history.proofs.meeting.begin_in_row_before.Goals as goal

@@ -1,4 +1,4 @@
-use Rattle.std.proofs.Common.{◌≡◌, ◌-◌, arith}
+use Rattle.std.proofs.Common.{◌-◌, arith}
 use Rattle.history.proofs.Knowing.{begins_by}
 use Rattle.history.proofs.meeting.compare_last.Goals as goal
 

@@ -1,4 +1,4 @@
-use Rattle.std.proofs.Common.{◌≡◌, ℕ, ◌+◌, Some, ◌++◌, ◌∷◌, [], drop, length, slice_get, ap, sym, ◌∙◌, arith, length-append}
+use Rattle.std.proofs.Common.{◌+◌, ◌++◌, ◌∷◌, [], drop, length, slice_get, ap, sym, ◌∙◌, arith, length-append}
 use Rattle.history.proofs.Places.{copy_next}
 use Rattle.history.proofs.notes.copy_rest.Goals as goal
 

@@ -1,4 +1,4 @@
-use Rattle.std.proofs.Common.{◌≡◌, ◌++◌, ℕ, length, drop, vec_capacity}
+use Rattle.std.proofs.Common.{◌≡◌, ◌++◌, length, drop, vec_capacity}
 use Rattle.history.proofs.notes.copy_rest.Given as goal
 
 abbrev pub invariant-loop-at : goal.invariant-loop-at

@@ -1,4 +1,4 @@
-use Rattle.std.proofs.Common.{◌≡◌, ℕ, Some, length, map, slice_get, ap, sym, ◌∙◌, arith}
+use Rattle.std.proofs.Common.{slice_get, ap, sym, ◌∙◌, arith}
 use Rattle.history.proofs.Links.{same_link_cell, links_next}
 use Rattle.history.proofs.place.agree_links.Goals as goal
 

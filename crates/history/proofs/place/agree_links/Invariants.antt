@@ -1,4 +1,4 @@
-use Rattle.std.proofs.Common.{◌≡◌, ℕ, map, take}
+use Rattle.std.proofs.Common.{◌≡◌, map, take}
 use Rattle.history.specs.Rows.{known_links}
 use Rattle.history.proofs.place.agree_links.Given as goal
 

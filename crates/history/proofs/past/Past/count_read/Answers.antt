@@ -1,4 +1,4 @@
-use Rattle.std.proofs.Common.{◌≡◌, ◌+◌, ◌≤◌, length, arith}
+use Rattle.std.proofs.Common.{arith}
 use Rattle.std.proofs.lemmas.List.{length-map}
 use Rattle.history.proofs.Knowing.{known_long, read_within}
 use Rattle.history.proofs.past.Past.count_read.Goals as goal

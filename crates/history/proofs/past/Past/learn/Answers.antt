@@ -1,5 +1,4 @@
-use Rattle.std.proofs.Common.{◌≡◌, ◌≤◌, List, ◌++◌, length, map, take, drop, sym, ◌∙◌, ap, subst, arith}
-use Rattle.history.specs.Entries.{Begins}
+use Rattle.std.proofs.Common.{◌≡◌, ◌++◌, length, map, drop, sym, ◌∙◌, ap, arith}
 use Rattle.history.specs.Rows.{PlaceValue}
 use Rattle.history.specs.Pasts.{PastValue, known_entries}
 use Rattle.history.proofs.Places.{same_whole}

@@ -1,4 +1,4 @@
-use Rattle.std.proofs.Common.{◌≡◌, length, arith}
+use Rattle.std.proofs.Common.{arith}
 use Rattle.std.proofs.lemmas.List.{length-map}
 use Rattle.history.proofs.Knowing.{known_long}
 use Rattle.history.proofs.past.Past.len.Goals as goal

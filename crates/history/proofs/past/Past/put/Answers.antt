@@ -1,8 +1,8 @@
-use Rattle.std.proofs.Common.{◌≡◌, ◌-◌, ◌+◌, ◌≤◌, List, [], ◌∷◌, ◌++◌, ℕ, Some, Err, length, map, slice_get, ap, sym, ◌∙◌, arith}
+use Rattle.std.proofs.Common.{◌≡◌, ◌-◌, ◌≤◌, [], ◌∷◌, ◌++◌, Some, Err, length, slice_get, ap, sym, ◌∙◌, arith}
 use Rattle.std.proofs.lemmas.List.{length-map}
 use Rattle.history.specs.declared.fault.AddFault.TheVariants.{RowFull}
 use Rattle.history.specs.Entries.{numbers_of}
-use Rattle.history.specs.Rows.{RowNames, names_after}
+use Rattle.history.specs.Rows.{RowNames}
 use Rattle.history.specs.Pasts.{PastValue}
 use Rattle.history.proofs.Knowing.{past_more, entries_more, known_long, row_cell}
 use Rattle.history.proofs.past.Past.put.Goals as goal

@@ -1,4 +1,4 @@
-use Rattle.std.proofs.Common.{◌≡◌, ℕ, List, [], ◌∷◌, ◌++◌, Some, length, map, ap, sym, ◌∙◌}
+use Rattle.std.proofs.Common.{◌≡◌, ℕ, List, [], ◌∷◌, ◌++◌, ap, ◌∙◌}
 use Rattle.std.specs.Arc.{arc_value}
 use Rattle.history.specs.Rows.{RowNames, LinkValue, PlaceValue, names_after, next_names, names_of_numbers}
 use Rattle.history.proofs.Links.{begins_row, links_more}

@@ -1,4 +1,4 @@
-use Rattle.std.proofs.Common.{◌≡◌, ℕ, Some, length, map, slice_get, ap, sym, ◌∙◌, arith}
+use Rattle.std.proofs.Common.{◌≡◌, length, ap, ◌∙◌, arith}
 use Rattle.std.proofs.lemmas.List.{length-map}
 use Rattle.history.specs.Rows.{RowNames, PlaceValue, names_after}
 use Rattle.history.proofs.Links.{links_long, left_cell, left_start}
