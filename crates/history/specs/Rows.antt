@@ -67,11 +67,12 @@ pub record IsRowAt (first : RowNames) (links : List LinkValue) (start : ℕ) (ro
   pub same_link : row.link ≡ (names_after first links).link
   pub same_cells : row.cells ≡ drop start (names_after first links).cells
 
+-- Of a place: its notes know the links, and its row is the one that they lead to.
 pub record IsPlace (first row : RowNames) (noted : List ℕ) (known : List (Option LinkValue)) (start : ℕ) : Type 0 where
   pub notes : AreLinks first noted known
   pub here : IsRowAt first (known_links known) start row
 
--- the names behind the next row
+-- the place behind the next row
 abbrev pub place_after : RowNames → PlaceValue → ℕ → RowNames → PlaceValue
 place_after first place long row =
     record { links = place.links ++ (record { start = long; next = next_names (names_after first place.links) long row } ∷ []); start = long; row = row }
