@@ -1,5 +1,5 @@
 -- Lists of entries of which one begins the other.
-use Rattle.std.proofs.Common.{◌≡◌, ℕ, ◌≤◌, Some, List, ◌++◌, length, take, slice_get, ap, sym, ◌∙◌, arith}
+use Rattle.std.proofs.Common.{◌≡◌, ℕ, ◌≤◌, Some, List, [], ◌∷◌, ◌++◌, length, take, slice_get, ap, sym, ◌∙◌, arith}
 use Rattle.std.proofs.lemmas.List.{length-take, take-take, take_at}
 use Rattle.std.proofs.lemmas.Option.{slice_get_within}
 use Rattle.history.specs.declared.entry.Entry.{Entry}
@@ -25,3 +25,7 @@ begins_both xs ys zs first second less =
 pub begins_at_place : (xs ys : List Entry) (i : ℕ) (e : Entry) → Begins xs ys → slice_get xs i ≡ Some e → slice_get ys i ≡ Some e
 begins_at_place xs ys i e begins at =
     sym (slice_get-take (length xs) i ys (slice_get_within xs i e at)) ∙ (ap (λ (l : List Entry). slice_get l i) begins ∙ at)
+
+-- a list that begins another with one item more, and has one less, is that other
+pub begins_same : (xs ys : List Entry) (e : Entry) → Begins xs (ys ++ e ∷ []) → length ys ≡ length xs → ys ≡ xs
+begins_same xs ys e begins long = sym (take_at ys (e ∷ []) (length xs) long) ∙ begins

@@ -1,4 +1,4 @@
-ghost use Rattle.std.specs.Prelude.{◌≡◌, ◌≢◌, ◌+◌, ◌-◌, ◌<◌, ◌≤◌, ◌++◌, length, take, drop, map, slice_get, true, false, Ok, OnOk, OnErr, IsErrOf};
+ghost use Rattle.std.specs.Prelude.{◌≡◌, ◌≢◌, ◌+◌, ◌-◌, ◌<◌, ◌≤◌, ◌∷◌, [], ◌++◌, length, take, drop, map, slice_get, true, false, Ok, OnOk, OnErr, IsErrOf, vec_capacity};
 ghost use Rattle.history.specs.Entries.{Begins};
 ghost use Rattle.history.specs.Pasts.{known_entries, AreKnown, AreNotes};
 ghost use Rattle.history.specs.Rows.{names_after, Leads};
@@ -6,7 +6,7 @@ ghost use Rattle.history.specs.Rows.{names_after, Leads};
 use crate::held::Held;
 use crate::notes::{again_at, compare_at, copy_rest};
 use crate::place::Place;
-use crate::{CatchUpFault, FirstRow, Past};
+use crate::{AddFault, CatchUpFault, Entry, FirstRow, Past};
 use once_cell::race::Note;
 use std::alloc::AllocError;
 
@@ -31,6 +31,27 @@ impl<L: FirstRow> Past<L> {
         }
         self.agree_in_row(other);
         true
+    }
+
+    /// Adds an entry behind all that both have, so that neither lacks it. Nothing changed where it isn't added.
+    pub fn add_to_both(&mut self, other: &mut Past<L>, entry: Entry) -> Result<(), AddFault>
+        requires rows { self.old.rows ≡ other.old.rows }
+        requires entries { length self.old.entries ≡ length other.old.entries }
+        ensures ok { OnOk result ((self.new ≡ record self.old { entries = self.old.entries ++ entry ∷ [] }) × (other.new ≡ record other.old { entries = other.old.entries ++ entry ∷ [] })) }
+        ensures full { IsErrOf result AddFault.RowFull → self.old.start + self.old.capacity ≤ length self.old.entries }
+        ensures err { OnErr result ((self.new ≡ self.old) × (other.new ≡ other.old)) }
+    {
+        other.notes.reserve(1)?;
+        match self.add(entry) {
+            Ok(()) => {
+                other.place.agree(&mut self.place);
+                let own = other.notes.len();
+                compare_last(&mut other.notes, &mut self.notes, own);
+                copy_rest(&mut other.notes, &mut self.notes);
+                Ok(())
+            }
+            Err(fault) => Err(fault),
+        }
     }
 
     /// Compares two beginnings in one row.
@@ -167,6 +188,7 @@ fn compare_last(mine: &mut Vec<Note<Held>>, theirs: &mut Vec<Note<Held>>, long: 
     requires cell { 0 < long → slice_get (map (λ n. n.cell) mine.old.items) (long - 1) ≡ slice_get (map (λ n. n.cell) theirs.old.items) (long - 1) }
     ensures same_mine { mine.new.items ≡ mine.old.items }
     ensures same_theirs { theirs.new.items ≡ theirs.old.items }
+    ensures room { vec_capacity mine.new ≡ vec_capacity mine.old }
     ensures begins { length mine.old.items ≡ long → Begins (known_entries (map (λ n. n.known) mine.old.items)) (known_entries (map (λ n. n.known) theirs.old.items)) }
     ensures goes_on { length theirs.old.items ≡ long → Begins (known_entries (map (λ n. n.known) theirs.old.items)) (known_entries (map (λ n. n.known) mine.old.items)) }
 {

@@ -17,6 +17,7 @@ pub(crate) fn compare_at<T>(notes: &mut Vec<Note<T>>, at: usize, note: Note<T>)
     requires within { at < length notes.old.items }
     requires cell { slice_get (map (λ n. n.cell) notes.old.items) at ≡ Some note.cell }
     ensures same { notes.new.items ≡ notes.old.items }
+    ensures room { vec_capacity notes.new ≡ vec_capacity notes.old }
     ensures known { IfSome note.known (λ seen. IfSome (slice_get (map (λ n. n.known) notes.old.items) at) (λ known. IfSome known (λ own. own ≡ seen))) }
 {
     notes[at].compare(note);

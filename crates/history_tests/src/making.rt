@@ -20,6 +20,21 @@ pub(crate) fn add<L: FirstRow>(past: &mut Past<L>, space: u32) -> Result<(), Add
     past.add(entry_of(space))
 }
 
+/// Adds an entry to two that have as many in as many rows.
+pub(crate) fn add_to_both<L: FirstRow>(
+    past: &mut Past<L>,
+    other: &mut Past<L>,
+    space: u32,
+) -> Option<Result<(), AddFault>> {
+    if past.rows() != other.rows() {
+        return None;
+    }
+    if past.len() != other.len() {
+        return None;
+    }
+    Some(past.add_to_both(other, entry_of(space)))
+}
+
 /// The space of the call at a place of the row, if it was read.
 pub(crate) fn space_at<L: FirstRow>(past: &Past<L>, at: usize) -> Option<u32> {
     Some(past.record(at)?.space)

@@ -2,7 +2,7 @@ ghost use Rattle.std.specs.Prelude.{◌≡◌};
 ghost use Rattle.std.specs.Arc.{arc_value};
 
 use crate::expect::same;
-use crate::making::{add, begin_row, row_of, space_at};
+use crate::making::{add, add_to_both, begin_row, row_of, space_at};
 use history::{AddFault, CatchUpFault, FirstRow, Past, Row};
 use std::alloc::{AllocError, Global};
 use std::marker::Brand;
@@ -16,6 +16,8 @@ struct Seen {
     added: [Result<(), AddFault>; 4],
     agreed: bool,
     caught_up: Result<(), CatchUpFault>,
+    /// What became of an entry that was added to both then.
+    both: Option<Result<(), AddFault>>,
     /// How many entries the one that was left behind has then, and how many came before its row.
     places: [usize; 2],
     /// The spaces of the first two calls of that row, before and after it reads them.
@@ -40,12 +42,14 @@ fn see<L: FirstRow>(alloc: Global, past: &mut Past<L>, late: &mut Past<L>) -> Se
     let added = fill(alloc, past);
     let agreed = late.agree(past);
     let caught_up = late.catch_up(past);
+    let both = add_to_both(past, late, 14);
     let places = [late.len(), late.start()];
     let spaces = read(late);
     Seen {
         added,
         agreed,
         caught_up,
+        both,
         places,
         spaces,
     }
@@ -71,8 +75,9 @@ fn one_that_was_left_behind_catches_up(rt: HostRuntime) -> Result<(), Fail> {
         added: [Ok(()), Err(AddFault::RowFull), Ok(()), Ok(())],
         agreed: true,
         caught_up: Ok(()),
-        places: [3, 2],
-        spaces: [None, None, Some(13), None],
+        both: Some(Ok(())),
+        places: [4, 2],
+        spaces: [None, None, Some(13), Some(14)],
     };
     same(&rt, seen, wanted);
     Ok(())
