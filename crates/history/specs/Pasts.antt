@@ -4,20 +4,20 @@ use Rattle.std.specs.Coded.{Coded, code_by, coded×, coded_ℕ, coded_list}
 use Rattle.history.specs.declared.entry.Entry.{Entry}
 use Rattle.history.specs.contracts.entry.Entry as entry
 use Rattle.history.specs.Entries.{PlacedValue, placed}
-use Rattle.history.specs.Rows.{RowNames, PlaceValue, names_after, Leads}
+use Rattle.history.specs.Rows.{RowNames, PlaceValue, names_code, names_after, Leads}
 
--- A beginning of the history: its entries, how many rows came before its row, where that row begins and how many cells it
--- has, and how many of the row's entries were read.
+-- A beginning of the history: its entries, how many rows came before its row, where that row begins and the names of its
+-- cells, and how many of the row's entries were read.
 pub record PastValue : Type 0 where
   pub entries : List Entry
   pub rows : ℕ
   pub start : ℕ
-  pub capacity : ℕ
+  pub row : RowNames
   pub read : ℕ
 
 abbrev pub past_code : Coded PastValue
 past_code =
-    code_by (List Entry × (ℕ × (ℕ × (ℕ × ℕ)))) (coded× (coded_list entry.the_row.coded) (coded× coded_ℕ (coded× coded_ℕ (coded× coded_ℕ coded_ℕ)))) (λ p. (p.entries, (p.rows, (p.start, (p.capacity, p.read))))) (λ p. record { entries = p.0; rows = p.1.0; start = p.1.1.0; capacity = p.1.1.1.0; read = p.1.1.1.1 }) (λ _. refl)
+    code_by (List Entry × (ℕ × (ℕ × (RowNames × ℕ)))) (coded× (coded_list entry.the_row.coded) (coded× coded_ℕ (coded× coded_ℕ (coded× names_code coded_ℕ)))) (λ p. (p.entries, (p.rows, (p.start, (p.row, p.read))))) (λ p. record { entries = p.0; rows = p.1.0; start = p.1.1.0; row = p.1.1.1.0; read = p.1.1.1.1 }) (λ _. refl)
 
 -- the entries that notes know
 abbrev pub known_entries : List (Option PlacedValue) → List Entry

@@ -38,7 +38,7 @@ impl<L: FirstRow> Past<L> {
         requires rows { self.old.rows ≡ other.old.rows }
         requires entries { length self.old.entries ≡ length other.old.entries }
         ensures ok { OnOk result ((self.new ≡ record self.old { entries = self.old.entries ++ entry ∷ [] }) × (other.new ≡ record other.old { entries = other.old.entries ++ entry ∷ [] })) }
-        ensures full { IsErrOf result AddFault.RowFull → self.old.start + self.old.capacity ≤ length self.old.entries }
+        ensures full { IsErrOf result AddFault.RowFull → self.old.start + length self.old.row.cells ≤ length self.old.entries }
         ensures err { OnErr result ((self.new ≡ self.old) × (other.new ≡ other.old)) }
     {
         other.notes.reserve(1)?;

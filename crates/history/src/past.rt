@@ -13,7 +13,7 @@ use std::marker::Model;
 use std::sync::Arc;
 
 /// A beginning of the history, up to a row that it keeps. Contracts see its entries, how many rows came before its row, where
-/// that row begins and how many entries it has room for, and how many of the row's entries were read.
+/// that row begins and the names of its cells, and how many of the row's entries were read.
 #[derive(Drop)]
 pub struct Past<L: FirstRow> {
     pub(crate) alloc: Global,
@@ -34,7 +34,7 @@ impl<L: FirstRow> Model for Past<L> {
 
     ghost coded = { past_code };
 
-    ghost view = { λ p. record { entries = known_entries (map (λ n. n.known) p.notes.items); rows = length p.place.links; start = p.place.start; capacity = length p.place.row.cells; read = length p.seen.items } };
+    ghost view = { λ p. record { entries = known_entries (map (λ n. n.known) p.notes.items); rows = length p.place.links; start = p.place.start; row = p.place.row; read = length p.seen.items } };
 
     ghost invariant = { λ p. IsPast L.first p.place (map (λ n. n.cell) p.notes.items) (map (λ n. n.known) p.notes.items) p.seen.items };
 }
@@ -52,7 +52,7 @@ impl<L: FirstRow> Past<L> {
     /// The beginning that has no entry, in the first row.
     pub fn new(alloc: Global, row: Arc<Row, Global>) -> Self
         requires { arc_value row ≡ L.first }
-        ensures { result ≡ record { entries = []; rows = 0; start = 0; capacity = length L.first.cells; read = 0 } }
+        ensures { result ≡ record { entries = []; rows = 0; start = 0; row = L.first; read = 0 } }
     {
         Past {
             alloc,
@@ -104,14 +104,14 @@ impl<L: FirstRow> Past<L> {
 
     /// How many entries its row has room for.
     pub fn capacity(&self) -> usize
-        ensures { result ≡ self.now.capacity }
+        ensures { result ≡ length self.now.row.cells }
     {
         self.place.row().capacity()
     }
 
     /// Its row once more. Who keeps it lets the row go, and not the beginning that moves on, which may do so under a lock.
     pub fn row(&self) -> Result<Arc<Row, Global>, AllocError>
-        ensures { IfOk result (λ row. length (arc_value row).cells ≡ self.now.capacity) }
+        ensures { IfOk result (λ row. arc_value row ≡ self.now.row) }
     {
         self.place.share_row()
     }
@@ -119,7 +119,7 @@ impl<L: FirstRow> Past<L> {
     /// Adds an entry behind all that it has.
     pub fn add(&mut self, entry: Entry) -> Result<(), AddFault>
         ensures ok { OnOk result (self.new ≡ record self.old { entries = self.old.entries ++ entry ∷ [] }) }
-        ensures full { IsErrOf result AddFault.RowFull → self.old.start + self.old.capacity ≤ length self.old.entries }
+        ensures full { IsErrOf result AddFault.RowFull → self.old.start + length self.old.row.cells ≤ length self.old.entries }
         ensures err { OnErr result (self.new ≡ self.old) }
     {
         let before = Tag::of::<Past<L>, AllBefore>(self);
@@ -130,7 +130,7 @@ impl<L: FirstRow> Past<L> {
     fn put(&mut self, held: Held) -> Result<(), AddFault>
         requires { held.before ≡ numbers_of self.old.entries }
         ensures ok { OnOk result (self.new ≡ record self.old { entries = self.old.entries ++ held.entry ∷ [] }) }
-        ensures full { IsErrOf result AddFault.RowFull → self.old.start + self.old.capacity ≤ length self.old.entries }
+        ensures full { IsErrOf result AddFault.RowFull → self.old.start + length self.old.row.cells ≤ length self.old.entries }
         ensures err { OnErr result (self.new ≡ self.old) }
     {
         self.notes.reserve(1)?;
@@ -146,7 +146,7 @@ impl<L: FirstRow> Past<L> {
 
     /// Goes on in another row, whose entries come behind all that it has.
     pub fn begin_row(&mut self, row: Arc<Row, Global>) -> Result<(), AddFault>
-        ensures ok { OnOk result (self.new ≡ record { entries = self.old.entries; rows = self.old.rows + 1; start = length self.old.entries; capacity = length (arc_value row).cells; read = 0 }) }
+        ensures ok { OnOk result (self.new ≡ record { entries = self.old.entries; rows = self.old.rows + 1; start = length self.old.entries; row = arc_value row; read = 0 }) }
         ensures err { OnErr result (self.new ≡ self.old) }
     {
         match self.place.begin(self.alloc, self.notes.len(), row) {

@@ -73,11 +73,11 @@ returns-in-Ok-clause-ok g c =
     let entries = kept ∙ ap (λ (v : PastValue). v.entries) now in
     let rows = ap (λ (v : PlaceValue). length v.links) c.agree.ensures.same.1 ∙ ap (λ (v : PastValue). v.rows) now in
     let start = ap (λ (v : PlaceValue). v.start) c.agree.ensures.same.1 ∙ ap (λ (v : PastValue). v.start) now in
-    let capacity = ap (λ (v : PlaceValue). length v.row.cells) c.agree.ensures.same.1 ∙ ap (λ (v : PastValue). v.capacity) now in
+    let row = ap (λ (v : PlaceValue). v.row) c.agree.ensures.same.1 ∙ ap (λ (v : PastValue). v.row) now in
     let entries' = whole ∙ (ap (λ (v : PastValue). v.entries) now ∙ ap (λ l. l ++ c.args.entry ∷ []) same) in
     let rows' = ap (λ (v : PlaceValue). length v.links) c.agree.ensures.same.0 ∙ ap (λ (v : PastValue). v.rows) old in
     let start' = ap (λ (v : PlaceValue). v.start) c.agree.ensures.same.0 ∙ ap (λ (v : PastValue). v.start) old in
-    let capacity' = ap (λ (v : PlaceValue). length v.row.cells) c.agree.ensures.same.0 ∙ ap (λ (v : PastValue). v.capacity) old in (
-      λ i. record { entries = entries i; rows = rows i; start = start i; capacity = capacity i; read = (now i).read },
-      λ i. record { entries = entries' i; rows = rows' i; start = start' i; capacity = capacity' i; read = (old i).read },
+    let row' = ap (λ (v : PlaceValue). v.row) c.agree.ensures.same.0 ∙ ap (λ (v : PastValue). v.row) old in (
+      λ i. record { entries = entries i; rows = rows i; start = start i; row = row i; read = (now i).read },
+      λ i. record { entries = entries' i; rows = rows' i; start = start' i; row = row' i; read = (old i).read },
     )

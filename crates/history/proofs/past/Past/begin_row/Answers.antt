@@ -20,6 +20,6 @@ returns-in-Ok-clause-ok g c =
     omega (arith, c.self.inside.notes.ok, length-map c.self.inside.notes.items (λ n. n.known), known_long _ c.self.invariant.notes.entries, ap length entries) in
     let rows : length c.begin.new.self.links ≡ c.args.self.now.rows + 1 = ap (λ (v : PlaceValue). length v.links) moved ∙ (length_push c.self.inside.place.links _ ∙ ap (λ (v : PastValue). v.rows + 1) old) in
     let start = ap (λ (v : PlaceValue). v.start) moved ∙ long in
-    let capacity = ap (λ (v : PlaceValue). length v.row.cells) moved in
+    let row = ap (λ (v : PlaceValue). v.row) moved in
     let read = ap length c.clear.ensures.items in
-    λ i. record { entries = entries i; rows = rows i; start = start i; capacity = capacity i; read = read i }
+    λ i. record { entries = entries i; rows = rows i; start = start i; row = row i; read = read i }

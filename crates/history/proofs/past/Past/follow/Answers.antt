@@ -30,9 +30,9 @@ returns-clause-moved g c = λ done.
     let entries = all ∙ ap (λ (v : PastValue). v.entries) old in
     let rows = ap (λ (v : PlaceValue). length v.links) place ∙ ap (λ (v : PastValue). v.rows) old in
     let start = ap (λ (v : PlaceValue). v.start) place ∙ ap (λ (v : PastValue). v.start) old in
-    let capacity = ap (λ (v : PlaceValue). length v.row.cells) place ∙ ap (λ (v : PastValue). v.capacity) old in
+    let row = ap (λ (v : PlaceValue). v.row) place ∙ ap (λ (v : PastValue). v.row) old in
     let read = ap length c.clear.ensures.items in (
-      λ i. record { entries = entries i; rows = rows i; start = start i; capacity = capacity i; read = read i },
+      λ i. record { entries = entries i; rows = rows i; start = start i; row = row i; read = read i },
       rw (← c.self.view_is, ← c.other.view_is) (omega (arith, c.begin_in_row_before.ensures.less told, known_long _ c.self.invariant.notes.entries, known_long _ c.other.invariant.notes.entries, length-map mine (λ n. n.known), length-map theirs (λ n. n.known))),
       rw (← c.self.view_is, ← c.other.view_is) (c.begin_in_row_before.ensures.begins told),
     )

@@ -38,8 +38,8 @@ returns-in_ok-reserve-clause-ok g c =
     let old = c.self.view_is in
     let rows = ap (λ (v : PlaceValue). length v.links) moved ∙ ap (λ (v : PastValue). v.rows) old in
     let start = ap (λ (v : PlaceValue). v.start) moved ∙ ap (λ (v : PastValue). v.start) old in
-    let capacity = ap (λ (v : PlaceValue). length v.row.cells) moved ∙ ap (λ (v : PastValue). v.capacity) old in
-    λ i. record { entries = entries i; rows = rows i; start = start i; capacity = capacity i; read = (old i).read }
+    let row = ap (λ (v : PlaceValue). v.row) moved ∙ ap (λ (v : PastValue). v.row) old in
+    λ i. record { entries = entries i; rows = rows i; start = start i; row = row i; read = (old i).read }
 
 pub returns-in_ok-reserve-clause-begins : goal.returns-in_ok-reserve-clause-begins
 returns-in_ok-reserve-clause-begins g c =

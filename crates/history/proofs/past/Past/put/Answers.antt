@@ -26,7 +26,7 @@ returns-in-Ok-clause-ok g c =
     (c.push_reserved.ensures.items ∙ ap (λ l. l ++ c.in-Ok.note ∷ []) c.in_ok-reserve.ensures.items) c.in-Ok.ensures.known in
     let entries = all ∙ ap (λ (v : PastValue). v.entries ++ c.args.held.entry ∷ []) c.self.view_is in
     let old = c.self.view_is in
-    λ i. record { entries = entries i; rows = (old i).rows; start = (old i).start; capacity = (old i).capacity; read = (old i).read }
+    λ i. record { entries = entries i; rows = (old i).rows; start = (old i).start; row = (old i).row; read = (old i).read }
 
 pub returns-in-Err-clause-full : goal.returns-in-Err-clause-full
 returns-in-Err-clause-full g c =
