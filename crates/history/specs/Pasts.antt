@@ -1,0 +1,43 @@
+-- Beginnings of the history, as notes of cells tell them.
+use Rattle.std.specs.Prelude.{◌≡◌, ℕ, ◌≤◌, Option, Some, None, List, [], ◌∷◌, length, map, take, drop, refl}
+use Rattle.std.specs.Coded.{Coded, code_by, coded×, coded_ℕ, coded_list}
+use Rattle.history.specs.declared.entry.Entry.{Entry}
+use Rattle.history.specs.contracts.entry.Entry as entry
+use Rattle.history.specs.Entries.{PlacedValue, placed}
+use Rattle.history.specs.Rows.{RowNames, PlaceValue, names_code, names_after, Leads}
+
+-- A beginning of the history: its entries, how many rows came before its row, where that row begins and the names of its
+-- cells, and how many of the row's entries were read.
+pub record PastValue : Type 0 where
+  pub entries : List Entry
+  pub rows : ℕ
+  pub start : ℕ
+  pub row : RowNames
+  pub read : ℕ
+
+abbrev pub past_code : Coded PastValue
+past_code =
+    code_by (List Entry × (ℕ × (ℕ × (RowNames × ℕ)))) (coded× (coded_list entry.the_row.coded) (coded× coded_ℕ (coded× coded_ℕ (coded× names_code coded_ℕ)))) (λ p. (p.entries, (p.rows, (p.start, (p.row, p.read))))) (λ p. record { entries = p.0; rows = p.1.0; start = p.1.1.0; row = p.1.1.1.0; read = p.1.1.1.1 }) (λ _. refl)
+
+-- the entries that notes know
+abbrev pub known_entries : List (Option PlacedValue) → List Entry
+known_entries [] = []
+known_entries (None ∷ known) = known_entries known
+known_entries (Some p ∷ known) = p.entry ∷ known_entries known
+
+-- each note knows the entry of its place, with all entries before it
+abbrev pub AreKnown : List (Option PlacedValue) → Type 0
+AreKnown known = known ≡ map Some (placed (known_entries known))
+
+-- there is a note for each of the first cells
+pub record AreNotes (cells noted : List ℕ) (known : List (Option PlacedValue)) : Type 0 where
+  pub names : noted ≡ take (length noted) cells
+  pub entries : AreKnown known
+
+-- Of a beginning of the history: its notes are of the cells of all rows that led there, and what was read are the row's first
+-- entries.
+pub record IsPast (first : RowNames) (place : PlaceValue) (noted : List ℕ) (known : List (Option PlacedValue)) (seen : List PlacedValue) : Type 0 where
+  pub notes : AreNotes (names_after first place.links).cells noted known
+  pub leads : Leads first place.links (names_after first place.links).cells (length noted)
+  pub begun : place.start ≤ length noted
+  pub read : seen ≡ take (length seen) (drop place.start (placed (known_entries known)))

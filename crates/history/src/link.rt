@@ -1,0 +1,61 @@
+ghost use Rattle.std.specs.Prelude.{◌≡◌};
+ghost use Rattle.history.specs.Rows.{names_of_numbers, numbers_of_names, next_names};
+
+use boxcar::tag::{Names, Tag};
+use std::marker::Model;
+
+/// Where a row was left for the next one, and in proofs alone the names of cells from then on.
+#[derive(Drop)]
+pub(crate) struct Link {
+    start: usize,
+    next: Tag,
+}
+
+impl Model for Link {
+    ghost use Rattle.history.specs.Rows.{LinkValue, link_code, names_of_numbers};
+
+    ghost Value = { LinkValue };
+
+    ghost coded = { link_code };
+
+    ghost view = { λ l. record { start = l.start; next = names_of_numbers l.next.numbers } };
+}
+
+/// The names so far, and those of the row that comes next.
+struct Left {
+    here: Tag,
+    long: usize,
+    row: Tag,
+}
+
+/// The names from then on.
+struct NextNames;
+
+impl Names<Left> for NextNames {
+    ghost use Rattle.history.specs.Rows.{names_of_numbers, numbers_of_names, next_names};
+
+    ghost numbers = { λ left. numbers_of_names (next_names (names_of_numbers left.here.numbers) left.long (names_of_numbers left.row.numbers)) };
+}
+
+impl Link {
+    /// The link from the names so far, after so many entries, to a row.
+    pub(crate) fn new(here: Tag, long: usize, row: Tag) -> Self
+        ensures { result ≡ record { start = long; next = next_names (names_of_numbers here.numbers) long (names_of_numbers row.numbers) } }
+    {
+        let left = Left { here, long, row };
+        let next = Tag::of::<Left, NextNames>(&left);
+        let Left {
+            here: _,
+            long: _,
+            row: _,
+        } = left;
+        Link { start: long, next }
+    }
+
+    /// How many entries there were.
+    pub(crate) fn start(&self) -> usize
+        ensures { result ≡ self.now.start }
+    {
+        self.start
+    }
+}

@@ -1,0 +1,200 @@
+ghost use Rattle.std.specs.Prelude.{◌≡◌, ◌≢◌, ◌+◌, ◌-◌, ◌<◌, ◌≤◌, ◌∷◌, [], ◌++◌, length, take, drop, map, slice_get, true, false, Ok, OnOk, OnErr, IsErrOf, vec_capacity};
+ghost use Rattle.history.specs.Entries.{Begins};
+ghost use Rattle.history.specs.Pasts.{known_entries, AreKnown, AreNotes};
+ghost use Rattle.history.specs.Rows.{names_after, Leads};
+
+use crate::held::Held;
+use crate::notes::{again_at, compare_at, copy_rest};
+use crate::place::Place;
+use crate::{AddFault, CatchUpFault, Entry, FirstRow, Past};
+use once_cell::race::Note;
+use std::alloc::AllocError;
+
+impl<L: FirstRow> Past<L> {
+    /// Compares two beginnings, of which the shorter then begins the longer. Says whether they could be compared, as two in one
+    /// row always can.
+    pub fn agree(&mut self, other: &mut Past<L>) -> bool
+        ensures same { (self.new ≡ self.old) × (other.new ≡ other.old) }
+        ensures begins { result ≡ true → length self.old.entries ≤ length other.old.entries → Begins self.old.entries other.old.entries }
+        ensures goes_on { result ≡ true → length other.old.entries ≤ length self.old.entries → Begins other.old.entries self.old.entries }
+        ensures behind { result ≡ true → self.old.rows < other.old.rows → length self.old.entries ≤ length other.old.entries }
+        ensures ahead { result ≡ true → other.old.rows < self.old.rows → length other.old.entries ≤ length self.old.entries }
+        ensures known { self.old.rows ≡ other.old.rows → result ≡ true }
+    {
+        let own = self.rows();
+        let theirs = other.rows();
+        if own < theirs {
+            return self.begins(other);
+        }
+        if theirs < own {
+            return other.begins(self);
+        }
+        self.agree_in_row(other);
+        true
+    }
+
+    /// Adds an entry behind all that both have, so that neither lacks it. Nothing changed where it isn't added.
+    pub fn add_to_both(&mut self, other: &mut Past<L>, entry: Entry) -> Result<(), AddFault>
+        requires rows { self.old.rows ≡ other.old.rows }
+        requires entries { length self.old.entries ≡ length other.old.entries }
+        ensures ok { OnOk result ((self.new ≡ record self.old { entries = self.old.entries ++ entry ∷ [] }) × (other.new ≡ record other.old { entries = other.old.entries ++ entry ∷ [] })) }
+        ensures full { IsErrOf result AddFault.RowFull → self.old.start + length self.old.row.cells ≤ length self.old.entries }
+        ensures err { OnErr result ((self.new ≡ self.old) × (other.new ≡ other.old)) }
+    {
+        other.notes.reserve(1)?;
+        match self.add(entry) {
+            Ok(()) => {
+                other.place.agree(&mut self.place);
+                let own = other.notes.len();
+                compare_last(&mut other.notes, &mut self.notes, own);
+                copy_rest(&mut other.notes, &mut self.notes);
+                Ok(())
+            }
+            Err(fault) => Err(fault),
+        }
+    }
+
+    /// Compares two beginnings in one row.
+    fn agree_in_row(&mut self, other: &mut Past<L>)
+        requires { self.old.rows ≡ other.old.rows }
+        ensures same { (self.new ≡ self.old) × (other.new ≡ other.old) }
+        ensures begins { length self.old.entries ≤ length other.old.entries → Begins self.old.entries other.old.entries }
+        ensures goes_on { length other.old.entries ≤ length self.old.entries → Begins other.old.entries self.old.entries }
+    {
+        self.place.agree(&mut other.place);
+        let both = self.notes.len().min(other.notes.len());
+        compare_last(&mut self.notes, &mut other.notes, both);
+    }
+
+    /// Whether it is seen to begin one that is in a later row.
+    fn begins(&mut self, other: &mut Past<L>) -> bool
+        requires { self.old.rows < other.old.rows }
+        ensures same { (self.new ≡ self.old) × (other.new ≡ other.old) }
+        ensures begins { result ≡ true → (length self.old.entries ≤ length other.old.entries) × Begins self.old.entries other.old.entries }
+    {
+        begin_in_row_before(
+            &mut self.place,
+            &mut self.notes,
+            &mut other.place,
+            &mut other.notes,
+        )
+    }
+
+    /// Moves on to the later row of one that it is seen to begin. Says whether it is.
+    fn follow(&mut self, other: &mut Past<L>) -> Result<bool, AllocError>
+        requires { self.old.rows < other.old.rows }
+        ensures same { other.new ≡ other.old }
+        ensures moved { result ≡ Ok true → (self.new ≡ record other.old { read = 0 }) × (length self.old.entries ≤ length other.old.entries) × Begins self.old.entries other.old.entries }
+        ensures apart { result ≡ Ok false → self.new ≡ self.old }
+        ensures err { OnErr result (self.new ≡ self.old) }
+    {
+        if !begin_in_row_before(
+            &mut self.place,
+            &mut self.notes,
+            &mut other.place,
+            &mut other.notes,
+        ) {
+            return Ok(false);
+        }
+        let place = other.place.again(self.alloc)?;
+        self.notes.reserve(other.notes.len() - self.notes.len())?;
+        copy_rest(&mut self.notes, &mut other.notes);
+        self.seen.clear();
+        self.place = place;
+        Ok(true)
+    }
+
+    /// Learns what another beginning has more, and moves on to its row. It has then the longer of the two.
+    pub fn catch_up(&mut self, other: &mut Past<L>) -> Result<(), CatchUpFault>
+        ensures same { other.new ≡ other.old }
+        ensures ok { OnOk result (self.new.entries ≡ self.old.entries ++ drop (length self.old.entries) other.old.entries) }
+        ensures begins { OnOk result (Begins self.old.entries self.new.entries × Begins other.old.entries self.new.entries) }
+        ensures moved { OnOk result (self.old.rows < other.old.rows → self.new ≡ record other.old { read = 0 }) }
+        ensures stayed { OnOk result (other.old.rows ≤ self.old.rows → self.new ≡ record self.old { entries = self.new.entries }) }
+        ensures apart { IsErrOf result CatchUpFault.Apart → self.old.rows ≢ other.old.rows }
+        ensures err { OnErr result (self.new ≡ self.old) }
+    {
+        let own = self.rows();
+        let theirs = other.rows();
+        if own == theirs {
+            self.learn(other)?;
+            return Ok(());
+        }
+        if own < theirs {
+            if self.follow(other)? {
+                return Ok(());
+            }
+            return Err(CatchUpFault::Apart);
+        }
+        if other.begins(self) {
+            return Ok(());
+        }
+        Err(CatchUpFault::Apart)
+    }
+
+    /// Learns what another beginning in its row has more.
+    fn learn(&mut self, other: &mut Past<L>) -> Result<(), AllocError>
+        requires { self.old.rows ≡ other.old.rows }
+        ensures same { other.new ≡ other.old }
+        ensures ok { OnOk result (self.new ≡ record self.old { entries = self.old.entries ++ drop (length self.old.entries) other.old.entries }) }
+        ensures begins { OnOk result (Begins self.old.entries self.new.entries × Begins other.old.entries self.new.entries) }
+        ensures err { OnErr result (self.new ≡ self.old) }
+    {
+        self.place.agree(&mut other.place);
+        let own = self.notes.len();
+        let theirs = other.notes.len();
+        compare_last(&mut self.notes, &mut other.notes, own.min(theirs));
+        if own < theirs {
+            self.notes.reserve(theirs - own)?;
+            copy_rest(&mut self.notes, &mut other.notes);
+        }
+        Ok(())
+    }
+}
+
+/// Whether notes up to an earlier row are seen to be of the same cells as the first ones up to a later row, and to know a beginning
+/// of what those know.
+fn begin_in_row_before<L: FirstRow>(
+    place: &mut Place<L>,
+    notes: &mut Vec<Note<Held>>,
+    later: &mut Place<L>,
+    more: &mut Vec<Note<Held>>,
+) -> bool
+    requires rows { length place.old.links < length later.old.links }
+    requires notes { AreNotes (names_after L.first place.old.links).cells (map (λ n. n.cell) notes.old.items) (map (λ n. n.known) notes.old.items) }
+    requires more { AreNotes (names_after L.first later.old.links).cells (map (λ n. n.cell) more.old.items) (map (λ n. n.known) more.old.items) }
+    requires leads { Leads L.first later.old.links (names_after L.first later.old.links).cells (length (map (λ n. n.cell) more.old.items)) }
+    ensures same { (place.new ≡ place.old) × (later.new ≡ later.old) × (notes.new.items ≡ notes.old.items) × (more.new.items ≡ more.old.items) }
+    ensures less { result ≡ true → length notes.old.items ≤ length more.old.items }
+    ensures cells { result ≡ true → map (λ n. n.cell) notes.old.items ≡ take (length notes.old.items) (map (λ n. n.cell) more.old.items) }
+    ensures begins { result ≡ true → Begins (known_entries (map (λ n. n.known) notes.old.items)) (known_entries (map (λ n. n.known) more.old.items)) }
+{
+    place.agree(later);
+    let Some(start) = place.left(later) else {
+        return false;
+    };
+    let long = notes.len();
+    if start < long {
+        return false;
+    }
+    compare_last(notes, more, long);
+    true
+}
+
+/// Compares what is known of the last one of so many cells: it is one entry, with all entries before it.
+fn compare_last(mine: &mut Vec<Note<Held>>, theirs: &mut Vec<Note<Held>>, long: usize)
+    requires known { AreKnown (map (λ n. n.known) mine.old.items) × AreKnown (map (λ n. n.known) theirs.old.items) }
+    requires within { (long ≤ length mine.old.items) × (long ≤ length theirs.old.items) }
+    requires cell { 0 < long → slice_get (map (λ n. n.cell) mine.old.items) (long - 1) ≡ slice_get (map (λ n. n.cell) theirs.old.items) (long - 1) }
+    ensures same_mine { mine.new.items ≡ mine.old.items }
+    ensures same_theirs { theirs.new.items ≡ theirs.old.items }
+    ensures room { vec_capacity mine.new ≡ vec_capacity mine.old }
+    ensures begins { length mine.old.items ≡ long → Begins (known_entries (map (λ n. n.known) mine.old.items)) (known_entries (map (λ n. n.known) theirs.old.items)) }
+    ensures goes_on { length theirs.old.items ≡ long → Begins (known_entries (map (λ n. n.known) theirs.old.items)) (known_entries (map (λ n. n.known) mine.old.items)) }
+{
+    if long == 0 {
+        return;
+    }
+    let note = again_at(theirs, long - 1);
+    compare_at(mine, long - 1, note);
+}

@@ -1,0 +1,160 @@
+ghost use Rattle.std.specs.Prelude.{◌≡◌, ◌+◌, ◌-◌, ◌<◌, ◌≤◌, ◌∷◌, [], ◌++◌, Some, length, IfOk, OnOk, OnErr, IsErrOf, MatchOption, option_map, slice_get};
+ghost use Rattle.std.specs.Arc.{arc_value};
+ghost use Rattle.history.specs.Entries.{numbers_of};
+
+use crate::held::Held;
+use crate::notes::copy_rest;
+use crate::place::Place;
+use crate::{AddFault, Entry, FirstRow, Row};
+use boxcar::tag::{Names, Tag};
+use once_cell::race::Note;
+use std::alloc::{AllocError, Global};
+use std::marker::Model;
+use std::sync::Arc;
+
+/// A beginning of the history, up to a row that it keeps. Contracts see its entries, how many rows came before its row, where
+/// that row begins and the names of its cells, and how many of the row's entries were read.
+#[derive(Drop)]
+pub struct Past<L: FirstRow> {
+    pub(crate) alloc: Global,
+    pub(crate) place: Place<L>,
+
+    // A note for each entry. Notes take no memory.
+    pub(crate) notes: Vec<Note<Held>>,
+
+    // What was read of the row.
+    pub(crate) seen: Vec<Held>,
+}
+
+impl<L: FirstRow> Model for Past<L> {
+    ghost use Rattle.std.specs.Prelude.{length, map};
+    ghost use Rattle.history.specs.Pasts.{PastValue, past_code, IsPast, known_entries};
+
+    ghost Value = { PastValue };
+
+    ghost coded = { past_code };
+
+    ghost view = { λ p. record { entries = known_entries (map (λ n. n.known) p.notes.items); rows = length p.place.links; start = p.place.start; row = p.place.row; read = length p.seen.items } };
+
+    ghost invariant = { λ p. IsPast L.first p.place (map (λ n. n.cell) p.notes.items) (map (λ n. n.known) p.notes.items) p.seen.items };
+}
+
+/// All entries before the next one.
+struct AllBefore;
+
+impl<L: FirstRow> Names<Past<L>> for AllBefore {
+    ghost use Rattle.history.specs.Entries.{numbers_of};
+
+    ghost numbers = { λ past. numbers_of past.entries };
+}
+
+impl<L: FirstRow> Past<L> {
+    /// The beginning that has no entry, in the first row.
+    pub fn new(alloc: Global, row: Arc<Row, Global>) -> Self
+        requires { arc_value row ≡ L.first }
+        ensures { result ≡ record { entries = []; rows = 0; start = 0; row = L.first; read = 0 } }
+    {
+        Past {
+            alloc,
+            place: Place::new(alloc, row),
+            notes: Vec::new(alloc),
+            seen: Vec::new(alloc),
+        }
+    }
+
+    /// The same entries once more, of which none is read.
+    pub fn again(&mut self) -> Result<Self, AllocError>
+        ensures same { self.new ≡ self.old }
+        ensures past { IfOk result (λ past. past ≡ record self.old { read = 0 }) }
+    {
+        let alloc = self.alloc;
+        let place = self.place.again(alloc)?;
+        let mut notes = Vec::with_capacity(alloc, self.notes.len())?;
+        copy_rest(&mut notes, &mut self.notes);
+        Ok(Past {
+            alloc,
+            place,
+            notes,
+            seen: Vec::new(alloc),
+        })
+    }
+
+    /// How many entries it has.
+    pub fn len(&self) -> usize
+        ensures { result ≡ length self.now.entries }
+    {
+        self.notes.len()
+    }
+
+    /// How many rows came before its row.
+    pub fn rows(&self) -> usize
+        ensures { result ≡ self.now.rows }
+    {
+        self.place.rows()
+    }
+
+    /// How many entries came before its row.
+    pub fn start(&self) -> usize
+        ensures start { result ≡ self.now.start }
+        ensures within { self.now.start ≤ length self.now.entries }
+    {
+        let _ = &self.notes;
+        self.place.start()
+    }
+
+    /// How many entries its row has room for.
+    pub fn capacity(&self) -> usize
+        ensures { result ≡ length self.now.row.cells }
+    {
+        self.place.row().capacity()
+    }
+
+    /// Its row once more. Who keeps it lets the row go, and not the beginning that moves on, which may do so under a lock.
+    pub fn row(&self) -> Result<Arc<Row, Global>, AllocError>
+        ensures { IfOk result (λ row. arc_value row ≡ self.now.row) }
+    {
+        self.place.share_row()
+    }
+
+    /// Adds an entry behind all that it has.
+    pub fn add(&mut self, entry: Entry) -> Result<(), AddFault>
+        ensures ok { OnOk result (self.new ≡ record self.old { entries = self.old.entries ++ entry ∷ [] }) }
+        ensures full { IsErrOf result AddFault.RowFull → self.old.start + length self.old.row.cells ≤ length self.old.entries }
+        ensures err { OnErr result (self.new ≡ self.old) }
+    {
+        let before = Tag::of::<Past<L>, AllBefore>(self);
+        let held = Held::new(self.alloc, entry, before)?;
+        self.put(held)
+    }
+
+    fn put(&mut self, held: Held) -> Result<(), AddFault>
+        requires { held.before ≡ numbers_of self.old.entries }
+        ensures ok { OnOk result (self.new ≡ record self.old { entries = self.old.entries ++ held.entry ∷ [] }) }
+        ensures full { IsErrOf result AddFault.RowFull → self.old.start + length self.old.row.cells ≤ length self.old.entries }
+        ensures err { OnErr result (self.new ≡ self.old) }
+    {
+        self.notes.reserve(1)?;
+        let at = self.notes.len() - self.place.start();
+        match self.place.row().set(self.alloc, at, held) {
+            Ok(note) => {
+                self.notes.push_reserved(note);
+                Ok(())
+            }
+            Err(fault) => Err(fault),
+        }
+    }
+
+    /// Goes on in another row, whose entries come behind all that it has.
+    pub fn begin_row(&mut self, row: Arc<Row, Global>) -> Result<(), AddFault>
+        ensures ok { OnOk result (self.new ≡ record { entries = self.old.entries; rows = self.old.rows + 1; start = length self.old.entries; row = arc_value row; read = 0 }) }
+        ensures err { OnErr result (self.new ≡ self.old) }
+    {
+        match self.place.begin(self.alloc, self.notes.len(), row) {
+            Ok(()) => {
+                self.seen.clear();
+                Ok(())
+            }
+            Err(fault) => Err(fault),
+        }
+    }
+}

@@ -1,0 +1,189 @@
+ghost use Rattle.std.specs.Prelude.{◌≡◌, ◌≤◌, ◌<◌, Some, [], IfOk, OnOk, OnErr, IfSome, length, map, take, slice_get, option_map};
+ghost use Rattle.std.specs.Arc.{arc_value};
+ghost use Rattle.history.specs.Rows.{names_after, place_after, known_links, AreLinks, IsRowAt};
+
+use crate::link::Link;
+use crate::notes::{again_at, compare_at, copy_rest};
+use crate::{AddFault, Row};
+use boxcar::tag::{Names, Tag};
+use once_cell::race::Note;
+use std::alloc::{AllocError, Global};
+use std::marker::{Brand, Model, PhantomData};
+use std::sync::Arc;
+
+/// Which history it is, by the names of its first row's cells. A program picks it at a call.
+pub trait FirstRow {
+    ghost use Rattle.history.specs.Rows.{RowNames};
+
+    ghost first: { RowNames };
+}
+
+impl FirstRow for Brand {
+    ghost first = { record { link = 0; cells = [] } };
+}
+
+/// A row of the history, and the notes of the links that lead there from the first row.
+#[derive(Drop)]
+pub(crate) struct Place<L: FirstRow> {
+    links: Vec<Note<Link>>,
+    row: Arc<Row, Global>,
+    start: usize,
+    of: PhantomData<L>,
+}
+
+impl<L: FirstRow> Model for Place<L> {
+    ghost use Rattle.std.specs.Prelude.{map};
+    ghost use Rattle.std.specs.Arc.{arc_value};
+    ghost use Rattle.history.specs.Rows.{PlaceValue, place_code, IsPlace, known_links};
+
+    ghost Value = { PlaceValue };
+
+    ghost coded = { place_code };
+
+    ghost view = { λ p. record { links = known_links (map (λ n. n.known) p.links.items); start = p.start; row = arc_value p.row } };
+
+    ghost invariant = { λ p. IsPlace L.first (arc_value p.row) (map (λ n. n.cell) p.links.items) (map (λ n. n.known) p.links.items) p.start };
+}
+
+/// The names so far, at a place.
+struct Here;
+
+impl<L: FirstRow> Names<Place<L>> for Here {
+    ghost use Rattle.history.specs.Rows.{names_after, numbers_of_names};
+
+    ghost numbers = { λ place. numbers_of_names (names_after L.first place.links) };
+}
+
+/// The names of a row.
+struct Own;
+
+impl Names<Row> for Own {
+    ghost use Rattle.history.specs.Rows.{numbers_of_names};
+
+    ghost numbers = { λ row. numbers_of_names row };
+}
+
+impl<L: FirstRow> Place<L> {
+    /// The first row.
+    pub(crate) fn new(alloc: Global, row: Arc<Row, Global>) -> Self
+        requires { arc_value row ≡ L.first }
+        ensures { result ≡ record { links = []; start = 0; row = L.first } }
+    {
+        Place {
+            links: Vec::new(alloc),
+            row,
+            start: 0,
+            of: PhantomData,
+        }
+    }
+
+    /// Its row.
+    pub(crate) fn row(&self) -> &Row
+        ensures row { result.now ≡ self.now.row }
+        ensures here { IsRowAt L.first self.now.links self.now.start self.now.row }
+    {
+        &self.row
+    }
+
+    /// Its row once more.
+    pub(crate) fn share_row(&self) -> Result<Arc<Row, Global>, AllocError>
+        ensures { IfOk result (λ row. arc_value row ≡ self.now.row) }
+    {
+        Arc::try_clone(&self.row)
+    }
+
+    /// How many entries are before its row.
+    pub(crate) fn start(&self) -> usize
+        ensures { result ≡ self.now.start }
+    {
+        self.start
+    }
+
+    /// How many rows are before its row.
+    pub(crate) fn rows(&self) -> usize
+        ensures { result ≡ length self.now.links }
+    {
+        self.links.len()
+    }
+
+    /// The same place once more.
+    pub(crate) fn again(&mut self, alloc: Global) -> Result<Self, AllocError>
+        ensures same { self.new ≡ self.old }
+        ensures place { IfOk result (λ place. place ≡ self.old) }
+    {
+        let row = Arc::try_clone(&self.row)?;
+        let mut links = Vec::with_capacity(alloc, self.links.len())?;
+        copy_rest(&mut links, &mut self.links);
+        let start = self.start;
+        Ok(Place {
+            links,
+            row,
+            start,
+            of: PhantomData,
+        })
+    }
+
+    /// Of two places of one history, the links that led to one begin those that led to the other.
+    pub(crate) fn agree(&mut self, other: &mut Place<L>)
+        ensures same { (self.new ≡ self.old) × (other.new ≡ other.old) }
+        ensures begins { length self.old.links ≤ length other.old.links → take (length self.old.links) other.old.links ≡ self.old.links }
+        ensures goes_on { length other.old.links ≤ length self.old.links → take (length other.old.links) self.old.links ≡ other.old.links }
+    {
+        let both = self.links.len().min(other.links.len());
+        agree_links::<L>(&mut self.links, &mut other.links, both);
+    }
+
+    /// Moves on to another row, after so many entries.
+    pub(crate) fn begin(
+        &mut self,
+        alloc: Global,
+        long: usize,
+        row: Arc<Row, Global>,
+    ) -> Result<(), AddFault>
+        requires { long ≤ length (names_after L.first self.old.links).cells }
+        ensures ok { OnOk result (self.new ≡ place_after L.first self.old long (arc_value row)) }
+        ensures err { OnErr result (self.new ≡ self.old) }
+    {
+        let here = Tag::of::<Place<L>, Here>(self);
+        let own = Tag::of::<Row, Own>(&row);
+        let link = Link::new(here, long, own);
+        self.links.reserve(1)?;
+        match self.row.set_link(alloc, link) {
+            Ok(note) => {
+                self.links.push_reserved(note);
+                self.row = row;
+                self.start = long;
+                Ok(())
+            }
+            Err(fault) => Err(fault),
+        }
+    }
+
+    /// How many entries there were when this row was left, as the links of a place further on tell it too. None where the row
+    /// wasn't left yet.
+    pub(crate) fn left(&self, other: &mut Place<L>) -> Option<usize>
+        requires more { length self.now.links < length other.old.links }
+        requires begins { take (length self.now.links) other.old.links ≡ self.now.links }
+        ensures same { other.new ≡ other.old }
+        ensures start { IfSome result (λ s. option_map (λ l. l.start) (slice_get other.old.links (length self.now.links)) ≡ Some s) }
+    {
+        let (start, note) = self.row.left()?;
+        compare_at(&mut other.links, self.links.len(), note);
+        Some(start)
+    }
+}
+
+/// The first links that two places have are the same.
+fn agree_links<L: FirstRow>(mine: &mut Vec<Note<Link>>, theirs: &mut Vec<Note<Link>>, both: usize)
+    requires mine { AreLinks L.first (map (λ n. n.cell) mine.old.items) (map (λ n. n.known) mine.old.items) }
+    requires theirs { AreLinks L.first (map (λ n. n.cell) theirs.old.items) (map (λ n. n.known) theirs.old.items) }
+    requires both { (both ≤ length mine.old.items) × (both ≤ length theirs.old.items) }
+    ensures same_mine { mine.new.items ≡ mine.old.items }
+    ensures same_theirs { theirs.new.items ≡ theirs.old.items }
+    ensures agree { take both (known_links (map (λ n. n.known) mine.old.items)) ≡ take both (known_links (map (λ n. n.known) theirs.old.items)) }
+{
+    for at in 0..both {
+        let note = again_at(theirs, at);
+        compare_at(mine, at, note);
+    }
+}

@@ -1,0 +1,6 @@
+use Rattle.std.specs.Arc.{arc_value}
+use Rattle.history_tests.proofs.threads_tests.one_of_two_threads_sets_a_cell.Given as goal
+
+-- the row that was just made
+abbrev pub ghosts-raced : goal.ghosts-raced
+ghosts-raced g a = record { first = arc_value a.row }

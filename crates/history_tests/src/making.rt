@@ -1,0 +1,56 @@
+//! Entries and rows for tests.
+
+use history::{AddFault, Entry, FirstRow, Past, Row};
+use ipc_model::{Call, Record, Reply};
+use std::alloc::{AllocError, Global};
+use std::sync::Arc;
+
+/// An entry of session 1, of a call of a space.
+fn entry_of(space: u32) -> Entry {
+    let record = Record {
+        space,
+        call: Call::SpaceDestroy,
+        reply: Reply::Done { number: 21 },
+    };
+    Entry { session: 1, record }
+}
+
+/// Adds an entry, of a call of a space.
+pub(crate) fn add<L: FirstRow>(past: &mut Past<L>, space: u32) -> Result<(), AddFault> {
+    past.add(entry_of(space))
+}
+
+/// Adds an entry to two that have as many in as many rows.
+pub(crate) fn add_to_both<L: FirstRow>(
+    past: &mut Past<L>,
+    other: &mut Past<L>,
+    space: u32,
+) -> Option<Result<(), AddFault>> {
+    if past.rows() != other.rows() {
+        return None;
+    }
+    if past.len() != other.len() {
+        return None;
+    }
+    Some(past.add_to_both(other, entry_of(space)))
+}
+
+/// The space of the call at a place of the row, if it was read.
+pub(crate) fn space_at<L: FirstRow>(past: &Past<L>, at: usize) -> Option<u32> {
+    Some(past.record(at)?.space)
+}
+
+/// A row of so many cells.
+pub(crate) fn row_of(alloc: Global, capacity: usize) -> Result<Arc<Row, Global>, AllocError> {
+    Ok(Arc::new(alloc, Row::new(alloc, capacity)?)?)
+}
+
+/// Goes on in a new row.
+pub(crate) fn begin_row<L: FirstRow>(
+    alloc: Global,
+    past: &mut Past<L>,
+    capacity: usize,
+) -> Result<(), AddFault> {
+    let row = row_of(alloc, capacity)?;
+    past.begin_row(row)
+}

@@ -1,0 +1,65 @@
+ghost use Rattle.std.specs.Prelude.{◌≡◌};
+ghost use Rattle.std.specs.Arc.{arc_value};
+
+use crate::expect::same;
+use crate::making::{add, row_of, space_at};
+use history::{FirstRow, Past, Row};
+use std::alloc::{AllocError, Global};
+use std::marker::Brand;
+use std::sync::Arc;
+use std::test::Fail;
+use std::thread::{Threads, join};
+
+/// Adds an entry, and says whether it could.
+fn tried<L: FirstRow>(mut past: Past<L>, space: u32) -> (bool, Past<L>) {
+    let added = add(&mut past, space).is_ok();
+    (added, past)
+}
+
+/// The space of the first call that one learns of another.
+fn first_of<L: FirstRow>(shorter: &mut Past<L>, longer: &mut Past<L>) -> Option<u32> {
+    let _ = shorter.catch_up(longer);
+    let _ = shorter.read();
+    space_at(shorter, 0)
+}
+
+/// What the one whose entry wasn't added learns of the other, and what was added.
+fn read_by_the_other<L: FirstRow>(
+    first: bool,
+    one: &mut Past<L>,
+    other: &mut Past<L>,
+) -> (Option<u32>, u32) {
+    if first {
+        (first_of(other, one), 1)
+    } else {
+        (first_of(one, other), 2)
+    }
+}
+
+/// Two threads add an entry to the same row. Says whether just one did, and the other learns what it added.
+fn raced<L: FirstRow + Send + Sync, R: Threads + Sync>(
+    rt: &R,
+    alloc: Global,
+    row: Arc<Row, Global>,
+) -> Result<bool, AllocError>
+    requires { arc_value row ≡ L.first }
+{
+    let mut one: Past<L> = Past::new(alloc, row);
+    let other = one.again();
+    let other = other?;
+    let ((first, mut one), (second, mut other)) = join(
+        rt,
+        move || tried(one, 1),
+        move || tried(other, 2),
+    );
+    let (space, wanted) = read_by_the_other(first, &mut one, &mut other);
+    Ok(first != second && space == Some(wanted))
+}
+
+#[test]
+fn one_of_two_threads_sets_a_cell(rt: HostRuntime) -> Result<(), Fail> {
+    let row = row_of(rt.alloc(), 2)?;
+    let done = raced::<Brand, _>(&rt, rt.alloc(), row)?;
+    same(&rt, done, true);
+    Ok(())
+}
