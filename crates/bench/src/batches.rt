@@ -14,10 +14,10 @@ use std::alloc::Global;
 
 /// How many records a batch has, and how many batches are stored in a turn, as many plain writes made, and as many pairs of
 /// syncs.
-static SIZES: [(u64, u64); 5] = [(1, 32), (16, 32), (64, 32), (256, 16), (4_096, 1)];
+static SIZES: [(u64, u64); 5] = [(1, 16), (16, 16), (64, 16), (256, 8), (4_096, 1)];
 
 /// How many turns there are: the shortest time of each counts.
-const TURNS: u32 = 11;
+const TURNS: u32 = 14;
 
 /// A kind of batch: its calls, made in turn, and what is made before the first turn and behind each one, which isn't measured.
 #[derive(Drop)]
@@ -231,14 +231,14 @@ fn measure<C: Core + Maker>(
 /// Measures them on a disk that has no store yet.
 fn measure_on<D: Disk + Drop>(
     context: &Context<'_>,
-    disk: D,
+    disk: Result<D, Fault>,
     kind: &Kind,
     size: (u64, u64),
     plain: &mut Plain,
 ) -> Result<(u64, Times), Fault> {
     let watch = Watch::new(true);
     let watched = Watched {
-        disk,
+        disk: disk?,
         watch: &watch,
     };
     let mut core = open_core(context.alloc, watched)?;
@@ -255,7 +255,7 @@ fn print_kind(
     plain: &mut Plain,
 ) -> Result<(), Fault> {
     for size in &SIZES {
-        let (bytes, times) = measure_on(context, context.new_files()?, kind, *size, plain)?;
+        let (bytes, times) = measure_on(context, context.new_files(), kind, *size, plain)?;
         print_times(context, label, *size, bytes, &times);
     }
     Ok(())

@@ -5,46 +5,57 @@ use crate::context::Context;
 use crate::turns::{Machine, Placed, Row, print_row};
 use crate::ways::{CLIENT, HERE, NEXT};
 
-/// The calls that are measured. The last row is apart, since it grows as the names do.
-static ROWS: [Row<'static, 'static>; 11] = [
+/// The calls that are measured.
+static ROWS: [Row<'static>; 9] = [
     // A new port, and its end.
     Row {
+        label: "",
         parts: &[
-            ("allocate", &[(HERE, "allocate receive", 0, 10)], 10),
-            ("destroy", &[(HERE, "destroy #", 0x10c, 10)], 10),
+            ("allocate", HERE, "allocate receive", 0, 10),
+            ("destroy", HERE, "destroy #", 0x10c, 10),
         ],
         rounds: 100,
         is_done: true,
     },
     // One send right more under a name, and one less.
     Row {
+        label: "",
         parts: &[
             (
                 "insert_right",
-                &[(HERE, "insert_right 0x100 0x100 make_send", 0, 10)],
+                HERE,
+                "insert_right 0x100 0x100 make_send",
+                0,
                 10,
             ),
-            ("deallocate", &[(HERE, "deallocate 0x100", 0, 10)], 10),
+            ("deallocate", HERE, "deallocate 0x100", 0, 10),
         ],
         rounds: 200,
         is_done: true,
     },
     // A send-once right under a new name, and its end, of which a notice is sent.
     Row {
+        label: "",
         parts: &[
             (
                 "insert_right under a new name",
-                &[(HERE, "insert_right # 0x100 make_send_once", 0x10c, 10)],
+                HERE,
+                "insert_right # 0x100 make_send_once",
+                0x10c,
                 10,
             ),
             (
-                "deallocate of the last right, with a notice",
-                &[(HERE, "deallocate #", 0x10c, 10)],
+                "deallocate of a last right, with a notice",
+                HERE,
+                "deallocate #",
+                0x10c,
                 10,
             ),
             (
                 "receipt of that notice",
-                &[(HERE, "receive 0x100 limit 100", 0, 10)],
+                HERE,
+                "receive 0x100 limit 100",
+                0,
                 10,
             ),
         ],
@@ -52,189 +63,163 @@ static ROWS: [Row<'static, 'static>; 11] = [
         is_done: true,
     },
     Row {
+        label: "",
         parts: &[
-            (
-                "space_create",
-                &[(HERE, "space_create 0x100 make_send", 0, 1)],
-                1,
-            ),
-            (
-                "deallocate of the last right",
-                &[(NEXT, "deallocate 0x100", 0, 1)],
-                1,
-            ),
-            (
-                "space_destroy of an empty space",
-                &[(NEXT, "space_destroy", 0, 1)],
-                1,
-            ),
+            ("space_create", HERE, "space_create 0x100 make_send", 0, 1),
+            ("deallocate of a last right", NEXT, "deallocate 0x100", 0, 1),
+            ("space_destroy", NEXT, "space_destroy", 0, 1),
         ],
         rounds: 500,
         is_done: true,
     },
     Row {
-        parts: &[(
-            "space_create and space_destroy",
-            &[
-                (HERE, "space_create 0x100 make_send", 0, 1),
-                (NEXT, "space_destroy", 0, 1),
-            ],
-            1,
-        )],
-        rounds: 500,
-        is_done: true,
-    },
-    Row {
+        label: "",
         parts: &[
             (
                 "extract_right",
-                &[(HERE, "extract_right 0x100 make_send", 0, 10)],
+                HERE,
+                "extract_right 0x100 make_send",
+                0,
                 10,
             ),
-            ("", &[(HERE, "deallocate 0x100", 0, 10)], 10),
+            ("", HERE, "deallocate 0x100", 0, 10),
         ],
         rounds: 200,
         is_done: true,
     },
     Row {
+        label: "",
         parts: &[
-            ("", &[(HERE, "allocate receive", 0, 1)], 1),
+            ("", HERE, "allocate receive", 0, 1),
             (
                 "request_notification",
-                &[(
-                    HERE,
-                    "request_notification # dead_name 0 0x10c make_send_once",
-                    0x101,
-                    10,
-                )],
+                HERE,
+                "request_notification # dead_name 0 0x10c make_send_once",
+                0x101,
                 10,
             ),
-            ("", &[(HERE, "destroy 0x10c", 0, 1)], 1),
+            ("", HERE, "destroy 0x10c", 0, 1),
         ],
         rounds: 100,
         is_done: true,
     },
-    // Calls that take back what they did, or change nothing.
+    // Calls that take back what was done, or change nothing.
     Row {
+        label: "",
         parts: &[
+            ("mod_refs, one more", HERE, "mod_refs 0x100 send 1", 0, 10),
+            ("mod_refs, one less", HERE, "mod_refs 0x100 send -1", 0, 10),
+            ("rename", HERE, "rename 0x100 0x300", 0, 1),
+            ("", HERE, "rename 0x300 0x100", 0, 1),
             (
-                "mod_refs",
-                &[
-                    (HERE, "mod_refs 0x100 send 1", 0, 10),
-                    (HERE, "mod_refs 0x100 send -1", 0, 10),
-                ],
-                20,
+                "move_member, out of the set",
+                HERE,
+                "move_member # 0x0",
+                0x101,
+                10,
             ),
             (
-                "rename",
-                &[
-                    (HERE, "rename 0x100 0x300", 0, 1),
-                    (HERE, "rename 0x300 0x100", 0, 1),
-                ],
-                2,
-            ),
-            (
-                "move_member",
-                &[
-                    (HERE, "move_member # 0x0", 0x101, 10),
-                    (HERE, "move_member # 0x200", 0x101, 10),
-                ],
-                20,
+                "move_member, into it",
+                HERE,
+                "move_member # 0x200",
+                0x101,
+                10,
             ),
             (
                 "get_set_status of 10 members",
-                &[(HERE, "get_set_status 0x200", 0, 10)],
+                HERE,
+                "get_set_status 0x200",
+                0,
                 10,
             ),
             (
                 "get_receive_status",
-                &[(HERE, "get_receive_status 0x100", 0, 10)],
+                HERE,
+                "get_receive_status 0x100",
+                0,
                 10,
             ),
-            ("type", &[(HERE, "type 0x100", 0, 10)], 10),
-            ("get_refs", &[(HERE, "get_refs 0x100 send", 0, 10)], 10),
-            ("set_qlimit", &[(HERE, "set_qlimit 0x100 5", 0, 10)], 10),
-            ("set_mscount", &[(HERE, "set_mscount 0x100 9", 0, 10)], 10),
-            ("set_seqno", &[(HERE, "set_seqno 0x100 0", 0, 10)], 10),
-            ("attach", &[(HERE, "attach 2", 0, 10)], 10),
-            ("names of 2 names", &[(CLIENT, "names", 0, 10)], 10),
+            ("type", HERE, "type 0x100", 0, 10),
+            ("get_refs", HERE, "get_refs 0x100 send", 0, 10),
+            ("set_qlimit", HERE, "set_qlimit 0x100 5", 0, 10),
+            ("set_mscount", HERE, "set_mscount 0x100 9", 0, 10),
+            ("set_seqno", HERE, "set_seqno 0x100 0", 0, 10),
+            ("attach", HERE, "attach 2", 0, 10),
         ],
         rounds: 100,
         is_done: true,
     },
     Row {
+        label: "",
         parts: &[
-            ("refused allocate", &[(HERE, "allocate 9", 0, 10)], 10),
+            ("refused allocate", HERE, "allocate 9", 0, 10),
             (
                 "refused insert_right",
-                &[(HERE, "insert_right 0x200 0x100 make_send", 0, 10)],
+                HERE,
+                "insert_right 0x200 0x100 make_send",
+                0,
                 10,
             ),
-            (
-                "refused deallocate",
-                &[(HERE, "deallocate 0x1ff", 0, 10)],
-                10,
-            ),
-            ("refused destroy", &[(HERE, "destroy 0x1ff", 0, 10)], 10),
-            (
-                "refused mod_refs",
-                &[(HERE, "mod_refs 0x1ff send 1", 0, 10)],
-                10,
-            ),
+            ("refused deallocate", HERE, "deallocate 0x1ff", 0, 10),
+            ("refused destroy", HERE, "destroy 0x1ff", 0, 10),
+            ("refused mod_refs", HERE, "mod_refs 0x1ff send 1", 0, 10),
             (
                 "refused extract_right",
-                &[(HERE, "extract_right 0x1ff make_send", 0, 10)],
+                HERE,
+                "extract_right 0x1ff make_send",
+                0,
                 10,
             ),
             (
                 "refused request_notification",
-                &[(HERE, "request_notification 0x1ff dead_name 0 0x0 0", 0, 10)],
+                HERE,
+                "request_notification 0x1ff dead_name 0 0x0 0",
+                0,
                 10,
             ),
-            ("refused rename", &[(HERE, "rename 0x1ff 0x300", 0, 10)], 10),
+            ("refused rename", HERE, "rename 0x1ff 0x300", 0, 10),
             (
                 "refused move_member",
-                &[(HERE, "move_member 0x1ff 0x200", 0, 10)],
+                HERE,
+                "move_member 0x1ff 0x200",
+                0,
                 10,
             ),
-        ],
-        rounds: 100,
-        is_done: false,
-    },
-    Row {
-        parts: &[
             (
                 "refused get_set_status",
-                &[(HERE, "get_set_status 0x100", 0, 10)],
+                HERE,
+                "get_set_status 0x100",
+                0,
                 10,
             ),
             (
                 "refused space_create",
-                &[(HERE, "space_create 0x1ff make_send", 0, 10)],
+                HERE,
+                "space_create 0x1ff make_send",
+                0,
                 10,
             ),
-            (
-                "refused send",
-                &[(HERE, "send copy_send 0x1ff id 7", 0, 10)],
-                10,
-            ),
-            (
-                "refused receive",
-                &[(HERE, "receive 0x1ff limit 100", 0, 10)],
-                10,
-            ),
+            ("refused send", HERE, "send copy_send 0x1ff id 7", 0, 10),
+            ("refused receive", HERE, "receive 0x1ff limit 100", 0, 10),
             (
                 "receive where no message is",
-                &[(HERE, "receive 0x100 limit 100", 0, 10)],
+                HERE,
+                "receive 0x100 limit 100",
+                0,
                 10,
             ),
-            ("refused names, of no space", &[(NEXT, "names", 0, 10)], 10),
+            ("refused names, of no space", NEXT, "names", 0, 10),
         ],
         rounds: 100,
         is_done: false,
     },
+    // The first of these grows as the names do.
     Row {
-        parts: &[("names of the space", &[(HERE, "names", 0, 1)], 1)],
+        label: "",
+        parts: &[
+            ("names of the space", HERE, "names", 0, 1),
+            ("names of 2 names", CLIENT, "names", 0, 1),
+        ],
         rounds: 20,
         is_done: true,
     },
@@ -251,7 +236,7 @@ pub(crate) fn print_costs<M: Machine>(
         &[],
     );
     for row in &ROWS {
-        print_row(context, machines, row)?;
+        print_row(context, machines, row, 1)?;
     }
     Ok(())
 }

@@ -23,30 +23,33 @@ fn print_death<M: Machine>(
     death: &(&'static str, u32, u32, u64),
 ) -> Result<(), Fault> {
     let (label, holders, notices, rounds) = *death;
-    let lines = [
-        (HERE, "allocate_name receive #", 0x300, 2),
-        (HERE, "insert_right # 0x300 make_send_once", 0x3000, holders),
+    let parts = [
+        ("", HERE, "allocate_name receive #", 0x300, 2),
         (
+            "",
+            HERE,
+            "insert_right # 0x300 make_send_once",
+            0x3000,
+            holders,
+        ),
+        (
+            "",
             HERE,
             "request_notification # dead_name 0 0x301 make_send_once",
             0x3000,
             notices,
         ),
-        (HERE, "destroy 0x300", 0, 1),
-        (HERE, "destroy #", 0x3000, holders),
-        (HERE, "destroy 0x301", 0, 1),
-    ];
-    let parts = [
-        ("", &lines[..3], 1),
-        (label, &lines[3..4], 1),
-        ("", &lines[4..], 1),
+        (label, HERE, "destroy 0x300", 0, 1),
+        ("", HERE, "destroy #", 0x3000, holders),
+        ("", HERE, "destroy 0x301", 0, 1),
     ];
     let row = Row {
+        label: "",
         parts: &parts,
         rounds,
         is_done: true,
     };
-    print_row(context, machines, &row)
+    print_row(context, machines, &row, 1)
 }
 
 /// Prints what deaths cost.

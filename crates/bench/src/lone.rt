@@ -11,14 +11,14 @@ use server::Caller;
 use std::alloc::Global;
 
 /// How often calls, requests and plain writes are timed by turns: the shortest time of each counts.
-const TURNS: u32 = 15;
+const TURNS: u32 = 25;
 
 /// How often the lines of each kind are made in a turn, and how many plain writes are.
-const PAIRS: u64 = 50;
+const PAIRS: u64 = 25;
 
-const TRIPS: u64 = 25;
+const TRIPS: u64 = 12;
 
-const WRITES: u64 = 100;
+const WRITES: u64 = 50;
 
 /// Two ports: that to which requests go, and that of the replies.
 static BEFORE: [&str; 2] = ["allocate receive", "allocate receive"];
@@ -116,10 +116,10 @@ fn time_disk<D: Disk + Drop>(
 /// plain writes are made, on a disk that has no store yet.
 pub(crate) fn print_lone<D: Disk + Drop>(
     context: &Context<'_>,
-    disk: D,
+    disk: Result<D, Fault>,
     plain: &mut Plain,
 ) -> Result<(), Fault> {
-    let times = time_disk(context, disk, plain)?;
+    let times = time_disk(context, disk?, plain)?;
     let calls = per_second(PAIRS.saturating_mul(2), times.calls);
     let trips = per_second(TRIPS, times.trips);
     let writes = per_second(WRITES, times.writes);

@@ -69,7 +69,7 @@ impl Fault {
 /// Measures calls and batches that are stored, beside plain writes.
 fn print_stored(context: &Context<'_>) -> Result<(), Fault> {
     let mut plain = Plain::create(context)?;
-    print_lone(context, context.new_files()?, &mut plain)?;
+    print_lone(context, context.new_files(), &mut plain)?;
     print_batches(context, &mut plain)
 }
 

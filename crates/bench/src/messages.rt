@@ -2,7 +2,6 @@
 
 use crate::Fault;
 use crate::context::Context;
-use crate::lines::Line;
 use crate::turns::{Machine, Placed, Row, print_row};
 use crate::ways::{CLIENT, HERE};
 use std::alloc::{AllocError, Global};
@@ -20,23 +19,35 @@ static MESSAGES: [(&str, u32, u32, u64); 8] = [
     ("8 KiB with 256 rights", 8_192, 256, 2),
 ];
 
-/// The port at which messages wait in one of the ways.
-static WAITING: [Line<'static>; 2] = [
-    (HERE, "send make_send_once 0x10b id 7", 0, 5),
-    (HERE, "receive 0x10b limit 100", 0, 5),
-];
-
-/// A request with a right to reply by, its receipt, the reply, and its receipt.
-static ROUND_TRIP: [Line<'static>; 4] = [
-    (
-        CLIENT,
-        "send copy_send 0x100 local make_send_once 0x101 id 1",
-        0,
-        1,
-    ),
-    (HERE, "receive 0x100 limit 100", 0, 1),
-    (HERE, "send move_send_once 0x10c id 2", 0, 1),
-    (CLIENT, "receive 0x101 limit 100", 0, 1),
+/// Messages of 24 bytes to the port at which messages wait in one of the ways; and a request with a right to reply by, its
+/// receipt, the reply, and its receipt.
+static SMALL: [Row<'static>; 2] = [
+    Row {
+        label: "24 bytes, where messages wait",
+        parts: &[
+            ("", HERE, "send make_send_once 0x10b id 7", 0, 1),
+            ("", HERE, "receive 0x10b limit 100", 0, 1),
+        ],
+        rounds: 500,
+        is_done: true,
+    },
+    Row {
+        label: "a request, its receipt, the reply, its receipt",
+        parts: &[
+            (
+                "",
+                CLIENT,
+                "send copy_send 0x100 local make_send_once 0x101 id 1",
+                0,
+                1,
+            ),
+            ("", HERE, "receive 0x100 limit 100", 0, 1),
+            ("", HERE, "send move_send_once 0x10c id 2", 0, 1),
+            ("", CLIENT, "receive 0x101 limit 100", 0, 1),
+        ],
+        rounds: 500,
+        is_done: true,
+    },
 ];
 
 /// How a message goes to the port 0x100, by a send right that is made for it.
@@ -85,37 +96,25 @@ pub(crate) fn send_line(alloc: Global, how: &str, size: u32, rights: u32) -> Res
     Ok(line)
 }
 
-/// Measures lines, and prints the time for one of so many.
-fn print_lines<'a, 'b, M: Machine>(
+/// Measures messages that are sent by this line, and prints them.
+fn print_message<M: Machine>(
     context: &Context<'_>,
     machines: &mut [Placed<M>],
-    label: &'b str,
-    lines: &'a [Line<'b>],
-    count: u64,
+    label: &str,
+    line: &str,
     rounds: u64,
 ) -> Result<(), Fault> {
-    let parts = [(label, lines, count)];
+    let parts = [
+        ("", HERE, line, 0, 5),
+        ("", HERE, "receive 0x100 limit 8192", 0, 5),
+    ];
     let row = Row {
+        label,
         parts: &parts,
         rounds,
         is_done: true,
     };
-    print_row(context, machines, &row)
-}
-
-/// Measures a message, and prints it.
-fn print_message<M: Machine>(
-    context: &Context<'_>,
-    machines: &mut [Placed<M>],
-    message: &(&str, u32, u32, u64),
-) -> Result<(), Fault> {
-    let (label, size, rights, rounds) = *message;
-    let line = send_line(context.alloc, BY_SEND, size, rights)?;
-    let lines = [
-        (HERE, line.as_str(), 0, 5),
-        (HERE, "receive 0x100 limit 8192", 0, 5),
-    ];
-    print_lines(context, machines, label, &lines, 5, rounds)
+    print_row(context, machines, &row, 5)
 }
 
 /// Prints what messages cost.
@@ -128,23 +127,12 @@ pub(crate) fn print_messages<M: Machine>(
         &[],
         &[],
     );
-    for message in &MESSAGES {
-        print_message(context, machines, message)?;
+    for (label, size, rights, rounds) in &MESSAGES {
+        let line = send_line(context.alloc, BY_SEND, *size, *rights)?;
+        print_message(context, machines, label, line.as_str(), *rounds)?;
     }
-    print_lines(
-        context,
-        machines,
-        "24 bytes, where messages wait",
-        &WAITING,
-        5,
-        200,
-    )?;
-    print_lines(
-        context,
-        machines,
-        "a request, its receipt, the reply, its receipt",
-        &ROUND_TRIP,
-        1,
-        500,
-    )
+    for row in &SMALL {
+        print_row(context, machines, row, 1)?;
+    }
+    Ok(())
 }

@@ -82,10 +82,10 @@ pub(crate) fn shortest_opening<D: Disk + Drop>(
 /// How many microseconds it takes to open a store of so many pairs of small records, on a disk that has none.
 fn micros_of_small<D: Disk + Drop>(
     context: &Context<'_>,
-    disk: D,
+    disk: Result<D, Fault>,
     count: u32,
 ) -> Result<u64, Fault> {
-    let disk = make_store(context.alloc, disk, SMALL, count)?;
+    let disk = make_store(context.alloc, disk?, SMALL, count)?;
     let (nanos, _) = shortest_opening(context, disk)?;
     Ok(nanos / 1_000)
 }
@@ -97,8 +97,11 @@ fn store_of_messages<D: Disk + Drop>(context: &Context<'_>, disk: D) -> Result<D
 }
 
 /// Prints how much memory opening such a store takes.
-fn print_memory<D: Disk + Drop>(context: &Context<'_>, disk: D) -> Result<(), Fault> {
-    let disk = store_of_messages(context, disk)?;
+fn print_memory<D: Disk + Drop>(
+    context: &Context<'_>,
+    disk: Result<D, Fault>,
+) -> Result<(), Fault> {
+    let disk = store_of_messages(context, disk?)?;
     let length = disk.length(Slot::Segment0) / 1_024;
     let before = context.memory("VmHWM:");
     let (nanos, _) = time_opening(context, disk)?;
@@ -113,9 +116,9 @@ fn print_memory<D: Disk + Drop>(context: &Context<'_>, disk: D) -> Result<(), Fa
 
 /// Prints how long opening stores of small records takes, and how much memory opening one of large ones.
 pub(crate) fn print_openings(context: &Context<'_>) -> Result<(), Fault> {
-    print_memory(context, context.new_files()?)?;
-    let half = micros_of_small(context, context.new_files()?, HALF)?;
-    let all = micros_of_small(context, context.new_files()?, ALL)?;
+    print_memory(context, context.new_files())?;
+    let half = micros_of_small(context, context.new_files(), HALF)?;
+    let all = micros_of_small(context, context.new_files(), ALL)?;
     context.print_row(
         "microseconds for opening 32,768 small records, and 65,536; how many times as long",
         &[half, all],

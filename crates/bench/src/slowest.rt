@@ -166,7 +166,7 @@ fn time_rounds<C: Caller>(
 /// it.
 fn time_store<D: Disk + Drop>(
     context: &Context<'_>,
-    disk: D,
+    disk: Result<D, Fault>,
     shape: Shape,
     calls_left: u32,
     idle: &mut Both,
@@ -174,7 +174,7 @@ fn time_store<D: Disk + Drop>(
 ) -> Result<(), Fault> {
     let watch = Watch::new(false);
     let watched = Watched {
-        disk,
+        disk: disk?,
         watch: &watch,
     };
     let watched = prepared(context.alloc, watched, shape, calls_left)?;
@@ -209,7 +209,7 @@ fn print_state(context: &Context<'_>, state: (u32, u32, u32, u32)) -> Result<(),
     };
     let (mut idle, mut under_way) = (NEITHER, NEITHER);
     for _ in 0..stores {
-        let files = context.new_files()?;
+        let files = context.new_files();
         time_store(context, files, shape, calls_left, &mut idle, &mut under_way)?;
     }
     context.print_row("ports", &[u64::from(ports)], &[]);

@@ -164,13 +164,13 @@ fn print_two(context: &Context<'_>, label: &str, early: u64, late: u64) {
 /// Prints what a store on a disk takes after two counts of thousands of calls.
 fn print_on<D: Disk + Drop>(
     context: &Context<'_>,
-    disk: D,
+    disk: Result<D, Fault>,
     frames: &[u8],
     thousands: (u32, u32),
 ) -> Result<(), Fault> {
     let watch = Watch::new(false);
     let watched = Watched {
-        disk,
+        disk: disk?,
         watch: &watch,
     };
     let mut alone = open_alone(context.alloc, watched)?;
@@ -190,11 +190,16 @@ pub(crate) fn print_steady(context: &Context<'_>) -> Result<(), Fault> {
         &[],
         &[],
     );
-    print_on(context, PlainDisk::new(context.alloc), &frames, IN_MEMORY)?;
+    print_on(
+        context,
+        Ok(PlainDisk::new(context.alloc)),
+        &frames,
+        IN_MEMORY,
+    )?;
     context.print_row(
         "on files, without syncs: after 100 thousand calls, after 300 thousand",
         &[],
         &[],
     );
-    print_on(context, context.new_files()?, &frames, ON_FILES)
+    print_on(context, context.new_files(), &frames, ON_FILES)
 }

@@ -2,7 +2,7 @@
 
 use crate::Fault;
 use crate::context::{Context, hundredths};
-use crate::lines::{Line, Maker, Step, steps_of};
+use crate::lines::{Maker, Step, steps_of};
 use crate::ways::{ALL_WAYS, Beside, NEXT, WAYS};
 use std::alloc::Global;
 
@@ -13,14 +13,15 @@ const MOST_PARTS: usize = 16;
 /// for longer than a turn takes.
 const TURNS: u32 = 15;
 
-/// Calls that are timed together: what they are, or nothing if that isn't printed; their lines, and how many of them the time
-/// is told for one of.
-pub(crate) type Part<'a, 'b> = (&'b str, &'a [Line<'b>], u64);
+/// Calls that are timed together: what they are, or nothing if that isn't printed; and their line.
+pub(crate) type Part<'a> = (&'a str, u32, &'a str, u32, u32);
 
-/// Parts that together leave the state as it was, how often they are made in a turn, and whether they are done or refused.
+/// Parts that together leave the state as it was: what they are together, or nothing if that isn't printed; how often they are
+/// made in a turn, and whether they are done or refused.
 #[derive(Clone, Copy)]
-pub(crate) struct Row<'a, 'b> {
-    pub(crate) parts: &'a [Part<'a, 'b>],
+pub(crate) struct Row<'a> {
+    pub(crate) label: &'a str,
+    pub(crate) parts: &'a [Part<'a>],
     pub(crate) rounds: u64,
     pub(crate) is_done: bool,
 }
@@ -69,10 +70,10 @@ pub(crate) fn place_all<M: Machine + Drop>(
 }
 
 /// The calls of each part.
-fn parts_of(alloc: Global, row: &Row<'_, '_>) -> Result<Vec<Vec<Step>>, Fault> {
+fn parts_of(alloc: Global, row: &Row<'_>) -> Result<Vec<Vec<Step>>, Fault> {
     let mut parts = Vec::new(alloc);
-    for (_, lines, _) in row.parts {
-        let steps = steps_of(alloc, lines)?;
+    for (_, space, line, first, count) in row.parts {
+        let steps = steps_of(alloc, &[(*space, *line, *first, *count)])?;
         if parts.push(steps).is_err() {
             return Err(Fault::Memory);
         }
@@ -121,7 +122,7 @@ fn time_turn<M: Machine>(
     context: &Context<'_>,
     placed: &mut Placed<M>,
     parts: &[Vec<Step>],
-    row: &Row<'_, '_>,
+    row: &Row<'_>,
 ) -> Result<Nanos, Fault> {
     let mut sums = [0; MOST_PARTS];
     for _ in 0..row.rounds {
@@ -142,7 +143,7 @@ fn time_ways<M: Machine>(
     context: &Context<'_>,
     machines: &mut [Placed<M>],
     parts: &[Vec<Step>],
-    row: &Row<'_, '_>,
+    row: &Row<'_>,
     least: &mut [Nanos; WAYS],
 ) -> Result<(), Fault> {
     for (placed, shortest) in machines.iter_mut().zip(least.iter_mut()) {
@@ -156,7 +157,7 @@ fn time_ways<M: Machine>(
 fn time_row<M: Machine>(
     context: &Context<'_>,
     machines: &mut [Placed<M>],
-    row: &Row<'_, '_>,
+    row: &Row<'_>,
 ) -> Result<[Nanos; WAYS], Fault> {
     let parts = parts_of(context.alloc, row)?;
     let mut least = [[u64::MAX; MOST_PARTS]; WAYS];
@@ -175,8 +176,22 @@ fn times_of(least: &[Nanos; WAYS], place: usize) -> [u64; WAYS] {
     times
 }
 
+/// The times of all parts together in each way.
+fn sums_of(least: &[Nanos; WAYS]) -> [u64; WAYS] {
+    let mut sums = [0u64; WAYS];
+    for (sum, nanos) in sums.iter_mut().zip(least) {
+        *sum = nanos
+            .iter()
+            .fold(0, |all: u64, one| all.saturating_add(*one));
+    }
+    sums
+}
+
 /// Prints the nanoseconds for one of so many beside little, and how many times as long each other way takes.
 fn print_times(context: &Context<'_>, label: &str, count: u64, times: &[u64; WAYS]) {
+    if label.is_empty() {
+        return;
+    }
     let little = times[0];
     let mut ratios = [0; WAYS];
     for (ratio, time) in ratios.iter_mut().zip(times) {
@@ -186,18 +201,19 @@ fn print_times(context: &Context<'_>, label: &str, count: u64, times: &[u64; WAY
     context.print_row(label, &[each], &ratios[1..]);
 }
 
-/// Measures the calls of a row, and prints its parts.
+/// Measures the calls of a row, and prints its parts, and then all of them for one of so many.
 pub(crate) fn print_row<M: Machine>(
     context: &Context<'_>,
     machines: &mut [Placed<M>],
-    row: &Row<'_, '_>,
+    row: &Row<'_>,
+    count: u64,
 ) -> Result<(), Fault> {
     let least = time_row(context, machines, row)?;
-    for (place, (label, _, count)) in row.parts.iter().enumerate() {
-        if !label.is_empty() {
-            let times = times_of(&least, place);
-            print_times(context, label, row.rounds.saturating_mul(*count), &times);
-        }
+    for (place, (label, _, _, _, count)) in row.parts.iter().enumerate() {
+        let count = row.rounds.saturating_mul(u64::from(*count));
+        print_times(context, label, count, &times_of(&least, place));
     }
+    let count = row.rounds.saturating_mul(count);
+    print_times(context, row.label, count, &sums_of(&least));
     Ok(())
 }
