@@ -13,11 +13,5 @@ fn main(rt: HostRuntime) -> ExitCode {
     };
     let words = read_words(&rt);
     let mut errors = rt.stderr();
-    ExitCode::from(show_drawing(
-        rt.alloc(),
-        &rt,
-        words.as_deref(),
-        &mut output,
-        &mut errors,
-    ))
+    ExitCode::from(show_drawing(rt.alloc(), &rt, words.as_deref(), &mut output, &mut errors))
 }

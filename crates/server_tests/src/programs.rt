@@ -49,11 +49,7 @@ fn removed(rt: &HostRuntime, words: &[String]) -> Result<(), Fail> {
 }
 
 /// The status and the line of errors of a run in which nothing is written.
-fn told(
-    rt: &HostRuntime,
-    words: Option<&[String]>,
-    bytes: &[u8],
-) -> Result<(u8, String), Fail> {
+fn told(rt: &HostRuntime, words: Option<&[String]>, bytes: &[u8]) -> Result<(u8, String), Fail> {
     let ended = run(rt, words, bytes)?;
     if !ended.output.is_empty() {
         return Err(Fail::from("something was written"));

@@ -2,6 +2,7 @@ mod Appending
 mod Between
 mod Calls
 mod Checkpoints
+mod Counting
 mod Going
 mod Lists
 mod OrderLaws

@@ -1,8 +1,10 @@
 use Rattle.std.proofs.Common.{◌≡◌, ◌∷◌, ◌++◌, [], List, length, take, sym, ap, subst, ◌∙◌, arith}
 use Rattle.std.proofs.lemmas.List.{take_more}
 use Rattle.system.specs.Core.{RunsThrough}
+use Rattle.system.specs.Counting.{counted_event, counted_events}
 use Rattle.system.specs.declared.event.Event.{Event}
 use Rattle.system.specs.declared.event.Outcome.{Outcome}
+use Rattle.system.proofs.Counting.{counted_push}
 use Rattle.system.proofs.Lists.{take_end}
 use Rattle.system.proofs.Runs.{through_push}
 use Rattle.system.proofs.system.System.run.Goals as goal
@@ -18,6 +20,8 @@ loop-event-preserved g c = (
       (through_push g.D.Disk.honest g.D.Disk.view base w before c.loop-event.outcomes.items c.args.self.now c.loop-event.self c.step.new.self c.event-item.result c.step.result through (c.step.ensures.steps base through.end through.stands))),
   omega (arith, c.push_reserved.ensures.len, c.loop-event.invariant.1),
   omega (arith, c.push_reserved.ensures.capacity, c.loop-event.invariant.2),
+  subst (λ (l : List Outcome). g.D.Disk.failed_calls c.step.new.self.store.disk ≡ counted_events l (g.D.Disk.failed_calls c.args.self.now.store.disk)) (sym c.push_reserved.ensures.items)
+      (c.step.ensures.failures ∙ ap (counted_event c.step.result) c.loop-event.invariant.3 ∙ sym (counted_push c.loop-event.outcomes.items c.step.result (g.D.Disk.failed_calls c.args.self.now.store.disk))),
 )
 
 pub returns-clause-runs : goal.returns-clause-runs
