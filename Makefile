@@ -16,8 +16,6 @@ bin:
 	  (cd crates/$$program && rt run -- "$$empty" < /dev/null > /dev/null) && cp crates/$$program/out/$$program bin/ || exit 1; \
 	done; rm -r "$$empty"
 
-# Acknowledged calls a second on a new store in files, beside pairs of syncs in the same folder; and calls and
-# messages in memory. Then what checkpoints cost, and a store that goes on for long.
+# What calls, messages, deaths, batches, openings and checkpoints cost, in a new folder: it proves the program first.
 bench:
-	@folder=$$(mktemp -d) && mkdir "$$folder/store" && (cd crates/bench && rt run -- "$$folder") && \
-	  (cd crates/bench_store && rt run -- "$$folder") && rm -r "$$folder"
+	@folder=$$(mktemp -d) && (cd crates/bench && rt run -- "$$folder") && rm -r "$$folder"

@@ -1,297 +1,242 @@
 //! What each kind of call costs as what stands beside it grows: ports, names of the same space, spaces and messages.
 
-use crate::memory::{Before, Cycle, HERE, time_in_memory};
-use crate::{Fault, per_call};
+use crate::Fault;
+use crate::context::Context;
+use crate::turns::{Machine, Placed, Row, print_row};
+use crate::ways::{CLIENT, HERE, NEXT};
 
-/// The space that a call makes where no space stands beside; those before it take the other ports.
-const NEXT_SPACE: u32 = 7;
-
-/// Calls that together leave the state as it was, each by a task of a space, and whether they are done or refused.
-#[derive(Clone, Copy)]
-struct Row {
-    label: &'static str,
-    steps: &'static [(u32, &'static str)],
-    is_done: bool,
-    rounds: u64,
-}
-
-const SHORT: u64 = 4_000;
-
-/// The calls that are measured. Space 1 holds a port 0x100 by its receive right and a send right, and a set 0x200 of ten
-/// ports, 0x101 to 0x10a.
-static ROWS: [Row; 15] = [
+/// The calls that are measured.
+static ROWS: [Row<'static>; 9] = [
+    // A new port, and its end.
     Row {
-        label: "allocate, destroy",
-        steps: &[(HERE, "allocate receive"), (HERE, "destroy 0x10b")],
-        is_done: true,
-        rounds: SHORT,
-    },
-    Row {
-        label: "insert_right, deallocate",
-        steps: &[
-            (HERE, "insert_right 0x100 0x100 make_send"),
-            (HERE, "deallocate 0x100"),
+        label: "",
+        parts: &[
+            ("allocate", HERE, "allocate receive", 0, 10),
+            ("destroy", HERE, "destroy #", 0x10c, 10),
         ],
+        rounds: 100,
         is_done: true,
-        rounds: SHORT,
     },
+    // One send right more under a name, and one less.
     Row {
-        label: "space_create, deallocate of its last right, space_destroy",
-        steps: &[
-            (HERE, "space_create 0x100 make_send"),
-            (NEXT_SPACE, "deallocate 0x100"),
-            (NEXT_SPACE, "space_destroy"),
-        ],
-        is_done: true,
-        rounds: SHORT,
-    },
-    Row {
-        label: "extract_right, deallocate",
-        steps: &[
-            (HERE, "extract_right 0x100 make_send"),
-            (HERE, "deallocate 0x100"),
-        ],
-        is_done: true,
-        rounds: SHORT,
-    },
-    Row {
-        label: "mod_refs of a send right, twice",
-        steps: &[
-            (HERE, "mod_refs 0x100 send 1"),
-            (HERE, "mod_refs 0x100 send -1"),
-        ],
-        is_done: true,
-        rounds: SHORT,
-    },
-    Row {
-        label: "space_create, space_destroy",
-        steps: &[
-            (HERE, "space_create 0x100 make_send"),
-            (NEXT_SPACE, "space_destroy"),
-        ],
-        is_done: true,
-        rounds: SHORT,
-    },
-    Row {
-        label: "allocate, request_notification to it, destroy of it",
-        steps: &[
-            (HERE, "allocate receive"),
+        label: "",
+        parts: &[
             (
+                "insert_right",
                 HERE,
-                "request_notification 0x100 dead_name 0 0x10b make_send_once",
+                "insert_right 0x100 0x100 make_send",
+                0,
+                10,
             ),
-            (HERE, "destroy 0x10b"),
+            ("deallocate", HERE, "deallocate 0x100", 0, 10),
         ],
+        rounds: 200,
         is_done: true,
-        rounds: SHORT,
     },
+    // A send-once right under a new name, and its end, of which a notice is sent.
     Row {
-        label: "rename, twice",
-        steps: &[(HERE, "rename 0x100 0x300"), (HERE, "rename 0x300 0x100")],
-        is_done: true,
-        rounds: SHORT,
-    },
-    Row {
-        label: "move_member, twice",
-        steps: &[
-            (HERE, "move_member 0x100 0x200"),
-            (HERE, "move_member 0x100 0x0"),
+        label: "",
+        parts: &[
+            (
+                "insert_right under a new name",
+                HERE,
+                "insert_right # 0x100 make_send_once",
+                0x10c,
+                10,
+            ),
+            (
+                "deallocate of a last right, with a notice",
+                HERE,
+                "deallocate #",
+                0x10c,
+                10,
+            ),
+            (
+                "receipt of that notice",
+                HERE,
+                "receive 0x100 limit 100",
+                0,
+                10,
+            ),
         ],
+        rounds: 100,
         is_done: true,
-        rounds: SHORT,
     },
     Row {
-        label: "type, get_refs",
-        steps: &[(HERE, "type 0x100"), (HERE, "get_refs 0x100 send")],
-        is_done: true,
-        rounds: SHORT,
-    },
-    Row {
-        label: "set_qlimit, set_seqno",
-        steps: &[(HERE, "set_qlimit 0x100 5"), (HERE, "set_seqno 0x100 0")],
-        is_done: true,
-        rounds: SHORT,
-    },
-    Row {
-        label: "get_receive_status, attach",
-        steps: &[(HERE, "get_receive_status 0x100"), (HERE, "attach 1")],
-        is_done: true,
-        rounds: SHORT,
-    },
-    Row {
-        label: "get_set_status of 10 members",
-        steps: &[(HERE, "get_set_status 0x200")],
-        is_done: true,
-        rounds: SHORT,
-    },
-    Row {
-        label: "names",
-        steps: &[(HERE, "names")],
-        is_done: true,
-        rounds: 400,
-    },
-    // The second is refused once a right was taken.
-    Row {
-        label: "ten calls that are refused",
-        steps: &[
-            (HERE, "allocate 9"),
-            (HERE, "insert_right 0x200 0x100 make_send"),
-            (HERE, "deallocate 0x1ff"),
-            (HERE, "destroy 0x1ff"),
-            (HERE, "mod_refs 0x1ff send 1"),
-            (HERE, "extract_right 0x1ff make_send"),
-            (HERE, "request_notification 0x1ff dead_name 0 0x0 0"),
-            (HERE, "rename 0x1ff 0x300"),
-            (HERE, "move_member 0x1ff 0x200"),
-            (HERE, "space_create 0x1ff make_send"),
+        label: "",
+        parts: &[
+            ("space_create", HERE, "space_create 0x100 make_send", 0, 1),
+            ("deallocate of a last right", NEXT, "deallocate 0x100", 0, 1),
+            ("space_destroy", NEXT, "space_destroy", 0, 1),
         ],
+        rounds: 500,
+        is_done: true,
+    },
+    Row {
+        label: "",
+        parts: &[
+            (
+                "extract_right",
+                HERE,
+                "extract_right 0x100 make_send",
+                0,
+                10,
+            ),
+            ("", HERE, "deallocate 0x100", 0, 10),
+        ],
+        rounds: 200,
+        is_done: true,
+    },
+    Row {
+        label: "",
+        parts: &[
+            ("", HERE, "allocate receive", 0, 1),
+            (
+                "request_notification",
+                HERE,
+                "request_notification # dead_name 0 0x10c make_send_once",
+                0x101,
+                10,
+            ),
+            ("", HERE, "destroy 0x10c", 0, 1),
+        ],
+        rounds: 100,
+        is_done: true,
+    },
+    // Calls that take back what was done, or change nothing.
+    Row {
+        label: "",
+        parts: &[
+            ("mod_refs, one more", HERE, "mod_refs 0x100 send 1", 0, 10),
+            ("mod_refs, one less", HERE, "mod_refs 0x100 send -1", 0, 10),
+            ("rename", HERE, "rename 0x100 0x300", 0, 1),
+            ("", HERE, "rename 0x300 0x100", 0, 1),
+            (
+                "move_member, out of the set",
+                HERE,
+                "move_member # 0x0",
+                0x101,
+                10,
+            ),
+            (
+                "move_member, into it",
+                HERE,
+                "move_member # 0x200",
+                0x101,
+                10,
+            ),
+            (
+                "get_set_status of 10 members",
+                HERE,
+                "get_set_status 0x200",
+                0,
+                10,
+            ),
+            (
+                "get_receive_status",
+                HERE,
+                "get_receive_status 0x100",
+                0,
+                10,
+            ),
+            ("type", HERE, "type 0x100", 0, 10),
+            ("get_refs", HERE, "get_refs 0x100 send", 0, 10),
+            ("set_qlimit", HERE, "set_qlimit 0x100 5", 0, 10),
+            ("set_mscount", HERE, "set_mscount 0x100 9", 0, 10),
+            ("set_seqno", HERE, "set_seqno 0x100 0", 0, 10),
+            ("attach", HERE, "attach 2", 0, 10),
+        ],
+        rounds: 100,
+        is_done: true,
+    },
+    Row {
+        label: "",
+        parts: &[
+            ("refused allocate", HERE, "allocate 9", 0, 10),
+            (
+                "refused insert_right",
+                HERE,
+                "insert_right 0x200 0x100 make_send",
+                0,
+                10,
+            ),
+            ("refused deallocate", HERE, "deallocate 0x1ff", 0, 10),
+            ("refused destroy", HERE, "destroy 0x1ff", 0, 10),
+            ("refused mod_refs", HERE, "mod_refs 0x1ff send 1", 0, 10),
+            (
+                "refused extract_right",
+                HERE,
+                "extract_right 0x1ff make_send",
+                0,
+                10,
+            ),
+            (
+                "refused request_notification",
+                HERE,
+                "request_notification 0x1ff dead_name 0 0x0 0",
+                0,
+                10,
+            ),
+            ("refused rename", HERE, "rename 0x1ff 0x300", 0, 10),
+            (
+                "refused move_member",
+                HERE,
+                "move_member 0x1ff 0x200",
+                0,
+                10,
+            ),
+            (
+                "refused get_set_status",
+                HERE,
+                "get_set_status 0x100",
+                0,
+                10,
+            ),
+            (
+                "refused space_create",
+                HERE,
+                "space_create 0x1ff make_send",
+                0,
+                10,
+            ),
+            ("refused send", HERE, "send copy_send 0x1ff id 7", 0, 10),
+            ("refused receive", HERE, "receive 0x1ff limit 100", 0, 10),
+            (
+                "receive where no message is",
+                HERE,
+                "receive 0x100 limit 100",
+                0,
+                10,
+            ),
+            ("refused names, of no space", NEXT, "names", 0, 10),
+        ],
+        rounds: 100,
         is_done: false,
-        rounds: SHORT,
+    },
+    // The first of these grows as the names do.
+    Row {
+        label: "",
+        parts: &[
+            ("names of the space", HERE, "names", 0, 1),
+            ("names of 2 names", CLIENT, "names", 0, 1),
+        ],
+        rounds: 20,
+        is_done: true,
     },
 ];
-
-/// What stands beside: live ports in each of five other spaces, dead names in the space of the calls, spaces with a send
-/// right to its port, and notices queued at another port.
-#[derive(Clone, Copy)]
-struct Beside {
-    ports: u32,
-    names: u32,
-    spaces: u32,
-    notices: u32,
-}
-
-/// Beside ten ports, in a space of some ten names.
-const LITTLE: Beside = Beside {
-    ports: 2,
-    names: 0,
-    spaces: 0,
-    notices: 0,
-};
-
-/// Beside more of each, with what it is.
-static WAYS: [(&str, Beside); 4] = [
-    (
-        "16,000 ports",
-        Beside {
-            ports: 3_200,
-            ..LITTLE
-        },
-    ),
-    (
-        "4,000 names",
-        Beside {
-            names: 3_988,
-            ..LITTLE
-        },
-    ),
-    (
-        "255 spaces",
-        Beside {
-            spaces: 249,
-            ..LITTLE
-        },
-    ),
-    (
-        "1,000 notices",
-        Beside {
-            notices: 1_000,
-            ..LITTLE
-        },
-    ),
-];
-
-/// The lines that make what is measured, and this beside it.
-fn lines_before(beside: Beside) -> [(u32, &'static str, u32); 24] {
-    let if_notices = beside.notices.min(1);
-    [
-        (HERE, "allocate receive", 11),
-        (HERE, "insert_right 0x100 0x100 make_send", 1),
-        (HERE, "allocate_name port_set 0x200", 1),
-        (HERE, "move_member 0x101 0x200", 1),
-        (HERE, "move_member 0x102 0x200", 1),
-        (HERE, "move_member 0x103 0x200", 1),
-        (HERE, "move_member 0x104 0x200", 1),
-        (HERE, "move_member 0x105 0x200", 1),
-        (HERE, "move_member 0x106 0x200", 1),
-        (HERE, "move_member 0x107 0x200", 1),
-        (HERE, "move_member 0x108 0x200", 1),
-        (HERE, "move_member 0x109 0x200", 1),
-        (HERE, "move_member 0x10a 0x200", 1),
-        (HERE, "space_create 0x100 make_send", 5),
-        (2, "allocate receive", beside.ports),
-        (3, "allocate receive", beside.ports),
-        (4, "allocate receive", beside.ports),
-        (5, "allocate receive", beside.ports),
-        (6, "allocate receive", beside.ports),
-        (HERE, "space_create 0x100 make_send", beside.spaces),
-        // The port that notices go to, and the name that they tell of: dead already, so that each is due at once.
-        (HERE, "allocate_name receive 0x400", if_notices),
-        (HERE, "allocate_name dead_name 0x401", if_notices),
-        (
-            HERE,
-            "request_notification 0x401 dead_name 1 0x400 make_send_once",
-            beside.notices,
-        ),
-        (HERE, "attach 1", 1),
-    ]
-}
-
-/// The space whose task makes a call: the one that was made before it stands behind those beside.
-fn space_of(space: u32, beside: Beside) -> u32 {
-    if space == NEXT_SPACE {
-        space.saturating_add(beside.spaces)
-    } else {
-        space
-    }
-}
-
-/// How many nanoseconds the calls of a row take together beside this.
-fn nanos_of(rt: &HostRuntime, row: &Row, beside: Beside) -> Result<u64, Fault> {
-    let Ok(mut steps) = Vec::with_capacity(rt.alloc(), row.steps.len()) else {
-        return Err(Fault::Call);
-    };
-    for (space, line) in row.steps {
-        if steps.push((space_of(*space, beside), *line)).is_err() {
-            return Err(Fault::Call);
-        }
-    }
-    let before = Before {
-        lines: &lines_before(beside),
-        names: beside.names,
-    };
-    let cycle = Cycle {
-        steps: &steps,
-        is_done: row.is_done,
-    };
-    let duration = time_in_memory(rt, before, cycle, row.rounds)?;
-    Ok(per_call(row.rounds, duration))
-}
-
-/// How many hundredths of a figure another one is.
-pub(crate) fn hundredths(figure: u64, of: u64) -> u64 {
-    figure.saturating_mul(100).checked_div(of).unwrap_or(0)
-}
-
-/// Prints what a row costs beside little, and how many times as much beside more.
-fn print_row(rt: &HostRuntime, row: &Row) -> Result<(), Fault> {
-    let little = nanos_of(rt, row, LITTLE)?;
-    let _ = print!(rt; "{}: {little}", row.label);
-    for (what, beside) in &WAYS {
-        let ratio = hundredths(nanos_of(rt, row, *beside)?, little);
-        let (whole, part) = (ratio / 100, ratio % 100);
-        let _ = print!(rt; ", {what} {whole}.{part:02}");
-    }
-    let _ = println!(rt);
-    Ok(())
-}
 
 /// Prints what the calls of each row cost.
-pub(crate) fn print_costs(rt: &HostRuntime) -> Result<(), Fault> {
-    let _ = println!(rt;
-        "nanoseconds beside 10 ports, in a space of 12 names; and how many times as long beside more"
+pub(crate) fn print_costs<M: Machine>(
+    context: &Context<'_>,
+    machines: &mut [Placed<M>],
+) -> Result<(), Fault> {
+    context.print_row(
+        "nanoseconds of a call, and how many times as long beside more",
+        &[],
+        &[],
     );
     for row in &ROWS {
-        print_row(rt, row)?;
+        print_row(context, machines, row, 1)?;
     }
     Ok(())
 }

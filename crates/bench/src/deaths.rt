@@ -1,108 +1,69 @@
-//! What the death of a port costs, by the names that hold rights to it.
+//! What the death of a port costs, by the names that hold rights to it, with a notice of each or with none.
 
-use crate::memory::{HERE, call_of, make, make_line};
-use crate::{Fault, per_call};
-use codes::{Disposition, MACH_NOTIFY_DEAD_NAME};
-use ipc_model::Call;
-use server::Kernel;
-use std::time::{Duration, Instant};
+use crate::Fault;
+use crate::context::Context;
+use crate::turns::{Machine, Placed, Row, print_row};
+use crate::ways::HERE;
 
-/// The name of the port that dies, and of the one that notices go to.
-const DYING: u32 = 0x100;
+/// Deaths that are measured: by how many holders, each a name with a send-once right; how many of these have a notice sent
+/// to another port; and how often in a turn.
+static DEATHS: [(&str, u32, u32, u64); 6] = [
+    ("1 holder", 1, 0, 100),
+    ("10 holders", 10, 0, 50),
+    ("1,000 holders", 1_000, 0, 1),
+    ("1 holder with a notice", 1, 1, 100),
+    ("10 holders with notices", 10, 10, 50),
+    ("1,000 holders with notices", 1_000, 1_000, 1),
+];
 
-const TOLD: u32 = 0x101;
-
-/// The first name that holds a right to the port.
-const FIRST_HOLDER: u32 = 0x1000;
-
-/// How many holders a port has that dies.
-static HOLDERS: [u32; 3] = [1, 10, 1_000];
-
-/// How many such ports are made, each in a kernel of its own: the shortest death counts.
-const TRIALS: u32 = 40;
-
-/// Makes a holder of the port: a name with a send-once right.
-fn add_holder(kernel: &mut Kernel, name: u32) -> Result<(), Fault> {
-    let call = Call::InsertRight {
-        name,
-        right_name: DYING,
-        disposition: Disposition::MakeSendOnce as u32,
+/// Measures a death, and prints it.
+fn print_death<M: Machine>(
+    context: &Context<'_>,
+    machines: &mut [Placed<M>],
+    death: &(&'static str, u32, u32, u64),
+) -> Result<(), Fault> {
+    let (label, holders, notices, rounds) = *death;
+    let parts = [
+        ("", HERE, "allocate_name receive #", 0x300, 2),
+        (
+            "",
+            HERE,
+            "insert_right # 0x300 make_send_once",
+            0x3000,
+            holders,
+        ),
+        (
+            "",
+            HERE,
+            "request_notification # dead_name 0 0x301 make_send_once",
+            0x3000,
+            notices,
+        ),
+        (label, HERE, "destroy 0x300", 0, 1),
+        ("", HERE, "destroy #", 0x3000, holders),
+        ("", HERE, "destroy 0x301", 0, 1),
+    ];
+    let row = Row {
+        label: "",
+        parts: &parts,
+        rounds,
+        is_done: true,
     };
-    make(kernel, HERE, &call, true)
-}
-
-/// Has a notice come as a name becomes dead.
-fn ask(kernel: &mut Kernel, name: u32) -> Result<(), Fault> {
-    let call = Call::RequestNotification {
-        name,
-        variant: MACH_NOTIFY_DEAD_NAME,
-        sync: 0,
-        notify: TOLD,
-        disposition: Disposition::MakeSendOnce as u32,
-    };
-    make(kernel, HERE, &call, true)
-}
-
-/// Makes the port, the one that notices go to, and the holders, with a request each or with none.
-fn prepare(rt: &HostRuntime, kernel: &mut Kernel, count: u32, asks: bool) -> Result<(), Fault> {
-    make_line(rt.alloc(), kernel, HERE, "allocate receive", 2)?;
-    for number in 0..count {
-        let name = number.saturating_add(FIRST_HOLDER);
-        add_holder(kernel, name)?;
-        if asks {
-            ask(kernel, name)?;
-        }
-    }
-    Ok(())
-}
-
-/// How long the death takes, once all is made.
-fn time_after(
-    rt: &HostRuntime,
-    kernel: &mut Kernel,
-    count: u32,
-    asks: bool,
-) -> Result<Duration, Fault> {
-    prepare(rt, kernel, count, asks)?;
-    let call = call_of(rt.alloc(), "destroy 0x100")?;
-    let start = Instant::now(rt)?;
-    make(kernel, HERE, &call, true)?;
-    Ok(start.elapsed(rt)?)
-}
-
-/// How long the death takes in a new kernel.
-fn time_death(rt: &HostRuntime, count: u32, asks: bool) -> Result<Duration, Fault> {
-    let Ok(mut kernel) = Kernel::opening(rt.alloc()) else {
-        return Err(Fault::Call);
-    };
-    time_after(rt, &mut kernel, count, asks)
-}
-
-/// The shortest time that such a death takes.
-fn shortest_death(rt: &HostRuntime, count: u32, asks: bool) -> Result<Duration, Fault> {
-    let mut shortest = time_death(rt, count, asks)?;
-    for _ in 1..TRIALS {
-        shortest = shortest.min(time_death(rt, count, asks)?);
-    }
-    Ok(shortest)
-}
-
-/// Prints what a death costs by its holders, without requests or with one of each holder.
-fn print_row(rt: &HostRuntime, label: &str, asks: bool) -> Result<(), Fault> {
-    let _ = print!(rt; "{label}");
-    for count in &HOLDERS {
-        let nanos = per_call(1, shortest_death(rt, *count, asks)?);
-        let _ = print!(rt; " {nanos}");
-    }
-    let _ = println!(rt);
-    Ok(())
+    print_row(context, machines, &row, 1)
 }
 
 /// Prints what deaths cost.
-pub(crate) fn print_deaths(rt: &HostRuntime) -> Result<(), Fault> {
-    let _ = println!(rt;
-        "nanoseconds for the death of a port that 1, 10 and 1,000 names hold rights to"
+pub(crate) fn print_deaths<M: Machine>(
+    context: &Context<'_>,
+    machines: &mut [Placed<M>],
+) -> Result<(), Fault> {
+    context.print_row(
+        "nanoseconds of a port's death, and how many times as long beside more",
+        &[],
+        &[],
     );
-    print_row(rt, "without notices:", false)?;
-    print_row(rt, "with a notice of each:", true)
+    for death in &DEATHS {
+        print_death(context, machines, death)?;
+    }
+    Ok(())
 }

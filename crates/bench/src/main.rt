@@ -1,80 +1,52 @@
-//! `bench FOLDER` measures acknowledged calls on a new store in the folder FOLDER/store, which has to be there and
-//! empty, beside pairs of syncs of a file in FOLDER, which is what a stored call costs at least. It also measures calls
-//! of a kernel alone, in memory, also what each kind of call costs beside few and beside many other ports, and how long
-//! and in how much memory stores of many records are opened.
+//! `bench FOLDER` measures the product in the folder FOLDER, in which it makes folders and files of its own: how long and in
+//! how much memory stores are opened, acknowledged calls and batches beside plain writes with as many syncs, what each kind
+//! of call, message and death costs in memory beside little and beside more, and what checkpoints cost.
 #![tactic(auto)]
 
+mod batches;
+mod context;
 mod costs;
 mod deaths;
-mod memory;
+mod images;
+mod lines;
+mod lone;
+mod makers;
 mod messages;
 mod openings;
+mod plain;
+mod slowest;
+mod states;
+mod steady;
+mod turns;
+mod watched;
+mod ways;
 
-use crate::costs::{hundredths, print_costs};
+use crate::batches::print_batches;
+use crate::context::Context;
+use crate::costs::print_costs;
 use crate::deaths::print_deaths;
-use crate::memory::{Before, Cycle, HERE, call_of, time_in_memory};
+use crate::images::print_images;
+use crate::lone::print_lone;
 use crate::messages::print_messages;
 use crate::openings::print_openings;
-use disk::{Disk, FileDisk};
-use ipc_model::{Call, Reply};
-use server::{Alone, Caller, open};
-use std::alloc::Global;
-use std::fs::File;
-use std::io::{self, Write};
+use crate::plain::Plain;
+use crate::slowest::print_slowest;
+use crate::steady::print_steady;
+use crate::turns::{Machine, place_all};
+use server::Kernel;
 use std::process::ExitCode;
-use std::time::{Duration, Instant};
-use std::{env, fmt};
+use std::{env, io};
 
-/// How many calls are stored, and how many pairs of syncs are made.
-const ROUNDS: u64 = 500;
-
-/// How many requests are stored, each with its receipt, the reply and its receipt.
-const TRIPS: u64 = 100;
-
-/// What is made before them: the port to which requests go, and that of the replies.
-static BEFORE_TRIPS: [&str; 2] = ["allocate receive", "allocate receive"];
-
-/// The calls of a request and its reply.
-static TRIP: [&str; 4] = [
-    "send make_send 0x100 local make_send_once 0x101 id 1",
-    "receive 0x100 limit 100",
-    "send move_send_once 0x102 id 2",
-    "receive 0x101 limit 100",
-];
-
-/// What is measured in memory: what is made before and how often, a pair of calls, and how often the pair is made. These
-/// are a new receive right and its end, a send right made from a receive right and given up, and the names of a space that
-/// has 1,000.
-static IN_MEMORY: [(&str, (&str, u32), (&str, &str), u64); 3] = [
-    (
-        "allocate and destroy:       ",
-        ("names", 0),
-        ("allocate receive", "destroy 0x100"),
-        4_000,
-    ),
-    (
-        "insert_right and deallocate:",
-        ("allocate receive", 1),
-        ("insert_right 0x100 0x100 make_send", "deallocate 0x100"),
-        4_000,
-    ),
-    (
-        "names of 1,000 names:       ",
-        ("allocate dead_name", 1_000),
-        ("names", "names"),
-        100,
-    ),
-];
+/// How many names stand beside at most where ports die that a thousand names hold rights to.
+const ROOM_FOR_DEATHS: u32 = 3_080;
 
 /// What went wrong.
 #[derive(Clone, Copy)]
 enum Fault {
-    /// The store could not be opened.
     Store,
-    /// A call was refused, or not stored.
     Call,
-    /// A file or the clock failed.
     Device,
+    Memory,
 }
 
 impl From<io::Error> for Fault {
@@ -83,205 +55,69 @@ impl From<io::Error> for Fault {
     }
 }
 
-impl fmt::Display for Fault {
-    fn fmt<W: fmt::Write>(&self, f: &mut fmt::Formatter<W>) -> fmt::Result {
-        f.write_str(match self {
-            Fault::Store => "the store could not be opened",
-            Fault::Call => "a call was not acknowledged",
+impl Fault {
+    fn words(self) -> &'static str {
+        match self {
+            Fault::Store => "a store could not be opened, or did not go on",
+            Fault::Call => "a call was not answered as expected, or not acknowledged",
             Fault::Device => "a file or the clock failed",
-        })
-    }
-}
-
-/// A caller on a new store in a folder.
-fn open_caller<D: Disk + Drop>(alloc: Global, disk: D) -> Result<Alone<D>, Fault> {
-    let Ok(opened) = open(alloc, disk) else {
-        return Err(Fault::Store);
-    };
-    Ok(Alone::new(alloc, opened))
-}
-
-/// Allocates a dead name, which has to be acknowledged.
-fn allocate<D: Disk>(caller: &mut Alone<D>) -> Result<(), Fault> {
-    match caller.call(Call::Allocate { right: 4 }) {
-        Ok(Reply::Allocate { .. }) => Ok(()),
-        _ => Err(Fault::Call),
-    }
-}
-
-/// How long so many allocations take, each acknowledged.
-fn time_allocations<D: Disk>(rt: &HostRuntime, caller: &mut Alone<D>) -> Result<Duration, Fault> {
-    let start = Instant::now(rt)?;
-    for _ in 0..ROUNDS {
-        allocate(caller)?;
-    }
-    Ok(start.elapsed(rt)?)
-}
-
-/// Makes the calls of lines, each of which has to be acknowledged.
-fn make_stored<D: Disk>(
-    alloc: Global,
-    caller: &mut Alone<D>,
-    lines: &[&'static str],
-) -> Result<(), Fault> {
-    for line in lines {
-        match caller.call(call_of(alloc, line)?) {
-            Ok(reply) if reply.is_success() => {}
-            _ => return Err(Fault::Call),
+            Fault::Memory => "no memory",
         }
     }
-    Ok(())
 }
 
-/// How long so many requests take with their replies, each call acknowledged.
-fn time_trips<D: Disk>(rt: &HostRuntime, caller: &mut Alone<D>) -> Result<Duration, Fault> {
-    make_stored(rt.alloc(), caller, &BEFORE_TRIPS)?;
-    let start = Instant::now(rt)?;
-    for _ in 0..TRIPS {
-        make_stored(rt.alloc(), caller, &TRIP)?;
-    }
-    Ok(start.elapsed(rt)?)
+/// Measures calls and batches that are stored, beside plain writes.
+fn print_stored(context: &Context<'_>) -> Result<(), Fault> {
+    let mut plain = Plain::create(context)?;
+    print_lone(context, context.new_files(), &mut plain)?;
+    print_batches(context, &mut plain)
 }
 
-/// How long allocations and requests take on a disk that has no store yet.
-fn time_disk<D: Disk + Drop>(rt: &HostRuntime, disk: D) -> Result<(Duration, Duration), Fault> {
-    let mut caller = open_caller(rt.alloc(), disk)?;
-    let trips = time_trips(rt, &mut caller)?;
-    let allocations = time_allocations(rt, &mut caller)?;
-    Ok((allocations, trips))
-}
-
-/// How long they take in a folder.
-fn time_calls(rt: &HostRuntime, folder: &str) -> Result<(Duration, Duration), Fault> {
-    let Ok(store) = format!(in rt.alloc(); "{folder}/store") else {
-        return Err(Fault::Device);
-    };
-    let Ok(disk) = FileDisk::at(rt.alloc(), rt, store.as_str()) else {
-        return Err(Fault::Store);
-    };
-    time_disk(rt, disk)
-}
-
-/// Writes so many pairs, each write synced.
-fn sync_pairs(file: &mut File) -> io::Result<()> {
-    for _ in 0..ROUNDS {
-        file.write_all(&[0; 54])?;
-        file.sync_all()?;
-        file.write_all(&[0x5a])?;
-        file.sync_all()?;
-    }
-    Ok(())
-}
-
-/// How long they take.
-fn time_pairs(rt: &HostRuntime, file: &mut File) -> io::Result<Duration> {
-    let start = Instant::now(rt)?;
-    sync_pairs(file)?;
-    start.elapsed(rt)
-}
-
-/// How long they take in a folder.
-fn time_syncs(rt: &HostRuntime, folder: &str) -> Result<Duration, Fault> {
-    let Ok(path) = format!(in rt.alloc(); "{folder}/syncs") else {
-        return Err(Fault::Device);
-    };
-    let mut file = File::create(rt, path.as_str())?;
-    Ok(time_pairs(rt, &mut file)?)
-}
-
-/// How many nanoseconds one of so many took.
-fn per_call(count: u64, duration: Duration) -> u64 {
-    if count == 0 {
-        return 0;
-    }
-    u64::try_from(duration.as_nanos() / u128::from(count)).unwrap_or(u64::MAX)
-}
-
-/// So many in a second.
-fn per_second(count: u64, duration: Duration) -> u64 {
-    let micros = duration.as_micros();
-    if micros == 0 {
-        return 0;
-    }
-    u64::try_from(u128::from(count) * 1_000_000 / micros).unwrap_or(u64::MAX)
-}
-
-fn print_figure(rt: &HostRuntime, label: &str, figure: u64) {
-    let _ = println!(rt; "{label} {figure}");
-}
-
-/// Prints how many calls a second are stored, how many requests with their replies, which are four calls, and how many
-/// pairs of syncs are made.
-fn print_stored(rt: &HostRuntime, folder: &str) -> Result<(), Fault> {
-    let (allocations, trips) = time_calls(rt, folder)?;
-    let stored = per_second(ROUNDS, allocations);
-    let trips = per_second(TRIPS, trips);
-    let syncs = per_second(ROUNDS, time_syncs(rt, folder)?);
-    print_figure(rt, "acknowledged calls a second:", stored);
-    print_figure(rt, "round trips a second:       ", trips);
-    print_figure(rt, "pairs of syncs a second:    ", syncs);
-    print_figure(
-        rt,
-        "calls for 100 pairs:        ",
-        hundredths(stored, syncs),
+/// Measures calls, messages and deaths in memory.
+fn print_in_memory<M: Machine + Drop>(context: &Context<'_>) -> Result<(), Fault> {
+    context.print_row(
+        "more: 16,000 ports, 4,096 names of the space, 255 spaces, 1,000 messages in a queue of the space",
+        &[],
+        &[],
     );
-    print_figure(rt, "round trips for 100 pairs:  ", hundredths(trips, syncs));
-    Ok(())
+    let mut machines = place_all::<M>(context.alloc, u32::MAX)?;
+    print_costs(context, &mut machines)?;
+    print_messages(context, &mut machines)?;
+    let mut machines = place_all::<M>(context.alloc, ROOM_FOR_DEATHS)?;
+    print_deaths(context, &mut machines)
 }
 
-/// How many calls of a pair a second are made in memory, after this line so often.
-fn in_memory(
-    rt: &HostRuntime,
-    before: (&str, u32),
-    calls: (&str, &str),
-    rounds: u64,
-) -> Result<u64, Fault> {
-    let before = Before {
-        lines: &[(HERE, before.0, before.1)],
-        names: 0,
-    };
-    let cycle = Cycle {
-        steps: &[(HERE, calls.0), (HERE, calls.1)],
-        is_done: true,
-    };
-    let duration = time_in_memory(rt, before, cycle, rounds)?;
-    Ok(per_second(rounds.saturating_mul(2), duration))
-}
-
-/// Prints how many calls a second are made in memory.
-fn print_in_memory(rt: &HostRuntime) -> Result<(), Fault> {
-    let _ = println!(rt; "calls a second in memory, without a store:");
-    for (label, before, calls, rounds) in &IN_MEMORY {
-        let figure = in_memory(rt, *before, *calls, *rounds)?;
-        print_figure(rt, label, figure);
-    }
-    Ok(())
-}
-
-/// Measures and prints everything.
+/// Measures and prints everything. What looks at this process's memory goes first.
 fn run(rt: &HostRuntime, folder: &str) -> Result<(), Fault> {
-    print_openings(rt, folder)?;
-    print_stored(rt, folder)?;
-    print_in_memory(rt)?;
-    print_costs(rt)?;
-    print_messages(rt)?;
-    print_deaths(rt)
+    let context = Context::new(rt, folder)?;
+    print_openings(&context)?;
+    print_steady(&context)?;
+    print_stored(&context)?;
+    print_in_memory::<Kernel>(&context)?;
+    print_images(&context)?;
+    print_slowest(&context)
 }
 
-/// The first word behind the program's name.
-fn first_argument(rt: &HostRuntime) -> Option<String> {
-    env::args(rt).ok()?.skip(1).next()
+/// The word behind the program's name, where it is the only one.
+fn only_argument(rt: &HostRuntime) -> Option<String> {
+    let mut words = env::args(rt).ok()?.skip(1);
+    let word = words.next()?;
+    match words.next() {
+        None => Some(word),
+        Some(_) => None,
+    }
 }
 
 fn main(rt: HostRuntime) -> ExitCode {
-    let Some(folder) = first_argument(&rt) else {
-        let _ = eprintln!(rt; "bench: name a folder that has an empty folder `store`");
+    let Some(folder) = only_argument(&rt) else {
+        let _ = eprintln!(rt; "bench: name a folder to make stores in");
         return ExitCode::from(2);
     };
     match run(&rt, folder.as_str()) {
         Ok(()) => ExitCode::SUCCESS,
         Err(fault) => {
-            let _ = eprintln!(rt; "bench: {fault}");
+            let words = fault.words();
+            let _ = eprintln!(rt; "bench: {words}");
             ExitCode::from(1)
         }
     }

@@ -1,58 +1,57 @@
-//! What messages cost: a send with its receipt, by size and by rights, and a request with the reply to it; each beside few
-//! ports and beside many.
+//! What messages cost: a send with its receipt, by size and by rights, and a request with the reply to it.
 
-use crate::costs::hundredths;
-use crate::memory::{Before, Cycle, HERE, time_in_memory};
-use crate::{Fault, per_call};
+use crate::Fault;
+use crate::context::Context;
+use crate::turns::{Machine, Placed, Row, print_row};
+use crate::ways::{CLIENT, HERE};
 use std::alloc::{AllocError, Global};
 
-/// The space of the task that asks, which holds a send right to the port 0x100 of the other and a port 0x101.
-const CLIENT: u32 = 2;
-
-const ROUNDS: u64 = 2_000;
-
-/// How many ports stand beside in each of five spaces: little, and more.
-const LITTLE: u32 = 2;
-
-const MORE: u32 = 3_200;
-
-/// The messages that are measured: their size, and how many rights they carry.
-static MESSAGES: [(u32, u32); 8] = [
-    (24, 0),
-    (1_024, 0),
-    (8_192, 0),
-    (32, 1),
-    (1_024, 1),
-    (8_192, 1),
-    (1_052, 256),
-    (8_192, 256),
+/// The messages that are measured: their size, how many rights they carry, and how often five of them are sent and received
+/// in a turn.
+static MESSAGES: [(&str, u32, u32, u64); 8] = [
+    ("24 bytes", 24, 0, 200),
+    ("1 KiB", 1_024, 0, 200),
+    ("8 KiB", 8_192, 0, 100),
+    ("32 bytes with 1 right", 32, 1, 200),
+    ("1 KiB with 1 right", 1_024, 1, 200),
+    ("8 KiB with 1 right", 8_192, 1, 100),
+    ("1,052 bytes with 256 rights", 1_052, 256, 2),
+    ("8 KiB with 256 rights", 8_192, 256, 2),
 ];
 
-/// A request with a right to reply by, its receipt, the reply, and its receipt.
-static ROUND_TRIP: [(u32, &str); 4] = [
-    (
-        CLIENT,
-        "send copy_send 0x100 local make_send_once 0x101 id 1",
-    ),
-    (HERE, "receive 0x100 limit 100"),
-    (HERE, "send move_send_once 0x102 id 2"),
-    (CLIENT, "receive 0x101 limit 100"),
+/// Messages of 24 bytes to the port at which messages wait in one of the ways; and a request with a right to reply by, its
+/// receipt, the reply, and its receipt.
+static SMALL: [Row<'static>; 2] = [
+    Row {
+        label: "24 bytes, where messages wait",
+        parts: &[
+            ("", HERE, "send make_send_once 0x10b id 7", 0, 1),
+            ("", HERE, "receive 0x10b limit 100", 0, 1),
+        ],
+        rounds: 500,
+        is_done: true,
+    },
+    Row {
+        label: "a request, its receipt, the reply, its receipt",
+        parts: &[
+            (
+                "",
+                CLIENT,
+                "send copy_send 0x100 local make_send_once 0x101 id 1",
+                0,
+                1,
+            ),
+            ("", HERE, "receive 0x100 limit 100", 0, 1),
+            ("", HERE, "send move_send_once 0x10c id 2", 0, 1),
+            ("", CLIENT, "receive 0x101 limit 100", 0, 1),
+        ],
+        rounds: 500,
+        is_done: true,
+    },
 ];
 
-/// The lines that make what is measured, and so many ports in each of five spaces.
-fn lines_before(ports: u32) -> [(u32, &'static str, u32); 9] {
-    [
-        (HERE, "allocate receive", 2),
-        (HERE, "insert_right 0x101 0x101 make_send", 1),
-        (HERE, "mod_refs 0x101 send 999", 1),
-        (HERE, "space_create 0x100 make_send", 5),
-        (2, "allocate receive", ports),
-        (3, "allocate receive", ports),
-        (4, "allocate receive", ports),
-        (5, "allocate receive", ports),
-        (6, "allocate receive", ports),
-    ]
-}
+/// How a message goes to the port 0x100, by a send right that is made for it.
+pub(crate) const BY_SEND: &str = "send make_send 0x100 id 7";
 
 /// Adds an item of so many bytes.
 fn push_item(line: &mut String, count: u32) -> Result<(), AllocError> {
@@ -75,10 +74,8 @@ fn push_bytes(line: &mut String, count: u32) -> Result<(), AllocError> {
     Ok(())
 }
 
-/// The line that sends a message of this size with so many send rights, which are moved.
-pub(crate) fn send_line(alloc: Global, size: u32, rights: u32) -> Result<String, AllocError> {
-    let mut line = String::new(alloc);
-    line.push_str("send make_send 0x100 id 7")?;
+/// Adds what a message of this size has behind its header, with so many send rights, which are moved.
+fn push_body(line: &mut String, size: u32, rights: u32) -> Result<(), AllocError> {
     let mut left = size.saturating_sub(24);
     if rights > 0 {
         line.push_str(" complex item move_send")?;
@@ -87,57 +84,55 @@ pub(crate) fn send_line(alloc: Global, size: u32, rights: u32) -> Result<String,
         }
         left = left.saturating_sub(rights.saturating_mul(4).saturating_add(4));
     }
-    push_bytes(&mut line, left)?;
+    push_bytes(line, left)
+}
+
+/// The line that sends a message so, of this size and with so many send rights.
+pub(crate) fn send_line(alloc: Global, how: &str, size: u32, rights: u32) -> Result<String, Fault> {
+    let mut line = String::new(alloc);
+    if line.push_str(how).is_err() || push_body(&mut line, size, rights).is_err() {
+        return Err(Fault::Memory);
+    }
     Ok(line)
 }
 
-/// How many nanoseconds these calls take together beside so many ports in each of five spaces.
-fn nanos_of(rt: &HostRuntime, steps: &[(u32, &str)], ports: u32) -> Result<u64, Fault> {
-    let before = Before {
-        lines: &lines_before(ports),
-        names: 0,
-    };
-    let cycle = Cycle {
-        steps,
+/// Measures messages that are sent by this line, and prints them.
+fn print_message<M: Machine>(
+    context: &Context<'_>,
+    machines: &mut [Placed<M>],
+    label: &str,
+    line: &str,
+    rounds: u64,
+) -> Result<(), Fault> {
+    let parts = [
+        ("", HERE, line, 0, 5),
+        ("", HERE, "receive 0x100 limit 8192", 0, 5),
+    ];
+    let row = Row {
+        label,
+        parts: &parts,
+        rounds,
         is_done: true,
     };
-    let duration = time_in_memory(rt, before, cycle, ROUNDS)?;
-    Ok(per_call(ROUNDS, duration))
-}
-
-/// How long these calls take beside little, and how many hundredths of that they take beside more.
-fn compare(rt: &HostRuntime, steps: &[(u32, &str)]) -> Result<(u64, u64), Fault> {
-    let little = nanos_of(rt, steps, LITTLE)?;
-    let more = nanos_of(rt, steps, MORE)?;
-    Ok((little, hundredths(more, little)))
-}
-
-/// Prints what a message of this size with so many rights costs.
-fn print_message(rt: &HostRuntime, size: u32, rights: u32) -> Result<(), Fault> {
-    let Ok(line) = send_line(rt.alloc(), size, rights) else {
-        return Err(Fault::Call);
-    };
-    let steps = [(HERE, line.as_str()), (HERE, "receive 0x100 limit 8192")];
-    let (little, ratio) = compare(rt, &steps)?;
-    let (whole, part) = (ratio / 100, ratio % 100);
-    let _ = println!(rt;
-        "send and receive, {size} bytes with {rights} rights: {little}, 16,000 ports {whole}.{part:02}"
-    );
-    Ok(())
+    print_row(context, machines, &row, 5)
 }
 
 /// Prints what messages cost.
-pub(crate) fn print_messages(rt: &HostRuntime) -> Result<(), Fault> {
-    let _ = println!(rt;
-        "nanoseconds of messages beside 12 ports; and how many times as long beside more"
+pub(crate) fn print_messages<M: Machine>(
+    context: &Context<'_>,
+    machines: &mut [Placed<M>],
+) -> Result<(), Fault> {
+    context.print_row(
+        "nanoseconds of a send and its receipt, and how many times as long beside more",
+        &[],
+        &[],
     );
-    for (size, rights) in &MESSAGES {
-        print_message(rt, *size, *rights)?;
+    for (label, size, rights, rounds) in &MESSAGES {
+        let line = send_line(context.alloc, BY_SEND, *size, *rights)?;
+        print_message(context, machines, label, line.as_str(), *rounds)?;
     }
-    let (little, ratio) = compare(rt, &ROUND_TRIP)?;
-    let (whole, part) = (ratio / 100, ratio % 100);
-    let _ = println!(rt;
-        "request, receipt, reply and its receipt: {little}, 16,000 ports {whole}.{part:02}"
-    );
+    for row in &SMALL {
+        print_row(context, machines, row, 1)?;
+    }
     Ok(())
 }

@@ -1,9 +1,6 @@
-//! A disk that tells how it is used, and on which a sync can be left out, so that stores are made in a short time.
+//! A disk that tells how it is used, and on which syncs can be left out, so that stores are made in a short time.
 
-use crate::Fault;
 use disk::{Disk, DiskFault, Slot};
-use server::{Alone, open};
-use std::alloc::Global;
 use std::cell::Cell;
 
 /// What was done with a disk so far, and whether its syncs are done.
@@ -15,12 +12,12 @@ pub(crate) struct Watch {
 }
 
 impl Watch {
-    /// Nothing was done, and syncs aren't.
-    pub(crate) fn new() -> Watch {
+    /// Nothing was done.
+    pub(crate) fn new(is_syncing: bool) -> Watch {
         Watch {
             writes: Cell::new(0),
             bytes: Cell::new(0),
-            is_syncing: Cell::new(false),
+            is_syncing: Cell::new(is_syncing),
         }
     }
 
@@ -34,9 +31,9 @@ impl Watch {
         self.bytes.get()
     }
 
-    /// From now on syncs are done, or left out.
-    pub(crate) fn set_syncing(&self, is_syncing: bool) {
-        self.is_syncing.set(is_syncing);
+    /// From now on syncs are done.
+    pub(crate) fn begin_syncs(&self) {
+        self.is_syncing.set(true);
     }
 }
 
@@ -50,15 +47,11 @@ pub(crate) struct Watched<'a, D> {
 impl<'a, D: Disk> Watched<'a, D> {
     /// Tells the watch what the slots have after one more write.
     fn tell(&self) {
-        let images = self
-            .disk
-            .length(Slot::Image0)
-            .saturating_add(self.disk.length(Slot::Image1));
-        let segments = self
-            .disk
-            .length(Slot::Segment0)
-            .saturating_add(self.disk.length(Slot::Segment1));
-        self.watch.bytes.set(images.saturating_add(segments));
+        let mut bytes = 0u64;
+        for slot in [Slot::Image0, Slot::Image1, Slot::Segment0, Slot::Segment1] {
+            bytes = bytes.saturating_add(self.disk.length(slot));
+        }
+        self.watch.bytes.set(bytes);
         self.watch
             .writes
             .set(self.watch.writes.get().saturating_add(1));
@@ -105,16 +98,4 @@ impl<'a, D: Disk> Disk for Watched<'a, D> {
         }
         Ok(())
     }
-}
-
-/// A lone caller on a new store on a disk that is watched.
-pub(crate) fn open_watched<'a, D: Disk + Drop>(
-    alloc: Global,
-    disk: D,
-    watch: &'a Watch,
-) -> Result<Alone<Watched<'a, D>>, Fault> {
-    let Ok(opened) = open(alloc, Watched { disk, watch }) else {
-        return Err(Fault::Store);
-    };
-    Ok(Alone::new(alloc, opened))
 }

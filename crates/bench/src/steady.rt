@@ -1,12 +1,13 @@
 //! The memory and the bytes of a store whose lone connection goes on for long, by calls that leave the state as it was.
 
-use crate::watched::{Watch, open_watched};
-use crate::{Fault, hundredths, new_files, print_row};
+use crate::Fault;
+use crate::context::{Context, hundredths};
+use crate::makers::open_alone;
+use crate::watched::{Watch, Watched};
 use disk::Disk;
 use plain_disk::PlainDisk;
 use server::{Caller, serve};
 use std::alloc::Global;
-use std::fs;
 use words::take_word;
 
 /// What is made before: the receive right 0x100.
@@ -65,27 +66,6 @@ const NOTHING: Most = Most {
     bytes: 0,
 };
 
-/// The memory that this process has now, in kilobytes, as the system tells it; 0 where it doesn't.
-fn memory_now(rt: &HostRuntime) -> u64 {
-    let Ok(status) = fs::read_to_string(rt, "/proc/self/status") else {
-        return 0;
-    };
-    for line in status.as_str().lines() {
-        if let Some(rest) = line.strip_prefix("VmRSS:") {
-            return number_in(rest);
-        }
-    }
-    0
-}
-
-/// The first word of a line, as a number.
-fn number_in(line: &str) -> u64 {
-    match line.split_whitespace().next() {
-        Some(word) => word.parse().unwrap_or(0),
-        None => 0,
-    }
-}
-
 /// The bytes behind a reply with code 0.
 fn behind_done(replies: &[u8]) -> Option<&[u8]> {
     let (length, reply) = take_word(replies)?;
@@ -143,7 +123,7 @@ fn serve_frames<C: Caller>(
 
 /// Serves so many thousands of frames, and gives the most that is seen behind a thousand of them.
 fn serve_thousands<C: Caller>(
-    rt: &HostRuntime,
+    context: &Context<'_>,
     caller: &mut C,
     watch: &Watch,
     frames: &[u8],
@@ -151,8 +131,8 @@ fn serve_thousands<C: Caller>(
 ) -> Result<Most, Fault> {
     let mut most = NOTHING;
     for _ in 0..thousands {
-        serve_frames(rt.alloc(), caller, frames, FRAMES)?;
-        most.memory = most.memory.max(memory_now(rt));
+        serve_frames(context.alloc, caller, frames, FRAMES)?;
+        most.memory = most.memory.max(context.memory("VmRSS:"));
         most.bytes = most.bytes.max(watch.bytes());
     }
     Ok(most)
@@ -160,50 +140,66 @@ fn serve_thousands<C: Caller>(
 
 /// Serves up to two counts of calls, and gives the most of the look that ends with each.
 fn serve_long<C: Caller>(
-    rt: &HostRuntime,
+    context: &Context<'_>,
     caller: &mut C,
     watch: &Watch,
+    frames: &[u8],
     thousands: (u32, u32),
 ) -> Result<(Most, Most), Fault> {
-    let frames = frames_at_once(rt.alloc())?;
     let (first, second) = thousands;
-    serve_frames(rt.alloc(), caller, &BEFORE, 1)?;
-    serve_thousands(rt, caller, watch, &frames, first.saturating_sub(LOOK))?;
-    let early = serve_thousands(rt, caller, watch, &frames, LOOK)?;
+    serve_frames(context.alloc, caller, &BEFORE, 1)?;
+    serve_thousands(context, caller, watch, frames, first.saturating_sub(LOOK))?;
+    let early = serve_thousands(context, caller, watch, frames, LOOK)?;
     let between = second.saturating_sub(first).saturating_sub(LOOK);
-    serve_thousands(rt, caller, watch, &frames, between)?;
-    let late = serve_thousands(rt, caller, watch, &frames, LOOK)?;
+    serve_thousands(context, caller, watch, frames, between)?;
+    let late = serve_thousands(context, caller, watch, frames, LOOK)?;
     Ok((early, late))
+}
+
+/// Prints two figures, and how many times the first the second is.
+fn print_two(context: &Context<'_>, label: &str, early: u64, late: u64) {
+    context.print_row(label, &[early, late], &[hundredths(late, early)]);
 }
 
 /// Prints what a store on a disk takes after two counts of thousands of calls.
 fn print_on<D: Disk + Drop>(
-    rt: &HostRuntime,
-    disk: D,
-    label: &str,
+    context: &Context<'_>,
+    disk: Result<D, Fault>,
+    frames: &[u8],
     thousands: (u32, u32),
 ) -> Result<(), Fault> {
-    let watch = Watch::new();
-    let mut caller = open_watched(rt.alloc(), disk, &watch)?;
-    let (early, late) = serve_long(rt, &mut caller, &watch, thousands)?;
-    let _ = println!(rt;
-        "{label}, after {} and {} thousand calls, and hundredths of the first",
-        thousands.0, thousands.1
-    );
-    print_two(rt, "resident memory, kB", early.memory, late.memory);
-    print_two(rt, "bytes of the four slots", early.bytes, late.bytes);
+    let watch = Watch::new(false);
+    let watched = Watched {
+        disk: disk?,
+        watch: &watch,
+    };
+    let mut alone = open_alone(context.alloc, watched)?;
+    let served = serve_long(context, &mut alone, &watch, frames, thousands);
+    let _ = alone.into_disk();
+    let (early, late) = served?;
+    print_two(context, "resident memory, kB", early.memory, late.memory);
+    print_two(context, "bytes of the four slots", early.bytes, late.bytes);
     Ok(())
 }
 
-/// Prints two figures, and how many hundredths of the first the second is.
-fn print_two(rt: &HostRuntime, label: &str, early: u64, late: u64) {
-    print_row(rt, label, &[early, late, hundredths(late, early)]);
-}
-
 /// Prints what stores take that go on for long.
-pub(crate) fn print_steady(rt: &HostRuntime, folder: &str) -> Result<(), Fault> {
-    let _ = println!(rt; "the most within an epoch of a store that goes on for long");
-    print_on(rt, PlainDisk::new(rt.alloc()), "in memory", IN_MEMORY)?;
-    let files = new_files(rt, folder, "steady")?;
-    print_on(rt, files, "on files, without syncs", ON_FILES)
+pub(crate) fn print_steady(context: &Context<'_>) -> Result<(), Fault> {
+    let frames = frames_at_once(context.alloc)?;
+    context.print_row(
+        "the most within an epoch of a store that goes on for long, in memory: after 100 thousand calls, after a million",
+        &[],
+        &[],
+    );
+    print_on(
+        context,
+        Ok(PlainDisk::new(context.alloc)),
+        &frames,
+        IN_MEMORY,
+    )?;
+    context.print_row(
+        "on files, without syncs: after 100 thousand calls, after 300 thousand",
+        &[],
+        &[],
+    );
+    print_on(context, context.new_files(), &frames, ON_FILES)
 }

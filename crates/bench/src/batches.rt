@@ -1,0 +1,285 @@
+//! What batches cost: records a second that are stored by so many at once, beside plain writes of as many bytes and beside
+//! pairs of syncs.
+
+use crate::Fault;
+use crate::context::{Context, hundredths, per_second};
+use crate::lines::{Line, Maker, Step, make_steps, steps_of};
+use crate::makers::{Core, STORE, open_core, work_all};
+use crate::messages::send_line;
+use crate::plain::{PAIR, Plain};
+use crate::watched::{Watch, Watched};
+use crate::ways::HERE;
+use disk::Disk;
+use std::alloc::Global;
+
+/// How many records a batch has, and how many batches are stored in a turn, as many plain writes made, and as many pairs of
+/// syncs.
+static SIZES: [(u64, u64); 5] = [(1, 16), (16, 16), (64, 16), (256, 8), (4_096, 1)];
+
+/// How many turns there are: the shortest time of each counts.
+const TURNS: u32 = 14;
+
+/// A kind of batch: its calls, made in turn, and what is made before the first turn and behind each one, which isn't measured.
+#[derive(Drop)]
+struct Kind {
+    steps: Vec<Step>,
+    before: Vec<Step>,
+    behind: Vec<Step>,
+}
+
+/// Names are allocated in two spaces, since one has 4,096 at most; with their space they go.
+static ALLOCATE: [Line<'static>; 2] = [
+    (2, "allocate dead_name", 0, 1),
+    (3, "allocate dead_name", 0, 1),
+];
+
+static TWO_SPACES: [Line<'static>; 2] = [
+    (HERE, "allocate receive", 0, 1),
+    (HERE, "space_create 0x100 make_send", 0, 2),
+];
+
+static NEW_SPACES: [Line<'static>; 3] = [
+    (2, "space_destroy", 0, 1),
+    (3, "space_destroy", 0, 1),
+    (HERE, "space_create 0x100 make_send", 0, 2),
+];
+
+/// Messages go to a port by send-once rights, which no limit of its queue stops; with their port they go.
+static ONE_PORT: [Line<'static>; 1] = [(HERE, "allocate receive", 0, 1)];
+
+static NEW_PORT: [Line<'static>; 2] = [
+    (HERE, "destroy 0x100", 0, 1),
+    (HERE, "allocate receive", 0, 1),
+];
+
+/// The nanoseconds that batches take with their calls and replies, and to be stored alone; plain writes, and pairs.
+#[derive(Clone, Copy)]
+struct Times {
+    whole: u64,
+    stored: u64,
+    plain: u64,
+    pairs: u64,
+}
+
+const LONGEST: Times = Times {
+    whole: u64::MAX,
+    stored: u64::MAX,
+    plain: u64::MAX,
+    pairs: u64::MAX,
+};
+
+/// The kind of these lines.
+fn kind_of(
+    alloc: Global,
+    calls: &[Line<'_>],
+    before: &[Line<'_>],
+    behind: &[Line<'_>],
+) -> Result<Kind, Fault> {
+    Ok(Kind {
+        steps: steps_of(alloc, calls)?,
+        before: steps_of(alloc, before)?,
+        behind: steps_of(alloc, behind)?,
+    })
+}
+
+/// Makes so many calls, in turn, and gives the last one's ticket.
+fn submit_all<C: Core>(core: &mut C, steps: &[Step], count: u64) -> Result<u64, Fault> {
+    let mut last = 0;
+    for index in 0..count {
+        let Some(step) = steps.get((index % 2) as usize) else {
+            return Err(Fault::Call);
+        };
+        let Some(ticket) = core.submit_call(step.space, &step.call) else {
+            return Err(Fault::Call);
+        };
+        last = ticket;
+    }
+    Ok(last)
+}
+
+/// Asks for so many replies up to a ticket's, each of which has to be of a call that was done.
+fn answer_all<C: Core>(core: &mut C, last: u64, count: u64) -> Result<(), Fault> {
+    let behind = last.saturating_add(1);
+    for ticket in behind.saturating_sub(count)..behind {
+        if !core.answer(ticket, true) {
+            return Err(Fault::Call);
+        }
+    }
+    Ok(())
+}
+
+/// Makes so many calls and stores them as one batch. How long that takes, and to store them alone.
+fn time_batch<C: Core>(
+    context: &Context<'_>,
+    core: &mut C,
+    steps: &[Step],
+    count: u64,
+) -> Result<(u64, u64), Fault> {
+    let start = context.nanos();
+    let last = submit_all(core, steps, count)?;
+    let submitted = context.nanos();
+    work_all(core, &STORE)?;
+    let stored = context.since(submitted);
+    answer_all(core, last, count)?;
+    Ok((context.since(start), stored))
+}
+
+/// Makes so many batches. How long they take, and to be stored alone.
+fn time_batches<C: Core>(
+    context: &Context<'_>,
+    core: &mut C,
+    steps: &[Step],
+    size: (u64, u64),
+) -> Result<(u64, u64), Fault> {
+    let (mut whole, mut stored) = (0u64, 0u64);
+    for _ in 0..size.1 {
+        let (one, one_stored) = time_batch(context, core, steps, size.0)?;
+        whole = whole.saturating_add(one);
+        stored = stored.saturating_add(one_stored);
+    }
+    Ok((whole, stored))
+}
+
+/// One turn, whose times count where they are shorter: batches, plain writes of so many bytes, and pairs of syncs.
+fn time_turn<C: Core>(
+    context: &Context<'_>,
+    core: &mut C,
+    steps: &[Step],
+    size: (u64, u64),
+    plain: &mut Plain,
+    bytes: u64,
+    least: Times,
+) -> Result<Times, Fault> {
+    let (whole, stored) = time_batches(context, core, steps, size)?;
+    let written = plain.time(context, bytes, size.1)?;
+    let pairs = plain.time(context, PAIR, size.1)?;
+    Ok(Times {
+        whole: whole.min(least.whole),
+        stored: stored.min(least.stored),
+        plain: written.min(least.plain),
+        pairs: pairs.min(least.pairs),
+    })
+}
+
+/// The shortest times of all turns.
+fn time_turns<C: Core + Maker>(
+    context: &Context<'_>,
+    core: &mut C,
+    kind: &Kind,
+    size: (u64, u64),
+    plain: &mut Plain,
+    bytes: u64,
+) -> Result<Times, Fault> {
+    let mut least = LONGEST;
+    for _ in 0..TURNS {
+        least = time_turn(context, core, &kind.steps, size, plain, bytes, least)?;
+        make_steps(core, &kind.behind)?;
+    }
+    Ok(least)
+}
+
+/// How many bytes a batch of this size adds to the segment.
+fn bytes_of<C: Core + Maker>(
+    context: &Context<'_>,
+    core: &mut C,
+    watch: &Watch,
+    kind: &Kind,
+    count: u64,
+) -> Result<u64, Fault> {
+    make_steps(core, &kind.before)?;
+    let before = watch.bytes();
+    time_batch(context, core, &kind.steps, count)?;
+    let bytes = watch.bytes().saturating_sub(before);
+    make_steps(core, &kind.behind)?;
+    Ok(bytes)
+}
+
+/// Prints batches of this size, of so many bytes each.
+fn print_times(context: &Context<'_>, label: &str, size: (u64, u64), bytes: u64, times: &Times) {
+    let (count, batches) = size;
+    let kilobytes = bytes.saturating_mul(batches) / 1_024;
+    let figures = [
+        count,
+        per_second(count.saturating_mul(batches), times.whole),
+        per_second(kilobytes, times.whole),
+        per_second(kilobytes, times.plain),
+        per_second(batches, times.whole),
+        per_second(batches, times.pairs),
+    ];
+    let ratios = [
+        hundredths(times.plain, times.whole),
+        hundredths(times.plain, times.stored),
+        hundredths(times.pairs, times.whole),
+    ];
+    context.print_row(label, &figures, &ratios);
+}
+
+/// Measures batches of a kind and a size: how many bytes each has, and the shortest times.
+fn measure<C: Core + Maker>(
+    context: &Context<'_>,
+    core: &mut C,
+    watch: &Watch,
+    kind: &Kind,
+    size: (u64, u64),
+    plain: &mut Plain,
+) -> Result<(u64, Times), Fault> {
+    let bytes = bytes_of(context, core, watch, kind, size.0)?;
+    let times = time_turns(context, core, kind, size, plain, bytes)?;
+    Ok((bytes, times))
+}
+
+/// Measures them on a disk that has no store yet.
+fn measure_on<D: Disk + Drop>(
+    context: &Context<'_>,
+    disk: Result<D, Fault>,
+    kind: &Kind,
+    size: (u64, u64),
+    plain: &mut Plain,
+) -> Result<(u64, Times), Fault> {
+    let watch = Watch::new(true);
+    let watched = Watched {
+        disk: disk?,
+        watch: &watch,
+    };
+    let mut core = open_core(context.alloc, watched)?;
+    let measured = measure(context, &mut core, &watch, kind, size, plain);
+    let _ = core.into_disk();
+    measured
+}
+
+/// Measures a kind of batch in each size, each on a new store, and prints them.
+fn print_kind(
+    context: &Context<'_>,
+    label: &str,
+    kind: &Kind,
+    plain: &mut Plain,
+) -> Result<(), Fault> {
+    for size in &SIZES {
+        let (bytes, times) = measure_on(context, context.new_files(), kind, *size, plain)?;
+        print_times(context, label, *size, bytes, &times);
+    }
+    Ok(())
+}
+
+/// The batches of names that are allocated.
+fn allocations(alloc: Global) -> Result<Kind, Fault> {
+    kind_of(alloc, &ALLOCATE, &TWO_SPACES, &NEW_SPACES)
+}
+
+/// The batches of messages of 1 KiB.
+fn messages(alloc: Global) -> Result<Kind, Fault> {
+    let send = send_line(alloc, "send make_send_once 0x100 id 7", 1_024, 0)?;
+    let calls = [(HERE, send.as_str(), 0, 2)];
+    kind_of(alloc, &calls, &ONE_PORT, &NEW_PORT)
+}
+
+/// Prints what batches of both kinds and of each size cost.
+pub(crate) fn print_batches(context: &Context<'_>, plain: &mut Plain) -> Result<(), Fault> {
+    context.print_row(
+        "batches: records; a second records, kB, kB of plain writes, batches, pairs of syncs; batches for a plain write, with their calls and replies and only stored, and for a pair",
+        &[],
+        &[],
+    );
+    print_kind(context, "allocate", &allocations(context.alloc)?, plain)?;
+    print_kind(context, "send", &messages(context.alloc)?, plain)
+}

@@ -1,0 +1,122 @@
+//! What each measure has at hand: the clock, the folder that is free for it, the memory of this process, and rows of figures.
+
+use crate::Fault;
+use disk::FileDisk;
+use std::alloc::Global;
+use std::cell::Cell;
+use std::fs::{self, File};
+use std::time::Instant;
+
+/// The runtime, its allocator, a folder, how many files and folders were made there, and when the program began.
+#[derive(Drop)]
+pub(crate) struct Context<'a> {
+    rt: &'a HostRuntime,
+    pub(crate) alloc: Global,
+    folder: &'a str,
+    made: Cell<u64>,
+    start: Instant,
+}
+
+impl<'a> Context<'a> {
+    pub(crate) fn new(rt: &'a HostRuntime, folder: &'a str) -> Result<Context<'a>, Fault> {
+        let start = Instant::now(rt)?;
+        Ok(Context {
+            rt,
+            alloc: rt.alloc(),
+            folder,
+            made: Cell::new(0),
+            start,
+        })
+    }
+
+    /// The nanoseconds since the program began; 0 where the clock can't be read.
+    pub(crate) fn nanos(&self) -> u64 {
+        match self.start.elapsed(self.rt) {
+            Ok(duration) => u64::try_from(duration.as_nanos()).unwrap_or(u64::MAX),
+            Err(_) => 0,
+        }
+    }
+
+    /// The nanoseconds since then.
+    pub(crate) fn since(&self, start: u64) -> u64 {
+        self.nanos().saturating_sub(start)
+    }
+
+    /// A path in the folder that wasn't given before.
+    fn new_path(&self) -> Result<String, Fault> {
+        let (folder, number) = (self.folder, self.made.get());
+        self.made.set(number.saturating_add(1));
+        match format!(in self.alloc; "{folder}/{number}") {
+            Ok(path) => Ok(path),
+            Err(_) => Err(Fault::Memory),
+        }
+    }
+
+    /// A new file.
+    pub(crate) fn new_file(&self) -> Result<File, Fault> {
+        let path = self.new_path()?;
+        Ok(File::create(self.rt, path.as_str())?)
+    }
+
+    /// The files of a new folder.
+    pub(crate) fn new_files(&self) -> Result<FileDisk<&'a HostRuntime>, Fault> {
+        let path = self.new_path()?;
+        fs::create_dir(self.rt, path.as_str())?;
+        match FileDisk::at(self.alloc, self.rt, path.as_str()) {
+            Ok(files) => Ok(files),
+            Err(_) => Err(Fault::Device),
+        }
+    }
+
+    /// A figure of this process in kilobytes, as the system tells it behind a label; 0 where it doesn't.
+    pub(crate) fn memory(&self, label: &str) -> u64 {
+        match fs::read_to_string(self.rt, "/proc/self/status") {
+            Ok(status) => figure_behind(status.as_str(), label),
+            Err(_) => 0,
+        }
+    }
+
+    /// Prints figures behind what they are of, and then ratios, which are hundredths.
+    pub(crate) fn print_row(&self, label: &str, figures: &[u64], ratios: &[u64]) {
+        let _ = print!(self.rt; "{label}:");
+        for figure in figures {
+            let _ = print!(self.rt; " {figure}");
+        }
+        for ratio in ratios {
+            let (whole, part) = (*ratio / 100, *ratio % 100);
+            let _ = print!(self.rt; " {whole}.{part:02}");
+        }
+        let _ = println!(self.rt);
+    }
+}
+
+/// The number behind the label that a line begins with; 0 where there is none.
+fn figure_behind(text: &str, label: &str) -> u64 {
+    for line in text.lines() {
+        if let Some(rest) = line.strip_prefix(label) {
+            return first_number(rest);
+        }
+    }
+    0
+}
+
+/// The first word of a line, as a number.
+fn first_number(line: &str) -> u64 {
+    match line.split_whitespace().next() {
+        Some(word) => word.parse().unwrap_or(0),
+        None => 0,
+    }
+}
+
+/// How many hundredths of a figure another one is.
+pub(crate) fn hundredths(figure: u64, of: u64) -> u64 {
+    figure.saturating_mul(100).checked_div(of).unwrap_or(0)
+}
+
+/// So many in so many nanoseconds, as so many a second.
+pub(crate) fn per_second(count: u64, nanos: u64) -> u64 {
+    count
+        .saturating_mul(1_000_000_000)
+        .checked_div(nanos)
+        .unwrap_or(0)
+}

@@ -1,0 +1,134 @@
+//! What calls of a lone connection cost, beside plain writes of as many bytes with two syncs each, which is what a stored
+//! call costs at least.
+
+use crate::Fault;
+use crate::context::{Context, hundredths, per_second};
+use crate::lines::call_of;
+use crate::makers::open_alone;
+use crate::plain::{PAIR, Plain};
+use disk::Disk;
+use server::Caller;
+use std::alloc::Global;
+
+/// How often calls, requests and plain writes are timed by turns: the shortest time of each counts.
+const TURNS: u32 = 25;
+
+/// How often the lines of each kind are made in a turn, and how many plain writes are.
+const PAIRS: u64 = 25;
+
+const TRIPS: u64 = 12;
+
+const WRITES: u64 = 50;
+
+/// Two ports: that to which requests go, and that of the replies.
+static BEFORE: [&str; 2] = ["allocate receive", "allocate receive"];
+
+/// Calls that are stored one by one.
+static CALLS: [&str; 2] = ["allocate dead_name", "deallocate 0x102"];
+
+/// The calls of a request and its reply.
+static TRIP: [&str; 4] = [
+    "send make_send 0x100 local make_send_once 0x101 id 1",
+    "receive 0x100 limit 100",
+    "send move_send_once 0x102 id 2",
+    "receive 0x101 limit 100",
+];
+
+/// The nanoseconds that calls, requests with their replies, and plain writes take.
+#[derive(Clone, Copy)]
+struct Times {
+    calls: u64,
+    trips: u64,
+    writes: u64,
+}
+
+/// Makes a call, which has to be acknowledged.
+fn make<C: Caller>(alloc: Global, caller: &mut C, line: &str) -> Result<(), Fault> {
+    match caller.call(call_of(alloc, line, 0)?) {
+        Ok(reply) if reply.is_success() => Ok(()),
+        _ => Err(Fault::Call),
+    }
+}
+
+/// Makes the calls of lines so often, and gives how long that takes.
+fn time_lines<C: Caller>(
+    context: &Context<'_>,
+    caller: &mut C,
+    lines: &[&'static str],
+    times: u64,
+) -> Result<u64, Fault> {
+    let start = context.nanos();
+    for _ in 0..times {
+        for line in lines {
+            make(context.alloc, caller, line)?;
+        }
+    }
+    Ok(context.since(start))
+}
+
+/// One turn, whose times count where they are shorter.
+fn time_turn<C: Caller>(
+    context: &Context<'_>,
+    caller: &mut C,
+    plain: &mut Plain,
+    least: Times,
+) -> Result<Times, Fault> {
+    let calls = time_lines(context, caller, &CALLS, PAIRS)?;
+    let trips = time_lines(context, caller, &TRIP, TRIPS)?;
+    let writes = plain.time(context, PAIR, WRITES)?;
+    Ok(Times {
+        calls: calls.min(least.calls),
+        trips: trips.min(least.trips),
+        writes: writes.min(least.writes),
+    })
+}
+
+fn time_turns<C: Caller>(
+    context: &Context<'_>,
+    caller: &mut C,
+    plain: &mut Plain,
+) -> Result<Times, Fault> {
+    time_lines(context, caller, &BEFORE, 1)?;
+    let mut least = Times {
+        calls: u64::MAX,
+        trips: u64::MAX,
+        writes: u64::MAX,
+    };
+    for _ in 0..TURNS {
+        least = time_turn(context, caller, plain, least)?;
+    }
+    Ok(least)
+}
+
+/// What is measured on a disk that has no store yet.
+fn time_disk<D: Disk + Drop>(
+    context: &Context<'_>,
+    disk: D,
+    plain: &mut Plain,
+) -> Result<Times, Fault> {
+    let mut alone = open_alone(context.alloc, disk)?;
+    let times = time_turns(context, &mut alone, plain);
+    let _ = alone.into_disk();
+    times
+}
+
+/// Prints how many calls a second are stored, how many requests with their replies, which are four calls, and how many
+/// plain writes are made, on a disk that has no store yet.
+pub(crate) fn print_lone<D: Disk + Drop>(
+    context: &Context<'_>,
+    disk: Result<D, Fault>,
+    plain: &mut Plain,
+) -> Result<(), Fault> {
+    let times = time_disk(context, disk?, plain)?;
+    let calls = per_second(PAIRS.saturating_mul(2), times.calls);
+    let trips = per_second(TRIPS, times.trips);
+    let writes = per_second(WRITES, times.writes);
+    context.print_row(
+        "a second, of a lone connection: calls, round trips, pairs of syncs; calls for a pair, round trips for a pair",
+        &[],
+        &[],
+    );
+    let ratios = [hundredths(calls, writes), hundredths(trips, writes)];
+    context.print_row("lone", &[calls, trips, writes], &ratios);
+    Ok(())
+}

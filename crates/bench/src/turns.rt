@@ -1,0 +1,219 @@
+//! Calls that are measured in memory by turns, beside little and beside more.
+
+use crate::Fault;
+use crate::context::{Context, hundredths};
+use crate::lines::{Maker, Step, steps_of};
+use crate::ways::{ALL_WAYS, Beside, NEXT, WAYS};
+use std::alloc::Global;
+
+/// How many parts a row has at most.
+const MOST_PARTS: usize = 16;
+
+/// How often a row is measured in each way, by turns: the shortest time of each counts, since other work slows the machine
+/// for longer than a turn takes.
+const TURNS: u32 = 15;
+
+/// Calls that are timed together: what they are, or nothing if that isn't printed; and their line.
+pub(crate) type Part<'a> = (&'a str, u32, &'a str, u32, u32);
+
+/// Parts that together leave the state as it was: what they are together, or nothing if that isn't printed; how often they are
+/// made in a turn, and whether they are done or refused.
+#[derive(Clone, Copy)]
+pub(crate) struct Row<'a> {
+    pub(crate) label: &'a str,
+    pub(crate) parts: &'a [Part<'a>],
+    pub(crate) rounds: u64,
+    pub(crate) is_done: bool,
+}
+
+/// Who makes calls in memory.
+pub(crate) trait Machine: Maker {
+    /// In the opening state.
+    fn opened(alloc: Global) -> Option<Self>;
+}
+
+/// A machine in the state of a way.
+#[derive(Drop)]
+pub(crate) struct Placed<M> {
+    machine: M,
+    next_space: u32,
+}
+
+/// The nanoseconds of the parts of a row.
+type Nanos = [u64; MOST_PARTS];
+
+fn place<M: Machine + Drop>(alloc: Global, beside: Beside) -> Result<Placed<M>, Fault> {
+    let Some(mut machine) = M::opened(alloc) else {
+        return Err(Fault::Memory);
+    };
+    beside.make(alloc, &mut machine)?;
+    let next_space = beside.next_space();
+    Ok(Placed {
+        machine,
+        next_space,
+    })
+}
+
+/// A machine in the state of each way, with so many names beside at most.
+pub(crate) fn place_all<M: Machine + Drop>(
+    alloc: Global,
+    most_names: u32,
+) -> Result<Vec<Placed<M>>, Fault> {
+    let mut machines = Vec::new(alloc);
+    for beside in &ALL_WAYS {
+        let placed = place(alloc, beside.with_names(most_names))?;
+        if machines.push(placed).is_err() {
+            return Err(Fault::Memory);
+        }
+    }
+    Ok(machines)
+}
+
+/// The calls of each part.
+fn parts_of(alloc: Global, row: &Row<'_>) -> Result<Vec<Vec<Step>>, Fault> {
+    let mut parts = Vec::new(alloc);
+    for (_, space, line, first, count) in row.parts {
+        let steps = steps_of(alloc, &[(*space, *line, *first, *count)])?;
+        if parts.push(steps).is_err() {
+            return Err(Fault::Memory);
+        }
+    }
+    Ok(parts)
+}
+
+/// How long calls take.
+fn time_steps<M: Machine>(
+    context: &Context<'_>,
+    placed: &mut Placed<M>,
+    steps: &[Step],
+    is_done: bool,
+) -> Result<u64, Fault> {
+    let start = context.nanos();
+    for step in steps {
+        let space = if step.space == NEXT {
+            placed.next_space
+        } else {
+            step.space
+        };
+        if !placed.machine.make(space, &step.call, is_done) {
+            return Err(Fault::Call);
+        }
+    }
+    Ok(context.since(start))
+}
+
+/// Makes each part once, and adds how long each takes.
+fn time_round<M: Machine>(
+    context: &Context<'_>,
+    placed: &mut Placed<M>,
+    parts: &[Vec<Step>],
+    is_done: bool,
+    sums: &mut Nanos,
+) -> Result<(), Fault> {
+    for (steps, sum) in parts.iter().zip(sums.iter_mut()) {
+        let nanos = time_steps(context, placed, steps, is_done)?;
+        *sum = sum.saturating_add(nanos);
+    }
+    Ok(())
+}
+
+/// How long the parts of a row take in a turn.
+fn time_turn<M: Machine>(
+    context: &Context<'_>,
+    placed: &mut Placed<M>,
+    parts: &[Vec<Step>],
+    row: &Row<'_>,
+) -> Result<Nanos, Fault> {
+    let mut sums = [0; MOST_PARTS];
+    for _ in 0..row.rounds {
+        time_round(context, placed, parts, row.is_done, &mut sums)?;
+    }
+    Ok(sums)
+}
+
+/// Lowers times to those that are shorter.
+fn lower(least: &mut Nanos, nanos: &Nanos) {
+    for (shortest, time) in least.iter_mut().zip(nanos) {
+        *shortest = (*shortest).min(*time);
+    }
+}
+
+/// One turn in each way.
+fn time_ways<M: Machine>(
+    context: &Context<'_>,
+    machines: &mut [Placed<M>],
+    parts: &[Vec<Step>],
+    row: &Row<'_>,
+    least: &mut [Nanos; WAYS],
+) -> Result<(), Fault> {
+    for (placed, shortest) in machines.iter_mut().zip(least.iter_mut()) {
+        let nanos = time_turn(context, placed, parts, row)?;
+        lower(shortest, &nanos);
+    }
+    Ok(())
+}
+
+/// The shortest times of each part in each way.
+fn time_row<M: Machine>(
+    context: &Context<'_>,
+    machines: &mut [Placed<M>],
+    row: &Row<'_>,
+) -> Result<[Nanos; WAYS], Fault> {
+    let parts = parts_of(context.alloc, row)?;
+    let mut least = [[u64::MAX; MOST_PARTS]; WAYS];
+    for _ in 0..TURNS {
+        time_ways(context, machines, &parts, row, &mut least)?;
+    }
+    Ok(least)
+}
+
+/// The times of a part in each way.
+fn times_of(least: &[Nanos; WAYS], place: usize) -> [u64; WAYS] {
+    let mut times = [0; WAYS];
+    for (time, nanos) in times.iter_mut().zip(least) {
+        *time = nanos.get(place).copied().unwrap_or(0);
+    }
+    times
+}
+
+/// The times of all parts together in each way.
+fn sums_of(least: &[Nanos; WAYS]) -> [u64; WAYS] {
+    let mut sums = [0u64; WAYS];
+    for (sum, nanos) in sums.iter_mut().zip(least) {
+        *sum = nanos
+            .iter()
+            .fold(0, |all: u64, one| all.saturating_add(*one));
+    }
+    sums
+}
+
+/// Prints the nanoseconds for one of so many beside little, and how many times as long each other way takes.
+fn print_times(context: &Context<'_>, label: &str, count: u64, times: &[u64; WAYS]) {
+    if label.is_empty() {
+        return;
+    }
+    let little = times[0];
+    let mut ratios = [0; WAYS];
+    for (ratio, time) in ratios.iter_mut().zip(times) {
+        *ratio = hundredths(*time, little);
+    }
+    let each = little.checked_div(count).unwrap_or(0);
+    context.print_row(label, &[each], &ratios[1..]);
+}
+
+/// Measures the calls of a row, and prints its parts, and then all of them for one of so many.
+pub(crate) fn print_row<M: Machine>(
+    context: &Context<'_>,
+    machines: &mut [Placed<M>],
+    row: &Row<'_>,
+    count: u64,
+) -> Result<(), Fault> {
+    let least = time_row(context, machines, row)?;
+    for (place, (label, _, _, _, count)) in row.parts.iter().enumerate() {
+        let count = row.rounds.saturating_mul(u64::from(*count));
+        print_times(context, label, count, &times_of(&least, place));
+    }
+    let count = row.rounds.saturating_mul(count);
+    print_times(context, row.label, count, &sums_of(&least));
+    Ok(())
+}

@@ -1,0 +1,99 @@
+//! The states in which calls are measured: little, and more of each kind.
+
+use crate::Fault;
+use crate::lines::{Line, Maker, make_lines};
+use std::alloc::Global;
+
+/// The space in which calls are measured.
+pub(crate) const HERE: u32 = 1;
+
+/// Another one, which has a send right 0x100 to the port 0x100, and a port 0x101.
+pub(crate) const CLIENT: u32 = 2;
+
+/// Stands for the space that is made next.
+pub(crate) const NEXT: u32 = 0;
+
+/// In how many ways calls are measured, the first of them beside little.
+pub(crate) const WAYS: usize = 5;
+
+/// What is made in each way: twelve ports 0x100 to 0x10b, of which 0x100 and 0x101 have send rights, a set 0x200 of ten of
+/// them, 0x101 to 0x10a, and the other space. So there are 13 ports, and 13 names in the space of the calls.
+static BASE: [Line<'static>; 8] = [
+    (HERE, "allocate receive", 0, 12),
+    (HERE, "insert_right 0x100 0x100 make_send", 0, 1),
+    (HERE, "insert_right 0x101 0x101 make_send", 0, 1),
+    (HERE, "mod_refs 0x101 send 1999", 0, 1),
+    (HERE, "allocate_name port_set 0x200", 0, 1),
+    (HERE, "move_member # 0x200", 0x101, 10),
+    (HERE, "space_create 0x100 make_send", 0, 1),
+    (CLIENT, "allocate receive", 0, 1),
+];
+
+/// What is made beside: more spaces, with a send right each to the port 0x100; ports in each of the first four of them; dead
+/// names in the space of the calls; and messages in the queue of the port 0x10b.
+#[derive(Clone, Copy)]
+pub(crate) struct Beside {
+    spaces: u32,
+    ports: u32,
+    names: u32,
+    messages: u32,
+}
+
+const LITTLE: Beside = Beside {
+    spaces: 0,
+    ports: 0,
+    names: 0,
+    messages: 0,
+};
+
+/// The ways: little, 16,000 ports, 4,096 names but for ten, 255 spaces, which leaves room for one, and 1,000 messages.
+pub(crate) static ALL_WAYS: [Beside; WAYS] = [
+    LITTLE,
+    Beside {
+        spaces: 4,
+        ports: 4_000,
+        ..LITTLE
+    },
+    Beside {
+        names: 4_073,
+        ..LITTLE
+    },
+    Beside {
+        spaces: 253,
+        ..LITTLE
+    },
+    Beside {
+        messages: 1_000,
+        ..LITTLE
+    },
+];
+
+impl Beside {
+    /// The number of the space that is made next.
+    pub(crate) fn next_space(&self) -> u32 {
+        self.spaces.saturating_add(3)
+    }
+
+    /// The same with so many names at most.
+    pub(crate) fn with_names(self, most: u32) -> Beside {
+        Beside {
+            names: self.names.min(most),
+            ..self
+        }
+    }
+
+    /// Makes the base, and this beside it.
+    pub(crate) fn make<M: Maker>(self, alloc: Global, maker: &mut M) -> Result<(), Fault> {
+        make_lines(alloc, maker, &BASE)?;
+        let lines = [
+            (HERE, "space_create 0x100 make_send", 0, self.spaces),
+            (3, "allocate receive", 0, self.ports),
+            (4, "allocate receive", 0, self.ports),
+            (5, "allocate receive", 0, self.ports),
+            (6, "allocate receive", 0, self.ports),
+            (HERE, "allocate_name dead_name #", 0x1000, self.names),
+            (HERE, "send make_send_once 0x10b id 7", 0, self.messages),
+        ];
+        make_lines(alloc, maker, &lines)
+    }
+}
