@@ -197,12 +197,12 @@ fn bytes_of<C: Core + Maker>(
 /// Prints batches of this size, of so many bytes each.
 fn print_times(context: &Context<'_>, label: &str, size: (u64, u64), bytes: u64, times: &Times) {
     let (count, batches) = size;
-    let kilobytes = bytes.saturating_mul(batches) / 1_024;
+    let moved = bytes.saturating_mul(batches);
     let figures = [
         count,
         per_second(count.saturating_mul(batches), times.whole),
-        per_second(kilobytes, times.whole),
-        per_second(kilobytes, times.plain),
+        per_second(moved, times.whole) / 1_024,
+        per_second(moved, times.plain) / 1_024,
         per_second(batches, times.whole),
         per_second(batches, times.pairs),
     ];
