@@ -1,10 +1,10 @@
 -- The bytes of a batch as it grows.
-use Rattle.std.proofs.Common.{◌≡◌, ℕ, ◌+◌, ◌-◌, ◌<◌, ◌≤◌, ◌^◌, List, [], ◌∷◌, ◌++◌, length, take, drop, replicate, refl, sym, ap, ◌∙◌, subst, arith, append_assoc, length-append, length-take}
-use Rattle.std.proofs.lemmas.List.{take_at}
+use Rattle.std.proofs.Common.{◌≡◌, ℕ, ◌+◌, ◌-◌, ◌<◌, ◌≤◌, ◌^◌, List, [], ◌∷◌, ◌++◌, length, take, drop, replicate, refl, sym, ap, ◌∙◌, arith, append_assoc, length-append, length-take}
+use Rattle.std.proofs.lemmas.List.{take_at, take-append-drop}
 use Rattle.ipc_model.specs.store.Store.{closed_gate}
 use Rattle.words.specs.Words.{word, long_word}
 use Rattle.words.specs.WordLaws.{same_word}
-use Rattle.journal.specs.Batch.{BatchValue, body_of, content_of, empty_batch, padded, value_of, with_text, IsWhole}
+use Rattle.journal.specs.Batch.{BatchValue, body_of, content_of, empty_batch, padded, value_of, with_text, without_last, IsWhole}
 
 -- what stands before the last element
 front_of_one : (all front last : List ℕ) → all ≡ front ++ last → length last ≡ 1 → take (length all - 1) all ≡ front
@@ -53,6 +53,25 @@ more_text count text more pushed new whole is_pushed is_new =
     omega (arith, ap length parts, length-append body (more ++ closed_gate ∷ []), length-append more (closed_gate ∷ []), length-append body more) in
     is_new ∙ (λ i. word (count + 1) ++ (long_word (long i) ++ behind i))
     ∙ ap (λ (l : List ℕ). word (count + 1) ++ (long_word (length (body ++ more)) ++ l)) (sym (append_assoc body more (closed_gate ∷ [])))
+
+-- so many bytes less before the gate, and then a count less and the length
+pub cut_text : (count size : ℕ) (text cut new : List ℕ) → IsWhole count text → size ≤ length (body_of text) → cut ≡ take (length text - 1 - size) text ++ closed_gate ∷ [] → new ≡ word (count - 1) ++ (long_word (length cut - 13) ++ drop 12 cut)
+    → new ≡ content_of (without_last (value_of count text) size) ++ closed_gate ∷ []
+unfolding content_of
+cut_text count size text cut new whole within is_cut is_new =
+    let body = body_of text in
+    let left = length body - size in
+    let front : List ℕ = word count ++ (long_word (length body) ++ take left body) in
+    let behind : List ℕ = drop left body ++ closed_gate ∷ [] in
+    let whole_body : body ++ closed_gate ∷ [] ≡ take left body ++ behind =
+    ap (λ (l : List ℕ). l ++ closed_gate ∷ []) (sym (take-append-drop left body)) ∙ append_assoc (take left body) (drop left body) (closed_gate ∷ []) in
+    let parts : text ≡ front ++ behind = whole ∙ ap (λ (l : List ℕ). word count ++ (long_word (length body) ++ l)) whole_body in
+    let long : length text - 1 - size ≡ length front = omega (arith, whole_long count text whole, within, length-take left body) in
+    let begun : take (length text - 1 - size) text ≡ front = (λ i. take (long i) (parts i)) ∙ take_at front behind (length front) refl in
+    let is : cut ≡ front ++ closed_gate ∷ [] = is_cut ∙ ap (λ (l : List ℕ). l ++ closed_gate ∷ []) begun in
+    let counted : length cut - 13 ≡ length (take left body) = omega (arith, ap length is, length-append (take left body) (closed_gate ∷ [])) in
+    let rest : drop 12 cut ≡ take left body ++ closed_gate ∷ [] = ap (λ (l : List ℕ). drop 12 l) is in
+    is_new ∙ (λ i. word (count - 1) ++ (long_word (counted i) ++ rest i))
 
 pub value_back : (count : ℕ) (text : List ℕ) (batch : BatchValue) → text ≡ content_of batch ++ closed_gate ∷ [] → batch.count ≡ count → value_of count text ≡ batch
 value_back count text batch is counted =

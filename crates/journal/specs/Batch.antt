@@ -1,9 +1,9 @@
 -- Records that are stored together, as the text of one batch.
-use Rattle.std.specs.Prelude.{◌≡◌, ℕ, ◌-◌, ◌+◌, ◌<◌, List, [], ◌∷◌, ◌++◌, length, take, drop, replicate, refl}
+use Rattle.std.specs.Prelude.{◌≡◌, ℕ, ◌-◌, ◌+◌, List, [], ◌∷◌, ◌++◌, length, take, drop, replicate, refl}
 use Rattle.std.specs.Coded.{Coded, code_by, coded×, coded_ℕ, coded_list}
 use Rattle.ipc_model.specs.declared.record.Record.{Record}
 use Rattle.ipc_model.specs.texts.Texts.{records_text}
-use Rattle.ipc_model.specs.store.Store.{batch_text, closed_gate}
+use Rattle.ipc_model.specs.store.Store.{closed_gate}
 use Rattle.words.specs.Words.{word, long_word}
 
 -- How many records a batch has, and the texts of these, joined.
@@ -22,6 +22,10 @@ empty_batch = record { count = 0; body = [] }
 -- one record more, of this text
 abbrev pub with_text : BatchValue → List ℕ → BatchValue
 with_text batch text = record { count = batch.count + 1; body = batch.body ++ text }
+
+-- without the last record, whose text has so many bytes
+abbrev pub without_last : BatchValue → ℕ → BatchValue
+without_last batch size = record { count = batch.count - 1; body = take (length batch.body - size) batch.body }
 
 -- what stands behind the batch's gate: how many records, how many bytes they have, and the records
 unfoldable pub content_of : BatchValue → List ℕ

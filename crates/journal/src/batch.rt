@@ -1,7 +1,7 @@
 ghost use Rattle.std.specs.Prelude.{◌≡◌, ◌+◌, ◌-◌, ◌<◌, ◌≤◌, ◌^◌, ◌++◌, ◌∷◌, [], length, take, drop, vec_len, vec_capacity, OnOk, OnErr};
 ghost use Rattle.ipc_model.specs.store.Store.{closed_gate};
 ghost use Rattle.words.specs.Words.{word, long_word};
-ghost use Rattle.journal.specs.Batch.{content_of, empty_batch, padded, with_text};
+ghost use Rattle.journal.specs.Batch.{content_of, empty_batch, padded, with_text, without_last};
 
 use byteorder::{ByteOrder, LittleEndian};
 use slot_steps::CLOSED_GATE;
@@ -64,6 +64,18 @@ impl Batch {
         Ok(())
     }
 
+    /// Takes the last record, which has so many bytes, out again. The room that it took stays.
+    pub fn remove_last(&mut self, size: usize)
+        requires some { 0 < self.old.count }
+        requires within { size ≤ length self.old.body }
+        ensures { self.new ≡ without_last self.old size }
+    {
+        let count = self.count();
+        cut_before_gate(&mut self.text, size);
+        self.count = count - 1;
+        write_header(&mut self.text, count - 1);
+    }
+
     /// Takes all records out. The room that they took stays.
     pub fn clear(&mut self)
         ensures { self.new ≡ empty_batch }
@@ -102,6 +114,16 @@ fn push_before_gate(text: &mut Vec<u8>, more: &[u8])
     let end = text.len() - 1;
     text.truncate(end);
     let _ = text.extend_from_slice(more);
+    text.push_reserved(CLOSED_GATE);
+}
+
+/// Takes bytes out before the gate at the end.
+fn cut_before_gate(text: &mut Vec<u8>, size: usize)
+    requires { size < length text.old.items }
+    ensures { text.new.items ≡ take (length text.old.items - 1 - size) text.old.items ++ closed_gate ∷ [] }
+{
+    let end = text.len() - 1 - size;
+    text.truncate(end);
     text.push_reserved(CLOSED_GATE);
 }
 
