@@ -78,6 +78,13 @@ impl<D: Disk> StoreHalf<D> {
         self.segment.epoch
     }
 
+    /// How many records the segment in use holds.
+    pub fn records(&self) -> u64
+        ensures { result ≡ self.now.segment.records }
+    {
+        self.segment.records
+    }
+
     /// Whether a checkpoint is under way.
     pub fn is_checkpointing(&self) -> bool
         ensures { result ≡ is_some self.now.checkpoint }

@@ -1,11 +1,13 @@
-ghost use Rattle.std.specs.Prelude.{◌≡◌, ◌⊎◌, ◌+◌, ◌<◌, ◌≤◌, true, false, length, MatchBool, IfOk, IfErr, IfSome, IfNone, OnErr, IsErrOf};
+ghost use Rattle.std.specs.Prelude.{◌≡◌, ◌⊎◌, ◌+◌, ◌-◌, ◌^◌, ◌<◌, ◌≤◌, true, false, length, MatchBool, IfOk, IfErr, IfSome, IfNone, OnErr, IsErrOf};
 ghost use Rattle.codes.specs.declared.limits.TheConstants.{MAX_FRAME_CONTENT, MAX_RECORDS};
+ghost use Rattle.ipc_model.specs.calls.Step.{Step, has_record};
 ghost use Rattle.ipc_model.specs.texts.Texts.{reply_text};
-ghost use Rattle.system.specs.Halves.{CanCut, CannotTake, Cuts, Gives, IsFullFor, TakesBatch, first_half, with_receipt};
+ghost use Rattle.system.specs.Halves.{CanCut, CannotTake, Cuts, Gives, IsFullFor, TakesBatch, Wrote, first_half, with_receipt};
 
 use crate::Ticket;
 use crate::row::Row;
 use crate::taken::Taken;
+use crate::witness::{Witness, Witnessed};
 use codes::MAX_RECORDS;
 use image::image_is_of_state;
 use ipc_model::{Call, Reply, call_in_range};
@@ -90,6 +92,20 @@ impl KernelHalf {
         self.row.len()
     }
 
+    /// The epoch in which calls are made.
+    pub fn epoch(&self) -> u64
+        ensures { result ≡ self.now.epoch }
+    {
+        self.epoch
+    }
+
+    /// How many records were made since it began, in all epochs.
+    pub fn made(&self) -> u64
+        ensures { result ≡ self.now.row.made }
+    {
+        self.row.made()
+    }
+
     /// Makes a call of a task of this space. Its record, if it has one, waits then to be taken.
     pub fn submit(&mut self, space: u32, call: &Call) -> Result<Ticket, SubmitFault>
         ensures given { IfOk result (λ ticket. Gives self.old space call.now ticket self.new) }
@@ -107,6 +123,37 @@ impl KernelHalf {
         let reply = self.kernel.apply_recorded(space, call, &mut self.row)?;
         let seen = self.row.made();
         Ok(Ticket { reply, seen })
+    }
+
+    /// Makes a call as `submit` does, beside a witness, who learns of its record, if it has one, before the call is kept. Where
+    /// the witness can't learn of it, that is answered as want of memory, and nothing changed.
+    pub fn submit_beside<W: Witness>(
+        &mut self,
+        space: u32,
+        call: &Call,
+        witness: W,
+    ) -> (W, Result<Ticket, SubmitFault>)
+        ensures given { IfOk result.1 (λ ticket. Gives self.old space call.now ticket self.new) }
+        ensures learned { IfOk result.1 (λ ticket. has_record call.now ticket.answer ≡ true → W.learned witness space call.now ticket.answer result.0) }
+        ensures unlearned { IfOk result.1 (λ ticket. has_record call.now ticket.answer ≡ false → result.0 ≡ witness) }
+        ensures full { IsErrOf result.1 SubmitFault.EpochFull → IsFullFor self.old space call.now }
+        ensures err { OnErr result.1 ((self.new ≡ self.old) × (result.0 ≡ witness)) }
+    {
+        call_in_range(call);
+        // No machine makes so many records.
+        if self.row.made() == u64::MAX {
+            return (witness, Err(SubmitFault::NoMemory));
+        }
+        let length = self.row.len();
+        if length >= MAX_RECORDS {
+            return (witness, self.submit_without_room(space, call));
+        }
+        let (witness, made) = apply_beside(&mut self.kernel, &mut self.row, space, call, witness);
+        let Ok(reply) = made else {
+            return (witness, Err(SubmitFault::NoMemory));
+        };
+        let seen = self.row.made();
+        (witness, Ok(Ticket { reply, seen }))
     }
 
     /// Makes a call that has no record.
@@ -201,4 +248,31 @@ impl KernelHalf {
         }
         Ok(ticket.into_reply())
     }
+}
+
+/// Makes a step of the machine. Its record, if it has one, is written into the row, and the witness learns of it, before it is
+/// kept.
+fn apply_beside<W: Witness>(
+    kernel: &mut Kernel,
+    row: &mut Row,
+    space: u32,
+    call: &Call,
+    witness: W,
+) -> (W, Result<Reply, AllocError>)
+    requires { (row.old.length < MAX_RECORDS) × (row.old.made < 2 ^ 64 - 1) }
+    ensures step { IfOk result.1 (λ reply. Step kernel.old space call.now reply kernel.new) }
+    ensures recorded { IfOk result.1 (λ reply. has_record call.now reply ≡ true → Wrote row.old space call.now reply row.new × W.learned witness space call.now reply result.0) }
+    ensures unrecorded { IfOk result.1 (λ reply. has_record call.now reply ≡ false → (row.new ≡ row.old) × (result.0 ≡ witness)) }
+    ensures fits { IfOk result.1 (λ reply. length (reply_text reply) ≤ MAX_FRAME_CONTENT) }
+    ensures err { OnErr result.1 ((kernel.new ≡ kernel.old) × (row.new ≡ row.old) × (result.0 ≡ witness)) }
+{
+    let taken = row.take_out();
+    let mut both = Witnessed {
+        row: taken,
+        witness,
+    };
+    let made = kernel.apply_recorded(space, call, &mut both);
+    let Witnessed { row: left, witness } = both;
+    *row = left;
+    (witness, made)
 }

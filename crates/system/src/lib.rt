@@ -10,6 +10,7 @@ mod stepping;
 mod system;
 mod taken;
 mod ticket;
+mod witness;
 
 pub use event::{Event, Outcome};
 pub use kernel_half::{KernelHalf, SubmitFault};
@@ -17,3 +18,4 @@ pub use phases::{Kernel, Opened, open};
 pub use system::{CallFault, System};
 pub use taken::Taken;
 pub use ticket::Ticket;
+pub use witness::Witness;

@@ -1,7 +1,10 @@
-ghost use Rattle.std.specs.Prelude.{◌≡◌, ◌<◌, ◌≤◌, ◌^◌};
+ghost use Rattle.std.specs.Prelude.{◌≡◌, ◌<◌, ◌≤◌, ◌^◌, ◌-◌, true, length, IfOk, OnOk, OnErr};
 ghost use Rattle.codes.specs.declared.limits.TheConstants.{MAX_RECORDS};
-ghost use Rattle.journal.specs.Batch.{empty_batch};
-ghost use Rattle.system.specs.Halves.{next_row};
+ghost use Rattle.ipc_laws.specs.RecordedSteps.{IsAnsweredWhole};
+ghost use Rattle.ipc_model.specs.calls.Step.{has_record};
+ghost use Rattle.ipc_model.specs.texts.Texts.{record_text};
+ghost use Rattle.journal.specs.Batch.{empty_batch, without_last};
+ghost use Rattle.system.specs.Halves.{Wrote, entry_of, next_row};
 
 use codes::MAX_RECORDS;
 use ipc_model::{Call, Reply};
@@ -76,6 +79,51 @@ impl Row {
         self.waiting.count()
     }
 
+    /// Adds the record of a call that was answered so, and tells how many bytes its text has. Where memory is wanted nothing
+    /// changed.
+    pub(crate) fn push(
+        &mut self,
+        space: u32,
+        call: &Call,
+        reply: &Reply,
+    ) -> Result<usize, AllocError>
+        requires room { (self.old.length < MAX_RECORDS) × (self.old.made < 2 ^ 64 - 1) }
+        requires whole { IsAnsweredWhole call.now reply.now }
+        requires recorded { has_record call.now reply.now ≡ true }
+        ensures ok { OnOk result (Wrote self.old space call.now reply.now self.new) }
+        ensures size { IfOk result (λ size. size ≡ length (record_text self.old.length (entry_of space call.now reply.now))) }
+        ensures err { OnErr result (self.new ≡ self.old) }
+    {
+        in_range(space, call, reply);
+        self.text.clear();
+        push_exchange(self.alloc, &mut self.text, self.length, space, call, reply)?;
+        self.waiting.add(&self.text)?;
+        self.length += 1;
+        self.made += 1;
+        Ok(self.text.len())
+    }
+
+    /// Takes the last record out again, whose text has so many bytes and which waits.
+    pub(crate) fn remove_last(&mut self, size: usize)
+        requires some { 0 < self.old.waiting.count }
+        requires made { 0 < self.old.made }
+        requires within { size ≤ length self.old.waiting.body }
+        ensures { self.new ≡ record { length = self.old.length - 1; made = self.old.made - 1; waiting = without_last self.old.waiting size } }
+    {
+        self.waiting.remove_last(size);
+        self.length -= 1;
+        self.made -= 1;
+    }
+
+    /// Takes the row out, and leaves one without records.
+    pub(crate) fn take_out(&mut self) -> Row
+        ensures taken { result ≡ self.old }
+        ensures left { self.new ≡ record { length = 0; made = 0; waiting = empty_batch } }
+    {
+        let empty = Row::new(self.alloc, 0);
+        std::mem::replace(self, empty)
+    }
+
     /// Takes the records that wait, and has an empty batch in their place.
     pub(crate) fn take(&mut self, empty: Batch) -> Batch
         requires { empty ≡ empty_batch }
@@ -105,12 +153,7 @@ impl Recorder for Row {
     ghost wrote = { Wrote };
 
     fn write(&mut self, space: u32, call: &Call, reply: &Reply) -> Result<(), AllocError> {
-        in_range(space, call, reply);
-        self.text.clear();
-        push_exchange(self.alloc, &mut self.text, self.length, space, call, reply)?;
-        self.waiting.add(&self.text)?;
-        self.length += 1;
-        self.made += 1;
+        let _ = self.push(space, call, reply)?;
         Ok(())
     }
 }

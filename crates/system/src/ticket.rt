@@ -1,6 +1,8 @@
 ghost use Rattle.std.specs.Prelude.{◌≡◌, ℕ, ◌+◌, ◌-◌, ◌<◌, ◌≤◌, ◌^◌, length, None, Some, MatchOption, IfSome, IfNone, IsSome, OnOk, OnErr, option_copied};
 ghost use Rattle.std.specs.FinMap as map;
 ghost use Rattle.codes.specs.declared.limits.TheConstants.{MAX_FRAME_CONTENT};
+ghost use Rattle.ipc_model.specs.calls.Step.{succeeded};
+ghost use Rattle.ipc_model.specs.declared.call.Call.{Call};
 ghost use Rattle.ipc_model.specs.texts.Texts.{reply_text};
 ghost use Rattle.system.specs.Core.{TicketsValue};
 ghost use Rattle.system.specs.Halves.{TicketValue};
@@ -35,6 +37,20 @@ impl Model for Ticket {
 }
 
 impl Ticket {
+    /// How many of the records that were made its call saw.
+    pub fn seen(&self) -> u64
+        ensures { result ≡ self.now.seen }
+    {
+        self.seen
+    }
+
+    /// Whether the call was done: its code is 0.
+    pub fn is_success(&self) -> bool
+        ensures { (call : Call) → result ≡ succeeded call self.now.answer }
+    {
+        self.reply.is_success()
+    }
+
     /// The reply that it keeps.
     pub(crate) fn into_reply(self) -> Reply
         ensures reply { result ≡ self.answer }

@@ -1,0 +1,5 @@
+mod Apart
+mod Calling
+mod Calls
+mod Histories
+mod Meetings
