@@ -1,5 +1,0 @@
-mod Apart
-mod Calling
-mod Calls
-mod Histories
-mod Meetings
