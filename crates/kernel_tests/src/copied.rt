@@ -1,79 +1,56 @@
+use crate::asked::Asked;
+use crate::expect::same;
+use crate::machine::{Machine, ask, ask_all};
 use ipc_model::{Call, CarriedRight, Entry, PortInMessage, PortRights, RightKind, Sequence};
 use kernel::Kernel;
 use snapshot::Snapshot;
-use std::alloc::{AllocError, Global};
+use std::alloc::Global;
 use std::process::Abort;
-use std::test::Fail;
 
 /// Three ports, 0x100 to 0x102, and a set, 0x103, with the first as its member. The third has a send right too. 0x104 is a
 /// send-once right of the second, with a dead-name request to the first, and the second tells the first of its destruction.
-const BEFORE: [Call; 9] = [
-    Call::Allocate { right: 1 },
-    Call::Allocate { right: 1 },
-    Call::Allocate { right: 1 },
-    Call::Allocate { right: 3 },
-    Call::MoveMember {
-        member: 0x100,
-        after: 0x103,
-    },
-    Call::ExtractRight {
-        name: 0x101,
-        disposition: 21,
-    },
-    Call::RequestNotification {
-        name: 0x104,
-        variant: 72,
-        sync: 0,
-        notify: 0x100,
-        disposition: 21,
-    },
-    Call::RequestNotification {
-        name: 0x101,
-        variant: 69,
-        sync: 0,
-        notify: 0x100,
-        disposition: 21,
-    },
-    Call::InsertRight {
-        name: 0x102,
-        right_name: 0x102,
-        disposition: 20,
-    },
+static BEFORE: [Asked; 9] = [
+    Asked::Allocate(1),
+    Asked::Allocate(1),
+    Asked::Allocate(1),
+    Asked::Allocate(3),
+    Asked::MoveMember(0x100, 0x103),
+    Asked::ExtractRight(0x101),
+    Asked::RequestNotification(0x104, 72),
+    Asked::RequestNotification(0x101, 69),
+    Asked::InsertRight(0x102),
 ];
 
 /// The receive right of the third port goes.
-const DEATH: Call = Call::ModRefs {
-    name: 0x102,
-    right: 1,
-    delta: u32::MAX,
-};
+const DEATH: Asked = Asked::DropReceive(0x102);
 
 /// To the first port, by a send right made for it, with id 7: a send right of the second, and a send-once right of the third
 /// to reply by.
-const MESSAGE: [u8; 32] = [
+static MESSAGE: [u8; 32] = [
     0x14, 0x15, 0, 0x80, 0, 0, 0, 0, 0, 1, 0, 0, 2, 1, 0, 0, 0, 0, 0, 0, 7, 0, 0, 0, 0x14, 0x20, 1,
     0x10, 1, 1, 0, 0,
 ];
 
-fn message(alloc: Global) -> Result<Call, AllocError> {
-    let message = Sequence::new(Vec::from_slice(alloc, &MESSAGE)?);
-    Ok(Call::Send { message })
+fn message(alloc: Global) -> Option<Call> {
+    let bytes = Vec::from_slice(alloc, &MESSAGE).ok()?;
+    Some(Call::Send {
+        message: Sequence::new(bytes),
+    })
 }
 
-fn make_calls(alloc: Global, kernel: &mut Kernel) -> Result<(), AllocError> {
-    for call in &BEFORE {
-        kernel.apply(1, call)?;
-    }
-    kernel.apply(1, &message(alloc)?)?;
-    kernel.apply(1, &DEATH)?;
-    Ok(())
+fn make_calls<M: Machine>(alloc: Global, machine: &mut M) -> Option<()> {
+    let message = message(alloc)?;
+    ask_all(machine, &BEFORE)?;
+    machine.make(1, &message)?;
+    ask(machine, 1, DEATH)?;
+    Some(())
 }
 
 /// A copy of the state after these calls.
-fn copy_after_calls(alloc: Global) -> Result<Snapshot, AllocError> {
-    let mut kernel = Kernel::opening(alloc)?;
-    make_calls(alloc, &mut kernel)?;
-    kernel.copy(alloc)
+fn copy_after_calls<M: Machine + Drop>(alloc: Global) -> Option<Snapshot> {
+    let mut machine = M::opened(alloc)?;
+    make_calls(alloc, &mut machine)?;
+    machine.copied(alloc)
 }
 
 /// A name and what it stands for.
@@ -126,16 +103,16 @@ fn seen_of(copy: &Snapshot) -> Seen {
     }
 }
 
-fn seen_after_calls(alloc: Global) -> Result<Seen, AllocError> {
-    let copy = copy_after_calls(alloc)?;
-    Ok(seen_of(&copy))
+fn seen_after_calls<M: Machine + Drop>(alloc: Global) -> Option<Seen> {
+    let copy = copy_after_calls::<M>(alloc)?;
+    Some(seen_of(&copy))
 }
 
-/// What is seen of a copy of the kernel that is made of a copy of the state after these calls.
-fn seen_again(alloc: Global) -> Result<Seen, Fail> {
-    let kernel = Kernel::from_snapshot(alloc, copy_after_calls(alloc)?)?;
-    let copy = kernel.copy(alloc)?;
-    Ok(seen_of(&copy))
+/// What is seen of a copy of the machine that is made of a copy of the state after these calls.
+fn seen_again<M: Machine + Drop>(alloc: Global) -> Option<Seen> {
+    let copy = copy_after_calls::<M>(alloc)?;
+    let copy = M::of_copy(alloc, copy)?.copied(alloc)?;
+    Some(seen_of(&copy))
 }
 
 fn receive_right(port: u64) -> Entry {
@@ -176,29 +153,29 @@ const EXPECTED_RIGHTS: [Option<CarriedRight>; 2] = [
 ];
 
 #[test]
-fn a_copy_has_all_that_the_state_has(rt: HostRuntime) -> Result<(), Fail> {
-    expect_all(&rt, seen_after_calls(rt.alloc())?);
-    Ok(())
+fn a_copy_has_all_that_the_state_has(rt: HostRuntime) {
+    expect_all(&rt, seen_after_calls::<Kernel>(rt.alloc()));
 }
 
 #[test]
-fn a_kernel_made_of_a_copy_has_all_of_it(rt: HostRuntime) -> Result<(), Fail> {
-    expect_all(&rt, seen_again(rt.alloc())?);
-    Ok(())
+fn a_kernel_made_of_a_copy_has_all_of_it(rt: HostRuntime) {
+    expect_all(&rt, seen_again::<Kernel>(rt.alloc()));
 }
 
-fn expect_all(rt: &impl Abort, seen: Seen) {
-    assert_eq!(rt; seen.names, expected_names());
-    assert_eq!(rt;
-        (seen.next_serial, seen.ports),
-        (
-            4,
-            [
-                Some((1, Some(0x103), None, 1)),
-                Some((2, None, Some(1), 0)),
-                None
-            ]
-        )
-    );
-    assert_eq!(rt; seen.rights, Some(EXPECTED_RIGHTS));
+static EXPECTED_PORTS: [PortSeen; 3] = [
+    Some((1, Some(0x103), None, 1)),
+    Some((2, None, Some(1), 0)),
+    None,
+];
+
+fn expect_all(rt: &impl Abort, seen: Option<Seen>) {
+    let Some(seen) = seen else {
+        return same(rt, false, true);
+    };
+    let names = seen.names;
+    let ports = seen.ports;
+    let rights = seen.rights;
+    same(rt, names, expected_names());
+    same(rt, (seen.next_serial, ports), (4, EXPECTED_PORTS));
+    same(rt, rights, Some(EXPECTED_RIGHTS));
 }

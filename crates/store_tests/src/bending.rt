@@ -1,11 +1,9 @@
 //! Stores of whole slots and bent ones, and what opening them gives.
-use crate::epochs::{is_receive, opened};
-use crate::making::{disk_of, keeps_all, keeps_first, keeps_second, slot};
+use crate::store::{Store, disk_of, is_receive, keeps_all, keeps_first, keeps_second};
 use crate::written::{image_of_name, segment_of_name};
-use disk::{MemDisk, Slot};
+use disk::Slot;
 use journal::{OPEN_GATE, StoreFault};
 use std::alloc::{AllocError, Global};
-use std::test::Fail;
 
 /// The epochs of image 0, image 1, segment 0 and segment 1. A slot without one is empty.
 pub(crate) type Epochs = [Option<u64>; 4];
@@ -50,20 +48,29 @@ fn whole_slot(alloc: Global, slot: Slot, epoch: u64) -> Result<Vec<u8>, AllocErr
 }
 
 // Bends a slot. A byte that is named is there, and was another one.
-fn change(bytes: &mut Vec<u8>, how: Bend) -> Result<(), Fail> {
+fn change(bytes: &mut Vec<u8>, how: Bend) -> Option<()> {
     match how {
         Bend::Byte(at, byte) => match bytes.get_mut(at) {
             Some(place) if *place != byte => *place = byte,
-            _ => return Err("the slot isn't bent".into()),
+            _ => return None,
         },
         Bend::Zero(from) => {
             for place in bytes.iter_mut().skip(from) {
                 *place = 0;
             }
         }
-        Bend::Length(length) => bytes.resize(length, 0xff)?,
+        Bend::Length(length) => return bytes.resize(length, 0xff).ok(),
     }
-    Ok(())
+    Some(())
+}
+
+fn change_all(bytes: &mut Vec<u8>, slot: Slot, bends: &[(Slot, Bend)]) -> Option<()> {
+    for (bent, how) in bends {
+        if *bent == slot {
+            change(bytes, *how)?;
+        }
+    }
+    Some(())
 }
 
 fn bent_slot(
@@ -71,22 +78,18 @@ fn bent_slot(
     slot: Slot,
     epoch: Option<u64>,
     bends: &[(Slot, Bend)],
-) -> Result<Vec<u8>, Fail> {
+) -> Option<Vec<u8>> {
     let Some(epoch) = epoch else {
-        return Ok(Vec::new(alloc));
+        return Some(Vec::new(alloc));
     };
-    let mut bytes = whole_slot(alloc, slot, epoch)?;
-    for (bent, how) in bends {
-        if *bent == slot {
-            change(&mut bytes, *how)?;
-        }
-    }
-    Ok(bytes)
+    let mut bytes = whole_slot(alloc, slot, epoch).ok()?;
+    change_all(&mut bytes, slot, bends)?;
+    Some(bytes)
 }
 
-fn bent_slots(alloc: Global, epochs: Epochs, bends: &[(Slot, Bend)]) -> Result<[Vec<u8>; 4], Fail> {
+fn bent_slots(alloc: Global, epochs: Epochs, bends: &[(Slot, Bend)]) -> Option<[Vec<u8>; 4]> {
     let [image0, image1, segment0, segment1] = epochs;
-    Ok([
+    Some([
         bent_slot(alloc, Slot::Image0, image0, bends)?,
         bent_slot(alloc, Slot::Image1, image1, bends)?,
         bent_slot(alloc, Slot::Segment0, segment0, bends)?,
@@ -95,20 +98,22 @@ fn bent_slots(alloc: Global, epochs: Epochs, bends: &[(Slot, Bend)]) -> Result<[
 }
 
 // What opening a store gives, and its disk.
-fn reopened(alloc: Global, disk: MemDisk) -> (Found, MemDisk) {
-    match opened(alloc, disk) {
-        Ok(opened) => {
-            let names = [0x100, 0x101, 0x102, 0x103].map(|name| is_receive(&opened, name));
-            let found = (opened.segment.epoch, opened.segment.records, names);
-            (Ok(found), opened.disk)
+fn reopened<S: Store + Drop>(alloc: Global, disk: S) -> (Found, S) {
+    let (opening, disk) = disk.open(alloc, &[0x100, 0x101, 0x102, 0x103]);
+    let found = match opening {
+        Ok(seen) => {
+            let bits = seen.bits;
+            let names = bits.map(is_receive);
+            Ok((seen.epoch, seen.records, names))
         }
-        Err((fault, disk)) => (Err(fault), disk),
-    }
+        Err(fault) => Err(fault),
+    };
+    (found, disk)
 }
 
 // Whether an opening left all slots as they were where it refused the store; and else those of the other number than the
 // epoch's, and the epoch's image open.
-fn is_left(found: Found, disk: &MemDisk, before: &[Vec<u8>; 4]) -> bool {
+fn is_left<S: Store>(found: Found, disk: &S, before: &[Vec<u8>; 4]) -> bool {
     match found {
         Ok((epoch, _, _)) if epoch % 2 == 0 => {
             keeps_second(disk, before) && is_open(disk, Slot::Image0)
@@ -118,19 +123,21 @@ fn is_left(found: Found, disk: &MemDisk, before: &[Vec<u8>; 4]) -> bool {
     }
 }
 
-fn is_open(disk: &MemDisk, image: Slot) -> bool {
-    slot(disk, image).first() == Some(&OPEN_GATE)
+fn is_open<S: Store>(disk: &S, image: Slot) -> bool {
+    disk.bytes(image).first() == Some(&OPEN_GATE)
 }
 
-/// What opening a store gives, whether it leaves the slots that it is to leave, and what opening it again gives.
-pub(crate) fn tried(
+/// What opening a store gives, whether it leaves the slots that it is to leave, and what opening it again gives. Nothing where
+/// a slot isn't bent by what bends it.
+pub(crate) fn tried<S: Store + Drop>(
     alloc: Global,
     epochs: Epochs,
     bends: &[(Slot, Bend)],
-) -> Result<(Found, bool, Found), Fail> {
+) -> Option<(Found, bool, Found)> {
     let before = bent_slots(alloc, epochs, bends)?;
-    let (found, disk) = reopened(alloc, disk_of(alloc, &before)?);
+    let disk: S = disk_of(alloc, &before)?;
+    let (found, disk) = reopened(alloc, disk);
     let is_left = is_left(found, &disk, &before);
     let (again, _) = reopened(alloc, disk);
-    Ok((found, is_left, again))
+    Some((found, is_left, again))
 }

@@ -1,80 +1,38 @@
 //! Stores of later epochs, and of a checkpoint that was half done.
 use crate::expect::{same, same_in_row};
-use crate::making::{SEGMENT, append_allocations, append_from, disk_of, keeps_all, planned, slot};
+use crate::looked::looked;
+use crate::making::{SEGMENT, append_allocations, append_from};
+use crate::store::{Opening, Store, disk_of, is_receive, keeps_all};
 use crate::written::{image_of_name, image_of_none, opened_slot};
 use disk::{Disk, MemDisk, Slot, Torn};
-use ipc_model::Reply;
 use journal::{Segment, StoreFault, roll_close, roll_head, roll_open};
-use recover::{Opened, look, open};
 use slot_steps::segment_slot;
-use std::alloc::Global;
+use std::alloc::{AllocError, Global};
 use std::test::Fail;
 
 // What opening a store gave: its epoch, how many records its segment holds, and which of the names 0x100 to 0x102 are
 // receive rights.
 type Found = Result<(u64, u64, [bool; 3]), StoreFault>;
 
-/// Opens a store. It has no clause, so that a test's proof carries nothing of it.
-pub(crate) fn opened(
-    alloc: Global,
-    disk: MemDisk,
-) -> Result<Opened<MemDisk>, (StoreFault, MemDisk)> {
-    open(alloc, disk)
-}
-
-/// Whether a name of space 1 is a receive right.
-pub(crate) fn is_receive(opened: &Opened<MemDisk>, name: u32) -> bool {
-    matches!(
-        opened.kernel.port_type(1, name),
-        Reply::Type { bits: 0x20000 }
-    )
-}
-
-// What opening a store gives, and its disk.
-fn reopened(alloc: Global, disk: MemDisk) -> (Found, MemDisk) {
-    match opened(alloc, disk) {
-        Ok(opened) => {
-            let names = [
-                is_receive(&opened, 0x100),
-                is_receive(&opened, 0x101),
-                is_receive(&opened, 0x102),
-            ];
-            let found = (opened.segment.epoch, opened.segment.records, names);
-            (Ok(found), opened.disk)
+fn found_of(opening: Opening) -> Found {
+    match opening {
+        Ok(seen) => {
+            let [first, second, third, _] = seen.bits;
+            let names = [first, second, third].map(is_receive);
+            Ok((seen.epoch, seen.records, names))
         }
-        Err((fault, disk)) => (Err(fault), disk),
+        Err(fault) => Err(fault),
     }
 }
 
-fn found(alloc: Global, disk: MemDisk) -> Found {
-    let (found, _) = reopened(alloc, disk);
-    found
-}
-
-// Opens a store, appends a record to its segment, and makes the next epoch's segment, but not its image.
-fn rolled(alloc: Global, disk: MemDisk) -> Result<(MemDisk, Segment), Fail> {
-    let Ok(opened) = opened(alloc, disk) else {
-        return Err("it is opened".into());
-    };
-    let Opened {
-        kernel: _,
-        mut disk,
-        mut segment,
-    } = opened;
-    append_allocations(alloc, &mut segment, &mut disk, 1)?;
-    let next = next_segment(&mut disk, segment.epoch.saturating_add(1))?;
-    Ok((disk, next))
-}
-
-// The same, with a record in the next epoch's segment.
-fn half_done(alloc: Global, disk: MemDisk) -> Result<MemDisk, Fail> {
-    let (mut disk, mut next) = rolled(alloc, disk)?;
-    append_allocations(alloc, &mut next, &mut disk, 1)?;
-    Ok(disk)
+// What opening a store gives, and its disk.
+fn reopened<S: Store + Drop>(alloc: Global, disk: S) -> (Found, S) {
+    let (opening, disk) = disk.open(alloc, &[0x100, 0x101, 0x102, 0x102]);
+    (found_of(opening), disk)
 }
 
 // An epoch's segment. Its slot isn't empty once it is closed.
-fn next_segment(disk: &mut MemDisk, epoch: u64) -> Result<Segment, StoreFault> {
+fn next_segment<D: Disk>(disk: &mut D, epoch: u64) -> Result<Segment, StoreFault> {
     roll_close(disk, epoch)?;
     if disk.length(segment_slot(epoch)) == 0 {
         return Err(StoreFault::Device);
@@ -83,27 +41,63 @@ fn next_segment(disk: &mut MemDisk, epoch: u64) -> Result<Segment, StoreFault> {
     Ok(roll_open(disk, epoch)?)
 }
 
+// Appends a record to a segment, and makes the next epoch's.
+fn roll<D: Disk>(
+    alloc: Global,
+    segment: &mut Segment,
+    disk: &mut D,
+) -> Result<Segment, StoreFault> {
+    append_allocations(alloc, segment, disk, 1)?;
+    next_segment(disk, segment.epoch.saturating_add(1))
+}
+
+// A new store whose segment has a record, and that has the next epoch's segment, but not its image.
+fn rolled<S: Store + Drop>(alloc: Global) -> Option<(S, Segment)> {
+    let (mut disk, mut segment) = S::empty(alloc).go_on(alloc)?;
+    let next = roll(alloc, &mut segment, &mut disk).ok()?;
+    Some((disk, next))
+}
+
+// The same, with a record in the next epoch's segment.
+fn half_done<S: Store + Drop>(alloc: Global) -> Option<S> {
+    let (mut disk, mut next) = rolled::<S>(alloc)?;
+    append_allocations(alloc, &mut next, &mut disk, 1).ok()?;
+    Some(disk)
+}
+
+// An epoch, and how many records are told of it.
+type Told = Result<(u64, u64), StoreFault>;
+
 // What a look tells of a store: the epoch of its image, and its records.
-fn looked(alloc: Global, disk: &mut MemDisk) -> Result<(u64, u64), StoreFault> {
-    let found = look(alloc, disk)?;
-    Ok((found.epoch, found.records))
+fn look_at<D: Disk>(alloc: Global, disk: &mut D) -> Told {
+    let (epoch, records, _, _) = looked(alloc, disk)?;
+    Ok((epoch, records))
+}
+
+fn told_of(found: Found) -> Told {
+    match found {
+        Ok((epoch, records, _)) => Ok((epoch, records)),
+        Err(fault) => Err(fault),
+    }
+}
+
+// What is told of a store whose checkpoint was half done: by a look, by its opening, and by a look behind that.
+fn told_of_half_done<S: Store + Drop>(alloc: Global) -> Option<[Told; 3]> {
+    let mut disk = half_done::<S>(alloc)?;
+    let first = look_at(alloc, &mut disk);
+    let (found, mut disk) = reopened(alloc, disk);
+    Some([first, told_of(found), look_at(alloc, &mut disk)])
 }
 
 // A store whose first checkpoint was half done is in epoch 1 once it is opened; its second checkpoint is half done then.
 #[test]
-fn checkpoints_are_finished(rt: HostRuntime) -> Result<(), Fail> {
-    let mut disk = half_done(rt.alloc(), MemDisk::new(rt.alloc()))?;
-    same_in_row(&rt, 0, looked(rt.alloc(), &mut disk), Ok((0, 2)));
-    let Ok(mut first) = opened(rt.alloc(), disk) else {
-        return Err("it is opened".into());
-    };
-    same_in_row(&rt, 1, (first.segment.epoch, first.segment.records), (1, 1));
-    same_in_row(&rt, 2, looked(rt.alloc(), &mut first.disk), Ok((1, 1)));
-    Ok(())
+fn checkpoints_are_finished(rt: HostRuntime) {
+    let told = told_of_half_done::<MemDisk>(rt.alloc());
+    same(&rt, told, Some([Ok((0, 2)), Ok((1, 1)), Ok((1, 1))]));
 }
 
 // The slots of a store in epoch 1, whose image has the name 0x100, and whose segment has no record.
-fn in_epoch_one(alloc: Global) -> Result<[Vec<u8>; 4], Fail> {
+fn in_epoch_one(alloc: Global) -> Result<[Vec<u8>; 4], AllocError> {
     Ok([
         image_of_none(alloc, 0)?,
         image_of_name(alloc, 1, 0)?,
@@ -112,29 +106,37 @@ fn in_epoch_one(alloc: Global) -> Result<[Vec<u8>; 4], Fail> {
     ])
 }
 
+// How long the next image and segment are; and twice what opening the store gives, and whether its slots are those of epoch 1
+// then.
+fn finished_without_image<S: Store + Drop>(
+    alloc: Global,
+    wanted: &[Vec<u8>; 4],
+) -> Option<([usize; 2], [(Found, bool); 2])> {
+    let (disk, _) = rolled::<S>(alloc)?;
+    let lengths = [
+        disk.bytes(Slot::Image1).len(),
+        disk.bytes(Slot::Segment1).len(),
+    ];
+    let (first, disk) = reopened(alloc, disk);
+    let is_first = keeps_all(&disk, wanted);
+    let (second, disk) = reopened(alloc, disk);
+    let is_second = keeps_all(&disk, wanted);
+    Some((lengths, [(first, is_first), (second, is_second)]))
+}
+
 // The next segment is open, without a record, and the image of epoch 0 is alone.
 #[test]
 fn a_checkpoint_without_its_image_is_finished(rt: HostRuntime) -> Result<(), Fail> {
     let wanted = in_epoch_one(rt.alloc())?;
-    let (disk, _) = rolled(rt.alloc(), MemDisk::new(rt.alloc()))?;
-    let lengths = [Slot::Image1, Slot::Segment1].map(|which| slot(&disk, which).len());
-    same(&rt, lengths, [0, 17]);
-    let (first, disk) = reopened(rt.alloc(), disk);
-    let is_first = keeps_all(&disk, &wanted);
-    let (second, disk) = reopened(rt.alloc(), disk);
-    let is_second = keeps_all(&disk, &wanted);
-    let found = Ok((1, 0, [true, false, false]));
-    same(
-        &rt,
-        [(first, is_first), (second, is_second)],
-        [(found, true), (found, true)],
-    );
+    let seen = finished_without_image::<MemDisk>(rt.alloc(), &wanted);
+    let found = (Ok((1, 0, [true, false, false])), true);
+    same(&rt, seen, Some(([0, 17], [found, found])));
     Ok(())
 }
 
 // The slots of epochs 4 and 5, each whole: the image of epoch 4 has no name, its segment allocates 0x100, and with that name
 // epoch 5 begins.
-fn in_epoch_five(alloc: Global, segment1: &[u8]) -> Result<[Vec<u8>; 4], Fail> {
+fn in_epoch_five(alloc: Global, segment1: &[u8]) -> Result<[Vec<u8>; 4], AllocError> {
     Ok([
         image_of_none(alloc, 4)?,
         image_of_name(alloc, 5, 0)?,
@@ -144,45 +146,45 @@ fn in_epoch_five(alloc: Global, segment1: &[u8]) -> Result<[Vec<u8>; 4], Fail> {
 }
 
 // Opens a store, and appends the record of the name 0x101.
-fn appended(alloc: Global, disk: MemDisk) -> Result<MemDisk, Fail> {
-    let Ok(opened) = opened(alloc, disk) else {
-        return Err("it is opened".into());
-    };
-    let Opened {
-        kernel: _,
-        mut disk,
-        mut segment,
-    } = opened;
-    append_from(alloc, &mut segment, &mut disk, 1, 1)?;
-    Ok(disk)
+fn appended<S: Store + Drop>(alloc: Global, disk: S) -> Option<S> {
+    let (mut disk, mut segment) = disk.go_on(alloc)?;
+    append_from(alloc, &mut segment, &mut disk, 1, 1).ok()?;
+    Some(disk)
 }
 
 // A segment's content with the record of the name 0x101.
-fn second_batch(alloc: Global) -> Result<Vec<u8>, Fail> {
-    let mut batch = SEGMENT[16..].to_vec(alloc)?;
-    let Some(name) = batch.get_mut(49) else {
-        return Err("the batch has a name".into());
-    };
-    *name = 1;
-    Ok(batch)
+fn second_batch() -> [u8; 54] {
+    let mut batch = [0; 54];
+    batch.copy_from_slice(&SEGMENT[16..]);
+    batch[49] = 1;
+    batch
+}
+
+// What opening a store of these slots gives, and whether it has these slots then; and the same behind an append, which leaves
+// those.
+fn gone_on<S: Store + Drop>(
+    alloc: Global,
+    before: &[Vec<u8>; 4],
+    after: &[Vec<u8>; 4],
+) -> Option<[(Found, bool); 2]> {
+    let disk: S = disk_of(alloc, before)?;
+    let (first, disk) = reopened(alloc, disk);
+    let is_first = keeps_all(&disk, before);
+    let (second, disk) = reopened(alloc, appended(alloc, disk)?);
+    let is_second = keeps_all(&disk, after);
+    Some([(first, is_first), (second, is_second)])
 }
 
 #[test]
 fn records_go_to_the_segment_of_the_newest_image(rt: HostRuntime) -> Result<(), Fail> {
     let before = in_epoch_five(rt.alloc(), &[0])?;
-    let after = in_epoch_five(rt.alloc(), &second_batch(rt.alloc())?)?;
-    let (first, disk) = reopened(rt.alloc(), disk_of(rt.alloc(), &before)?);
-    let is_first = keeps_all(&disk, &before);
-    let (second, disk) = reopened(rt.alloc(), appended(rt.alloc(), disk)?);
-    let is_second = keeps_all(&disk, &after);
-    same(
-        &rt,
-        [(first, is_first), (second, is_second)],
-        [
-            (Ok((5, 0, [true, false, false])), true),
-            (Ok((5, 1, [true, true, false])), true),
-        ],
-    );
+    let after = in_epoch_five(rt.alloc(), &second_batch())?;
+    let seen = gone_on::<MemDisk>(rt.alloc(), &before, &after);
+    let wanted = [
+        (Ok((5, 0, [true, false, false])), true),
+        (Ok((5, 1, [true, true, false])), true),
+    ];
+    same(&rt, seen, Some(wanted));
     Ok(())
 }
 
@@ -200,18 +202,25 @@ static TORN: [Torn; 6] = [
 // that end the segment.
 const CALLS: u64 = 23;
 
+// The fault of an opening that a stop may come within, and what opening the store again gives then.
+fn stopped<S: Store + Drop>(
+    alloc: Global,
+    stop_at: u64,
+    torn: Torn,
+) -> Option<(Option<StoreFault>, Found)> {
+    let mut disk = half_done::<S>(alloc)?;
+    disk.plan_faults(Some(stop_at), None, torn);
+    let (first, disk) = reopened(alloc, disk);
+    let (found, _) = reopened(alloc, disk.stop()?);
+    Some((first.err(), found))
+}
+
 // Whatever a stop within the opening leaves, the next one gives the state with both records, in epoch 1.
 #[test]
-fn stops_while_a_checkpoint_is_finished(rt: HostRuntime) -> Result<(), Fail> {
+fn stops_while_a_checkpoint_is_finished(rt: HostRuntime) {
     for torn in &TORN {
         for stop_at in 1..CALLS + 2 {
-            let disk = half_done(rt.alloc(), MemDisk::new(rt.alloc()))?;
-            let disk = planned(disk, Some(stop_at), None, *torn);
-            let (fault, disk) = match opened(rt.alloc(), disk) {
-                Ok(opened) => (None, opened.disk),
-                Err((fault, disk)) => (Some(fault), disk),
-            };
-            let stopped = if stop_at <= CALLS {
+            let fault = if stop_at <= CALLS {
                 Some(StoreFault::Device)
             } else {
                 None
@@ -219,10 +228,9 @@ fn stops_while_a_checkpoint_is_finished(rt: HostRuntime) -> Result<(), Fail> {
             same_in_row(
                 &rt,
                 (torn, stop_at),
-                (fault, found(rt.alloc(), disk.after_stop()?)),
-                (stopped, Ok((1, 1, [true, true, false]))),
+                stopped::<MemDisk>(rt.alloc(), stop_at, *torn),
+                Some((fault, Ok((1, 1, [true, true, false])))),
             );
         }
     }
-    Ok(())
 }

@@ -18,8 +18,3 @@ pub(crate) fn same_in_row<T: PartialEq + Debug + Drop>(
 ) {
     assert_eq!(rt; seen, wanted, "{row:?}");
 }
-
-/// Compares bytes.
-pub(crate) fn same_bytes(rt: &impl Abort, seen: &Vec<u8>, wanted: &[u8]) {
-    assert_eq!(rt; seen.as_slice(), wanted);
-}

@@ -22,6 +22,8 @@ mod making;
 #[cfg(test)]
 mod recover_tests;
 #[cfg(test)]
+mod store;
+#[cfg(test)]
 mod streams;
 #[cfg(test)]
 mod two_epochs;

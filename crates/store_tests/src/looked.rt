@@ -1,41 +1,54 @@
-use disk::MemDisk;
-use recover::{look, open};
+//! What a look at a store tells, without a change.
+use crate::expect::same;
+use crate::store::Store;
+use disk::{Disk, MemDisk};
+use journal::StoreFault;
+use recover::look;
 use std::alloc::Global;
-use std::test::Fail;
 
 /// What a look tells of a store: its epoch, its records, the next serial, and how many spaces it has.
-fn looked(alloc: Global, disk: &mut MemDisk) -> Result<(u64, u64, u64, usize), Fail> {
-    match look(alloc, disk) {
-        Ok(found) => Ok((
-            found.epoch,
-            found.records,
-            found.snapshot.next_serial,
-            found.snapshot.spaces.as_slice().len(),
-        )),
-        Err(_) => Err(Fail::from("the store can't be looked at")),
-    }
+pub(crate) fn looked<D: Disk>(
+    alloc: Global,
+    disk: &mut D,
+) -> Result<(u64, u64, u64, usize), StoreFault> {
+    let found = look(alloc, disk)?;
+    let spaces = found.snapshot.spaces.as_slice().len();
+    Ok((
+        found.epoch,
+        found.records,
+        found.snapshot.next_serial,
+        spaces,
+    ))
 }
 
-/// A store that was made and closed.
-fn made(alloc: Global) -> Result<MemDisk, Fail> {
-    match open(alloc, MemDisk::new(alloc)) {
-        Ok(opened) => Ok(opened.disk),
-        Err(_) => Err(Fail::from("the store can't be opened")),
-    }
+/// The look at a disk with nothing.
+fn look_at_nothing<S: Store + Drop>(alloc: Global) -> Result<(u64, u64, u64, usize), StoreFault> {
+    let mut disk = S::empty(alloc);
+    looked(alloc, &mut disk)
+}
+
+/// The look at a store that was made and closed.
+fn look_at_made<S: Store + Drop>(
+    alloc: Global,
+) -> Option<Result<(u64, u64, u64, usize), StoreFault>> {
+    let (mut disk, _) = S::empty(alloc).go_on(alloc)?;
+    Some(looked(alloc, &mut disk))
 }
 
 #[test]
-fn a_new_store_is_looked_at(rt: HostRuntime) -> Result<(), Fail> {
-    let mut disk = MemDisk::new(rt.alloc());
-    let found = looked(rt.alloc(), &mut disk)?;
-    assert_eq!(rt; found, (0, 0, 1, 1));
-    Ok(())
+fn a_new_store_is_looked_at(rt: HostRuntime) {
+    same(
+        &rt,
+        look_at_nothing::<MemDisk>(rt.alloc()),
+        Ok((0, 0, 1, 1)),
+    );
 }
 
 #[test]
-fn a_made_store_is_looked_at(rt: HostRuntime) -> Result<(), Fail> {
-    let mut disk = made(rt.alloc())?;
-    let found = looked(rt.alloc(), &mut disk)?;
-    assert_eq!(rt; found, (0, 0, 1, 1));
-    Ok(())
+fn a_made_store_is_looked_at(rt: HostRuntime) {
+    same(
+        &rt,
+        look_at_made::<MemDisk>(rt.alloc()),
+        Some(Ok((0, 0, 1, 1))),
+    );
 }

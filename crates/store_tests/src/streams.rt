@@ -8,7 +8,6 @@ use disk::{Disk, Slot};
 use ipc_model::Record;
 use journal::{LONGEST_STEP, RecordReader, StoreFault};
 use std::alloc::{AllocError, Global};
-use std::test::Fail;
 
 /// What was read of a segment: its records, and where the last one ends.
 #[derive(Drop)]
@@ -42,16 +41,16 @@ fn read_from<D: Disk>(alloc: Global, disk: &mut D, room: usize) -> Result<Read, 
     Ok(Read { records, end })
 }
 
-/// Reads a segment of epoch 0 in pieces of so many bytes.
+/// Reads a segment of epoch 0 in pieces of so many bytes, where it has a header and a piece is large enough.
 pub(crate) fn records_of<D: Disk>(
     alloc: Global,
     disk: &mut D,
     room: usize,
-) -> Result<Result<Read, StoreFault>, Fail> {
+) -> Option<Result<Read, StoreFault>> {
     if disk.length(Slot::Segment0) < 16 || room < LONGEST_STEP {
-        return Err(Fail::from("the segment has a header, and a piece is large enough"));
+        return None;
     }
-    Ok(read_from(alloc, disk, room))
+    Some(read_from(alloc, disk, room))
 }
 
 /// Behind a record's number and space: a call that sets the limit of the port 0x100's queue to 5, and that it was done.
@@ -59,16 +58,26 @@ const LIMIT_SET: [u8; 28] = [
     12, 0, 0, 0, 10, 0, 0, 0, 0, 1, 0, 0, 5, 0, 0, 0, 8, 0, 0, 0, 10, 0, 0, 0, 0, 0, 0, 0,
 ];
 
+/// The batch of the record of this number, which sets that limit.
+fn limit_batch(number: u32) -> [u8; 53] {
+    let mut batch = [0; 53];
+    batch[..25].copy_from_slice(&SEGMENT[16..41]);
+    batch[13..17].copy_from_slice(&number.to_le_bytes());
+    batch[25..].copy_from_slice(&LIMIT_SET);
+    batch
+}
+
+fn add_limits(segment: &mut Vec<u8>, count: u16) -> Result<(), AllocError> {
+    for number in 1..=u32::from(count) {
+        segment.extend_from_slice(&limit_batch(number))?;
+    }
+    segment.extend_from_slice(&[0])
+}
+
 /// A segment of epoch 0 with so many batches of a record each, and one more: the allocation of [`SEGMENT`], and then
 /// limits that are set. Each batch has 53 bytes.
 pub(crate) fn long_segment(alloc: Global, count: u16) -> Result<Vec<u8>, AllocError> {
     let mut segment = SEGMENT[..69].to_vec(alloc)?;
-    for number in 1..=u32::from(count) {
-        segment.extend_from_slice(&SEGMENT[16..29])?;
-        segment.extend_from_slice(&number.to_le_bytes())?;
-        segment.extend_from_slice(&SEGMENT[33..41])?;
-        segment.extend_from_slice(&LIMIT_SET)?;
-    }
-    segment.push(0)?;
+    add_limits(&mut segment, count)?;
     Ok(segment)
 }

@@ -1,0 +1,75 @@
+//! Calls of numbers alone, in tables.
+
+use ipc_model::Call;
+
+/// A call.
+#[derive(Clone, Copy)]
+pub(crate) enum Asked {
+    /// Of a right.
+    Allocate(u32),
+    /// The name 0x2000, of a receive right.
+    AllocateName,
+    Type(u32),
+    Destroy(u32),
+    /// A name and the set behind it.
+    MoveMember(u32, u32),
+    /// A send-once right.
+    ExtractRight(u32),
+    /// A send right under the name of the port.
+    InsertRight(u32),
+    /// Of what happens to a name, by its number, to the port 0x100.
+    RequestNotification(u32, u32),
+    /// The receive right goes.
+    DropReceive(u32),
+    /// With a send right made of 0x100.
+    SpaceCreate,
+    /// From a name, at first or after a wait.
+    Receive(u32, bool),
+}
+
+impl Asked {
+    /// The call itself.
+    pub(crate) fn call(self) -> Call {
+        match self {
+            Asked::Allocate(right) => Call::Allocate { right },
+            Asked::AllocateName => Call::AllocateName {
+                right: 1,
+                name: 0x2000,
+            },
+            Asked::Type(name) => Call::Type { name },
+            Asked::Destroy(name) => Call::Destroy { name },
+            Asked::MoveMember(member, after) => Call::MoveMember { member, after },
+            Asked::ExtractRight(name) => Call::ExtractRight {
+                name,
+                disposition: 21,
+            },
+            Asked::InsertRight(name) => Call::InsertRight {
+                name,
+                right_name: name,
+                disposition: 20,
+            },
+            Asked::RequestNotification(name, variant) => Call::RequestNotification {
+                name,
+                variant,
+                sync: 0,
+                notify: 0x100,
+                disposition: 21,
+            },
+            Asked::DropReceive(name) => Call::ModRefs {
+                name,
+                right: 1,
+                delta: u32::MAX,
+            },
+            Asked::SpaceCreate => Call::SpaceCreate {
+                name: 0x100,
+                disposition: 20,
+            },
+            Asked::Receive(name, waited) => Call::Receive {
+                limit: 24,
+                large: false,
+                name,
+                waited,
+            },
+        }
+    }
+}

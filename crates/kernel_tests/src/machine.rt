@@ -1,0 +1,153 @@
+//! A kernel as the tests see it. Its methods have no clauses, so that a test's proof carries nothing of a state: what is known
+//! of a kernel would be written out at each exit of a function that owns one.
+
+use crate::asked::Asked;
+use crate::recorded::Counter;
+use ipc_model::{Call, Record, Reply};
+use kernel::{Kernel, ReplayFault};
+use snapshot::Snapshot;
+use std::alloc::Global;
+
+/// The first words of a reply's frame.
+pub(crate) type Words = [u32; 4];
+
+/// What makes calls and replays records.
+pub(crate) trait Machine {
+    /// In the opening state, where there is memory.
+    fn opened(alloc: Global) -> Option<Self>;
+
+    /// In the state of a copy, where that is one of a kernel.
+    fn of_copy(alloc: Global, copy: Snapshot) -> Option<Self>;
+
+    /// A copy of the state, where there is memory.
+    fn copied(&self, alloc: Global) -> Option<Snapshot>;
+
+    /// With a record's step made.
+    fn replayed(self, record: &Record) -> Result<Self, ReplayFault>;
+
+    /// Makes a call, where there is memory.
+    fn make(&mut self, space: u32, call: &Call) -> Option<Words>;
+
+    /// Makes a call of space 1, where there is memory for it and for its record.
+    fn make_recorded(&mut self, call: &Call, counter: &mut Counter) -> Option<Words>;
+
+    /// The answer to a call that has no record, where there is memory.
+    fn answered(&self, space: u32, call: &Call) -> Option<Option<Words>>;
+
+    /// The same in place.
+    fn answered_in_place(&mut self, space: u32, call: &Call) -> Option<Option<Words>>;
+
+    /// The type of a name.
+    fn type_of(&self, space: u32, name: u32) -> Words;
+
+    /// The send references of the name 0x100 in space 1.
+    fn references(&self) -> Words;
+
+    /// The status of the port of that name.
+    fn status(&self) -> Words;
+}
+
+/// The first words of a reply's frame, of those that come here: the call's number, the code, and two results, of a port's
+/// status the messages and the make-send count; of a message its code, size and member, and the call's number.
+fn words_of(reply: &Reply) -> Words {
+    match reply {
+        Reply::Refused { number, code } => [*number, code.number(), 0, 0],
+        Reply::Done { number } => [*number, 0, 0, 0],
+        Reply::Type { bits } => [2, 0, *bits, 0],
+        Reply::Allocate { name } => [5, 0, *name, 0],
+        Reply::References { count } => [8, 0, *count, 0],
+        Reply::ReceiveStatus { status } => [13, 0, status.messages, status.make_send_count],
+        Reply::Message {
+            code,
+            size,
+            member,
+            ..
+        } => [code.number(), *size, *member, 19],
+        Reply::SpaceCreated { space, name } => [20, 0, *space, *name],
+        _ => [u32::MAX; 4],
+    }
+}
+
+/// The words of an answer, if there is one.
+fn words_of_answer(answer: &Option<Reply>) -> Option<Words> {
+    match answer {
+        Some(reply) => Some(words_of(reply)),
+        None => None,
+    }
+}
+
+impl Machine for Kernel {
+    fn opened(alloc: Global) -> Option<Kernel> {
+        Kernel::opening(alloc).ok()
+    }
+
+    fn of_copy(alloc: Global, copy: Snapshot) -> Option<Kernel> {
+        Kernel::from_snapshot(alloc, copy).ok()
+    }
+
+    fn copied(&self, alloc: Global) -> Option<Snapshot> {
+        self.copy(alloc).ok()
+    }
+
+    fn replayed(self, record: &Record) -> Result<Kernel, ReplayFault> {
+        self.replay(record)
+    }
+
+    fn make(&mut self, space: u32, call: &Call) -> Option<Words> {
+        match self.apply(space, call) {
+            Ok(reply) => Some(words_of(&reply)),
+            Err(_) => None,
+        }
+    }
+
+    fn make_recorded(&mut self, call: &Call, counter: &mut Counter) -> Option<Words> {
+        match self.apply_recorded(1, call, counter) {
+            Ok(reply) => Some(words_of(&reply)),
+            Err(_) => None,
+        }
+    }
+
+    fn answered(&self, space: u32, call: &Call) -> Option<Option<Words>> {
+        match self.answer(space, call) {
+            Ok(answer) => Some(words_of_answer(&answer)),
+            Err(_) => None,
+        }
+    }
+
+    fn answered_in_place(&mut self, space: u32, call: &Call) -> Option<Option<Words>> {
+        match self.answer_in_place(space, call) {
+            Ok(answer) => Some(words_of_answer(&answer)),
+            Err(_) => None,
+        }
+    }
+
+    fn type_of(&self, space: u32, name: u32) -> Words {
+        words_of(&self.port_type(space, name))
+    }
+
+    fn references(&self) -> Words {
+        words_of(&self.get_refs(1, 0x100, 1))
+    }
+
+    fn status(&self) -> Words {
+        words_of(&self.receive_status(1, 0x100))
+    }
+}
+
+/// Makes a call of numbers.
+pub(crate) fn ask<M: Machine>(machine: &mut M, space: u32, asked: Asked) -> Option<Words> {
+    machine.make(space, &asked.call())
+}
+
+/// Makes calls of space 1, whatever they answer.
+pub(crate) fn ask_all<M: Machine>(machine: &mut M, calls: &[Asked]) -> Option<()> {
+    for asked in calls {
+        ask(machine, 1, *asked)?;
+    }
+    Some(())
+}
+
+/// In the state after a record.
+pub(crate) fn after<M: Machine>(alloc: Global, record: &Record) -> Option<M> {
+    M::opened(alloc)?.replayed(record).ok()
+}

@@ -1,0 +1,187 @@
+//! Records and what their replay says.
+use crate::asked::Asked;
+use crate::expect::{same, same_in_row};
+use crate::machine::{Machine, after, ask_all};
+use codes::KernReturn;
+use ipc_model::{Call, Record, Reply, RightKind, Sequence};
+use kernel::{Kernel, ReplayFault};
+use std::alloc::Global;
+
+/// What a replay gives: its fault, or none; nothing where there is no memory.
+type Found = Option<Option<ReplayFault>>;
+
+const DONE: Found = Some(None);
+
+const MISMATCH: Found = Some(Some(ReplayFault::Mismatch));
+
+pub(crate) fn allocated(right: u32, name: u32) -> Record {
+    Record {
+        space: 1,
+        call: Call::Allocate { right },
+        reply: Reply::Allocate { name },
+    }
+}
+
+/// The fault of a record's replay, if there is one.
+fn fault_of<M: Machine + Drop>(machine: M, record: &Record) -> Option<ReplayFault> {
+    machine.replayed(record).err()
+}
+
+/// The fault where one record follows another in a new store.
+fn fault_after<M: Machine + Drop>(alloc: Global, first: &Record, then: &Record) -> Found {
+    let machine: M = after(alloc, first)?;
+    Some(fault_of(machine, then))
+}
+
+/// The fault where the record of an allocation is the first of a new store.
+fn fault_at_first<M: Machine + Drop>(alloc: Global, right: u32, name: u32) -> Found {
+    let machine = M::opened(alloc)?;
+    Some(fault_of(machine, &allocated(right, name)))
+}
+
+/// The fault where such a record is replayed twice.
+fn fault_of_second<M: Machine + Drop>(alloc: Global, right: u32, name: u32) -> Found {
+    fault_after::<M>(alloc, &allocated(right, name), &allocated(right, name))
+}
+
+#[test]
+fn replays_a_record_once(rt: HostRuntime) {
+    let found = [
+        fault_of_second::<Kernel>(rt.alloc(), 1, 0x100),
+        fault_at_first::<Kernel>(rt.alloc(), 2, 0x100),
+        fault_at_first::<Kernel>(rt.alloc(), 1, 0),
+    ];
+    same(&rt, found, [MISMATCH; 3]);
+}
+
+/// The fault where a record follows the allocation of a port under 0x1ff.
+fn fault_after_a_port<M: Machine + Drop>(alloc: Global, call: Call, reply: Reply) -> Found {
+    let record = Record {
+        space: 1,
+        call,
+        reply,
+    };
+    fault_after::<M>(alloc, &allocated(1, 0x1ff), &record)
+}
+
+/// The fault where a right of that port is extracted under a name.
+fn fault_of_extracted<M: Machine + Drop>(alloc: Global, name: u32) -> Found {
+    let reply = Reply::Extracted {
+        name,
+        kind: RightKind::SendOnce,
+    };
+    fault_after_a_port::<M>(alloc, Asked::ExtractRight(0x1ff).call(), reply)
+}
+
+#[test]
+fn replays_the_name_of_an_extracted_right(rt: HostRuntime) {
+    for (name, fault) in [(0x555, DONE), (0x1ff, MISMATCH), (0, MISMATCH)] {
+        let found = fault_of_extracted::<Kernel>(rt.alloc(), name);
+        same_in_row(&rt, name, found, fault);
+    }
+}
+
+/// The fault where a space of this number is created, with this name for a send right of that port.
+fn fault_of_space<M: Machine + Drop>(alloc: Global, space: u32, name: u32) -> Found {
+    let create = Call::SpaceCreate {
+        name: 0x1ff,
+        disposition: 20,
+    };
+    fault_after_a_port::<M>(alloc, create, Reply::SpaceCreated { space, name })
+}
+
+#[test]
+fn replays_the_number_of_a_new_space(rt: HostRuntime) {
+    for (space, name, fault) in [
+        (256, 0x999, DONE),
+        (1, 0x100, MISMATCH),
+        (257, 0x100, MISMATCH),
+        (2, 0, MISMATCH),
+    ] {
+        let found = fault_of_space::<Kernel>(rt.alloc(), space, name);
+        same_in_row(&rt, (space, name), found, fault);
+    }
+}
+
+/// The fault where such an extraction is refused.
+fn fault_of_refused<M: Machine + Drop>(alloc: Global) -> Found {
+    let refused = Reply::Refused {
+        number: 18,
+        code: KernReturn::InvalidRight,
+    };
+    fault_after_a_port::<M>(alloc, Asked::ExtractRight(0x1ff).call(), refused)
+}
+
+#[test]
+fn replays_no_invented_refusal(rt: HostRuntime) {
+    same(&rt, fault_of_refused::<Kernel>(rt.alloc()), MISMATCH);
+}
+
+/// Two ports, 0x100 and 0x101, in a set, 0x102.
+pub(crate) static PORTS_IN_A_SET: [Asked; 5] = [
+    Asked::Allocate(1),
+    Asked::Allocate(1),
+    Asked::Allocate(3),
+    Asked::MoveMember(0x100, 0x102),
+    Asked::MoveMember(0x101, 0x102),
+];
+
+fn bytes_of(alloc: Global, bytes: &[u8]) -> Option<Sequence<u8>> {
+    let items = Vec::from_slice(alloc, bytes).ok()?;
+    Some(Sequence::new(items))
+}
+
+/// A send to a port of the set, 0x100 or the one behind it, by a send right made for it, with id 7.
+fn send(alloc: Global, port: u8) -> Option<Call> {
+    let text = [
+        0x14, 0, 0, 0, 0, 0, 0, 0, port, 1, 0, 0, 0, 0, 0, 0, 0, 0, 0, 0, 7, 0, 0, 0,
+    ];
+    let message = bytes_of(alloc, &text)?;
+    Some(Call::Send { message })
+}
+
+/// The record of a receipt from the set that took that port's message.
+fn received(alloc: Global, port: u8) -> Option<Record> {
+    let text = [
+        0, 0x11, 0, 0, 24, 0, 0, 0, 0, 0, 0, 0, port, 1, 0, 0, 0, 0, 0, 0, 7, 0, 0, 0,
+    ];
+    let message = bytes_of(alloc, &text)?;
+    Some(Record {
+        space: 1,
+        call: Asked::Receive(0x102, false).call(),
+        reply: Reply::Message {
+            code: KernReturn::Success,
+            size: 24,
+            member: 0x100 + u32::from(port),
+            message,
+        },
+    })
+}
+
+/// Sends a port of the set its message.
+fn send_to<M: Machine>(alloc: Global, machine: &mut M, port: u8) -> Option<()> {
+    let call = send(alloc, port)?;
+    machine.make(1, &call)?;
+    Some(())
+}
+
+/// Makes the set, and sends each of its ports a message.
+fn fill_set<M: Machine>(alloc: Global, machine: &mut M) -> Option<()> {
+    ask_all(machine, &PORTS_IN_A_SET)?;
+    send_to(alloc, machine, 0)?;
+    send_to(alloc, machine, 1)
+}
+
+/// The fault where the record of a receipt from that port is replayed.
+fn fault_of_receipt<M: Machine + Drop>(alloc: Global, port: u8) -> Found {
+    let record = received(alloc, port)?;
+    let mut machine = M::opened(alloc)?;
+    fill_set(alloc, &mut machine)?;
+    Some(fault_of(machine, &record))
+}
+
+#[test]
+fn a_receipt_is_replayed_from_its_member(rt: HostRuntime) {
+    let found = [0, 1, 2].map(|port| fault_of_receipt::<Kernel>(rt.alloc(), port));
+    same(&rt, found, [DONE, DONE, MISMATCH]);
+}
