@@ -1,0 +1,158 @@
+-- How a relay goes on, and how it ends.
+use Rattle.std.proofs.Common.{◌≡◌, inl, inr, ◌-◌, ◌^◌, ℕ, List, [], ◌∷◌, ◌++◌, length, Option, Some, None, IfSome, Result, Ok, Err, refl, sym, ap, subst, ◌∙◌, ◌+◌, arith, append_assoc, length-append}
+use Rattle.std.proofs.lemmas.List.{append-nil}
+use Rattle.std.specs.Io.KnownBytes.{Appends, Consumes}
+use Rattle.std.proofs.KnownBytes.{Appends-nil, Appends-trans, Consumes-nil, Consumes-trans}
+use Rattle.wire.specs.Writing.{AppendsPart}
+use Rattle.wire.specs.declared.fault.WireFault.{WireFault}
+use Rattle.wire.specs.declared.fault.WireFault.TheVariants.{Device}
+use Rattle.words.specs.Words.{frame_text}
+use Rattle.relay.specs.Relaying.{AreFrames, Ends, Exchanged, Exchanges, IsTaken, IsUnread, IsUnanswered, Side, TakesAll, as_left, replies_text, requests_text, waiting_behind}
+
+-- some frames were relayed
+pub record Going (own peer own_now peer_now : Side) (count : ℕ) : Type 0 where
+  pub exchanges : Exchanges
+  pub exchanged : Exchanged own peer exchanges own_now peer_now
+  pub counted : length exchanges ≡ count
+
+pub begun : (own peer : Side) → Going own peer own peer 0
+begun own peer = record {
+  exchanges = [];
+  exchanged = record {
+    frames = tt;
+    read = Consumes-nil own.left;
+    sent = Appends-nil peer.written;
+    sent_on = refl;
+    heard = Consumes-nil peer.left;
+    told = Appends-nil own.written;
+    told_on = refl;
+  };
+  counted = refl;
+}
+
+frames-push : (exchanges : Exchanges) (exchange : List ℕ × List ℕ) → AreFrames exchanges → AreFrames (exchange ∷ []) → AreFrames (exchanges ++ exchange ∷ [])
+frames-push [] exchange so_far is = is
+frames-push (first ∷ exchanges) exchange so_far is = (so_far.0, so_far.1, frames-push exchanges exchange so_far.2 is)
+
+requests_text-push : (exchanges : Exchanges) (exchange : List ℕ × List ℕ) → requests_text exchanges ++ frame_text exchange.0 ≡ requests_text (exchanges ++ exchange ∷ [])
+requests_text-push [] exchange = sym (append-nil (frame_text exchange.0))
+requests_text-push (first ∷ exchanges) exchange = append_assoc (frame_text first.0) (requests_text exchanges) (frame_text exchange.0) ∙ ap (λ l. frame_text first.0 ++ l) (requests_text-push exchanges exchange)
+
+replies_text-push : (exchanges : Exchanges) (exchange : List ℕ × List ℕ) → replies_text exchanges ++ frame_text exchange.1 ≡ replies_text (exchanges ++ exchange ∷ [])
+replies_text-push [] exchange = sym (append-nil (frame_text exchange.1))
+replies_text-push (first ∷ exchanges) exchange = append_assoc (frame_text first.1) (replies_text exchanges) (frame_text exchange.1) ∙ ap (λ l. frame_text first.1 ++ l) (replies_text-push exchanges exchange)
+
+nothing_waits : (waiting : List ℕ) (exchanges : Exchanges) (exchange : List ℕ × List ℕ) → [] ≡ waiting_behind waiting (exchanges ++ exchange ∷ [])
+nothing_waits waiting [] exchange = refl
+nothing_waits waiting (first ∷ exchanges) exchange = refl
+
+-- one frame more
+pub goes_on : (own peer own_mid peer_mid own_now peer_now : Side) (count : ℕ) (request reply : List ℕ) → Going own peer own_mid peer_mid count → IsTaken own_mid.left request own_now.left → Appends peer_mid.written peer_now.written (frame_text request) → peer_now.waiting ≡ []
+    → IsTaken peer_mid.left reply peer_now.left → Appends own_mid.written own_now.written (frame_text reply) → own_now.waiting ≡ [] → Going own peer own_now peer_now (count + 1)
+goes_on own peer own_mid peer_mid own_now peer_now count request reply so_far asked sent sent_on answered told told_on =
+    let exchange : List ℕ × List ℕ = (request, reply) in
+    let before = so_far.exchanged in
+    let requests = requests_text-push so_far.exchanges exchange in
+    let replies = replies_text-push so_far.exchanges exchange in
+    record {
+      exchanges = so_far.exchanges ++ exchange ∷ [];
+      exchanged = record {
+        frames = frames-push so_far.exchanges exchange before.frames (asked.fits, answered.fits, tt);
+        read = subst (Consumes own.left own_now.left) requests (Consumes-trans own.left own_mid.left own_now.left _ _ before.read asked.taken);
+        sent = subst (Appends peer.written peer_now.written) requests (Appends-trans peer.written peer_mid.written peer_now.written _ _ before.sent sent);
+        sent_on = sent_on ∙ nothing_waits peer.waiting so_far.exchanges exchange;
+        heard = subst (Consumes peer.left peer_now.left) replies (Consumes-trans peer.left peer_mid.left peer_now.left _ _ before.heard answered.taken);
+        told = subst (Appends own.written own_now.written) replies (Appends-trans own.written own_mid.written own_now.written _ _ before.told told);
+        told_on = told_on ∙ nothing_waits own.waiting so_far.exchanges exchange;
+      };
+      counted = omega (arith, so_far.counted, length-append so_far.exchanges (exchange ∷ []));
+    }
+
+-- the end of the input
+pub all_read : (old mid new : Option (List ℕ)) (bytes : List ℕ) → Consumes old mid bytes → TakesAll mid new → Consumes old new bytes × IfSome old (λ input. new ≡ Some [])
+all_read None mid new bytes first ended = (tt, tt)
+all_read (Some input) None new bytes first ended = absurd first
+all_read (Some input) (Some rest) new bytes first ended = (subst (λ (o : Option (List ℕ)). Consumes (Some input) o bytes) (sym ended.1) (first ∙ ap (λ l. bytes ++ l) ended.0), ended.1)
+
+-- as is said of the result
+ended_as : (own peer own_new peer_new : Side) (fault : WireFault) (result : Result (Unit {0}) WireFault) → result ≡ Err fault → Ends own peer own_new peer_new (Err fault) → Ends own peer own_new peer_new result
+ended_as own peer own_new peer_new fault result is ends = subst (Ends own peer own_new peer_new) (sym is) ends
+
+pub ends_all : (own peer own_mid peer_now own_new : Side) (count : ℕ) → Going own peer own_mid peer_now count → TakesAll own_mid.left own_new.left → own_new ≡ as_left own_new.left own_mid → Ends own peer own_new peer_now (Ok tt)
+ends_all own peer own_mid peer_now own_new count so_far ended same =
+    let before = so_far.exchanged in
+    let read = all_read own.left own_mid.left own_new.left (requests_text so_far.exchanges) before.read ended in
+    record {
+      exchanges = so_far.exchanges;
+      exchanged = record {
+        frames = before.frames;
+        read = read.0;
+        sent = before.sent;
+        sent_on = before.sent_on;
+        heard = before.heard;
+        told = subst (λ (o : Option (List ℕ)). Appends own.written o (replies_text so_far.exchanges)) (sym (ap (λ (s : Side). s.written) same)) before.told;
+        told_on = ap (λ (s : Side). s.waiting) same ∙ before.told_on;
+      };
+      all = read.1;
+    }
+
+pub ends_reading : (own peer own_mid peer_now own_new : Side) (count : ℕ) (fault : WireFault) (result : Result (Unit {0}) WireFault) → Going own peer own_mid peer_now count → IsUnread own_mid.left fault own_new.left → own_mid ≡ as_left own_mid.left own_new → result ≡ Err fault → Ends own peer own_new peer_now result
+ends_reading own peer own_mid peer_now own_new count fault result so_far unread same is = ended_as own peer own_new peer_now fault result is (inl (record {
+  exchanges = so_far.exchanges;
+  left = own_mid.left;
+  exchanged = subst (λ (s : Side). Exchanged own peer so_far.exchanges s peer_now) same so_far.exchanged;
+  unread = unread;
+}))
+
+pub ends_sending : (own peer own_mid peer_mid own_new peer_new : Side) (count : ℕ) (request : List ℕ) (fault : WireFault) (result : Result (Unit {0}) WireFault) → Going own peer own_mid peer_mid count → IsTaken own_mid.left request own_new.left → own_mid ≡ as_left own_mid.left own_new
+    → AppendsPart peer_mid.written peer_new.written (frame_text request) → peer_new.left ≡ peer_mid.left → fault ≡ Device → result ≡ Err fault → Ends own peer own_new peer_new result
+ends_sending own peer own_mid peer_mid own_new peer_new count request fault result so_far taken same part unheard device is = ended_as own peer own_new peer_new fault result is (inr (inl (record {
+  exchanges = so_far.exchanges;
+  left = own_mid.left;
+  peer_mid = peer_mid;
+  exchanged = subst (λ (s : Side). Exchanged own peer so_far.exchanges s peer_mid) same so_far.exchanged;
+  request = request;
+  taken = taken;
+  part = part;
+  unheard = unheard;
+  fault_is = device;
+})))
+
+pub ends_hearing : (own peer own_mid peer_mid own_new peer_new : Side) (count : ℕ) (request : List ℕ) (fault : WireFault) (result : Result (Unit {0}) WireFault) → Going own peer own_mid peer_mid count → IsTaken own_mid.left request own_new.left → own_mid ≡ as_left own_mid.left own_new
+    → Appends peer_mid.written peer_new.written (frame_text request) → peer_new.waiting ≡ [] → IsUnanswered peer_mid.left fault peer_new.left → result ≡ Err fault → Ends own peer own_new peer_new result
+ends_hearing own peer own_mid peer_mid own_new peer_new count request fault result so_far taken same sent sent_on unanswered is = ended_as own peer own_new peer_new fault result is (inr (inr (inl (record {
+  exchanges = so_far.exchanges;
+  left = own_mid.left;
+  peer_mid = peer_mid;
+  exchanged = subst (λ (s : Side). Exchanged own peer so_far.exchanges s peer_mid) same so_far.exchanged;
+  request = request;
+  taken = taken;
+  sent = sent;
+  sent_on = sent_on;
+  unanswered = unanswered;
+}))))
+
+pub ends_telling : (own peer own_mid peer_mid own_new peer_new : Side) (count : ℕ) (request reply : List ℕ) (fault : WireFault) (result : Result (Unit {0}) WireFault) → Going own peer own_mid peer_mid count → IsTaken own_mid.left request own_new.left
+    → Appends peer_mid.written peer_new.written (frame_text request) → peer_new.waiting ≡ [] → IsTaken peer_mid.left reply peer_new.left → AppendsPart own_mid.written own_new.written (frame_text reply) → fault ≡ Device → result ≡ Err fault → Ends own peer own_new peer_new result
+ends_telling own peer own_mid peer_mid own_new peer_new count request reply fault result so_far taken sent sent_on answered part device is = ended_as own peer own_new peer_new fault result is (inr (inr (inr (inl (record {
+  exchanges = so_far.exchanges;
+  own_mid = own_mid;
+  peer_mid = peer_mid;
+  exchanged = so_far.exchanged;
+  request = request;
+  taken = taken;
+  sent = sent;
+  sent_on = sent_on;
+  reply = reply;
+  answered = answered;
+  part = part;
+  fault_is = device;
+})))))
+
+pub ends_at_most : (own peer own_now peer_now : Side) (count : ℕ) → Going own peer own_now peer_now count → count ≡ 2 ^ 64 - 1 → Ends own peer own_now peer_now (Err Device)
+ends_at_most own peer own_now peer_now count so_far most = inr (inr (inr (inr (record {
+  exchanges = so_far.exchanges;
+  exchanged = so_far.exchanged;
+  most = so_far.counted ∙ most;
+  fault_is = refl;
+}))))

@@ -1,0 +1,2 @@
+pub mod Relaying
+pub mod Ending

@@ -1,0 +1,148 @@
+//! A peer, and the streams between it and the relay.
+use relay::relay;
+use std::alloc::Global;
+use std::cell::{Cell, RefCell};
+use std::io;
+use std::io::{BufWriter, ErrorKind, Read, Write};
+use std::test::Fail;
+use wire::WireFault;
+
+/// A peer that answers each frame by the same frame, as far as it was sent.
+#[derive(Drop)]
+pub(crate) struct Echo {
+    sent: RefCell<Vec<u8>>,
+    heard: Cell<usize>,
+    /// How many bytes it sends back before it ends.
+    room: usize,
+}
+
+impl Echo {
+    pub(crate) fn new(alloc: Global, room: usize) -> Echo {
+        Echo {
+            sent: RefCell::new(Vec::new(alloc)),
+            heard: Cell::new(0),
+            room,
+        }
+    }
+
+    /// How many bytes the peer was sent.
+    pub(crate) fn sent(&self) -> usize {
+        match self.sent.try_borrow() {
+            Ok(sent) => sent.len(),
+            Err(_) => 0,
+        }
+    }
+}
+
+/// What the peer sends back, a byte a read.
+#[derive(Drop)]
+struct Back<'a>(&'a Echo);
+
+impl<'a> Read for Back<'a> {
+    fn read(&mut self, buffer: &mut [u8]) -> io::Result<usize> {
+        let at = self.0.heard.get();
+        if at >= self.0.room {
+            return Ok(0);
+        }
+        let Ok(sent) = self.0.sent.try_borrow() else {
+            return Ok(0);
+        };
+        let (Some(byte), Some(place)) = (sent.get(at), buffer.first_mut()) else {
+            return Ok(0);
+        };
+        *place = *byte;
+        self.0.heard.set(at.saturating_add(1));
+        Ok(1)
+    }
+}
+
+/// What the peer is sent, a byte a write.
+#[derive(Drop)]
+struct Forth<'a>(&'a Echo);
+
+impl<'a> Write for Forth<'a> {
+    fn write(&mut self, bytes: &[u8]) -> io::Result<usize> {
+        let (Some(byte), Ok(mut sent)) = (bytes.first(), self.0.sent.try_borrow_mut()) else {
+            return Ok(0);
+        };
+        sent.push(*byte)?;
+        Ok(1)
+    }
+
+    fn flush(&mut self) -> io::Result<()> {
+        Ok(())
+    }
+}
+
+/// Gives one byte a read.
+#[derive(Drop)]
+struct Dripping<'a>(&'a [u8]);
+
+impl<'a> Read for Dripping<'a> {
+    fn read(&mut self, buffer: &mut [u8]) -> io::Result<usize> {
+        let (Some((first, behind)), Some(place)) = (self.0.split_first(), buffer.first_mut()) else {
+            return Ok(0);
+        };
+        *place = *first;
+        self.0 = behind;
+        Ok(1)
+    }
+}
+
+/// Takes one byte a write, up to some number of bytes, and fails from then on.
+#[derive(Drop)]
+struct Filling {
+    output: Vec<u8>,
+    room: usize,
+}
+
+impl Write for Filling {
+    fn write(&mut self, bytes: &[u8]) -> io::Result<usize> {
+        let Some(first) = bytes.first() else {
+            return Ok(0);
+        };
+        if self.output.len() >= self.room {
+            return Err(io::Error::from(ErrorKind::BrokenPipe));
+        }
+        self.output.push(*first)?;
+        Ok(1)
+    }
+
+    fn flush(&mut self) -> io::Result<()> {
+        Ok(())
+    }
+}
+
+/// What a relay answered, and what was written to its output.
+#[derive(Drop)]
+pub(crate) struct Relayed {
+    pub(crate) end: Result<(), WireFault>,
+    pub(crate) output: Vec<u8>,
+}
+
+/// Relays an input between the peer and a writer with room for so many bytes.
+pub(crate) fn relay_to(
+    alloc: Global,
+    input: &[u8],
+    peer: &Echo,
+    room: usize,
+) -> Result<Relayed, Fail> {
+    let filling = Filling {
+        output: Vec::new(alloc),
+        room,
+    };
+    let mut output = BufWriter::new(alloc, filling)?;
+    let mut requests = BufWriter::new(alloc, Forth(peer))?;
+    let end = relay(
+        alloc,
+        &mut Dripping(input),
+        &mut output,
+        &mut Back(peer),
+        &mut requests,
+    );
+    let (filling, _) = output.into_parts();
+    Ok(Relayed {
+        end,
+        output: filling.output,
+    })
+}
