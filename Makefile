@@ -9,11 +9,12 @@ demo:
 test:
 	.ci/run
 
-# The programs, proved and built, in bin/.
+# The programs, proved and built, in bin/. (Nobody listens for machc, which ends with 1 then.)
 bin:
 	@mkdir -p bin
-	@empty=$$(mktemp -d) && for program in machipcd machls machmap; do \
-	  (cd crates/$$program && rt run -- "$$empty" < /dev/null > /dev/null) && cp crates/$$program/out/$$program bin/ || exit 1; \
+	@empty=$$(mktemp -d) && for program in machipcd machls machmap machc; do \
+	  rm -f crates/$$program/out/$$program; \
+	  (cd crates/$$program && rt run -- "$$empty" < /dev/null > /dev/null || [ $$program = machc ]) && cp crates/$$program/out/$$program bin/ || exit 1; \
 	done; rm -r "$$empty"
 
 # What calls, messages, deaths, batches, openings and checkpoints cost, in a new folder: it proves the program first.
