@@ -1,8 +1,8 @@
+use crate::device::Device;
 use crate::failure::{Difference, Failure, Place, Unanswered};
 use crate::row::code_of;
-use disk::{Disk, MemDisk, Slot};
-use server::{Alone, open, serve};
-use std::alloc::{AllocError, Global};
+use disk::Torn;
+use std::alloc::Global;
 use std::mem;
 use words::take_word;
 
@@ -14,17 +14,17 @@ const ATTACH: u32 = 0;
 
 /// A store that a script left: its disk, and the space that the script's task is attached to.
 #[derive(Drop)]
-pub struct Store {
-    pub disk: MemDisk,
+pub struct Store<D> {
+    disk: D,
     alloc: Global,
     space: u32,
 }
 
-impl Store {
+impl<D: Device + Drop> Store<D> {
     /// A store of nothing.
-    pub fn new(alloc: Global) -> Store {
+    pub fn new(alloc: Global) -> Store<D> {
         Store {
-            disk: MemDisk::new(alloc),
+            disk: D::empty(alloc),
             alloc,
             space: FIRST_SPACE,
         }
@@ -35,10 +35,16 @@ impl Store {
         self.space = FIRST_SPACE;
     }
 
+    /// Plans a stop at a call of its disk, and what it leaves.
+    pub fn plan_stop(&mut self, stop_at: u64, torn: Torn) {
+        self.disk.plan_stop(stop_at, torn);
+    }
+
     /// Takes the store out, and leaves an empty one.
-    fn take(&mut self) -> Store {
+    fn take(&mut self) -> Store<D> {
+        let empty = D::empty(self.alloc);
         Store {
-            disk: mem::replace(&mut self.disk, MemDisk::new(self.alloc)),
+            disk: mem::replace(&mut self.disk, empty),
             alloc: self.alloc,
             space: self.space,
         }
@@ -46,15 +52,15 @@ impl Store {
 
     /// How many bytes segment 0 has.
     pub fn length(&self) -> u64 {
-        self.disk.length(Slot::Segment0)
+        self.disk.segment_length()
     }
 }
 
 /// A connection to a server over an opened store.
 #[derive(Drop)]
-pub struct Connection {
+pub struct Connection<D: Device> {
     alloc: Global,
-    caller: Alone<MemDisk>,
+    server: D::Server,
     /// The space that the task is attached to.
     attached: u32,
     /// The space that the script's task is attached to, and this one from its next call on.
@@ -80,27 +86,25 @@ fn attached_by(frame: &[u8]) -> Option<u32> {
     }
 }
 
-impl Connection {
+impl<D: Device + Drop> Connection<D> {
     /// Opens a store.
-    pub fn open(store: Store, place: Place) -> Result<Connection, Failure> {
+    pub fn open(store: Store<D>, place: Place) -> Result<Connection<D>, Failure> {
         let Store { disk, alloc, space } = store;
-        let opened = match open(alloc, disk) {
-            Ok(opened) => opened,
-            Err((fault, _)) => return Err(place.differs(Difference::Unopened(fault))),
-        };
-        let records = opened.segment.records;
-        Ok(Connection {
-            alloc,
-            caller: Alone::new(alloc, opened),
-            attached: FIRST_SPACE,
-            space,
-            records,
-        })
+        match disk.start(alloc) {
+            Ok((server, records)) => Ok(Connection {
+                alloc,
+                server,
+                attached: FIRST_SPACE,
+                space,
+                records,
+            }),
+            Err(fault) => Err(place.differs(Difference::Unopened(fault))),
+        }
     }
 
     /// Opens a store that `stop` gives back: until then it is an empty one. So whoever goes on with it has no store to drop
     /// where a call fails.
-    pub fn borrow(store: &mut Store, place: Place) -> Result<Connection, Failure> {
+    pub fn borrow(store: &mut Store<D>, place: Place) -> Result<Connection<D>, Failure> {
         Connection::open(store.take(), place)
     }
 
@@ -111,12 +115,7 @@ impl Connection {
 
     /// The frame that answers a frame, if there is one.
     fn send(&mut self, frame: &[u8]) -> Option<Vec<u8>> {
-        let mut rest = frame;
-        let mut output = Vec::new(self.alloc);
-        if serve(self.alloc, &mut rest, &mut output, &mut self.caller).is_err() {
-            return None;
-        }
-        Some(output)
+        D::answer(&mut self.server, self.alloc, frame)
     }
 
     /// Attaches the task as the script's is.
@@ -149,33 +148,32 @@ impl Connection {
     }
 
     /// The store, once the server has ended.
-    pub fn close(self) -> Store {
+    pub fn close(self) -> Store<D> {
         let Connection {
             alloc,
-            caller,
+            server,
             attached: _,
             space,
             records: _,
         } = self;
         Store {
-            disk: caller.into_disk(),
+            disk: D::end(server),
             alloc,
             space,
         }
     }
 
     /// The store that a stop leaves, which is the planned one where it came.
-    pub fn stop(self) -> Result<Store, AllocError> {
+    pub fn stop(self) -> Result<Store<D>, Failure> {
         let Store { disk, alloc, space } = self.close();
-        Ok(Store {
-            disk: disk.after_stop()?,
-            alloc,
-            space,
-        })
+        match disk.stop() {
+            Some(disk) => Ok(Store { disk, alloc, space }),
+            None => Err(Failure::NoMemory),
+        }
     }
 
     /// Gives back the store that a stop leaves.
-    pub fn stop_in(self, store: &mut Store) -> Result<(), AllocError> {
+    pub fn stop_in(self, store: &mut Store<D>) -> Result<(), Failure> {
         *store = self.stop()?;
         Ok(())
     }

@@ -6,6 +6,7 @@
 #![tactic(auto)]
 
 mod connection;
+mod device;
 mod directive;
 mod failure;
 mod passes;
@@ -13,6 +14,7 @@ mod reading;
 mod row;
 mod telling;
 
+use disk::MemDisk;
 use passes::run_script;
 use reading::read_script;
 use row::Script;
@@ -22,7 +24,7 @@ use telling::{tell_failure, tell_fault};
 
 /// Runs a script, and tells how it went: whether each answer was the one written.
 fn run_read(rt: &HostRuntime, name: &str, text: &[u8], script: &Script) -> io::Result<bool> {
-    match run_script(rt.alloc(), script) {
+    match run_script::<MemDisk>(rt.alloc(), script) {
         Ok(calls) => {
             println!(rt; "{name}: {calls} calls, ok")?;
             Ok(true)

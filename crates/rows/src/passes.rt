@@ -1,4 +1,5 @@
 use crate::connection::{Connection, Store};
+use crate::device::Device;
 use crate::failure::{Difference, Failure, Place, Stop, Unanswered, Way};
 use crate::row::{Ask, Row, Script, Step, is_wanted};
 use disk::Torn;
@@ -24,7 +25,11 @@ fn check_reply(place: Place, reply: Vec<u8>, ask: &Ask) -> Result<(), Failure> {
 }
 
 /// Sends a frame, and looks whether it is answered as it should be.
-fn check_ask(place: Place, connection: &mut Connection, ask: &Ask) -> Result<(), Failure> {
+fn check_ask<D: Device + Drop>(
+    place: Place,
+    connection: &mut Connection<D>,
+    ask: &Ask,
+) -> Result<(), Failure> {
     match connection.ask(&ask.frame) {
         Ok(reply) => check_reply(place, reply, ask),
         Err(unanswered) => Err(place.differs(Difference::Unanswered(unanswered))),
@@ -32,7 +37,11 @@ fn check_ask(place: Place, connection: &mut Connection, ask: &Ask) -> Result<(),
 }
 
 /// Whether segment 0 has the length that it should have.
-fn check_length(place: Place, store: &Store, wanted: u64) -> Result<(), Failure> {
+fn check_length<D: Device + Drop>(
+    place: Place,
+    store: &Store<D>,
+    wanted: u64,
+) -> Result<(), Failure> {
     let length = store.length();
     if length == wanted {
         Ok(())
@@ -42,7 +51,11 @@ fn check_length(place: Place, store: &Store, wanted: u64) -> Result<(), Failure>
 }
 
 /// Sends a frame as often as its row says.
-fn check_asks(place: Place, connection: &mut Connection, ask: &Ask) -> Result<(), Failure> {
+fn check_asks<D: Device + Drop>(
+    place: Place,
+    connection: &mut Connection<D>,
+    ask: &Ask,
+) -> Result<(), Failure> {
     for _ in 0..ask.times {
         check_ask(place, connection, ask)?;
     }
@@ -50,13 +63,20 @@ fn check_asks(place: Place, connection: &mut Connection, ask: &Ask) -> Result<()
 }
 
 /// Opens a store again whose slot is looked at.
-fn opened_of_length(store: Store, place: Place, wanted: u64) -> Result<Connection, Failure> {
+fn opened_of_length<D: Device + Drop>(
+    store: Store<D>,
+    place: Place,
+    wanted: u64,
+) -> Result<Connection<D>, Failure> {
     check_length(place, &store, wanted)?;
     Connection::open(store, place)
 }
 
 /// A line of a script on a server that goes on behind it. To look at a slot the server ends, and another begins.
-fn straight_row(mut connection: Connection, row: &Row) -> Result<Connection, Failure> {
+fn straight_row<D: Device + Drop>(
+    mut connection: Connection<D>,
+    row: &Row,
+) -> Result<Connection<D>, Failure> {
     let place = row.place(Way::Straight);
     match &row.step {
         Step::Ask(ask) => {
@@ -73,8 +93,9 @@ fn straight_row(mut connection: Connection, row: &Row) -> Result<Connection, Fai
 }
 
 /// A script on one server.
-fn run_straight(alloc: Global, rows: &[Row]) -> Result<(), Failure> {
-    let mut connection = Connection::open(Store::new(alloc), Place::start(Way::Straight))?;
+fn run_straight<D: Device + Drop>(alloc: Global, rows: &[Row]) -> Result<(), Failure> {
+    let store: Store<D> = Store::new(alloc);
+    let mut connection = Connection::open(store, Place::start(Way::Straight))?;
     for row in rows {
         connection = straight_row(connection, row)?;
     }
@@ -82,13 +103,17 @@ fn run_straight(alloc: Global, rows: &[Row]) -> Result<(), Failure> {
 }
 
 /// A new store, which has been opened once: that makes it, by other device calls than later ones.
-fn new_store(alloc: Global, way: Way) -> Result<Store, Failure> {
-    let connection = Connection::open(Store::new(alloc), Place::start(way))?;
-    Ok(connection.stop()?)
+fn new_store<D: Device + Drop>(alloc: Global, way: Way) -> Result<Store<D>, Failure> {
+    let connection: Connection<D> = Connection::open(Store::new(alloc), Place::start(way))?;
+    connection.stop()
 }
 
 /// A frame on a server of its own, which stops when it is answered.
-fn reopened_ask(store: &mut Store, place: Place, ask: &Ask) -> Result<(), Failure> {
+fn reopened_ask<D: Device + Drop>(
+    store: &mut Store<D>,
+    place: Place,
+    ask: &Ask,
+) -> Result<(), Failure> {
     let mut connection = Connection::borrow(store, place)?;
     let outcome = check_ask(place, &mut connection, ask);
     connection.stop_in(store)?;
@@ -96,7 +121,7 @@ fn reopened_ask(store: &mut Store, place: Place, ask: &Ask) -> Result<(), Failur
 }
 
 /// A line of a script on a store that is stopped and opened again after each call.
-fn reopened_row(store: &mut Store, row: &Row) -> Result<(), Failure> {
+fn reopened_row<D: Device + Drop>(store: &mut Store<D>, row: &Row) -> Result<(), Failure> {
     let place = row.place(Way::Reopened);
     match &row.step {
         Step::Ask(ask) => {
@@ -110,7 +135,7 @@ fn reopened_row(store: &mut Store, row: &Row) -> Result<(), Failure> {
     Ok(())
 }
 
-fn reopened_rows(store: &mut Store, rows: &[Row]) -> Result<(), Failure> {
+fn reopened_rows<D: Device + Drop>(store: &mut Store<D>, rows: &[Row]) -> Result<(), Failure> {
     for row in rows {
         reopened_row(store, row)?;
     }
@@ -118,8 +143,8 @@ fn reopened_rows(store: &mut Store, rows: &[Row]) -> Result<(), Failure> {
 }
 
 /// A script on a store that is stopped and opened again after each call.
-fn run_reopened(alloc: Global, rows: &[Row]) -> Result<(), Failure> {
-    let mut store = new_store(alloc, Way::Reopened)?;
+fn run_reopened<D: Device + Drop>(alloc: Global, rows: &[Row]) -> Result<(), Failure> {
+    let mut store: Store<D> = new_store(alloc, Way::Reopened)?;
     reopened_rows(&mut store, rows)
 }
 
@@ -133,7 +158,11 @@ struct Stopped {
 }
 
 /// Sends a frame, and tells whether it was answered, as it should be.
-fn is_answered(place: Place, connection: &mut Connection, ask: &Ask) -> Result<bool, Failure> {
+fn is_answered<D: Device + Drop>(
+    place: Place,
+    connection: &mut Connection<D>,
+    ask: &Ask,
+) -> Result<bool, Failure> {
     match connection.ask(&ask.frame) {
         Ok(reply) => {
             check_reply(place, reply, ask)?;
@@ -145,14 +174,14 @@ fn is_answered(place: Place, connection: &mut Connection, ask: &Ask) -> Result<b
 }
 
 /// A frame on a store that stops at a device call of its append.
-fn stopped_once(
-    store: &mut Store,
+fn stopped_once<D: Device + Drop>(
+    store: &mut Store<D>,
     stop: Stop,
     place: Place,
     ask: &Ask,
 ) -> Result<Stopped, Failure> {
     let stop_at = OPENING_CALLS + stop.at.min(APPEND_CALLS);
-    store.disk.plan(Some(stop_at), None, stop.torn);
+    store.plan_stop(stop_at, stop.torn);
     let mut connection = Connection::borrow(store, place)?;
     let records = connection.records();
     let outcome = is_answered(place, &mut connection, ask);
@@ -164,9 +193,9 @@ fn stopped_once(
 }
 
 /// Makes a call again that was stopped, where the store doesn't know it.
-fn ask_again(
+fn ask_again<D: Device + Drop>(
     place: Place,
-    connection: &mut Connection,
+    connection: &mut Connection<D>,
     stopped: Stopped,
     ask: &Ask,
 ) -> Result<(), Failure> {
@@ -187,7 +216,12 @@ fn ask_again(
 
 /// A frame on a store that stops at a device call of its append. Where the store doesn't know the call then, it is made
 /// again.
-fn stopped_ask(store: &mut Store, stop: Stop, place: Place, ask: &Ask) -> Result<(), Failure> {
+fn stopped_ask<D: Device + Drop>(
+    store: &mut Store<D>,
+    stop: Stop,
+    place: Place,
+    ask: &Ask,
+) -> Result<(), Failure> {
     let stopped = stopped_once(store, stop, place, ask)?;
     let mut connection = Connection::borrow(store, place)?;
     let outcome = ask_again(place, &mut connection, stopped, ask);
@@ -196,7 +230,11 @@ fn stopped_ask(store: &mut Store, stop: Stop, place: Place, ask: &Ask) -> Result
 }
 
 /// A line of a script on a store that stops at one device call of each append.
-fn stopped_row(store: &mut Store, stop: Stop, row: &Row) -> Result<(), Failure> {
+fn stopped_row<D: Device + Drop>(
+    store: &mut Store<D>,
+    stop: Stop,
+    row: &Row,
+) -> Result<(), Failure> {
     match &row.step {
         Step::Ask(ask) => {
             for _ in 0..ask.times {
@@ -210,7 +248,11 @@ fn stopped_row(store: &mut Store, stop: Stop, row: &Row) -> Result<(), Failure> 
     Ok(())
 }
 
-fn stopped_rows(store: &mut Store, stop: Stop, rows: &[Row]) -> Result<(), Failure> {
+fn stopped_rows<D: Device + Drop>(
+    store: &mut Store<D>,
+    stop: Stop,
+    rows: &[Row],
+) -> Result<(), Failure> {
     for row in rows {
         stopped_row(store, stop, row)?;
     }
@@ -218,16 +260,16 @@ fn stopped_rows(store: &mut Store, stop: Stop, rows: &[Row]) -> Result<(), Failu
 }
 
 /// A script on a store that stops at one device call of each append.
-fn run_stopped(alloc: Global, rows: &[Row], stop: Stop) -> Result<(), Failure> {
-    let mut store = new_store(alloc, Way::Stopped(stop))?;
+fn run_stopped<D: Device + Drop>(alloc: Global, rows: &[Row], stop: Stop) -> Result<(), Failure> {
+    let mut store: Store<D> = new_store(alloc, Way::Stopped(stop))?;
     stopped_rows(&mut store, stop, rows)
 }
 
 /// A script with each stop, at each device call and with each of what it may leave.
-fn run_stops(alloc: Global, rows: &[Row]) -> Result<(), Failure> {
+fn run_stops<D: Device + Drop>(alloc: Global, rows: &[Row]) -> Result<(), Failure> {
     for torn in &TORN {
         for at in 1..=APPEND_CALLS {
-            run_stopped(alloc, rows, Stop { at, torn: *torn })?;
+            run_stopped::<D>(alloc, rows, Stop { at, torn: *torn })?;
         }
     }
     Ok(())
@@ -245,11 +287,11 @@ fn count_calls(rows: &[Row]) -> u64 {
 }
 
 /// Runs a script in each way, and counts its calls.
-pub fn run_script(alloc: Global, script: &Script) -> Result<u64, Failure> {
-    run_straight(alloc, &script.rows)?;
+pub fn run_script<D: Device + Drop>(alloc: Global, script: &Script) -> Result<u64, Failure> {
+    run_straight::<D>(alloc, &script.rows)?;
     if !script.is_straight {
-        run_reopened(alloc, &script.rows)?;
-        run_stops(alloc, &script.rows)?;
+        run_reopened::<D>(alloc, &script.rows)?;
+        run_stops::<D>(alloc, &script.rows)?;
     }
     Ok(count_calls(&script.rows))
 }

@@ -1,8 +1,8 @@
-//! Frames that the tests send, and what serves them.
-use disk::MemDisk;
-use server::{Alone, ServeFault, open, serve};
+//! Frames that the tests send, and what serves them. No function has a clause, and all are over any disk and any caller, so that
+//! a test's proof carries nothing of a disk or of a core.
+use disk::{Disk, MemDisk, Torn};
+use server::{Alone, Caller, ServeFault, open, serve};
 use std::alloc::Global;
-use std::test::Fail;
 
 /// `mach_port_allocate` of a receive right.
 pub(crate) const ALLOCATE: [u8; 12] = [8, 0, 0, 0, 5, 0, 0, 0, 1, 0, 0, 0];
@@ -23,33 +23,64 @@ pub(crate) struct Run {
     pub(crate) end: Result<(), ServeFault>,
 }
 
-/// The caller of the store of a disk.
-pub(crate) fn caller(alloc: Global, disk: MemDisk) -> Result<Alone<MemDisk>, Fail> {
+/// A disk that stops as it is planned to.
+pub(crate) trait Store: Disk {
+    /// A disk with nothing.
+    fn empty(alloc: Global) -> Self;
+
+    /// Plans failures of calls, as `MemDisk::plan` does.
+    fn plan_faults(&mut self, stop_at: Option<u64>, fail_at: Option<u64>, torn: Torn);
+
+    /// What a stop leaves.
+    fn stop(self) -> Option<Self>;
+}
+
+impl Store for MemDisk {
+    fn empty(alloc: Global) -> MemDisk {
+        MemDisk::new(alloc)
+    }
+
+    fn plan_faults(&mut self, stop_at: Option<u64>, fail_at: Option<u64>, torn: Torn) {
+        self.plan(stop_at, fail_at, torn);
+    }
+
+    fn stop(self) -> Option<MemDisk> {
+        self.after_stop().ok()
+    }
+}
+
+/// The caller of the store of a disk, or the disk where the store can't be opened.
+pub(crate) fn caller<D: Disk + Drop>(alloc: Global, disk: D) -> Result<Alone<D>, D> {
     match open(alloc, disk) {
         Ok(opened) => Ok(Alone::new(alloc, opened)),
-        Err(_) => Err(Fail::from("the store can't be opened")),
+        Err((_, disk)) => Err(disk),
     }
 }
 
 /// Serves an input on a caller.
-pub(crate) fn serve_on(alloc: Global, caller: &mut Alone<MemDisk>, input: &[u8]) -> Run {
+pub(crate) fn serve_on<C: Caller>(alloc: Global, caller: &mut C, input: &[u8]) -> Run {
     let mut rest = input;
     let mut output = Vec::new(alloc);
     let end = serve(alloc, &mut rest, &mut output, caller);
     Run { output, end }
 }
 
-/// Serves an input on the store of a disk. The disk is what is left of it.
-pub(crate) fn served(alloc: Global, disk: MemDisk, input: &[u8]) -> Result<(Run, MemDisk), Fail> {
-    let mut caller = caller(alloc, disk)?;
-    let run = serve_on(alloc, &mut caller, input);
-    Ok((run, caller.into_disk()))
+/// Serves an input on the store of a disk, where it can be opened. The disk is what is left of it.
+pub(crate) fn served<D: Disk + Drop>(alloc: Global, disk: D, input: &[u8]) -> (Option<Run>, D) {
+    match caller(alloc, disk) {
+        Ok(mut caller) => {
+            let run = serve_on(alloc, &mut caller, input);
+            (Some(run), caller.into_disk())
+        }
+        Err(disk) => (None, disk),
+    }
 }
 
 /// Two allocations and a type.
-pub(crate) fn three_calls(alloc: Global) -> Result<Vec<u8>, Fail> {
-    let mut input = ALLOCATE.to_vec(alloc)?;
-    input.extend_from_slice(&ALLOCATE_SET)?;
-    input.extend_from_slice(&TYPE)?;
-    Ok(input)
+pub(crate) fn three_calls() -> [u8; 36] {
+    let mut input = [0; 36];
+    input[..12].copy_from_slice(&ALLOCATE);
+    input[12..24].copy_from_slice(&ALLOCATE_SET);
+    input[24..].copy_from_slice(&TYPE);
+    input
 }

@@ -1,60 +1,74 @@
 ghost use Rattle.std.specs.Io.{WritesAtMost};
 
+use crate::expect::{same, same_in_row};
 use crate::frames::{ALLOCATE, ALLOCATED, TYPE};
 use command_line::read_words;
 use server::lone;
 use std::env::FillError;
 use std::rt::Env;
-use std::test::Fail;
-use std::{env, fs};
+use std::{env, fs, io};
 
 /// What a run of the program with these words gave.
 #[derive(Drop)]
 struct Ended {
     status: u8,
     output: Vec<u8>,
-    errors: String,
+    errors: Vec<u8>,
 }
 
-fn run(rt: &HostRuntime, words: Option<&[String]>, bytes: &[u8]) -> Result<Ended, Fail> {
+/// A run of the program. It has no clause, so that a test's proof carries nothing of it.
+fn run(rt: &HostRuntime, words: Option<&[String]>, bytes: &[u8]) -> Ended {
     let mut input = bytes;
     let mut output = Vec::new(rt.alloc());
     let mut errors = Vec::new(rt.alloc());
     let status = lone(rt.alloc(), rt, words, &mut input, &mut output, &mut errors);
-    let errors = String::from_utf8(errors)?;
-    Ok(Ended {
+    Ended {
         status,
         output,
         errors,
-    })
+    }
+}
+
+/// Whether a run ended with this status, and wrote this to each of the two.
+fn has_ended(ended: &Ended, status: u8, output: &[u8], errors: &str) -> bool {
+    ended.status == status
+        && ended.output.as_slice() == output
+        && ended.errors.as_slice() == errors.as_bytes()
+}
+
+/// Whether a run with this input ends so.
+fn ends(rt: &HostRuntime, words: Option<&[String]>, bytes: &[u8], end: (u8, &[u8], &str)) -> bool {
+    let (status, output, errors) = end;
+    has_ended(&run(rt, words, bytes), status, output, errors)
+}
+
+/// A path in the folder for what doesn't last.
+fn path_of(rt: &HostRuntime, name: &str) -> Option<String> {
+    let mut folder = env::temp_dir(rt).ok()?;
+    folder.push(name).ok()?;
+    String::from_str(rt.alloc(), folder.as_path().as_str()).ok()
+}
+
+fn make_folder(rt: &HostRuntime, path: &str) -> io::Result<()> {
+    let _ = fs::remove_dir_all(rt, path);
+    fs::create_dir(rt, path)
 }
 
 /// A new folder, as the program's words.
-fn folder(rt: &HostRuntime, name: &str) -> Result<Vec<String>, Fail> {
-    let mut folder = env::temp_dir(rt)?;
-    folder.push(name)?;
-    let path = String::from_str(rt.alloc(), folder.as_path().as_str())?;
-    let _ = fs::remove_dir_all(rt, path.as_str());
-    fs::create_dir(rt, path.as_str())?;
+fn folder(rt: &HostRuntime, name: &str) -> Option<Vec<String>> {
+    let path = path_of(rt, name)?;
+    make_folder(rt, path.as_str()).ok()?;
     let mut words = Vec::new(rt.alloc());
-    words.push(path)?;
-    Ok(words)
+    words.push(path).ok()?;
+    Some(words)
 }
 
-fn removed(rt: &HostRuntime, words: &[String]) -> Result<(), Fail> {
-    for path in words {
-        fs::remove_dir_all(rt, path.as_str())?;
+/// Whether the folder could be removed.
+fn removed(rt: &HostRuntime, words: &[String]) -> bool {
+    match words {
+        [path] => fs::remove_dir_all(rt, path.as_str()).is_ok(),
+        _ => false,
     }
-    Ok(())
-}
-
-/// The status and the line of errors of a run in which nothing is written.
-fn told(rt: &HostRuntime, words: Option<&[String]>, bytes: &[u8]) -> Result<(u8, String), Fail> {
-    let ended = run(rt, words, bytes)?;
-    if !ended.output.is_empty() {
-        return Err(Fail::from("something was written"));
-    }
-    Ok((ended.status, ended.errors))
 }
 
 /// A command line of any bytes, with a space between its words.
@@ -93,14 +107,14 @@ impl<'a> Env for Line<'a> {
     }
 }
 
-/// The status and the line of errors of a program that was started by such a line.
-fn told_for(rt: &HostRuntime, bytes: &[u8]) -> Result<(u8, String), Fail> {
+/// Whether a program that was started by such a line ends with this status and this line of errors.
+fn is_told(rt: &HostRuntime, bytes: &[u8], status: u8, line: &str) -> bool {
     let words = read_words(&(Line { bytes }, rt.alloc()));
-    told(rt, words.as_deref(), &ALLOCATE)
+    ends(rt, words.as_deref(), &ALLOCATE, (status, &[], line))
 }
 
 #[test]
-fn words_have_a_status_and_a_line(rt: HostRuntime) -> Result<(), Fail> {
+fn words_have_a_status_and_a_line(rt: HostRuntime) {
     let lines: [(&[u8], u8, &str); 6] = [
         (b"machipcd", 2, "machipcd: command line\n"),
         (b"machipcd /nowhere", 1, "machipcd: store fault 1: device\n"),
@@ -110,73 +124,98 @@ fn words_have_a_status_and_a_line(rt: HostRuntime) -> Result<(), Fail> {
         (b"machipcd / \xff", 2, "machipcd: command line\n"),
     ];
     for (bytes, status, line) in lines {
-        let seen = told_for(&rt, bytes)?;
-        assert!(rt; seen.0 == status && seen.1.as_str() == line);
+        same_in_row(&rt, bytes, is_told(&rt, bytes, status, line), true);
     }
-    Ok(())
+}
+
+/// A file of a folder.
+fn file_of(rt: &HostRuntime, words: &[String], file: &str) -> Option<String> {
+    let folder = words.first()?;
+    format!(in rt.alloc(); "{folder}/{file}").ok()
 }
 
 /// A file of the folder gets these bytes.
-fn write_file(rt: &HostRuntime, words: &[String], file: &str, bytes: &[u8]) -> Result<(), Fail> {
-    for folder in words {
-        let path = format!(in rt.alloc(); "{folder}/{file}")?;
-        fs::write(rt, path.as_str(), bytes)?;
-    }
-    Ok(())
+fn write_file(rt: &HostRuntime, words: &[String], file: &str, bytes: &[u8]) -> Option<()> {
+    let path = file_of(rt, words, file)?;
+    fs::write(rt, path.as_str(), bytes).ok()
 }
 
-#[test]
-fn a_damaged_slot_is_told(rt: HostRuntime) -> Result<(), Fail> {
-    let words = folder(&rt, "machipcd_damaged_store")?;
+/// What is told of a store whose image's header has a byte that isn't 0 where it has to be.
+fn tells_damage(rt: &HostRuntime, words: &[String]) -> Option<bool> {
     let mut image = [0; 48];
     image[0] = 0x5a;
     image[1] = 1;
     image[2] = 1;
-    write_file(&rt, &words, "image0", &image)?;
-    let (status, line) = told(&rt, Some(&words), &[])?;
-    assert!(rt; status == 1 && line.as_str() == "machipcd: store fault 3: damaged\n");
-    removed(&rt, &words)
+    write_file(rt, words, "image0", &image)?;
+    let line = "machipcd: store fault 3: damaged\n";
+    Some(ends(rt, Some(words), &[], (1, &[], line)))
+}
+
+fn tells_damage_in(rt: &HostRuntime, name: &str) -> Option<(bool, bool)> {
+    let words = folder(rt, name)?;
+    let told = tells_damage(rt, &words)?;
+    Some((told, removed(rt, &words)))
 }
 
 #[test]
-fn wire_faults_have_a_line(rt: HostRuntime) -> Result<(), Fail> {
-    let words = folder(&rt, "machipcd_wire_faults")?;
-    let (status, line) = told(&rt, Some(&words), &[3, 0, 0, 0])?;
-    assert!(rt; status == 1 && line.as_str() == "machipcd: wire fault 1: short\n");
-    let (status, line) = told(&rt, Some(&words), &[253, 255, 0, 0])?;
-    assert!(rt; status == 1 && line.as_str() == "machipcd: wire fault 2: too long\n");
-    removed(&rt, &words)
+fn a_damaged_slot_is_told(rt: HostRuntime) {
+    let seen = tells_damage_in(&rt, "machipcd_damaged_store");
+    same(&rt, seen, Some((true, true)));
 }
 
-/// The lengths of the image's and the segment's file.
-fn lengths(rt: &HostRuntime, words: &[String]) -> Result<(usize, usize), Fail> {
-    let mut sum = (0, 0);
-    for folder in words {
-        let image = format!(in rt.alloc(); "{folder}/image0")?;
-        let segment = format!(in rt.alloc(); "{folder}/segment0")?;
-        sum = (
-            fs::read(rt, image.as_str())?.len(),
-            fs::read(rt, segment.as_str())?.len(),
-        );
-    }
-    Ok(sum)
+fn tells_wire_faults_in(rt: &HostRuntime, name: &str) -> Option<[bool; 3]> {
+    let words = folder(rt, name)?;
+    let short = (1, [].as_slice(), "machipcd: wire fault 1: short\n");
+    let long = (1, [].as_slice(), "machipcd: wire fault 2: too long\n");
+    Some([
+        ends(rt, Some(&words), &[3, 0, 0, 0], short),
+        ends(rt, Some(&words), &[253, 255, 0, 0], long),
+        removed(rt, &words),
+    ])
 }
 
 #[test]
-fn a_second_run_knows_the_name(rt: HostRuntime) -> Result<(), Fail> {
-    let words = folder(&rt, "machipcd_second_run")?;
-    let first = run(&rt, Some(&words), &ALLOCATE)?;
-    assert!(rt;
-        first.status == 0
-            && first.output.as_slice() == ALLOCATED.as_slice()
-            && first.errors.as_str() == ""
-    );
-    let bytes = lengths(&rt, &words)?;
-    assert_eq!(rt; bytes, (48, 70));
-    let second = run(&rt, Some(&words), &TYPE)?;
-    let bits = [12, 0, 0, 0, 2, 0, 0, 0, 0, 0, 0, 0, 0, 0, 2, 0];
-    assert!(rt; second.status == 0 && second.output.as_slice() == bits.as_slice());
-    let bytes = lengths(&rt, &words)?;
-    assert_eq!(rt; bytes, (48, 70));
-    removed(&rt, &words)
+fn wire_faults_have_a_line(rt: HostRuntime) {
+    let seen = tells_wire_faults_in(&rt, "machipcd_wire_faults");
+    same(&rt, seen, Some([true; 3]));
+}
+
+/// The length of a file of the folder.
+fn length(rt: &HostRuntime, words: &[String], file: &str) -> Option<usize> {
+    let path = file_of(rt, words, file)?;
+    Some(fs::read(rt, path.as_str()).ok()?.len())
+}
+
+/// Whether a run ends well with this output, and the lengths of the image's and the segment's file then.
+fn answered(
+    rt: &HostRuntime,
+    words: &[String],
+    bytes: &[u8],
+    output: &[u8],
+) -> (bool, [Option<usize>; 2]) {
+    let is_answered = ends(rt, Some(words), bytes, (0, output, ""));
+    let lengths = [length(rt, words, "image0"), length(rt, words, "segment0")];
+    (is_answered, lengths)
+}
+
+/// The type of the name 0x100.
+const TYPED: [u8; 16] = [12, 0, 0, 0, 2, 0, 0, 0, 0, 0, 0, 0, 0, 0, 2, 0];
+
+/// Two runs on a store, and whether its folder could be removed.
+type Runs = ([(bool, [Option<usize>; 2]); 2], bool);
+
+fn answered_twice(rt: &HostRuntime, name: &str) -> Option<Runs> {
+    let words = folder(rt, name)?;
+    let runs = [
+        answered(rt, &words, &ALLOCATE, &ALLOCATED),
+        answered(rt, &words, &TYPE, &TYPED),
+    ];
+    Some((runs, removed(rt, &words)))
+}
+
+#[test]
+fn a_second_run_knows_the_name(rt: HostRuntime) {
+    let seen = answered_twice(&rt, "machipcd_second_run");
+    let run = (true, [Some(48), Some(70)]);
+    same(&rt, seen, Some(([run, run], true)));
 }

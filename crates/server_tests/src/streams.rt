@@ -1,12 +1,12 @@
 //! Readers and writers that show how a connection reads and writes.
-use crate::frames::{Run, caller, serve_on, three_calls};
+use crate::expect::same;
+use crate::frames::{Run, Store, caller, serve_on, three_calls};
 use disk::MemDisk;
-use server::{Alone, ServeFault, serve};
+use server::{Caller, ServeFault, serve};
 use std::alloc::Global;
 use std::cell::Cell;
 use std::io;
 use std::io::{ErrorKind, Read, Write};
-use std::test::Fail;
 use wire::WireFault;
 
 /// What a stream was asked for.
@@ -83,7 +83,7 @@ impl<'a> Write for Filling<'a> {
 }
 
 /// Serves an input byte by byte, to a writer with room for so many bytes.
-fn drip(alloc: Global, caller: &mut Alone<MemDisk>, input: &[u8], room: usize, seen: &Seen) -> Run {
+fn drip<C: Caller>(alloc: Global, caller: &mut C, input: &[u8], room: usize, seen: &Seen) -> Run {
     let mut reader = Dripping { rest: input, seen };
     let mut writer = Filling {
         output: Vec::new(alloc),
@@ -97,54 +97,83 @@ fn drip(alloc: Global, caller: &mut Alone<MemDisk>, input: &[u8], room: usize, s
     }
 }
 
-/// Three calls byte by byte on a new store, and then all of them again at once on the same caller.
-fn dripped(alloc: Global, room: usize, seen: &Seen) -> Result<(Run, Run), Fail> {
-    let input = three_calls(alloc)?;
-    let mut caller = caller(alloc, MemDisk::new(alloc))?;
-    let first = drip(alloc, &mut caller, &input, room, seen);
-    let second = serve_on(alloc, &mut caller, &input);
-    Ok((first, second))
+/// Three calls byte by byte, and then all of them again at once on the same caller.
+fn drip_twice<C: Caller>(alloc: Global, caller: &mut C, room: usize, seen: &Seen) -> (Run, Run) {
+    let input = three_calls();
+    let first = drip(alloc, caller, &input, room, seen);
+    (first, serve_on(alloc, caller, &input))
+}
+
+/// The same on a new store.
+fn dripped<S: Store + Drop>(alloc: Global, room: usize, seen: &Seen) -> Option<(Run, Run)> {
+    let mut caller = caller(alloc, S::empty(alloc)).ok()?;
+    Some(drip_twice(alloc, &mut caller, room, seen))
 }
 
 /// Three calls on a new store, at once.
-fn whole(alloc: Global) -> Result<Run, Fail> {
-    let input = three_calls(alloc)?;
-    let mut caller = caller(alloc, MemDisk::new(alloc))?;
-    Ok(serve_on(alloc, &mut caller, &input))
+fn whole<S: Store + Drop>(alloc: Global) -> Option<Run> {
+    let mut caller = caller(alloc, S::empty(alloc)).ok()?;
+    Some(serve_on(alloc, &mut caller, &three_calls()))
+}
+
+/// Whether three calls byte by byte end well, and give what they give at once; and how many bytes that is.
+fn dripped_as_whole<S: Store + Drop>(alloc: Global, seen: &Seen) -> Option<(bool, usize)> {
+    let all = whole::<S>(alloc)?;
+    let (run, _) = dripped::<S>(alloc, 1000, seen)?;
+    let is_same = run.end == Ok(()) && run.output == all.output;
+    Some((is_same, all.output.len()))
 }
 
 #[test]
-fn how_a_stream_is_cut_changes_nothing(rt: HostRuntime) -> Result<(), Fail> {
+fn how_a_stream_is_cut_changes_nothing(rt: HostRuntime) {
     let seen = Seen::new();
-    let (run, _) = dripped(rt.alloc(), 1000, &seen)?;
-    let all = whole(rt.alloc())?;
-    assert!(rt; run.end == Ok(()) && run.output == all.output && all.output.len() == 48);
+    let dripped = dripped_as_whole::<MemDisk>(rt.alloc(), &seen);
+    same(&rt, dripped, Some((true, 48)));
     // Each reply was flushed before a byte of the next frame was asked for.
-    assert_eq!(rt;
-        (seen.read.get(), seen.early.get(), seen.unflushed.get()),
-        (36, 0, 0)
-    );
-    Ok(())
+    let counts = (seen.read.get(), seen.early.get(), seen.unflushed.get());
+    same(&rt, counts, (36, 0, 0));
+}
+
+/// What a writer with room for so many bytes has: whether it is the first ones of all replies, how the connection ended, how
+/// many bytes were read, and the lowest byte of the name that the next allocation gives.
+type Written = (bool, Result<(), ServeFault>, usize, Option<u8>);
+
+fn written<S: Store + Drop>(alloc: Global, all: &[u8], room: usize) -> Option<Written> {
+    let seen = Seen::new();
+    let (run, next) = dripped::<S>(alloc, room, &seen)?;
+    let is_front = Some(run.output.as_slice()) == all.get(..room);
+    Some((
+        is_front,
+        run.end,
+        seen.read.get(),
+        next.output.get(12).copied(),
+    ))
+}
+
+/// Nothing behind the call whose reply failed is read, and that call was made: the next allocation has the next name.
+fn wanted(room: usize) -> Written {
+    let calls = (room / 16).saturating_add(1);
+    (
+        true,
+        Err(ServeFault::Wire(WireFault::Device)),
+        calls.saturating_mul(12),
+        Some(calls.min(2) as u8),
+    )
+}
+
+/// The first room for which it isn't so.
+fn unlike<S: Store + Drop>(alloc: Global) -> Option<Option<(usize, Option<Written>)>> {
+    let all = whole::<S>(alloc)?;
+    for room in 0..48usize {
+        let seen = written::<S>(alloc, all.output.as_slice(), room);
+        if seen != Some(wanted(room)) {
+            return Some(Some((room, seen)));
+        }
+    }
+    Some(None)
 }
 
 #[test]
-fn a_writer_that_fails_has_whole_replies_and_a_part(rt: HostRuntime) -> Result<(), Fail> {
-    let all = whole(rt.alloc())?;
-    for room in 0..48usize {
-        let seen = Seen::new();
-        let (run, next) = dripped(rt.alloc(), room, &seen)?;
-        // Nothing behind the call whose reply failed is read, and that call was made: the next allocation has the next
-        // name.
-        let calls = (room / 16).saturating_add(1);
-        assert!(rt; Some(run.output.as_slice()) == all.output.as_slice().get(..room));
-        assert_eq!(rt;
-            (run.end, seen.read.get()),
-            (
-                Err(ServeFault::Wire(WireFault::Device)),
-                calls.saturating_mul(12)
-            )
-        );
-        assert_eq!(rt; next.output.get(12).copied(), Some(calls.min(2) as u8));
-    }
-    Ok(())
+fn a_writer_that_fails_has_whole_replies_and_a_part(rt: HostRuntime) {
+    same(&rt, unlike::<MemDisk>(rt.alloc()), Some(None));
 }

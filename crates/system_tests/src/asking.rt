@@ -1,10 +1,7 @@
-//! Cores over disks in memory, and events with what they answer as numbers. What is made here has no contract, so that a
-//! test's proof doesn't carry it along.
-use disk::MemDisk;
-use ipc_model::{Call, Reply};
-use std::alloc::Global;
-use std::test::Fail;
-use system::{SubmitFault, System, open};
+//! Events of a core, and what they answer as numbers.
+use crate::store::Core;
+use codes::MAX_RECORDS;
+use ipc_model::Call;
 
 /// No reply is given now.
 pub(crate) const NOT_NOW: u64 = 1 << 40;
@@ -16,7 +13,7 @@ pub(crate) const EPOCH_FULL: u64 = 2 << 40;
 pub(crate) const NO_MEMORY: u64 = 3 << 40;
 
 /// A fault of the store has its number above this one.
-const FAULT: u64 = 4 << 40;
+pub(crate) const FAULT: u64 = 4 << 40;
 
 /// The device failed.
 pub(crate) const DEVICE: u64 = FAULT + 1;
@@ -41,73 +38,20 @@ pub(crate) enum Asked {
 /// was done and 0 where it can't be.
 pub(crate) type Row = (Asked, u64);
 
-/// The core of the store of a disk.
-pub(crate) fn core_on(alloc: Global, disk: MemDisk) -> Result<System<MemDisk>, Fail> {
-    match open(alloc, disk) {
-        Ok(opened) => Ok(System::new(alloc, opened)),
-        Err(_) => Err(Fail::from("the store can't be opened")),
-    }
-}
-
-/// A disk with a new store.
-pub(crate) fn new_store(alloc: Global) -> Result<MemDisk, Fail> {
-    Ok(core_on(alloc, MemDisk::new(alloc))?.into_disk())
-}
-
-/// How many records a store has.
-pub(crate) fn stored_records(alloc: Global, disk: MemDisk) -> Result<u64, Fail> {
-    match open(alloc, disk) {
-        Ok(opened) => Ok(opened.segment.records),
-        Err(_) => Err(Fail::from("the store can't be opened")),
-    }
-}
-
-/// What a reply tells: the new name, the type bits, or the code.
-fn told(reply: &Reply) -> u64 {
-    match reply {
-        Reply::Allocate { name } => u64::from(*name),
-        Reply::Type { bits } => u64::from(*bits),
-        Reply::Refused { code, .. } => u64::from(code.number()),
-        _ => NOT_NOW,
-    }
-}
-
-fn submitted(core: &mut System<MemDisk>, call: &Call) -> u64 {
-    match core.submit(1, call) {
-        Ok(number) => number,
-        Err(SubmitFault::EpochFull) => EPOCH_FULL,
-        Err(SubmitFault::NoMemory) => NO_MEMORY,
-    }
-}
-
-fn appended(core: &mut System<MemDisk>) -> u64 {
-    match core.append() {
-        Ok(is_stored) => u64::from(is_stored),
-        Err(fault) => FAULT + u64::from(fault.number()),
-    }
-}
-
-fn replied(core: &mut System<MemDisk>, ticket: u64) -> u64 {
-    match core.reply(ticket) {
-        Some(reply) => told(&reply),
-        None => NOT_NOW,
-    }
-}
-
 /// What an event answers.
-fn answered(core: &mut System<MemDisk>, event: Asked) -> u64 {
+fn answered<C: Core>(core: &mut C, event: Asked) -> u64 {
     match event {
-        Asked::Allocate => submitted(core, &Call::Allocate { right: 1 }),
-        Asked::Type(name) => submitted(core, &Call::Type { name }),
-        Asked::Take => u64::from(core.take()),
-        Asked::Append => appended(core),
-        Asked::Durable => u64::from(core.durable()),
-        Asked::Reply(ticket) => replied(core, ticket),
+        Asked::Allocate => core.submit_call(&Call::Allocate { right: 1 }),
+        Asked::Type(name) => core.submit_call(&Call::Type { name }),
+        Asked::Take => u64::from(core.take_waiting()),
+        Asked::Append => core.append_taken(),
+        Asked::Durable => u64::from(core.hand_in()),
+        Asked::Reply(ticket) => core.replied(ticket),
     }
 }
 
 /// The first row that is answered otherwise: which it is, and the answer.
-pub(crate) fn unlike(core: &mut System<MemDisk>, rows: &[Row]) -> Option<(usize, u64)> {
+pub(crate) fn unlike<C: Core>(core: &mut C, rows: &[Row]) -> Option<(usize, u64)> {
     for (index, (event, wanted)) in rows.iter().enumerate() {
         let seen = answered(core, *event);
         if seen != *wanted {
@@ -115,4 +59,24 @@ pub(crate) fn unlike(core: &mut System<MemDisk>, rows: &[Row]) -> Option<(usize,
         }
     }
     None
+}
+
+/// The port of the name 0x100 gets this sequence number.
+const SET_SEQNO: Call = Call::SetSeqno {
+    name: 0x100,
+    seqno: 7,
+};
+
+/// Makes so many calls as a row takes. Whether each gets a ticket.
+pub(crate) fn fill<C: Core>(core: &mut C) -> bool {
+    if core.submit_call(&Call::Allocate { right: 1 }) >= NOT_NOW {
+        return false;
+    }
+    let call = SET_SEQNO;
+    for _ in 1..MAX_RECORDS {
+        if core.submit_call(&call) >= NOT_NOW {
+            return false;
+        }
+    }
+    true
 }

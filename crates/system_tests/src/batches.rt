@@ -1,8 +1,8 @@
-use crate::asking::{Asked, NOT_NOW, Row, core_on, unlike};
+use crate::asking::{Asked, NOT_NOW, Row};
 use crate::expect::same;
+use crate::store::{self, Store};
 use disk::{Disk, MemDisk, Slot};
 use std::alloc::Global;
-use std::test::Fail;
 
 static TWO_IN_A_BATCH: [Row; 24] = [
     // Nothing waits.
@@ -37,14 +37,13 @@ static TWO_IN_A_BATCH: [Row; 24] = [
 ];
 
 /// The first row that is answered otherwise on a new store, and the length of its segment.
-fn asked(alloc: Global, rows: &[Row]) -> Result<(Option<(usize, u64)>, u64), Fail> {
-    let mut core = core_on(alloc, MemDisk::new(alloc))?;
-    let unlike = unlike(&mut core, rows);
-    Ok((unlike, core.into_disk().length(Slot::Segment0)))
+fn asked<S: Store + Drop>(alloc: Global, rows: &[Row]) -> Option<(Option<(usize, u64)>, u64)> {
+    let (unlike, disk) = store::asked(alloc, S::empty(alloc), rows)?;
+    Some((unlike, disk.length(Slot::Segment0)))
 }
 
 #[test]
-fn two_calls_are_one_batch(rt: HostRuntime) -> Result<(), Fail> {
-    same(&rt, asked(rt.alloc(), &TWO_IN_A_BATCH)?, (None, 110));
-    Ok(())
+fn two_calls_are_one_batch(rt: HostRuntime) {
+    let seen = asked::<MemDisk>(rt.alloc(), &TWO_IN_A_BATCH);
+    same(&rt, seen, Some((None, 110)));
 }

@@ -1,10 +1,9 @@
 //! Checkpoints as lists of events, and what a stop or a fault within them leaves.
 use crate::expect::{same, same_in_row};
-use crate::lists::{FIRST_CALL, KINDS, bounds, failing, play};
+use crate::lists::{FIRST_CALL, KINDS, Way, bounds, count_ports, play};
+use crate::store::{Store, failing, reopened};
 use disk::{Disk, MemDisk, Slot, Torn};
-use std::alloc::Global;
-use std::test::Fail;
-use system::open;
+use std::alloc::{AllocError, Global};
 
 /// A checkpoint of a store with one record, step by step.
 static CHECKPOINT: (&[u8], &[u8]) = (b"akwd0clhoipfd", b"#+++A++++++++");
@@ -27,10 +26,10 @@ static TWICE: (&[u8], &[u8]) = (
 static BESIDE: (&[u8], &[u8]) = (b"akwd0aclhkwodiakwd1d2pfd", b"#+++A#++++++++#+++B-C+++");
 
 // Whether a list of events answers this on a new store; and how long the second segment and image are then.
-fn lengths(alloc: Global, list: (&[u8], &[u8])) -> Result<(bool, u64, u64), Fail> {
+fn lengths<S: Store + Drop>(alloc: Global, list: (&[u8], &[u8])) -> Option<(bool, u64, u64)> {
     let (letters, wanted) = list;
-    let (answers, disk) = play(alloc, MemDisk::new(alloc), letters)?;
-    Ok((
+    let (answers, disk) = play(alloc, S::empty(alloc), letters)?;
+    Some((
         answers.as_slice() == wanted,
         disk.length(Slot::Segment1),
         disk.length(Slot::Image1),
@@ -38,147 +37,134 @@ fn lengths(alloc: Global, list: (&[u8], &[u8])) -> Result<(bool, u64, u64), Fail
 }
 
 #[test]
-fn a_checkpoint_is_made_step_by_step(rt: HostRuntime) -> Result<(), Fail> {
-    same(&rt, lengths(rt.alloc(), CHECKPOINT)?, (true, 17, 118));
-    Ok(())
+fn a_checkpoint_is_made_step_by_step(rt: HostRuntime) {
+    let seen = lengths::<MemDisk>(rt.alloc(), CHECKPOINT);
+    same(&rt, seen, Some((true, 17, 118)));
+}
+
+// Whether a list of events answers this on a new store.
+fn is_answered<S: Store + Drop>(alloc: Global, list: (&[u8], &[u8])) -> bool {
+    matches!(lengths::<S>(alloc, list), Some((true, _, _)))
 }
 
 #[test]
-fn steps_come_in_their_turn(rt: HostRuntime) -> Result<(), Fail> {
-    for (row, list) in [OUT_OF_TURN, TWICE, BESIDE].iter().enumerate() {
-        same_in_row(&rt, row, lengths(rt.alloc(), *list)?.0, true);
-    }
-    Ok(())
+fn steps_come_in_their_turn(rt: HostRuntime) {
+    let seen = [OUT_OF_TURN, TWICE, BESIDE].map(|list| is_answered::<MemDisk>(rt.alloc(), list));
+    same(&rt, seen, [true; 3]);
 }
 
 // How many ports space 1 has, by the name of the next one, which is allocated and stored.
-fn ports(alloc: Global, disk: MemDisk) -> Result<u64, Fail> {
-    let (answers, _) = play(alloc, disk, b"akwd0")?;
-    let last = answers.last().copied().unwrap_or(0);
-    Ok(u64::from(last.wrapping_sub(b'A')))
+fn ports<S: Store + Drop>(alloc: Global, disk: S) -> Option<u64> {
+    let (ports, _) = count_ports(alloc, disk)?;
+    Some(ports)
 }
 
-// A disk whose slots hold what these do, all of it synced.
-fn copy_of(alloc: Global, disk: &MemDisk) -> Result<MemDisk, Fail> {
-    Ok(MemDisk::with_slots(
-        alloc,
-        disk.content(Slot::Image0),
-        disk.content(Slot::Image1),
-        disk.content(Slot::Segment0),
-        disk.content(Slot::Segment1),
-    )?)
-}
-
-// The disk of a store that was opened or couldn't be, and which of these.
-fn opened(alloc: Global, disk: MemDisk) -> (MemDisk, bool) {
-    match open(alloc, disk) {
-        Ok(opened) => (opened.disk, true),
-        Err((_, disk)) => (disk, false),
-    }
-}
-
-// Opens a store whose device fails from this call of the opening on; gives what a stop then leaves, and whether it was opened.
-fn opened_until(
+// Opens a store whose device fails from this call of the opening on; gives how many ports are found behind a stop then, and
+// whether it was opened.
+fn ports_behind_opening<S: Store + Drop>(
     alloc: Global,
-    disk: &MemDisk,
+    disk: &S,
     at: u64,
     torn: Torn,
-) -> Result<(MemDisk, bool), Fail> {
-    let mut copy = copy_of(alloc, disk)?;
-    copy.plan(Some(at), None, torn);
-    let (disk, is_opened) = opened(alloc, copy);
-    Ok((disk.after_stop()?, is_opened))
+) -> Option<(u64, bool)> {
+    let mut copy = disk.copied(alloc)?;
+    copy.plan_faults(Some(at), None, torn);
+    let (disk, records) = reopened(alloc, copy);
+    Some((ports(alloc, disk.stop()?)?, records.is_some()))
 }
 
-// How many calls of the device an opening makes until it is stopped by none, where a stop at each leaves as many ports.
-fn openings_keep(alloc: Global, disk: &MemDisk, wanted: u64, torn: Torn) -> Result<bool, Fail> {
+// Whether an opening is stopped by no call of the device in the end, where a stop at each leaves as many ports.
+fn openings_keep<S: Store + Drop>(alloc: Global, disk: &S, wanted: u64, torn: Torn) -> bool {
     for at in 1..60u64 {
-        let (left, is_opened) = opened_until(alloc, disk, at, torn)?;
-        if ports(alloc, left)? != wanted {
-            return Ok(false);
+        let Some((found, is_opened)) = ports_behind_opening(alloc, disk, at, torn) else {
+            return false;
+        };
+        if found != wanted {
+            return false;
         }
         if is_opened {
-            return Ok(true);
+            return true;
         }
     }
-    Ok(false)
+    false
 }
 
 // Whether a list of events on this disk leaves no fewer ports than it told of and no more than it made, and so does each
 // opening of what it leaves that is stopped; and whether one of its events met a fault.
-fn is_bounded(
+fn is_bounded<S: Store + Drop>(
     alloc: Global,
-    disk: MemDisk,
+    disk: S,
     letters: &[u8],
     torn: Torn,
-) -> Result<(bool, bool), Fail> {
+) -> Option<(bool, bool)> {
     let (answers, disk) = play(alloc, disk, letters)?;
     let (told, applied) = bounds(alloc, letters, &answers)?;
-    let found = ports(alloc, copy_of(alloc, &disk)?)?;
-    let is = told <= found && found <= applied && openings_keep(alloc, &disk, found, torn)?;
-    Ok((is, answers.contains(&b'!')))
+    let found = ports(alloc, disk.copied(alloc)?)?;
+    let is = told <= found && found <= applied && openings_keep(alloc, &disk, found, torn);
+    Some((is, answers.contains(&b'!')))
 }
 
 // How many calls of the device a list makes until none fails that is planned to, where whatever is left of each of them is
 // within its bounds.
-fn swept(alloc: Global, letters: &[u8], once: bool, torn: Torn) -> Result<Option<u64>, Fail> {
+fn swept<S: Store + Drop>(alloc: Global, letters: &[u8], once: bool, torn: Torn) -> Option<u64> {
     for calls in 0..400u64 {
-        let at = FIRST_CALL.saturating_add(calls);
-        let disk = failing(alloc, at, once, torn)?;
+        let disk: S = failing(alloc, FIRST_CALL.saturating_add(calls), once, torn)?;
         let (is, met_fault) = is_bounded(alloc, disk, letters, torn)?;
         if !is {
-            return Ok(None);
+            return None;
         }
         if !met_fault {
-            return Ok(Some(calls));
+            return Some(calls);
         }
     }
-    Ok(None)
+    None
 }
 
 // The first way to fail in which a list isn't swept over as many calls of the device. (An append makes four; a checkpoint
 // sixteen in slots that were never used, and one to read a gate for each that was.)
-fn unswept(alloc: Global, letters: &[u8], calls: u64) -> Result<Option<(Torn, Option<u64>)>, Fail> {
+fn unswept<S: Store + Drop>(alloc: Global, letters: &[u8], calls: u64) -> Option<Way> {
     for torn in &KINDS {
         for once in [false, true] {
-            let seen = swept(alloc, letters, once, *torn)?;
+            let seen = swept::<S>(alloc, letters, once, *torn);
             if seen != Some(calls) {
-                return Ok(Some((*torn, seen)));
+                return Some((*torn, once, seen));
             }
         }
     }
-    Ok(None)
+    None
 }
 
 #[test]
-fn a_stop_in_a_checkpoint_leaves_what_was_told(rt: HostRuntime) -> Result<(), Fail> {
-    same(&rt, unswept(rt.alloc(), TWICE.0, 46)?, None);
-    same(&rt, unswept(rt.alloc(), BESIDE.0, 28)?, None);
-    Ok(())
+fn a_stop_in_a_checkpoint_leaves_what_was_told(rt: HostRuntime) {
+    same(&rt, unswept::<MemDisk>(rt.alloc(), TWICE.0, 46), None);
+    same(&rt, unswept::<MemDisk>(rt.alloc(), BESIDE.0, 28), None);
 }
 
 // A hundred and twenty receive rights, which make an image of three pieces; a checkpoint is begun, its image closed and a
 // piece of it written; a call of the next epoch is stored and told; and the checkpoint is finished.
-fn of_three_pieces(alloc: Global) -> Result<Vec<u8>, Fail> {
-    let mut letters = Vec::new(alloc);
+fn add_pieces(letters: &mut Vec<u8>) -> Result<(), AllocError> {
     for _ in 0..120 {
         letters.push(b'a')?;
     }
-    for letter in b"kwdclhoipakwdppfd" {
-        letters.push(*letter)?;
-    }
-    Ok(letters)
+    letters.extend_from_slice(b"kwdclhoipakwdppfd")
+}
+
+fn of_three_pieces(alloc: Global) -> Option<Vec<u8>> {
+    let mut letters = Vec::new(alloc);
+    add_pieces(&mut letters).ok()?;
+    Some(letters)
+}
+
+// Whether these events are answered so behind the first ones, and the first way to fail in which they aren't swept.
+fn tried<S: Store + Drop>(alloc: Global, wanted: &[u8]) -> Option<(bool, Option<Way>)> {
+    let letters = of_three_pieces(alloc)?;
+    let (answers, _) = play(alloc, S::empty(alloc), &letters)?;
+    let is_answered = answers.get(120..) == Some(wanted);
+    Some((is_answered, unswept::<S>(alloc, &letters, 26)))
 }
 
 #[test]
-fn calls_are_stored_between_the_pieces_of_an_image(rt: HostRuntime) -> Result<(), Fail> {
-    let letters = of_three_pieces(rt.alloc())?;
-    let (answers, _) = play(rt.alloc(), MemDisk::new(rt.alloc()), &letters)?;
-    same(
-        &rt,
-        answers.get(120..),
-        Some(b"+++++++++#+++++++".as_slice()),
-    );
-    same(&rt, unswept(rt.alloc(), &letters, 26)?, None);
-    Ok(())
+fn calls_are_stored_between_the_pieces_of_an_image(rt: HostRuntime) {
+    let seen = tried::<MemDisk>(rt.alloc(), b"+++++++++#+++++++");
+    same(&rt, seen, Some((true, None)));
 }

@@ -1,10 +1,8 @@
-use crate::asking::{
-    Asked, DEVICE, FAILED, NOT_NOW, Row, core_on, new_store, stored_records, unlike,
-};
+use crate::asking::{Asked, DEVICE, FAILED, NOT_NOW, Row};
 use crate::expect::same_in_row;
+use crate::store::{Store, asked, failing, stored_records};
 use disk::{MemDisk, Torn};
 use std::alloc::Global;
-use std::test::Fail;
 
 /// Opening a store makes thirteen calls of the device: four syncs, four reads of headers, two of the image, one of the
 /// segment, and two that end it.
@@ -42,48 +40,30 @@ static KINDS: [(Torn, u64); 6] = [
     (Torn::Fill(0xff), 0),
 ];
 
-/// A new store whose device fails at this call of the first append, once or for good.
-fn failing(alloc: Global, call: u64, once: bool, torn: Torn) -> Result<MemDisk, Fail> {
-    let mut disk = new_store(alloc)?;
-    let at = Some(OPENING.saturating_add(call));
-    if once {
-        disk.plan(None, at, torn);
-    } else {
-        disk.plan(at, None, torn);
-    }
-    Ok(disk)
-}
-
-/// The first row that is answered otherwise, and the disk that a stop then leaves.
-fn asked(
+/// The first row that is answered otherwise, and how many records are found again behind a stop, where the device fails at this
+/// call of the first append, once or for good.
+fn left<S: Store + Drop>(
     alloc: Global,
-    disk: MemDisk,
+    call: u64,
+    once: bool,
+    torn: Torn,
     rows: &[Row],
-) -> Result<(Option<(usize, u64)>, MemDisk), Fail> {
-    let mut core = core_on(alloc, disk)?;
-    let unlike = unlike(&mut core, rows);
-    Ok((unlike, core.into_disk().after_stop()?))
-}
-
-/// The first row that is answered otherwise, and how many records are found again.
-fn left(alloc: Global, disk: MemDisk, rows: &[Row]) -> Result<(Option<(usize, u64)>, u64), Fail> {
+) -> Option<(Option<(usize, u64)>, u64)> {
+    let disk: S = failing(alloc, OPENING.saturating_add(call), once, torn)?;
     let (unlike, disk) = asked(alloc, disk, rows)?;
-    Ok((unlike, stored_records(alloc, disk)?))
+    Some((unlike, stored_records(alloc, disk.stop()?)?))
 }
 
 #[test]
-fn a_batch_is_left_whole_or_not_at_all(rt: HostRuntime) -> Result<(), Fail> {
+fn a_batch_is_left_whole_or_not_at_all(rt: HostRuntime) {
     for (torn, behind_gate) in &KINDS {
         for (call, found) in [(1, 0), (2, 0), (3, *behind_gate), (4, *behind_gate)] {
             for once in [false, true] {
-                let disk = failing(rt.alloc(), call, once, *torn)?;
-                let seen = left(rt.alloc(), disk, &FAILS)?;
-                same_in_row(&rt, (*torn, call, once), seen, (None, found));
+                let seen = left::<MemDisk>(rt.alloc(), call, once, *torn, &FAILS);
+                same_in_row(&rt, (*torn, call, once), seen, Some((None, found)));
             }
         }
-        let disk = failing(rt.alloc(), 5, false, *torn)?;
-        let seen = left(rt.alloc(), disk, &IS_STORED)?;
-        same_in_row(&rt, *torn, seen, (None, 2));
+        let seen = left::<MemDisk>(rt.alloc(), 5, false, *torn, &IS_STORED);
+        same_in_row(&rt, *torn, seen, Some((None, 2)));
     }
-    Ok(())
 }

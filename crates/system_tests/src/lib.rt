@@ -15,3 +15,5 @@ mod failures;
 mod full_row;
 #[cfg(test)]
 mod lists;
+#[cfg(test)]
+mod store;

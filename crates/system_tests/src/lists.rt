@@ -1,11 +1,10 @@
 //! Lists of events, a letter each, and what they answer, a letter each; and what a stop or a fault within them leaves.
-use crate::asking::{core_on, new_store, stored_records};
 use crate::expect::{same, same_in_row};
+use crate::store::{Store, failing, new_store, played, stored_records};
 use disk::{Disk, MemDisk, Slot, Torn};
 use ipc_model::{Call, Reply, Sequence};
 use std::alloc::{AllocError, Global};
-use std::test::Fail;
-use system::{Event, Outcome, System};
+use system::{Event, Outcome};
 
 /// A message of a header alone, by a send right made from the receive right 0x100.
 static MESSAGE: [u8; 24] = [
@@ -71,35 +70,44 @@ fn letter_of_reply(reply: &Reply) -> u8 {
     }
 }
 
+fn add_events(alloc: Global, events: &mut Vec<Event>, letters: &[u8]) -> Result<(), AllocError> {
+    for letter in letters {
+        let event = event_of(alloc, *letter)?;
+        events.push(event)?;
+    }
+    Ok(())
+}
+
 fn events_of(alloc: Global, letters: &[u8]) -> Result<Vec<Event>, AllocError> {
     let mut events = Vec::new(alloc);
-    for letter in letters {
-        events.push(event_of(alloc, *letter)?)?;
-    }
+    add_events(alloc, &mut events, letters)?;
     Ok(events)
 }
 
-/// Runs a list of events, and gives what each answered.
-fn run(core: &mut System<MemDisk>, alloc: Global, letters: &[u8]) -> Result<Vec<u8>, AllocError> {
-    let events = events_of(alloc, letters)?;
-    let outcomes = core.run(alloc, &events)?;
-    let mut answers = Vec::new(alloc);
-    for outcome in &outcomes {
-        answers.push(letter_of(outcome))?;
+fn add_letters(letters: &mut Vec<u8>, outcomes: &[Outcome]) -> Result<(), AllocError> {
+    for outcome in outcomes {
+        letters.push(letter_of(outcome))?;
     }
-    Ok(answers)
+    Ok(())
+}
+
+/// The letters of outcomes.
+fn letters_of(alloc: Global, outcomes: &[Outcome]) -> Option<Vec<u8>> {
+    let mut letters = Vec::new(alloc);
+    add_letters(&mut letters, outcomes).ok()?;
+    Some(letters)
 }
 
 /// What a list of events answers on a disk, and the disk that a stop then leaves.
-pub(crate) fn play(
+pub(crate) fn play<S: Store + Drop>(
     alloc: Global,
-    disk: MemDisk,
+    disk: S,
     letters: &[u8],
-) -> Result<(Vec<u8>, MemDisk), Fail> {
-    let mut core = core_on(alloc, disk)?;
-    let answers = run(&mut core, alloc, letters);
-    let disk = core.into_disk().after_stop()?;
-    Ok((answers?, disk))
+) -> Option<(Vec<u8>, S)> {
+    let events = events_of(alloc, letters).ok()?;
+    let (outcomes, disk) = played(alloc, disk, &events)?;
+    let disk = disk.stop()?;
+    Some((letters_of(alloc, &outcomes?)?, disk))
 }
 
 /// Two calls are one batch. Their replies are given in any order, each once, as soon as its receipt is handed in; what isn't
@@ -110,17 +118,21 @@ static TWO_CALLS: (&[u8], &[u8]) = (b"kwd0aawk0kww1kdd1002", b"----##-+--+---+-B
 static SEND_SEEN: (&[u8], &[u8]) = (b"akwd0sg2k2w2d21", b"#+++A##-+-+-+b=");
 
 /// Whether a list of events answers this on a new store, and how long its segment is then.
-fn answers(alloc: Global, list: (&[u8], &[u8])) -> Result<(bool, u64), Fail> {
+fn answers<S: Store + Drop>(alloc: Global, list: (&[u8], &[u8])) -> Option<(bool, u64)> {
     let (letters, wanted) = list;
-    let (answers, disk) = play(alloc, MemDisk::new(alloc), letters)?;
-    Ok((answers.as_slice() == wanted, disk.length(Slot::Segment0)))
+    let (answers, disk) = play(alloc, S::empty(alloc), letters)?;
+    Some((answers.as_slice() == wanted, disk.length(Slot::Segment0)))
 }
 
 #[test]
-fn lists_of_events_are_run(rt: HostRuntime) -> Result<(), Fail> {
-    same(&rt, answers(rt.alloc(), TWO_CALLS)?, (true, 110));
-    same(&rt, answers(rt.alloc(), SEND_SEEN)?.0, true);
-    Ok(())
+fn lists_of_events_are_run(rt: HostRuntime) {
+    same(
+        &rt,
+        answers::<MemDisk>(rt.alloc(), TWO_CALLS),
+        Some((true, 110)),
+    );
+    let seen = answers::<MemDisk>(rt.alloc(), SEND_SEEN);
+    same(&rt, matches!(seen, Some((true, _))), true);
 }
 
 /// The next number of a fixed generator (the constants are those of Knuth's MMIX).
@@ -141,34 +153,45 @@ fn letter_by(number: u64) -> u8 {
     }
 }
 
-/// A hundred and twenty events.
-fn letters_by(alloc: Global, seed: u64) -> Result<Vec<u8>, AllocError> {
-    let mut letters = Vec::new(alloc);
+fn add_letters_by(letters: &mut Vec<u8>, seed: u64) -> Result<(), AllocError> {
     let mut number = seed;
     for _ in 0..120 {
         number = next(number);
         letters.push(letter_by(number >> 33))?;
     }
-    Ok(letters)
+    Ok(())
 }
 
-/// How many records were told of by what a list of events answered, and how many were applied.
-pub(crate) fn bounds(
-    alloc: Global,
+/// A hundred and twenty events.
+fn letters_by(alloc: Global, seed: u64) -> Option<Vec<u8>> {
+    let mut letters = Vec::new(alloc);
+    add_letters_by(&mut letters, seed).ok()?;
+    Some(letters)
+}
+
+/// How many records were told of by what a list of events answered, and how many were applied, by way of how many each ticket
+/// saw.
+fn count_told(
+    seen: &mut Vec<u64>,
     letters: &[u8],
     answers: &[u8],
 ) -> Result<(u64, u64), AllocError> {
-    let mut seen = Vec::new(alloc);
     let (mut told, mut applied) = (0, 0u64);
     for (letter, answer) in letters.iter().zip(answers) {
         if *answer == b'#' {
             applied = applied.saturating_add(record_count(*letter));
             seen.push(applied)?;
         } else if *answer >= b'=' {
-            told = seen_by(&seen, *letter).max(told);
+            told = seen_by(seen, *letter).max(told);
         }
     }
     Ok((told, applied))
+}
+
+/// How many records were told of by what a list of events answered, and how many were applied.
+pub(crate) fn bounds(alloc: Global, letters: &[u8], answers: &[u8]) -> Option<(u64, u64)> {
+    let mut seen = Vec::new(alloc);
+    count_told(&mut seen, letters, answers).ok()
 }
 
 /// How many records the call of a letter has.
@@ -197,36 +220,30 @@ fn allocations(letters: &[u8], answers: &[u8], records: u64) -> u64 {
     count
 }
 
-/// How many records a store has, and how many ports space 1 has after them, by the name of the next one, which is allocated
-/// and stored.
-fn found(alloc: Global, disk: MemDisk) -> Result<(u64, u64), Fail> {
+/// How many ports space 1 has, by the name of the next one, which is allocated and stored, and the disk behind it.
+pub(crate) fn count_ports<S: Store + Drop>(alloc: Global, disk: S) -> Option<(u64, S)> {
     let (answers, disk) = play(alloc, disk, b"akwd0")?;
     let last = answers.last().copied().unwrap_or(0);
+    Some((u64::from(last.wrapping_sub(b'A')), disk))
+}
+
+/// How many records a store has, and how many ports space 1 has after them.
+fn found<S: Store + Drop>(alloc: Global, disk: S) -> Option<(u64, u64)> {
+    let (ports, disk) = count_ports(alloc, disk)?;
     let records = stored_records(alloc, disk)?.saturating_sub(1);
-    Ok((records, u64::from(last.wrapping_sub(b'A'))))
+    Some((records, ports))
 }
 
 /// Whether a list of events on this disk leaves no fewer records than it told of and no more than it applied, and the state
 /// after them; and whether one of them met a fault.
-fn is_bounded(alloc: Global, disk: MemDisk, letters: &[u8]) -> Result<(bool, bool), Fail> {
+fn is_bounded<S: Store + Drop>(alloc: Global, disk: S, letters: &[u8]) -> Option<(bool, bool)> {
     let (answers, disk) = play(alloc, disk, letters)?;
-    let (told, applied) = bounds(alloc, letters, &answers)?;
     let (records, ports) = found(alloc, disk)?;
+    let (told, applied) = bounds(alloc, letters, &answers)?;
     let is = told <= records
         && records <= applied
         && ports == allocations(letters, &answers, records);
-    Ok((is, answers.contains(&b'!')))
-}
-
-/// A new store whose device fails from this call on or at this call alone.
-pub(crate) fn failing(alloc: Global, at: u64, once: bool, torn: Torn) -> Result<MemDisk, Fail> {
-    let mut disk = new_store(alloc)?;
-    if once {
-        disk.plan(None, Some(at), torn);
-    } else {
-        disk.plan(Some(at), None, torn);
-    }
-    Ok(disk)
+    Some((is, answers.contains(&b'!')))
 }
 
 /// Opening a store makes thirteen calls of the device, and each append four.
@@ -245,19 +262,18 @@ fn device_calls(letters: &[u8], answers: &[u8]) -> u64 {
 
 /// How many calls of the device a list makes until none fails that is planned to, where whatever is left of each of them is
 /// within its bounds.
-fn swept(alloc: Global, letters: &[u8], once: bool, torn: Torn) -> Result<Option<u64>, Fail> {
+fn swept<S: Store + Drop>(alloc: Global, letters: &[u8], once: bool, torn: Torn) -> Option<u64> {
     for calls in 0..400u64 {
-        let at = FIRST_CALL.saturating_add(calls);
-        let disk = failing(alloc, at, once, torn)?;
+        let disk: S = failing(alloc, FIRST_CALL.saturating_add(calls), once, torn)?;
         let (is, met_fault) = is_bounded(alloc, disk, letters)?;
         if !is {
-            return Ok(None);
+            return None;
         }
         if !met_fault {
-            return Ok(Some(calls));
+            return Some(calls);
         }
     }
-    Ok(None)
+    None
 }
 
 pub(crate) static KINDS: [Torn; 6] = [
@@ -269,28 +285,42 @@ pub(crate) static KINDS: [Torn; 6] = [
     Torn::Fill(0xff),
 ];
 
+/// A way to fail, and how many calls of the device were swept in it, if a list could be.
+pub(crate) type Way = (Torn, bool, Option<u64>);
+
+/// How many calls of the device a list makes on a new store.
+fn calls_of<S: Store + Drop>(alloc: Global, letters: &[u8]) -> Option<u64> {
+    let (answers, _) = play(alloc, new_store::<S>(alloc)?, letters)?;
+    Some(device_calls(letters, &answers))
+}
+
 /// The first way to fail in which a list isn't swept as far as it makes calls of the device.
-fn unswept(alloc: Global, letters: &[u8]) -> Result<Option<(Torn, bool)>, Fail> {
-    let (answers, _) = play(alloc, new_store(alloc)?, letters)?;
-    let calls = device_calls(letters, &answers);
+fn unswept<S: Store + Drop>(alloc: Global, letters: &[u8]) -> Option<Way> {
+    let calls = calls_of::<S>(alloc, letters);
     for torn in &KINDS {
         for once in [false, true] {
-            if swept(alloc, letters, once, *torn)? != Some(calls) {
-                return Ok(Some((*torn, once)));
+            let seen = swept::<S>(alloc, letters, once, *torn);
+            if seen.is_none() || seen != calls {
+                return Some((*torn, once, seen));
             }
         }
     }
-    Ok(None)
+    None
+}
+
+/// The same for the events of a seed, whose letters have to be made.
+fn unswept_by<S: Store + Drop>(alloc: Global, seed: u64) -> Option<Option<Way>> {
+    let letters = letters_by(alloc, seed)?;
+    Some(unswept::<S>(alloc, &letters))
 }
 
 #[test]
-fn a_stop_leaves_what_was_told(rt: HostRuntime) -> Result<(), Fail> {
+fn a_stop_leaves_what_was_told(rt: HostRuntime) {
     for (letters, _) in [TWO_CALLS, SEND_SEEN] {
-        same(&rt, unswept(rt.alloc(), letters)?, None);
+        same(&rt, unswept::<MemDisk>(rt.alloc(), letters), None);
     }
     for seed in 1..5 {
-        let letters = letters_by(rt.alloc(), seed)?;
-        same_in_row(&rt, seed, unswept(rt.alloc(), &letters)?, None);
+        let seen = unswept_by::<MemDisk>(rt.alloc(), seed);
+        same_in_row(&rt, seed, seen, Some(None));
     }
-    Ok(())
 }

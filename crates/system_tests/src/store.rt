@@ -1,0 +1,191 @@
+//! Disks, the stores on them and their cores, as the tests see them. Nothing has a clause, and all is over any disk, so that a
+//! test's proof carries nothing of a disk or of a core: what is known of one would be written out at each exit of a function
+//! that owns it.
+
+use crate::asking::{EPOCH_FULL, FAULT, NO_MEMORY, NOT_NOW, Row, fill, unlike};
+use disk::{Disk, MemDisk, Slot, Torn};
+use ipc_model::{Call, Reply};
+use std::alloc::Global;
+use system::{Event, Outcome, SubmitFault, System, open};
+
+/// What makes calls, stores them and replies. Answers are numbers, as in a row.
+pub(crate) trait Core {
+    /// Makes a call of space 1.
+    fn submit_call(&mut self, call: &Call) -> u64;
+
+    fn take_waiting(&mut self) -> bool;
+
+    fn append_taken(&mut self) -> u64;
+
+    /// Hands in the oldest receipt.
+    fn hand_in(&mut self) -> bool;
+
+    fn replied(&mut self, ticket: u64) -> u64;
+
+    /// Runs a list of events, where there is memory.
+    fn run_all(&mut self, alloc: Global, events: &[Event]) -> Option<Vec<Outcome>>;
+}
+
+/// What a reply tells: the new name, the type bits, or the code.
+fn told(reply: &Reply) -> u64 {
+    match reply {
+        Reply::Allocate { name } => u64::from(*name),
+        Reply::Type { bits } => u64::from(*bits),
+        Reply::Refused { code, .. } => u64::from(code.number()),
+        _ => NOT_NOW,
+    }
+}
+
+impl<D: Disk> Core for System<D> {
+    fn submit_call(&mut self, call: &Call) -> u64 {
+        match self.submit(1, call) {
+            Ok(number) => number,
+            Err(SubmitFault::EpochFull) => EPOCH_FULL,
+            Err(SubmitFault::NoMemory) => NO_MEMORY,
+        }
+    }
+
+    fn take_waiting(&mut self) -> bool {
+        self.take()
+    }
+
+    fn append_taken(&mut self) -> u64 {
+        match self.append() {
+            Ok(is_stored) => u64::from(is_stored),
+            Err(fault) => FAULT + u64::from(fault.number()),
+        }
+    }
+
+    fn hand_in(&mut self) -> bool {
+        self.durable()
+    }
+
+    fn replied(&mut self, ticket: u64) -> u64 {
+        match self.reply(ticket) {
+            Some(reply) => told(&reply),
+            None => NOT_NOW,
+        }
+    }
+
+    fn run_all(&mut self, alloc: Global, events: &[Event]) -> Option<Vec<Outcome>> {
+        self.run(alloc, events).ok()
+    }
+}
+
+/// A disk that stops as it is planned to.
+pub(crate) trait Store: Disk {
+    /// A disk with nothing.
+    fn empty(alloc: Global) -> Self;
+
+    /// A disk whose slots hold what this one's do, all of it synced.
+    fn copied(&self, alloc: Global) -> Option<Self>;
+
+    /// Plans failures of calls, as `MemDisk::plan` does.
+    fn plan_faults(&mut self, stop_at: Option<u64>, fail_at: Option<u64>, torn: Torn);
+
+    /// What a stop leaves.
+    fn stop(self) -> Option<Self>;
+}
+
+impl Store for MemDisk {
+    fn empty(alloc: Global) -> MemDisk {
+        MemDisk::new(alloc)
+    }
+
+    fn copied(&self, alloc: Global) -> Option<MemDisk> {
+        let copy = MemDisk::with_slots(
+            alloc,
+            self.content(Slot::Image0),
+            self.content(Slot::Image1),
+            self.content(Slot::Segment0),
+            self.content(Slot::Segment1),
+        );
+        copy.ok()
+    }
+
+    fn plan_faults(&mut self, stop_at: Option<u64>, fail_at: Option<u64>, torn: Torn) {
+        self.plan(stop_at, fail_at, torn);
+    }
+
+    fn stop(self) -> Option<MemDisk> {
+        self.after_stop().ok()
+    }
+}
+
+/// The disk of a store, which was opened or couldn't be, and how many records its segment has if it was.
+pub(crate) fn reopened<D: Disk + Drop>(alloc: Global, disk: D) -> (D, Option<u64>) {
+    match open(alloc, disk) {
+        Ok(opened) => (opened.disk, Some(opened.segment.records)),
+        Err((_, disk)) => (disk, None),
+    }
+}
+
+/// The core of the store of a disk.
+fn core_on<D: Disk + Drop>(alloc: Global, disk: D) -> Option<System<D>> {
+    match open(alloc, disk) {
+        Ok(opened) => Some(System::new(alloc, opened)),
+        Err(_) => None,
+    }
+}
+
+/// The first row that is answered otherwise by the core of a store, and the disk then.
+pub(crate) fn asked<D: Disk + Drop>(
+    alloc: Global,
+    disk: D,
+    rows: &[Row],
+) -> Option<(Option<(usize, u64)>, D)> {
+    let mut core = core_on(alloc, disk)?;
+    let unlike = unlike(&mut core, rows);
+    Some((unlike, core.into_disk()))
+}
+
+/// The same where the epoch's row was filled before, and whether it could be.
+pub(crate) fn asked_full<D: Disk + Drop>(
+    alloc: Global,
+    disk: D,
+    rows: &[Row],
+) -> Option<(bool, Option<(usize, u64)>)> {
+    let mut core = core_on(alloc, disk)?;
+    let is_full = fill(&mut core);
+    Some((is_full, unlike(&mut core, rows)))
+}
+
+/// What a list of events gives on the core of a store, where there is memory, and the disk then.
+pub(crate) fn played<D: Disk + Drop>(
+    alloc: Global,
+    disk: D,
+    events: &[Event],
+) -> Option<(Option<Vec<Outcome>>, D)> {
+    let mut core = core_on(alloc, disk)?;
+    let outcomes = core.run_all(alloc, events);
+    Some((outcomes, core.into_disk()))
+}
+
+/// A disk with a new store.
+pub(crate) fn new_store<S: Store + Drop>(alloc: Global) -> Option<S> {
+    let (disk, records) = reopened(alloc, S::empty(alloc));
+    records?;
+    Some(disk)
+}
+
+/// A new store whose device fails from this call on or at this call alone.
+pub(crate) fn failing<S: Store + Drop>(
+    alloc: Global,
+    at: u64,
+    once: bool,
+    torn: Torn,
+) -> Option<S> {
+    let mut disk = new_store::<S>(alloc)?;
+    if once {
+        disk.plan_faults(None, Some(at), torn);
+    } else {
+        disk.plan_faults(Some(at), None, torn);
+    }
+    Some(disk)
+}
+
+/// How many records a store has.
+pub(crate) fn stored_records<D: Disk + Drop>(alloc: Global, disk: D) -> Option<u64> {
+    let (_, records) = reopened(alloc, disk);
+    records
+}
