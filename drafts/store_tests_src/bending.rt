@@ -1,0 +1,143 @@
+//! Stores of whole slots and bent ones, and what opening them gives.
+use crate::store::{Store, disk_of, is_receive, keeps_all, keeps_first, keeps_second, open_again};
+use crate::written::{image_of_name, segment_of_name};
+use disk::Slot;
+use journal::{OPEN_GATE, StoreFault};
+use std::alloc::{AllocError, Global};
+
+/// The epochs of image 0, image 1, segment 0 and segment 1. A slot without one is empty.
+pub(crate) type Epochs = [Option<u64>; 4];
+
+/// What opening a store gives: its epoch, how many records its segment holds, and which slots its state comes from, in the same
+/// order. Each slot has a name of its own, the images in their text and the segments in their one record: 0x100 to 0x103.
+pub(crate) type Found = Result<(u64, u64, [bool; 4]), StoreFault>;
+
+pub(crate) const DAMAGED: Found = Err(StoreFault::Damaged);
+
+/// No slot is open that counts: a new store is made.
+pub(crate) const NEW: Found = Ok((0, 0, [false, false, false, false]));
+
+/// Image 4 and its segment.
+pub(crate) const FOUR: Found = Ok((4, 1, [true, false, true, false]));
+
+/// The same, and segment 5: image 5 is written.
+pub(crate) const FOUR_TO_FIVE: Found = Ok((5, 1, [true, false, true, true]));
+
+/// Image 5 and its segment.
+pub(crate) const FIVE: Found = Ok((5, 1, [false, true, false, true]));
+
+/// How a slot is bent.
+#[derive(Clone, Copy, Debug)]
+pub(crate) enum Bend {
+    /// The byte at this place is another one.
+    Byte(usize, u8),
+    /// All bytes from this place on are 0.
+    Zero(usize),
+    /// It is cut to this length, or goes on to it with bytes ff.
+    Length(usize),
+}
+
+// A slot of this epoch, with a name of its own.
+fn whole_slot(alloc: Global, slot: Slot, epoch: u64) -> Result<Vec<u8>, AllocError> {
+    match slot {
+        Slot::Image0 => image_of_name(alloc, epoch, 0),
+        Slot::Image1 => image_of_name(alloc, epoch, 1),
+        Slot::Segment0 => segment_of_name(alloc, epoch, 2),
+        Slot::Segment1 => segment_of_name(alloc, epoch, 3),
+    }
+}
+
+// Bends a slot. A byte that is named is there, and was another one.
+fn change(bytes: &mut Vec<u8>, how: Bend) -> Option<()> {
+    match how {
+        Bend::Byte(at, byte) => match bytes.get_mut(at) {
+            Some(place) if *place != byte => *place = byte,
+            _ => return None,
+        },
+        Bend::Zero(from) => {
+            for place in bytes.iter_mut().skip(from) {
+                *place = 0;
+            }
+        }
+        Bend::Length(length) => return bytes.resize(length, 0xff).ok(),
+    }
+    Some(())
+}
+
+fn change_all(bytes: &mut Vec<u8>, slot: Slot, bends: &[(Slot, Bend)]) -> Option<()> {
+    for (bent, how) in bends {
+        if *bent == slot {
+            change(bytes, *how)?;
+        }
+    }
+    Some(())
+}
+
+fn bent_slot(
+    alloc: Global,
+    slot: Slot,
+    epoch: Option<u64>,
+    bends: &[(Slot, Bend)],
+) -> Option<Vec<u8>> {
+    let Some(epoch) = epoch else {
+        return Some(Vec::new(alloc));
+    };
+    let mut bytes = whole_slot(alloc, slot, epoch).ok()?;
+    change_all(&mut bytes, slot, bends)?;
+    Some(bytes)
+}
+
+fn bent_slots(alloc: Global, epochs: Epochs, bends: &[(Slot, Bend)]) -> Option<[Vec<u8>; 4]> {
+    let [image0, image1, segment0, segment1] = epochs;
+    Some([
+        bent_slot(alloc, Slot::Image0, image0, bends)?,
+        bent_slot(alloc, Slot::Image1, image1, bends)?,
+        bent_slot(alloc, Slot::Segment0, segment0, bends)?,
+        bent_slot(alloc, Slot::Segment1, segment1, bends)?,
+    ])
+}
+
+// What opening a store gives, and its disk.
+fn reopened<S: Store + Drop>(alloc: Global, disk: S) -> (Found, S) {
+    let (opening, disk) = open_again(alloc, disk, &[0x100, 0x101, 0x102, 0x103]);
+    let found = match opening {
+        Ok(seen) => {
+            let bits = seen.bits;
+            let names = bits.map(is_receive);
+            Ok((seen.epoch, seen.records, names))
+        }
+        Err(fault) => Err(fault),
+    };
+    (found, disk)
+}
+
+// Whether an opening left all slots as they were where it refused the store; and else those of the other number than the
+// epoch's, and the epoch's image open.
+fn is_left<S: Store>(found: Found, disk: &S, before: &[Vec<u8>; 4]) -> bool {
+    match found {
+        Ok((epoch, _, _)) if epoch % 2 == 0 => {
+            keeps_second(disk, before) && is_open(disk, Slot::Image0)
+        }
+        Ok(_) => keeps_first(disk, before) && is_open(disk, Slot::Image1),
+        Err(_) => keeps_all(disk, before),
+    }
+}
+
+fn is_open<S: Store>(disk: &S, image: Slot) -> bool {
+    disk.bytes(image).first() == Some(&OPEN_GATE)
+}
+
+/// What opening a store gives, whether it leaves the slots that it is to leave, and what opening it again gives. Nothing where
+/// a slot isn't bent by what bends it.
+pub(crate) fn tried<S: Store + Drop>(
+    alloc: Global,
+    epochs: Epochs,
+    bends: &[(Slot, Bend)],
+) -> Option<(Found, bool, Found)> {
+    let before = bent_slots(alloc, epochs, bends)?;
+    let disk: S = disk_of(alloc, &before)?;
+    let (found, disk) = reopened(alloc, disk);
+    let is_left = is_left(found, &disk, &before);
+    let (again, _) = reopened(alloc, disk);
+    Some((found, is_left, again))
+}

@@ -1,0 +1,146 @@
+//! Files that count how often they are synced, in front of those of the system.
+
+use std::alloc::Allocator;
+use std::cell::Cell;
+use std::fs::{File, Metadata, OpenFile, OpenOptions};
+use std::io::{self, ErrorKind, Read, Seek, SeekFrom, Write};
+use std::rt::Files;
+
+/// How often files were synced, and how often the folder was that they are in; and whether a sync fails now.
+#[derive(Drop)]
+pub(crate) struct Syncs {
+    files: Cell<u32>,
+    folder: Cell<u32>,
+    pub(crate) fails: Cell<bool>,
+}
+
+impl Syncs {
+    pub(crate) fn new() -> Syncs {
+        Syncs {
+            files: Cell::new(0),
+            folder: Cell::new(0),
+            fails: Cell::new(false),
+        }
+    }
+
+    /// The counts of files and of the folder.
+    pub(crate) fn counts(&self) -> (u32, u32) {
+        (self.files.get(), self.folder.get())
+    }
+}
+
+/// The files of the system, whose syncs are counted.
+#[derive(Drop)]
+pub(crate) struct CountedFiles<'a> {
+    pub(crate) files: &'a HostRuntime,
+    pub(crate) folder: &'a str,
+    pub(crate) syncs: &'a Syncs,
+}
+
+/// A file or a folder of the system, whose syncs are counted.
+#[derive(Drop)]
+pub(crate) struct CountedFile<'a> {
+    file: File,
+    is_folder: bool,
+    syncs: &'a Syncs,
+}
+
+impl<'a> Read for CountedFile<'a> {
+    fn read(&mut self, buffer: &mut [u8]) -> io::Result<usize> {
+        self.file.read(buffer)
+    }
+}
+
+impl<'a> Write for CountedFile<'a> {
+    fn write(&mut self, bytes: &[u8]) -> io::Result<usize> {
+        self.file.write(bytes)
+    }
+
+    fn flush(&mut self) -> io::Result<()> {
+        self.file.flush()
+    }
+}
+
+impl<'a> Seek for CountedFile<'a> {
+    fn seek(&mut self, to: SeekFrom) -> io::Result<u64> {
+        self.file.seek(to)
+    }
+}
+
+impl<'a> OpenFile for CountedFile<'a> {
+    fn metadata(&self) -> io::Result<Metadata> {
+        self.file.metadata()
+    }
+
+    fn set_len(&self, size: u64) -> io::Result<()> {
+        self.file.set_len(size)
+    }
+
+    fn sync_all(&self) -> io::Result<()> {
+        if self.syncs.fails.get() {
+            return Err(ErrorKind::Other.into());
+        }
+        let count = if self.is_folder {
+            &self.syncs.folder
+        } else {
+            &self.syncs.files
+        };
+        count.set(count.get().saturating_add(1));
+        self.file.sync_all()
+    }
+
+    // It syncs no length, so it doesn't count.
+    fn sync_data(&self) -> io::Result<()> {
+        self.file.sync_data()
+    }
+}
+
+impl<'a> Files for CountedFiles<'a> {
+    type File = CountedFile<'a>;
+
+    type Dir = <HostRuntime as Files>::Dir;
+
+    fn open_file(&self, how: &OpenOptions, path: &str) -> io::Result<CountedFile<'a>> {
+        Ok(CountedFile {
+            file: self.files.open_file(how, path)?,
+            is_folder: path == self.folder,
+            syncs: self.syncs,
+        })
+    }
+
+    fn open_dir(&self, path: &str) -> io::Result<Self::Dir> {
+        self.files.open_dir(path)
+    }
+
+    fn metadata(&self, path: &str) -> io::Result<Metadata> {
+        self.files.metadata(path)
+    }
+
+    fn symlink_metadata(&self, path: &str) -> io::Result<Metadata> {
+        self.files.symlink_metadata(path)
+    }
+
+    fn copy(&self, from: &str, to: &str) -> io::Result<u64> {
+        self.files.copy(from, to)
+    }
+
+    fn rename(&self, from: &str, to: &str) -> io::Result<()> {
+        self.files.rename(from, to)
+    }
+
+    fn remove_file(&self, path: &str) -> io::Result<()> {
+        self.files.remove_file(path)
+    }
+
+    fn create_dir(&self, path: &str) -> io::Result<()> {
+        self.files.create_dir(path)
+    }
+
+    fn remove_dir(&self, path: &str) -> io::Result<()> {
+        self.files.remove_dir(path)
+    }
+
+    fn remove_dir_all<B: Allocator>(&self, alloc: B, path: &str) -> io::Result<()> {
+        self.files.remove_dir_all(alloc, path)
+    }
+}

@@ -1,0 +1,521 @@
+use crate::counted::{CountedFiles, Syncs};
+use crate::expect::{same, same_in_row};
+use crate::store::{Slots, Store};
+use disk::{Disk, DiskFault, FileDisk, MemDisk, Slot, Torn};
+use std::alloc::Global;
+use std::io::{self, ErrorKind};
+use std::test::Fail;
+use std::{env, fs};
+
+// Makes a folder that no other test uses.
+fn fresh_folder(rt: &HostRuntime) -> io::Result<String> {
+    let parent = env::temp_dir(rt)?;
+    for number in 0..1_000_000u32 {
+        let path = format!(in rt.alloc(); "{}/disk_test_{number}", parent.as_str())?;
+        match fs::create_dir(rt, path.as_str()) {
+            Ok(()) => return Ok(path),
+            Err(error) if error.kind() == ErrorKind::AlreadyExists => {}
+            Err(error) => return Err(error),
+        }
+    }
+    Err(ErrorKind::AlreadyExists.into())
+}
+
+// The functions that make one call of a disk have no clause, so that a test's proof carries nothing of it.
+
+fn content<D: Disk>(alloc: Global, disk: &mut D, slot: Slot) -> Option<Vec<u8>> {
+    let mut buffer = [0; 64];
+    let count = disk.read(slot, 0, &mut buffer).ok()?;
+    Vec::from_slice(alloc, buffer.get(..count)?).ok()
+}
+
+fn read<D: Disk>(disk: &mut D, at: u64, buffer: &mut [u8]) -> Result<usize, DiskFault> {
+    disk.read(Slot::Image1, at, buffer)
+}
+
+// A write has to begin within the slot.
+fn write<D: Disk>(
+    disk: &mut D,
+    slot: Slot,
+    at: u64,
+    bytes: &[u8],
+) -> Option<Result<(), DiskFault>> {
+    if at > disk.length(slot) {
+        return None;
+    }
+    Some(disk.write_at(slot, at, bytes))
+}
+
+// A slot has to be cut to less.
+fn cut<D: Disk>(disk: &mut D, slot: Slot, length: u64) -> Option<Result<(), DiskFault>> {
+    if length > disk.length(slot) {
+        return None;
+    }
+    Some(disk.cut(slot, length))
+}
+
+fn sync<D: Disk>(disk: &mut D, slot: Slot) -> Result<(), DiskFault> {
+    disk.sync(slot)
+}
+
+fn failures<D: Disk>(disk: &D) -> u64 {
+    disk.failures()
+}
+
+// The length of a slot, and how many calls have failed.
+fn counts<D: Disk>(disk: &D, slot: Slot) -> (u64, u64) {
+    (disk.length(slot), disk.failures())
+}
+
+// Whether the slots hold these bytes, each.
+fn slots_are<S: Store>(disk: &S, wanted: &Slots<'_>) -> [bool; 4] {
+    let [image0, image1, segment0, segment1] = *wanted;
+    [
+        disk.bytes(Slot::Image0) == image0,
+        disk.bytes(Slot::Image1) == image1,
+        disk.bytes(Slot::Segment0) == segment0,
+        disk.bytes(Slot::Segment1) == segment1,
+    ]
+}
+
+// One call that changes a disk.
+#[derive(Clone, Copy)]
+enum Step {
+    Write(Slot, u64, &'static [u8]),
+    Cut(Slot, u64),
+    Sync(Slot),
+}
+
+// Takes a step that succeeds.
+fn take_one<D: Disk>(disk: &mut D, step: Step) -> Option<()> {
+    match step {
+        Step::Write(slot, at, bytes) => write(disk, slot, at, bytes)?.ok(),
+        Step::Cut(slot, length) => cut(disk, slot, length)?.ok(),
+        Step::Sync(slot) => sync(disk, slot).ok(),
+    }
+}
+
+// Takes steps that all succeed.
+fn take<D: Disk>(disk: &mut D, steps: &[Step]) -> Option<()> {
+    for step in steps {
+        take_one(disk, *step)?;
+    }
+    Some(())
+}
+
+// The bytes "aBcdEFG" in the image 1, in several steps.
+static WRITTEN: [Step; 3] = [
+    Step::Write(Slot::Image1, 0, b"abcdef"),
+    Step::Write(Slot::Image1, 4, b"EFG"),
+    Step::Write(Slot::Image1, 1, b"B"),
+];
+
+// The counts of the image 1 once that is written, and whether the slots hold it; and once it is cut and synced, and what the
+// image holds then.
+type Read = ((u64, u64), [bool; 4], (u64, u64), bool);
+
+fn written_and_read<S: Store + Drop>(alloc: Global) -> Option<Read> {
+    let mut disk = S::empty(alloc);
+    take(&mut disk, &WRITTEN)?;
+    let whole = counts(&disk, Slot::Image1);
+    let are = slots_are(&disk, &[b"", b"aBcdEFG", b"", b""]);
+    take(
+        &mut disk,
+        &[Step::Cut(Slot::Image1, 3), Step::Sync(Slot::Image1)],
+    )?;
+    let bytes = content(alloc, &mut disk, Slot::Image1)?;
+    Some((
+        whole,
+        are,
+        counts(&disk, Slot::Image1),
+        bytes.as_slice() == b"aBc".as_slice(),
+    ))
+}
+
+#[test]
+fn memory_is_read_as_it_was_written(rt: HostRuntime) {
+    let seen = written_and_read::<MemDisk>(rt.alloc());
+    same(&rt, seen, Some(((7, 0), [true; 4], (3, 0), true)));
+}
+
+// How many bytes are read at the end of three, and behind it, and what is in the first one's buffer.
+fn read_at_the_end<S: Store + Drop>(
+    alloc: Global,
+) -> Option<([Result<usize, DiskFault>; 2], [u8; 4])> {
+    let mut disk = S::empty(alloc);
+    take(&mut disk, &WRITTEN)?;
+    take(&mut disk, &[Step::Cut(Slot::Image1, 3)])?;
+    let mut buffer = *b"....";
+    let counts = [
+        read(&mut disk, 2, &mut buffer),
+        read(&mut disk, 9, &mut [0; 4]),
+    ];
+    Some((counts, buffer))
+}
+
+#[test]
+fn a_read_ends_at_the_end(rt: HostRuntime) {
+    let seen = read_at_the_end::<MemDisk>(rt.alloc());
+    same(&rt, seen, Some(([Ok(1), Ok(0)], *b"c...")));
+}
+
+// A write of 4 bytes over 2 of 3, a cut and a new write, and a synced write.
+static BEGUN: [Step; 5] = [
+    Step::Write(Slot::Image0, 1, b"WXYZ"),
+    Step::Cut(Slot::Image1, 2),
+    Step::Write(Slot::Image1, 2, b"W"),
+    Step::Write(Slot::Segment0, 0, b"pq"),
+    Step::Sync(Slot::Segment0),
+];
+
+// A disk with these, and a write that failed: its sixth call.
+fn begun<S: Store + Drop>(alloc: Global, torn: Torn) -> Option<S> {
+    let mut disk = S::holding(alloc, [b"abc", b"abcdef", b"", b"m"])?;
+    disk.plan_faults(None, Some(6), torn);
+    take(&mut disk, &BEGUN)?;
+    let _ = write(&mut disk, Slot::Segment1, 1, b"nop")?;
+    Some(disk)
+}
+
+static SEEN: Slots<'static> = [b"aWXYZ", b"abW", b"pq", b"m"];
+
+// Whether such a disk holds what was written, and how many calls failed; and whether a stop leaves these bytes.
+fn torn_by_a_stop<S: Store + Drop>(
+    alloc: Global,
+    torn: Torn,
+    left: &Slots<'_>,
+) -> Option<([bool; 4], u64, [bool; 4])> {
+    let disk = begun::<S>(alloc, torn)?;
+    let (are, failures) = (slots_are(&disk, &SEEN), failures(&disk));
+    let disk = disk.stop()?;
+    Some((are, failures, slots_are(&disk, left)))
+}
+
+#[test]
+fn a_stop_tears_what_was_not_synced(rt: HostRuntime) {
+    let rows: [(Torn, Slots<'_>); 4] = [
+        (Torn::Old, [b"abc", b"ab", b"pq", b"m"]),
+        (Torn::New, [b"aWXYZ", b"abWdef", b"pq", b"mnop"]),
+        (Torn::Half, [b"aWX\0\0", b"abWdef", b"pq", b"mno\0"]),
+        (Torn::Fill(35), [b"a####", b"ab#def", b"pq", b"m###"]),
+    ];
+    for (torn, left) in rows {
+        let seen = torn_by_a_stop::<MemDisk>(rt.alloc(), torn, &left);
+        same_in_row(&rt, torn, seen, Some(([true; 4], 1, [true; 4])));
+    }
+}
+
+// How many calls have failed on what a stop leaves, once it is synced, and whether a second stop leaves these bytes.
+fn left_at_rest<S: Store + Drop>(alloc: Global, torn: Torn, image0: &[u8]) -> Option<(u64, bool)> {
+    let mut left = begun::<S>(alloc, torn)?.stop()?;
+    sync(&mut left, Slot::Image0).ok()?;
+    let failures = failures(&left);
+    let left = left.stop()?;
+    Some((failures, left.bytes(Slot::Image0) == image0))
+}
+
+// What a stop leaves has no plan, and nothing that a second stop could tear.
+#[test]
+fn a_stop_leaves_a_disk_at_rest(rt: HostRuntime) {
+    let rows: [(Torn, &[u8]); 4] = [
+        (Torn::Old, b"abc"),
+        (Torn::New, b"aWXYZ"),
+        (Torn::Half, b"aWX\0\0"),
+        (Torn::Fill(35), b"a####"),
+    ];
+    for (torn, image0) in rows {
+        let seen = left_at_rest::<MemDisk>(rt.alloc(), torn, image0);
+        same_in_row(&rt, torn, seen, Some((0, true)));
+    }
+}
+
+// A disk that is stopped since its second call.
+fn stopped<S: Store + Drop>(alloc: Global) -> Option<S> {
+    let mut disk = S::empty(alloc);
+    take(&mut disk, &[Step::Write(Slot::Image0, 0, b"ab")])?;
+    disk.plan_faults(Some(2), None, Torn::Old);
+    take(&mut disk, &[Step::Write(Slot::Image0, 0, b"A")])?;
+    Some(disk)
+}
+
+// The faults of a sync, a cut, a write and a read.
+fn faults<D: Disk>(disk: &mut D) -> Option<[Option<DiskFault>; 4]> {
+    Some([
+        sync(disk, Slot::Image0).err(),
+        cut(disk, Slot::Image0, 0)?.err(),
+        write(disk, Slot::Image0, 0, b"xyz")?.err(),
+        read(disk, 0, &mut [0; 4]).err(),
+    ])
+}
+
+// What such a disk answers, its counts then, and whether it holds what was written, and nothing behind a stop.
+type Stopped = ([Option<DiskFault>; 4], (u64, u64), [bool; 2]);
+
+fn stopped_and_asked<S: Store + Drop>(alloc: Global) -> Option<Stopped> {
+    let mut disk = stopped::<S>(alloc)?;
+    let faults = faults(&mut disk)?;
+    let counts = counts(&disk, Slot::Image0);
+    let is_written = disk.bytes(Slot::Image0) == b"Ab".as_slice();
+    let disk = disk.stop()?;
+    Some((
+        faults,
+        counts,
+        [is_written, disk.bytes(Slot::Image0).is_empty()],
+    ))
+}
+
+#[test]
+fn a_plan_stops_all_later_calls(rt: HostRuntime) {
+    let seen = stopped_and_asked::<MemDisk>(rt.alloc());
+    same(&rt, seen, Some(([Some(DiskFault); 4], (2, 4), [true; 2])));
+}
+
+// Each test of files goes on in a function that only has the folder's path, so that what is known of the folder's name isn't
+// written out at each of its exits.
+
+fn files_at(rt: HostRuntime, folder: &str) -> Option<FileDisk<HostRuntime>> {
+    FileDisk::at(rt.alloc(), rt, folder).ok()
+}
+
+fn is_removed(rt: &HostRuntime, folder: &str) -> bool {
+    fs::remove_dir_all(rt, folder).is_ok()
+}
+
+// What is done on files is written over any disk, so that a proof carries nothing of files.
+
+static SEGMENT_STEPS: [Step; 5] = [
+    Step::Write(Slot::Segment0, 0, b"abcdef"),
+    Step::Write(Slot::Segment0, 2, b"CD"),
+    Step::Sync(Slot::Segment0),
+    Step::Cut(Slot::Segment0, 5),
+    Step::Sync(Slot::Segment0),
+];
+
+// Writes to a disk, and gives the counts of the segment 0.
+fn write_segment<D: Disk + Drop>(mut disk: D) -> Option<(u64, u64)> {
+    take(&mut disk, &SEGMENT_STEPS)?;
+    Some(counts(&disk, Slot::Segment0))
+}
+
+// Whether the segment 0 holds what was written, and then its counts and those of the image 0.
+fn read_segment<D: Disk + Drop>(alloc: Global, mut disk: D) -> Option<(bool, [(u64, u64); 2])> {
+    let bytes = content(alloc, &mut disk, Slot::Segment0)?;
+    let seen = [counts(&disk, Slot::Segment0), counts(&disk, Slot::Image0)];
+    Some((bytes.as_slice() == b"abCDe".as_slice(), seen))
+}
+
+// What is written in a folder, and what is read of it.
+type Held = (Option<(u64, u64)>, Option<(bool, [(u64, u64); 2])>);
+
+fn write_and_read(rt: HostRuntime, folder: &str) -> Option<Held> {
+    let written = write_segment(files_at(rt, folder)?);
+    let read = read_segment(rt.alloc(), files_at(rt, folder)?);
+    Some((written, read))
+}
+
+#[test]
+fn files_hold_what_was_written(rt: HostRuntime) -> Result<(), Fail> {
+    let folder = fresh_folder(&rt)?;
+    let seen = write_and_read(rt, folder.as_str());
+    let wanted = (Some((5, 0)), Some((true, [(5, 0), (0, 0)])));
+    same(&rt, seen, Some(wanted));
+    same(&rt, is_removed(&rt, folder.as_str()), true);
+    Ok(())
+}
+
+// Reads and syncs a slot, and gives how many bytes it holds.
+fn read_and_sync<D: Disk>(alloc: Global, disk: &mut D, slot: Slot) -> Option<usize> {
+    let bytes = content(alloc, disk, slot)?;
+    sync(disk, slot).ok()?;
+    Some(bytes.len())
+}
+
+// Reads and syncs each slot, and gives how many bytes they hold.
+fn read_and_sync_all<D: Disk + Drop>(alloc: Global, mut disk: D) -> [Option<usize>; 4] {
+    [
+        read_and_sync(alloc, &mut disk, Slot::Image0),
+        read_and_sync(alloc, &mut disk, Slot::Image1),
+        read_and_sync(alloc, &mut disk, Slot::Segment0),
+        read_and_sync(alloc, &mut disk, Slot::Segment1),
+    ]
+}
+
+fn read_and_sync_in(rt: HostRuntime, folder: &str) -> Option<[Option<usize>; 4]> {
+    Some(read_and_sync_all(rt.alloc(), files_at(rt, folder)?))
+}
+
+#[test]
+fn reads_and_syncs_make_no_file(rt: HostRuntime) -> Result<(), Fail> {
+    let folder = fresh_folder(&rt)?;
+    let lengths = read_and_sync_in(rt, folder.as_str());
+    same(&rt, lengths, Some([Some(0); 4]));
+    // It is empty, or else this fails.
+    same(&rt, fs::remove_dir(&rt, folder.as_str()).is_ok(), true);
+    Ok(())
+}
+
+// The fault of files at a path, if there is one.
+fn fault_at(rt: HostRuntime, path: &str) -> Option<DiskFault> {
+    FileDisk::at(rt.alloc(), rt, path).err()
+}
+
+fn image_path(rt: &HostRuntime, folder: &str) -> Option<String> {
+    format!(in rt.alloc(); "{folder}/image0").ok()
+}
+
+// The faults of files at a path that isn't there, and at a file.
+fn faults_at_no_folder(rt: HostRuntime, folder: &str) -> Option<[Option<DiskFault>; 2]> {
+    let inside = image_path(&rt, folder)?;
+    let absent = fault_at(rt, inside.as_str());
+    fs::write(&rt, inside.as_str(), b"a".as_slice()).ok()?;
+    Some([absent, fault_at(rt, inside.as_str())])
+}
+
+#[test]
+fn what_is_no_folder_is_refused(rt: HostRuntime) -> Result<(), Fail> {
+    let folder = fresh_folder(&rt)?;
+    let faults = faults_at_no_folder(rt, folder.as_str());
+    same(&rt, faults, Some([Some(DiskFault); 2]));
+    same(&rt, is_removed(&rt, folder.as_str()), true);
+    Ok(())
+}
+
+// The fault of files whose image is a folder.
+fn fault_at_folder_for_image(rt: HostRuntime, folder: &str) -> Option<Option<DiskFault>> {
+    let inside = image_path(&rt, folder)?;
+    fs::create_dir(&rt, inside.as_str()).ok()?;
+    Some(fault_at(rt, folder))
+}
+
+#[test]
+fn a_folder_in_place_of_a_slot_is_refused(rt: HostRuntime) -> Result<(), Fail> {
+    let folder = fresh_folder(&rt)?;
+    let fault = fault_at_folder_for_image(rt, folder.as_str());
+    same(&rt, fault, Some(Some(DiskFault)));
+    same(&rt, is_removed(&rt, folder.as_str()), true);
+    Ok(())
+}
+
+// What a write and a cut answer, and how many calls have failed then.
+fn write_and_cut<D: Disk + Drop>(mut disk: D) -> Option<([Result<(), DiskFault>; 2], u64)> {
+    let written = write(&mut disk, Slot::Image0, 0, b"a")?;
+    let cut = cut(&mut disk, Slot::Image0, 0)?;
+    Some(([written, cut], disk.failures()))
+}
+
+// The same on files whose folder is gone.
+fn write_and_cut_in_none(
+    rt: HostRuntime,
+    folder: &str,
+) -> Option<([Result<(), DiskFault>; 2], u64)> {
+    let disk = files_at(rt, folder)?;
+    if fs::remove_dir(&rt, folder).is_err() {
+        return None;
+    }
+    write_and_cut(disk)
+}
+
+#[test]
+fn a_failed_call_is_counted(rt: HostRuntime) -> Result<(), Fail> {
+    let folder = fresh_folder(&rt)?;
+    let seen = write_and_cut_in_none(rt, folder.as_str());
+    same(&rt, seen, Some(([Err(DiskFault); 2], 2)));
+    Ok(())
+}
+
+// The files of a folder, whose syncs are counted.
+fn counted_at<'a>(
+    files: &'a HostRuntime,
+    folder: &'a str,
+    syncs: &'a Syncs,
+) -> Result<FileDisk<CountedFiles<'a>>, DiskFault> {
+    let counted = CountedFiles {
+        files,
+        folder,
+        syncs,
+    };
+    FileDisk::at(files.alloc(), counted, folder)
+}
+
+// How often files and their folder were synced behind a step, if there is one, and a sync.
+fn syncs_behind<D: Disk>(
+    disk: &mut D,
+    syncs: &Syncs,
+    steps: &[Step],
+    slot: Slot,
+) -> Option<(u32, u32)> {
+    take(disk, steps)?;
+    sync(disk, slot).ok()?;
+    Some(syncs.counts())
+}
+
+// The same behind each sync of a slot: one without a file, a new one, one that was written again, one that wasn't, and another
+// new one.
+fn count_syncs<D: Disk + Drop>(mut disk: D, syncs: &Syncs) -> [Option<(u32, u32)>; 5] {
+    let (first, second) = (
+        [Step::Write(Slot::Segment0, 0, b"ab")],
+        [Step::Write(Slot::Segment0, 1, b"B")],
+    );
+    [
+        syncs_behind(&mut disk, syncs, &[], Slot::Segment0),
+        syncs_behind(&mut disk, syncs, &first, Slot::Segment0),
+        syncs_behind(&mut disk, syncs, &second, Slot::Segment0),
+        syncs_behind(&mut disk, syncs, &[], Slot::Segment0),
+        syncs_behind(
+            &mut disk,
+            syncs,
+            &[Step::Cut(Slot::Image0, 0)],
+            Slot::Image0,
+        ),
+    ]
+}
+
+fn count_syncs_in(rt: &HostRuntime, folder: &str) -> Option<[Option<(u32, u32)>; 5]> {
+    let syncs = Syncs::new();
+    let disk = counted_at(rt, folder, &syncs).ok()?;
+    Some(count_syncs(disk, &syncs))
+}
+
+#[test]
+fn a_sync_syncs_the_file_and_a_new_one_its_folder(rt: HostRuntime) -> Result<(), Fail> {
+    let folder = fresh_folder(&rt)?;
+    let seen = count_syncs_in(&rt, folder.as_str());
+    let wanted = [(0, 0), (1, 1), (2, 1), (3, 1), (4, 2)].map(Some);
+    same(&rt, seen, Some(wanted));
+    same(&rt, is_removed(&rt, folder.as_str()), true);
+    Ok(())
+}
+
+// What syncs answer while they fail, and afterwards, and how many calls have failed then.
+fn fail_syncs<D: Disk + Drop>(
+    mut disk: D,
+    syncs: &Syncs,
+) -> Option<([Result<(), DiskFault>; 2], u64)> {
+    take(&mut disk, &[Step::Write(Slot::Segment0, 0, b"ab")])?;
+    syncs.fails.set(true);
+    let while_failing = sync(&mut disk, Slot::Segment0);
+    syncs.fails.set(false);
+    let afterwards = sync(&mut disk, Slot::Segment0);
+    Some(([while_failing, afterwards], disk.failures()))
+}
+
+// The same on files, and the counts of syncs then.
+type Failed = (Option<([Result<(), DiskFault>; 2], u64)>, (u32, u32));
+
+fn fail_syncs_in(rt: &HostRuntime, folder: &str) -> Option<Failed> {
+    let syncs = Syncs::new();
+    let disk = counted_at(rt, folder, &syncs).ok()?;
+    let seen = fail_syncs(disk, &syncs);
+    Some((seen, syncs.counts()))
+}
+
+// What the system could not write it may have dropped, so a later sync would tell nothing.
+#[test]
+fn a_failed_sync_is_not_made_good(rt: HostRuntime) -> Result<(), Fail> {
+    let folder = fresh_folder(&rt)?;
+    let seen = fail_syncs_in(&rt, folder.as_str());
+    let wanted = (Some(([Err(DiskFault); 2], 2)), (0, 0));
+    same(&rt, seen, Some(wanted));
+    same(&rt, is_removed(&rt, folder.as_str()), true);
+    Ok(())
+}

@@ -1,0 +1,236 @@
+//! Stores of later epochs, and of a checkpoint that was half done.
+use crate::expect::{same, same_in_row};
+use crate::looked::looked;
+use crate::making::{SEGMENT, append_allocations, append_from};
+use crate::store::{Opening, Store, disk_of, go_on, is_receive, keeps_all, open_again};
+use crate::written::{image_of_name, image_of_none, opened_slot};
+use disk::{Disk, MemDisk, Slot, Torn};
+use journal::{Segment, StoreFault, roll_close, roll_head, roll_open};
+use slot_steps::segment_slot;
+use std::alloc::{AllocError, Global};
+use std::test::Fail;
+
+// What opening a store gave: its epoch, how many records its segment holds, and which of the names 0x100 to 0x102 are
+// receive rights.
+type Found = Result<(u64, u64, [bool; 3]), StoreFault>;
+
+fn found_of(opening: Opening) -> Found {
+    match opening {
+        Ok(seen) => {
+            let [first, second, third, _] = seen.bits;
+            let names = [first, second, third].map(is_receive);
+            Ok((seen.epoch, seen.records, names))
+        }
+        Err(fault) => Err(fault),
+    }
+}
+
+// What opening a store gives, and its disk.
+fn reopened<S: Store + Drop>(alloc: Global, disk: S) -> (Found, S) {
+    let (opening, disk) = open_again(alloc, disk, &[0x100, 0x101, 0x102, 0x102]);
+    (found_of(opening), disk)
+}
+
+// An epoch's segment. Its slot isn't empty once it is closed.
+fn next_segment<D: Disk>(disk: &mut D, epoch: u64) -> Result<Segment, StoreFault> {
+    roll_close(disk, epoch)?;
+    if disk.length(segment_slot(epoch)) == 0 {
+        return Err(StoreFault::Device);
+    }
+    roll_head(disk, epoch)?;
+    Ok(roll_open(disk, epoch)?)
+}
+
+// Appends a record to a segment, and makes the next epoch's.
+fn roll<D: Disk>(
+    alloc: Global,
+    segment: &mut Segment,
+    disk: &mut D,
+) -> Result<Segment, StoreFault> {
+    append_allocations(alloc, segment, disk, 1)?;
+    next_segment(disk, segment.epoch.saturating_add(1))
+}
+
+// A new store whose segment has a record, and that has the next epoch's segment, but not its image.
+fn rolled<S: Store + Drop>(alloc: Global) -> Option<(S, Segment)> {
+    let (mut disk, mut segment) = go_on(alloc, S::empty(alloc))?;
+    let next = roll(alloc, &mut segment, &mut disk).ok()?;
+    Some((disk, next))
+}
+
+// The same, with a record in the next epoch's segment.
+fn half_done<S: Store + Drop>(alloc: Global) -> Option<S> {
+    let (mut disk, mut next) = rolled::<S>(alloc)?;
+    append_allocations(alloc, &mut next, &mut disk, 1).ok()?;
+    Some(disk)
+}
+
+// An epoch, and how many records are told of it.
+type Told = Result<(u64, u64), StoreFault>;
+
+// What a look tells of a store: the epoch of its image, and its records.
+fn look_at<D: Disk>(alloc: Global, disk: &mut D) -> Told {
+    let (epoch, records, _, _) = looked(alloc, disk)?;
+    Ok((epoch, records))
+}
+
+fn told_of(found: Found) -> Told {
+    match found {
+        Ok((epoch, records, _)) => Ok((epoch, records)),
+        Err(fault) => Err(fault),
+    }
+}
+
+// What is told of a store whose checkpoint was half done: by a look, by its opening, and by a look behind that.
+fn told_of_half_done<S: Store + Drop>(alloc: Global) -> Option<[Told; 3]> {
+    let mut disk = half_done::<S>(alloc)?;
+    let first = look_at(alloc, &mut disk);
+    let (found, mut disk) = reopened(alloc, disk);
+    Some([first, told_of(found), look_at(alloc, &mut disk)])
+}
+
+// A store whose first checkpoint was half done is in epoch 1 once it is opened; its second checkpoint is half done then.
+#[test]
+fn checkpoints_are_finished(rt: HostRuntime) {
+    let told = told_of_half_done::<MemDisk>(rt.alloc());
+    same(&rt, told, Some([Ok((0, 2)), Ok((1, 1)), Ok((1, 1))]));
+}
+
+// The slots of a store in epoch 1, whose image has the name 0x100, and whose segment has no record.
+fn in_epoch_one(alloc: Global) -> Result<[Vec<u8>; 4], AllocError> {
+    Ok([
+        image_of_none(alloc, 0)?,
+        image_of_name(alloc, 1, 0)?,
+        SEGMENT.to_vec(alloc)?,
+        opened_slot(alloc, 1, &[0])?,
+    ])
+}
+
+// How long the next image and segment are; and twice what opening the store gives, and whether its slots are those of epoch 1
+// then.
+fn finished_without_image<S: Store + Drop>(
+    alloc: Global,
+    wanted: &[Vec<u8>; 4],
+) -> Option<([usize; 2], [(Found, bool); 2])> {
+    let (disk, _) = rolled::<S>(alloc)?;
+    let lengths = [
+        disk.bytes(Slot::Image1).len(),
+        disk.bytes(Slot::Segment1).len(),
+    ];
+    let (first, disk) = reopened(alloc, disk);
+    let is_first = keeps_all(&disk, wanted);
+    let (second, disk) = reopened(alloc, disk);
+    let is_second = keeps_all(&disk, wanted);
+    Some((lengths, [(first, is_first), (second, is_second)]))
+}
+
+// The next segment is open, without a record, and the image of epoch 0 is alone.
+#[test]
+fn a_checkpoint_without_its_image_is_finished(rt: HostRuntime) -> Result<(), Fail> {
+    let wanted = in_epoch_one(rt.alloc())?;
+    let seen = finished_without_image::<MemDisk>(rt.alloc(), &wanted);
+    let found = (Ok((1, 0, [true, false, false])), true);
+    same(&rt, seen, Some(([0, 17], [found, found])));
+    Ok(())
+}
+
+// The slots of epochs 4 and 5, each whole: the image of epoch 4 has no name, its segment allocates 0x100, and with that name
+// epoch 5 begins.
+fn in_epoch_five(alloc: Global, segment1: &[u8]) -> Result<[Vec<u8>; 4], AllocError> {
+    Ok([
+        image_of_none(alloc, 4)?,
+        image_of_name(alloc, 5, 0)?,
+        opened_slot(alloc, 4, &SEGMENT[16..])?,
+        opened_slot(alloc, 5, segment1)?,
+    ])
+}
+
+// Opens a store, and appends the record of the name 0x101.
+fn appended<S: Store + Drop>(alloc: Global, disk: S) -> Option<S> {
+    let (mut disk, mut segment) = go_on(alloc, disk)?;
+    append_from(alloc, &mut segment, &mut disk, 1, 1).ok()?;
+    Some(disk)
+}
+
+// A segment's content with the record of the name 0x101.
+fn second_batch() -> [u8; 54] {
+    let mut batch = [0; 54];
+    batch.copy_from_slice(&SEGMENT[16..]);
+    batch[49] = 1;
+    batch
+}
+
+// What opening a store of these slots gives, and whether it has these slots then; and the same behind an append, which leaves
+// those.
+fn gone_on<S: Store + Drop>(
+    alloc: Global,
+    before: &[Vec<u8>; 4],
+    after: &[Vec<u8>; 4],
+) -> Option<[(Found, bool); 2]> {
+    let disk: S = disk_of(alloc, before)?;
+    let (first, disk) = reopened(alloc, disk);
+    let is_first = keeps_all(&disk, before);
+    let (second, disk) = reopened(alloc, appended(alloc, disk)?);
+    let is_second = keeps_all(&disk, after);
+    Some([(first, is_first), (second, is_second)])
+}
+
+#[test]
+fn records_go_to_the_segment_of_the_newest_image(rt: HostRuntime) -> Result<(), Fail> {
+    let before = in_epoch_five(rt.alloc(), &[0])?;
+    let after = in_epoch_five(rt.alloc(), &second_batch())?;
+    let seen = gone_on::<MemDisk>(rt.alloc(), &before, &after);
+    let wanted = [
+        (Ok((5, 0, [true, false, false])), true),
+        (Ok((5, 1, [true, true, false])), true),
+    ];
+    same(&rt, seen, Some(wanted));
+    Ok(())
+}
+
+static TORN: [Torn; 6] = [
+    Torn::Old,
+    Torn::New,
+    Torn::Half,
+    Torn::Fill(0),
+    Torn::Fill(0x5a),
+    Torn::Fill(0xff),
+];
+
+// How many device calls the opening of such a store makes: four syncs, four headers, the image's length and text, two reads
+// of segments; four calls that clear the next image, one for its text, two for its header and two for its gate; and the two
+// that end the segment.
+const CALLS: u64 = 23;
+
+// The fault of an opening that a stop may come within, and what opening the store again gives then.
+fn stopped<S: Store + Drop>(
+    alloc: Global,
+    stop_at: u64,
+    torn: Torn,
+) -> Option<(Option<StoreFault>, Found)> {
+    let mut disk = half_done::<S>(alloc)?;
+    disk.plan_faults(Some(stop_at), None, torn);
+    let (first, disk) = reopened(alloc, disk);
+    let (found, _) = reopened(alloc, disk.stop()?);
+    Some((first.err(), found))
+}
+
+// Whatever a stop within the opening leaves, the next one gives the state with both records, in epoch 1.
+#[test]
+fn stops_while_a_checkpoint_is_finished(rt: HostRuntime) {
+    for torn in &TORN {
+        for stop_at in 1..CALLS + 2 {
+            let fault = if stop_at <= CALLS {
+                Some(StoreFault::Device)
+            } else {
+                None
+            };
+            same_in_row(
+                &rt,
+                (torn, stop_at),
+                stopped::<MemDisk>(rt.alloc(), stop_at, *torn),
+                Some((fault, Ok((1, 1, [true, true, false])))),
+            );
+        }
+    }
+}

@@ -1,0 +1,176 @@
+use crate::expect::{same, same_in_row};
+use crate::making::{NEW_SEGMENT, SEGMENT, append_allocations, segment_of};
+use crate::store::{Store, disk_with};
+use crate::streams::{Read, long_segment, records_of};
+use disk::{Disk, MemDisk, Slot};
+use ipc_model::{Call, Reply};
+use journal::{LONGEST_STEP, PIECE, Segment, StoreFault};
+use std::alloc::Global;
+
+// Appends batches of so many records each.
+fn append_all<D: Disk>(
+    alloc: Global,
+    segment: &mut Segment,
+    disk: &mut D,
+    counts: &[u8],
+) -> Result<(), StoreFault> {
+    for count in counts {
+        append_allocations(alloc, segment, disk, *count)?;
+    }
+    Ok(())
+}
+
+// How many records a new segment has behind batches of so many, and whether it has these bytes.
+fn stored<S: Store + Drop>(alloc: Global, counts: &[u8], wanted: &[u8]) -> Option<(u64, bool)> {
+    let mut disk: S = disk_with(alloc, &[], &NEW_SEGMENT)?;
+    let mut segment = segment_of(0);
+    append_all(alloc, &mut segment, &mut disk, counts).ok()?;
+    Some((segment.records, disk.bytes(Slot::Segment0) == wanted))
+}
+
+#[test]
+fn a_batch_is_stored(rt: HostRuntime) {
+    let seen = stored::<MemDisk>(rt.alloc(), &[1], &SEGMENT);
+    same(&rt, seen, Some((1, true)));
+}
+
+// A segment of epoch 0 with two batches: one of two records, and then one of a single record.
+static TWO_BATCHES: [u8; 163] = [
+    0x5a, 1, 0, 0, 0, 0, 0, 0, 0, 0, 0, 0, 0, 0, 0, 0, // the header
+    0x5a, 2, 0, 0, 0, 80, 0, 0, 0, 0, 0, 0, 0, // two records of 80 bytes
+    0, 0, 0, 0, 0, 0, 0, 0, 1, 0, 0, 0, // the first, of space 1
+    8, 0, 0, 0, 5, 0, 0, 0, 1, 0, 0, 0, // allocate a receive right
+    12, 0, 0, 0, 5, 0, 0, 0, 0, 0, 0, 0, 0, 1, 0, 0, // done, as 0x100
+    1, 0, 0, 0, 0, 0, 0, 0, 1, 0, 0, 0, //
+    8, 0, 0, 0, 5, 0, 0, 0, 1, 0, 0, 0, //
+    12, 0, 0, 0, 5, 0, 0, 0, 0, 0, 0, 0, 1, 1, 0, 0, //
+    0x5a, 1, 0, 0, 0, 40, 0, 0, 0, 0, 0, 0, 0, //
+    2, 0, 0, 0, 0, 0, 0, 0, 1, 0, 0, 0, //
+    8, 0, 0, 0, 5, 0, 0, 0, 1, 0, 0, 0, //
+    12, 0, 0, 0, 5, 0, 0, 0, 0, 0, 0, 0, 2, 1, 0, 0, //
+    0,
+];
+
+#[test]
+fn a_batch_has_one_gate(rt: HostRuntime) {
+    let seen = stored::<MemDisk>(rt.alloc(), &[2, 1], &TWO_BATCHES);
+    same(&rt, seen, Some((3, true)));
+}
+
+// What an append answers, and how many records and how many bytes the segment has then.
+type Appended = (Result<(), StoreFault>, u64, usize);
+
+// Appends a batch of so many records to a segment of so many.
+fn appended<S: Store + Drop>(alloc: Global, records: u64, count: u8) -> Option<Appended> {
+    let mut disk: S = disk_with(alloc, &[], &NEW_SEGMENT)?;
+    let mut segment = segment_of(records);
+    let answer = append_allocations(alloc, &mut segment, &mut disk, count);
+    Some((answer, segment.records, disk.bytes(Slot::Segment0).len()))
+}
+
+// A batch fits as a whole, or nothing of it is stored.
+#[test]
+fn a_segment_holds_65536_records(rt: HostRuntime) {
+    for (records, count, wanted) in [
+        (65_535, 1, (Ok(()), 65_536, 70)),
+        (65_535, 2, (Err(StoreFault::Full), 65_535, 17)),
+        (65_534, 2, (Ok(()), 65_536, 110)),
+        (65_536, 1, (Err(StoreFault::Full), 65_536, 17)),
+    ] {
+        let seen = appended::<MemDisk>(rt.alloc(), records, count);
+        same_in_row(&rt, (records, count), seen, Some(wanted));
+    }
+}
+
+// The records of a segment, which is read in pieces of so many bytes, and where the last one ends.
+fn read<S: Store + Drop>(
+    alloc: Global,
+    segment: &[u8],
+    room: usize,
+) -> Option<Result<Read, StoreFault>> {
+    let mut disk: S = disk_with(alloc, &[], segment)?;
+    records_of(alloc, &mut disk, room)
+}
+
+// Where the only record ends that was read, its space, and whether it is an allocation of the name 0x100.
+fn only_of(read: &Read) -> Option<(u64, u32, bool, bool)> {
+    let [record] = read.records.as_slice() else {
+        return None;
+    };
+    let is_call = matches!(&record.call, Call::Allocate { right: 1 });
+    let is_reply = matches!(&record.reply, Reply::Allocate { name: 0x100 });
+    Some((read.end, record.space, is_call, is_reply))
+}
+
+fn read_only<S: Store + Drop>(alloc: Global) -> Option<(u64, u32, bool, bool)> {
+    let read = read::<S>(alloc, &SEGMENT, PIECE)?.ok()?;
+    only_of(&read)
+}
+
+#[test]
+fn records_are_read(rt: HostRuntime) {
+    let seen = read_only::<MemDisk>(rt.alloc());
+    same(&rt, seen, Some((69, 1, true, true)));
+}
+
+// A segment with the batch of `SEGMENT` twice.
+fn twice() -> [u8; 123] {
+    let mut twice = [0; 123];
+    twice[..69].copy_from_slice(&SEGMENT[..69]);
+    twice[69..].copy_from_slice(&SEGMENT[16..]);
+    twice
+}
+
+// The fault of the read of a segment, if there is one.
+fn fault_of<S: Store + Drop>(alloc: Global, segment: &[u8]) -> Option<Option<StoreFault>> {
+    Some(read::<S>(alloc, segment, PIECE)?.err())
+}
+
+#[test]
+fn a_second_batch_has_its_own_number(rt: HostRuntime) {
+    let fault = fault_of::<MemDisk>(rt.alloc(), &twice());
+    same(&rt, fault, Some(Some(StoreFault::Damaged)));
+}
+
+// How many records a long segment is found to have, and where the last one ends.
+fn seen_in<S: Store + Drop>(alloc: Global, count: u16, room: usize) -> Option<(usize, u64)> {
+    let segment = long_segment(alloc, count).ok()?;
+    let read = read::<S>(alloc, &segment, room)?.ok()?;
+    Some((read.records.len(), read.end))
+}
+
+// Records stand across the edges of pieces, and the pieces are of any size that is allowed.
+#[test]
+fn pieces_of_any_size(rt: HostRuntime) {
+    for room in [
+        LONGEST_STEP,
+        LONGEST_STEP + 1,
+        LONGEST_STEP + 52,
+        LONGEST_STEP + 1_000,
+        PIECE,
+    ] {
+        let seen = seen_in::<MemDisk>(rt.alloc(), 2_599, room);
+        same_in_row(&rt, room, seen, Some((2_600, 16 + 2_600 * 53)));
+    }
+}
+
+// Whether a fault is told by these words.
+fn is_told(alloc: Global, fault: StoreFault, words: &str) -> Option<bool> {
+    let told = format!(in alloc; "{fault}").ok()?;
+    Some(told.as_str() == words)
+}
+
+#[test]
+fn names_of_faults(rt: HostRuntime) {
+    for (fault, number, words) in [
+        (StoreFault::Device, 1, "device"),
+        (StoreFault::Full, 2, "full"),
+        (StoreFault::Damaged, 3, "damaged"),
+        (StoreFault::NoMemory, 4, "no memory"),
+        (StoreFault::Failed, 5, "failed"),
+        (StoreFault::Version, 6, "version"),
+    ] {
+        let is_told = is_told(rt.alloc(), fault, words);
+        same_in_row(&rt, words, (fault.number(), is_told), (number, Some(true)));
+    }
+}

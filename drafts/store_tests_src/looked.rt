@@ -1,0 +1,54 @@
+//! What a look at a store tells, without a change.
+use crate::expect::same;
+use crate::store::{Store, go_on};
+use disk::{Disk, MemDisk};
+use journal::StoreFault;
+use recover::look;
+use std::alloc::Global;
+
+/// What a look tells of a store: its epoch, its records, the next serial, and how many spaces it has.
+pub(crate) fn looked<D: Disk>(
+    alloc: Global,
+    disk: &mut D,
+) -> Result<(u64, u64, u64, usize), StoreFault> {
+    let found = look(alloc, disk)?;
+    let spaces = found.snapshot.spaces.as_slice().len();
+    Ok((
+        found.epoch,
+        found.records,
+        found.snapshot.next_serial,
+        spaces,
+    ))
+}
+
+/// The look at a disk with nothing.
+fn look_at_nothing<S: Store + Drop>(alloc: Global) -> Result<(u64, u64, u64, usize), StoreFault> {
+    let mut disk = S::empty(alloc);
+    looked(alloc, &mut disk)
+}
+
+/// The look at a store that was made and closed.
+fn look_at_made<S: Store + Drop>(
+    alloc: Global,
+) -> Option<Result<(u64, u64, u64, usize), StoreFault>> {
+    let (mut disk, _) = go_on(alloc, S::empty(alloc))?;
+    Some(looked(alloc, &mut disk))
+}
+
+#[test]
+fn a_new_store_is_looked_at(rt: HostRuntime) {
+    same(
+        &rt,
+        look_at_nothing::<MemDisk>(rt.alloc()),
+        Ok((0, 0, 1, 1)),
+    );
+}
+
+#[test]
+fn a_made_store_is_looked_at(rt: HostRuntime) {
+    same(
+        &rt,
+        look_at_made::<MemDisk>(rt.alloc()),
+        Some(Ok((0, 0, 1, 1))),
+    );
+}

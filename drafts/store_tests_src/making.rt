@@ -1,0 +1,114 @@
+//! A stored record and the segment that stores it. What is made here has no contract, so that a test's proof doesn't
+//! carry it along.
+ghost use Rattle.std.specs.Prelude.{◌<◌, ◌^◌, length};
+ghost use Rattle.ipc_model.specs.texts.Texts.{call_text, reply_text};
+
+use disk::Disk;
+use ipc_model::{Call, Record, Reply};
+use journal::{Batch, Segment, StoreFault};
+use record::push_record;
+use slot_steps::segment_slot;
+use std::alloc::Global;
+
+/// A segment of epoch 0 with one batch: that of the record 0, which is the allocation of the name 0x100.
+pub(crate) const SEGMENT: [u8; 70] = [
+    0x5a, 1, 0, 0, 0, 0, 0, 0, 0, 0, 0, 0, 0, 0, 0, 0, 0x5a, 1, 0, 0, 0, 40, 0, 0, 0, 0, 0, 0, 0,
+    0, 0, 0, 0, 0, 0, 0, 0, 1, 0, 0, 0, 8, 0, 0, 0, 5, 0, 0, 0, 1, 0, 0, 0, 12, 0, 0, 0, 5, 0, 0,
+    0, 0, 0, 0, 0, 0, 1, 0, 0, 0,
+];
+
+/// A segment of epoch 0 with no batch.
+pub(crate) const NEW_SEGMENT: [u8; 17] = [0x5a, 1, 0, 0, 0, 0, 0, 0, 0, 0, 0, 0, 0, 0, 0, 0, 0];
+
+/// The allocation of a name, done.
+#[tactic(auto, unfolding(ipc_model::specs::texts::Texts::call_text, ipc_model::specs::texts::Texts::reply_text))]
+fn allocation(name: u32) -> Record
+    ensures call { length (call_text result.call) < 2 ^ 32 }
+    ensures reply { length (reply_text result.reply) < 2 ^ 32 }
+{
+    Record {
+        space: 1,
+        call: Call::Allocate { right: 1 },
+        reply: Reply::Allocate { name },
+    }
+}
+
+/// Adds the record of this number, the allocation of a name: the first one and the number's lowest byte.
+fn add_allocation(
+    alloc: Global,
+    batch: &mut Batch,
+    number: u64,
+    first: u8,
+) -> Result<(), StoreFault> {
+    if batch.count() == u32::MAX {
+        return Err(StoreFault::Full);
+    }
+    let [low, ..] = number.to_le_bytes();
+    let mut text = Vec::new(alloc);
+    push_record(
+        alloc,
+        &mut text,
+        number,
+        &allocation(0x100 + u32::from(first) + u32::from(low)),
+    )?;
+    batch.add(&text)?;
+    Ok(())
+}
+
+/// Adds so many records, numbered on from this number, where record 0 allocates this name behind 0x100.
+fn add_allocations(
+    alloc: Global,
+    batch: &mut Batch,
+    number: u64,
+    count: u8,
+    first: u8,
+) -> Result<(), StoreFault> {
+    for at in 0..count {
+        let number = number.saturating_add(u64::from(at));
+        add_allocation(alloc, batch, number, first)?;
+    }
+    Ok(())
+}
+
+/// A batch of these records.
+fn batch_of(alloc: Global, number: u64, count: u8, first: u8) -> Result<Batch, StoreFault> {
+    let mut batch = Batch::new(alloc);
+    add_allocations(alloc, &mut batch, number, count, first)?;
+    Ok(batch)
+}
+
+/// A segment of epoch 0 that is told to hold so many records.
+pub(crate) fn segment_of(records: u64) -> Segment {
+    Segment { epoch: 0, records }
+}
+
+/// Appends a batch. Nothing is appended of no records, or to a slot without a header.
+fn append<D: Disk>(segment: &mut Segment, disk: &mut D, batch: &Batch) -> Result<(), StoreFault> {
+    if batch.count() == 0 || disk.length(segment_slot(segment.epoch)) == 0 {
+        return Ok(());
+    }
+    segment.append(disk, batch)
+}
+
+/// Appends a batch of so many records, where record 0 of the segment allocates this name behind 0x100.
+pub(crate) fn append_from<D: Disk>(
+    alloc: Global,
+    segment: &mut Segment,
+    disk: &mut D,
+    first: u8,
+    count: u8,
+) -> Result<(), StoreFault> {
+    let batch = batch_of(alloc, segment.records, count, first)?;
+    append(segment, disk, &batch)
+}
+
+/// Appends a batch of so many records. The names of an epoch begin at 0x100 and its number.
+pub(crate) fn append_allocations<D: Disk>(
+    alloc: Global,
+    segment: &mut Segment,
+    disk: &mut D,
+    count: u8,
+) -> Result<(), StoreFault> {
+    let [first, ..] = segment.epoch.to_le_bytes();
+    append_from(alloc, segment, disk, first, count)
+}

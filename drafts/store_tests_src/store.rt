@@ -1,0 +1,138 @@
+//! Disks and the stores on them, as the tests see them. Nothing has a clause, and all is over any disk, so that a test's proof
+//! carries nothing of a disk or of a kernel: what is known of one would be written out at each exit of a function that owns it.
+
+use disk::{Disk, MemDisk, Slot, Torn};
+use ipc_model::Reply;
+use journal::{Segment, StoreFault};
+use recover::{Opened, open};
+use std::alloc::Global;
+
+/// What is seen of an opened store.
+#[derive(Clone, Copy)]
+pub(crate) struct Seen {
+    pub(crate) epoch: u64,
+    /// How many records its segment holds.
+    pub(crate) records: u64,
+    /// The type bits of four names of space 1, 0 where one isn't in use.
+    pub(crate) bits: [u32; 4],
+}
+
+/// What opening a store gives.
+pub(crate) type Opening = Result<Seen, StoreFault>;
+
+/// The bytes of the slots: image 0, image 1, segment 0, segment 1.
+pub(crate) type Slots<'a> = [&'a [u8]; 4];
+
+/// A disk that stops as it is planned to.
+pub(crate) trait Store: Disk {
+    /// A disk with nothing.
+    fn empty(alloc: Global) -> Self;
+
+    /// A disk whose slots hold these bytes.
+    fn holding(alloc: Global, slots: Slots<'_>) -> Option<Self>;
+
+    /// Plans failures of calls, as `MemDisk::plan` does.
+    fn plan_faults(&mut self, stop_at: Option<u64>, fail_at: Option<u64>, torn: Torn);
+
+    /// What a stop leaves.
+    fn stop(self) -> Option<Self>;
+
+    /// The bytes of a slot.
+    fn bytes(&self, slot: Slot) -> &[u8];
+}
+
+fn type_bits<D: Disk>(opened: &Opened<D>, name: u32) -> u32 {
+    match opened.kernel.port_type(1, name) {
+        Reply::Type { bits } => bits,
+        _ => 0,
+    }
+}
+
+fn see<D: Disk>(opened: &Opened<D>, names: &[u32; 4]) -> Seen {
+    let [first, second, third, fourth] = *names;
+    let bits = [
+        type_bits(opened, first),
+        type_bits(opened, second),
+        type_bits(opened, third),
+        type_bits(opened, fourth),
+    ];
+    Seen {
+        epoch: opened.segment.epoch,
+        records: opened.segment.records,
+        bits,
+    }
+}
+
+impl Store for MemDisk {
+    fn empty(alloc: Global) -> MemDisk {
+        MemDisk::new(alloc)
+    }
+
+    fn holding(alloc: Global, slots: Slots<'_>) -> Option<MemDisk> {
+        let [image0, image1, segment0, segment1] = slots;
+        MemDisk::with_slots(alloc, image0, image1, segment0, segment1).ok()
+    }
+
+    fn plan_faults(&mut self, stop_at: Option<u64>, fail_at: Option<u64>, torn: Torn) {
+        self.plan(stop_at, fail_at, torn);
+    }
+
+    fn stop(self) -> Option<MemDisk> {
+        self.after_stop().ok()
+    }
+
+    fn bytes(&self, slot: Slot) -> &[u8] {
+        self.content(slot)
+    }
+}
+
+/// What opening a store gives with these names, and its disk.
+pub(crate) fn open_again<D: Disk + Drop>(alloc: Global, disk: D, names: &[u32; 4]) -> (Opening, D) {
+    match open(alloc, disk) {
+        Ok(opened) => (Ok(see(&opened, names)), opened.disk),
+        Err((fault, disk)) => (Err(fault), disk),
+    }
+}
+
+/// The disk of an opened store, and the segment in use.
+pub(crate) fn go_on<D: Disk + Drop>(alloc: Global, disk: D) -> Option<(D, Segment)> {
+    match open(alloc, disk) {
+        Ok(opened) => Some((opened.disk, opened.segment)),
+        Err(_) => None,
+    }
+}
+
+/// Whether these are the type bits of a receive right.
+pub(crate) fn is_receive(bits: u32) -> bool {
+    bits == 0x2_0000
+}
+
+/// A disk whose slots hold these bytes.
+pub(crate) fn disk_of<S: Store>(alloc: Global, slots: &[Vec<u8>; 4]) -> Option<S> {
+    let [image0, image1, segment0, segment1] = slots;
+    S::holding(alloc, [image0, image1, segment0, segment1])
+}
+
+/// A disk with these bytes in the image 0 and the segment 0.
+pub(crate) fn disk_with<S: Store>(alloc: Global, image0: &[u8], segment0: &[u8]) -> Option<S> {
+    S::holding(alloc, [image0, &[], segment0, &[]])
+}
+
+/// Whether a disk's slots of number 0 hold these bytes.
+pub(crate) fn keeps_first<S: Store>(disk: &S, slots: &[Vec<u8>; 4]) -> bool {
+    let [image0, _, segment0, _] = slots;
+    disk.bytes(Slot::Image0) == image0.as_slice()
+        && disk.bytes(Slot::Segment0) == segment0.as_slice()
+}
+
+/// Whether those of number 1 do.
+pub(crate) fn keeps_second<S: Store>(disk: &S, slots: &[Vec<u8>; 4]) -> bool {
+    let [_, image1, _, segment1] = slots;
+    disk.bytes(Slot::Image1) == image1.as_slice()
+        && disk.bytes(Slot::Segment1) == segment1.as_slice()
+}
+
+/// Whether all four do.
+pub(crate) fn keeps_all<S: Store>(disk: &S, slots: &[Vec<u8>; 4]) -> bool {
+    keeps_first(disk, slots) && keeps_second(disk, slots)
+}

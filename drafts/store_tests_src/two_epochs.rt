@@ -1,0 +1,136 @@
+//! Stores of two epochs: which slots are open with which epochs. What opening each of them gives follows from the rules of
+//! docs/FORMATS.md, "Opening".
+use crate::bending::{DAMAGED, Epochs, FIVE, FOUR, FOUR_TO_FIVE, Found, NEW, tried};
+use crate::expect::same_in_row;
+use disk::MemDisk;
+use std::alloc::Global;
+use std::process::Abort;
+
+// Image 5, its segment, and segment 6.
+const FIVE_TO_SIX: Found = Ok((6, 1, [false, true, true, true]));
+
+// Image 6 and its segment.
+const SIX: Found = Ok((6, 1, [true, false, true, false]));
+
+// The last epoch but one.
+const LAST_EVEN: u64 = u64::MAX - 1;
+
+static OPEN: [(Epochs, Found); 64] = [
+    // No image is open.
+    ([None, None, None, None], NEW),
+    ([None, None, Some(0), None], DAMAGED),
+    ([None, None, Some(0), Some(1)], DAMAGED),
+    ([None, None, Some(4), None], DAMAGED),
+    ([None, None, None, Some(5)], DAMAGED),
+    ([None, None, Some(4), Some(5)], DAMAGED),
+    // Image 4 is alone. Segment 4 has to be open,
+    ([Some(4), None, None, None], DAMAGED),
+    ([Some(4), None, None, Some(3)], DAMAGED),
+    ([Some(4), None, None, Some(5)], DAMAGED),
+    ([Some(4), None, Some(2), Some(3)], DAMAGED),
+    ([Some(4), None, Some(6), None], DAMAGED),
+    ([Some(4), None, Some(6), Some(5)], DAMAGED),
+    // and the other one is closed, of epoch 3, or of epoch 5.
+    ([Some(4), None, Some(4), None], FOUR),
+    ([Some(4), None, Some(4), Some(3)], FOUR),
+    ([Some(4), None, Some(4), Some(5)], FOUR_TO_FIVE),
+    ([Some(4), None, Some(4), Some(1)], DAMAGED),
+    ([Some(4), None, Some(4), Some(7)], DAMAGED),
+    // Image 5 is alone.
+    ([None, Some(5), None, None], DAMAGED),
+    ([None, Some(5), Some(4), None], DAMAGED),
+    ([None, Some(5), Some(6), None], DAMAGED),
+    ([None, Some(5), Some(4), Some(3)], DAMAGED),
+    ([None, Some(5), Some(6), Some(7)], DAMAGED),
+    ([None, Some(5), None, Some(5)], FIVE),
+    ([None, Some(5), Some(4), Some(5)], FIVE),
+    ([None, Some(5), Some(6), Some(5)], FIVE_TO_SIX),
+    ([None, Some(5), Some(2), Some(5)], DAMAGED),
+    ([None, Some(5), Some(8), Some(5)], DAMAGED),
+    // Images 4 and 5 are open: 5 counts.
+    ([Some(4), Some(5), None, None], DAMAGED),
+    ([Some(4), Some(5), Some(4), None], DAMAGED),
+    ([Some(4), Some(5), Some(4), Some(3)], DAMAGED),
+    ([Some(4), Some(5), Some(4), Some(7)], DAMAGED),
+    ([Some(4), Some(5), None, Some(5)], FIVE),
+    ([Some(4), Some(5), Some(4), Some(5)], FIVE),
+    ([Some(4), Some(5), Some(6), Some(5)], FIVE_TO_SIX),
+    ([Some(4), Some(5), Some(2), Some(5)], DAMAGED),
+    ([Some(4), Some(5), Some(8), Some(5)], DAMAGED),
+    // Images 6 and 5 are open: 6 counts.
+    ([Some(6), Some(5), None, Some(5)], DAMAGED),
+    ([Some(6), Some(5), Some(4), Some(5)], DAMAGED),
+    ([Some(6), Some(5), Some(6), None], SIX),
+    ([Some(6), Some(5), Some(6), Some(5)], SIX),
+    (
+        [Some(6), Some(5), Some(6), Some(7)],
+        Ok((7, 1, [true, false, true, true])),
+    ),
+    ([Some(6), Some(5), Some(6), Some(3)], DAMAGED),
+    ([Some(6), Some(5), Some(6), Some(9)], DAMAGED),
+    // How old the older image is isn't asked.
+    ([Some(4), Some(1), Some(4), Some(3)], FOUR),
+    ([Some(4), Some(1), Some(4), Some(1)], DAMAGED),
+    (
+        [Some(4), Some(7), Some(6), Some(7)],
+        Ok((7, 1, [false, true, false, true])),
+    ),
+    (
+        [Some(4), Some(7), Some(8), Some(7)],
+        Ok((8, 1, [false, true, true, true])),
+    ),
+    ([Some(4), Some(7), Some(4), Some(7)], DAMAGED),
+    // An epoch is of the other number: that of both images, or one two further, or a segment's.
+    ([Some(4), Some(4), Some(4), Some(5)], DAMAGED),
+    ([Some(5), Some(5), Some(4), Some(5)], DAMAGED),
+    ([Some(4), Some(6), Some(4), Some(5)], DAMAGED),
+    ([Some(3), Some(5), Some(4), Some(5)], DAMAGED),
+    ([Some(4), Some(5), Some(5), Some(5)], DAMAGED),
+    ([Some(4), Some(5), Some(4), Some(4)], DAMAGED),
+    ([None, None, Some(1), None], DAMAGED),
+    ([None, None, None, Some(0)], DAMAGED),
+    // The first epoch, and the last one.
+    (
+        [Some(0), None, Some(0), None],
+        Ok((0, 1, [true, false, true, false])),
+    ),
+    (
+        [Some(0), None, Some(0), Some(1)],
+        Ok((1, 1, [true, false, true, true])),
+    ),
+    (
+        [Some(0), Some(1), Some(0), Some(1)],
+        Ok((1, 1, [false, true, false, true])),
+    ),
+    ([Some(0), None, Some(0), Some(u64::MAX)], DAMAGED),
+    (
+        [Some(LAST_EVEN), None, Some(LAST_EVEN), Some(u64::MAX)],
+        Ok((u64::MAX, 1, [true, false, true, true])),
+    ),
+    (
+        [
+            Some(LAST_EVEN),
+            Some(u64::MAX),
+            Some(LAST_EVEN),
+            Some(u64::MAX),
+        ],
+        Ok((u64::MAX, 1, [false, true, false, true])),
+    ),
+    (
+        [None, Some(u64::MAX), None, Some(u64::MAX)],
+        Ok((u64::MAX, 1, [false, true, false, true])),
+    ),
+    ([None, Some(u64::MAX), Some(0), Some(u64::MAX)], DAMAGED),
+];
+
+fn check(rt: &impl Abort, alloc: Global, rows: &[(Epochs, Found)]) {
+    for (epochs, wanted) in rows {
+        let seen = tried::<MemDisk>(alloc, *epochs, &[]);
+        same_in_row(rt, *epochs, seen, Some((*wanted, true, *wanted)));
+    }
+}
+
+#[test]
+fn epochs_tell_which_slots_are_read(rt: HostRuntime) {
+    check(&rt, rt.alloc(), OPEN.as_slice());
+}
