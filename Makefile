@@ -13,7 +13,6 @@ test:
 bin:
 	@mkdir -p bin
 	@empty=$$(mktemp -d) && for program in machipcd machls machmap machc; do \
-	  rm -f crates/$$program/out/$$program; \
 	  (cd crates/$$program && rt run -- "$$empty" < /dev/null > /dev/null || [ $$program = machc ]) && cp crates/$$program/out/$$program bin/ || exit 1; \
 	done; rm -r "$$empty"
 
