@@ -4,10 +4,10 @@ mod Calls
 mod Checkpoints
 mod Counting
 mod Going
-mod Lists
+pub mod Lists
 mod OrderLaws
 pub mod Passed
-mod Rows
+pub mod Rows
 mod Runs
-mod Simulation
+pub mod Simulation
 mod Tickets
