@@ -33,19 +33,23 @@ fn make_two_hops(alloc: Global, state: &mut IpcState) -> Result<(), Fail> {
     carry(alloc, state, 2, 3)
 }
 
-fn circles(state: &IpcState) -> [bool; 6] {
-    [(1, 1), (2, 1), (3, 1), (1, 2), (1, 3), (4, 1)].map(|(port, queue)| would_circle(
+fn circles(alloc: Global, state: &mut IpcState) -> Result<[bool; 6], Fail> {
+    make_two_hops(alloc, state)?;
+    Ok([(1, 1), (2, 1), (3, 1), (1, 2), (1, 3), (4, 1)].map(|(port, queue)| would_circle(
         state, port, queue,
-    ))
+    )))
+}
+
+fn circles_anew(alloc: Global) -> Result<[bool; 6], Fail> {
+    let mut state = IpcState::opening(alloc)?;
+    circles(alloc, &mut state)
 }
 
 #[test]
 fn finds_a_circle_over_two_hops(rt: HostRuntime) -> Result<(), Fail> {
-    let mut state = IpcState::opening(rt.alloc())?;
-    make_two_hops(rt.alloc(), &mut state)?;
     same(
         &rt,
-        circles(&state),
+        circles_anew(rt.alloc())?,
         [true, true, true, false, false, false],
     );
     Ok(())
