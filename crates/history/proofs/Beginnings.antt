@@ -1,9 +1,11 @@
 -- Lists of entries of which one begins the other.
-use Rattle.std.proofs.Common.{◌≡◌, ℕ, ◌≤◌, Some, List, [], ◌∷◌, ◌++◌, length, take, slice_get, ap, sym, ◌∙◌, arith}
-use Rattle.std.proofs.lemmas.List.{length-take, take-take, take_at}
+use Rattle.std.proofs.Common.{◌≡◌, ℕ, zero, suc, refl, ◌≤◌, Some, List, [], ◌∷◌, ◌++◌, length, take, drop, slice_get, take-append-drop, length-append, ap, sym, ◌∙◌, ◌⊎◌, inl, inr, arith}
+use Rattle.std.proofs.Math.Seq.{take-length}
+use Rattle.std.proofs.lemmas.Bool.{cases_lt}
+use Rattle.std.proofs.lemmas.List.{append-nil, length-drop, length-map, length-take, map-append, take-take, take_at}
 use Rattle.std.proofs.lemmas.Option.{slice_get_within}
 use Rattle.history.specs.declared.entry.Entry.{Entry}
-use Rattle.history.specs.Entries.{Begins}
+use Rattle.history.specs.Entries.{Begins, records_of}
 use Rattle.history.proofs.Places.{slice_get-take}
 
 pub begins_more : (xs ys : List Entry) → Begins xs (xs ++ ys)
@@ -29,3 +31,35 @@ begins_at_place xs ys i e begins at =
 -- a list that begins another with one item more, and has one less, is that other
 pub begins_same : (xs ys : List Entry) (e : Entry) → Begins xs (ys ++ e ∷ []) → length ys ≡ length xs → ys ≡ xs
 begins_same xs ys e begins long = sym (take_at ys (e ∷ []) (length xs) long) ∙ begins
+
+pub begins_itself : (xs : List Entry) → Begins xs xs
+begins_itself xs = take-length xs
+
+-- a list is what begins it and the rest
+pub begins_rest : (xs ys : List Entry) → Begins xs ys → ys ≡ xs ++ drop (length xs) ys
+begins_rest xs ys begins = sym (take-append-drop (length xs) ys) ∙ ap (λ (l : List Entry). l ++ drop (length xs) ys) begins
+
+-- and so are its records
+pub begins_records : (xs ys : List Entry) → Begins xs ys → records_of ys ≡ records_of xs ++ records_of (drop (length xs) ys)
+begins_records xs ys begins = ap records_of (begins_rest xs ys begins) ∙ map-append (λ (e : Entry). e.«record») xs (drop (length xs) ys)
+
+pub begins_records_length : (xs ys : List Entry) → Begins xs ys → length (records_of xs) ≤ length (records_of ys)
+begins_records_length xs ys begins =
+    omega (arith, begins_length xs ys begins, length-map xs (λ (e : Entry). e.«record»), length-map ys (λ (e : Entry). e.«record»))
+
+-- a list that begins another of its length is that other
+pub begins_whole : (xs ys : List Entry) → Begins xs ys → length ys ≡ length xs → ys ≡ xs
+begins_whole xs ys begins same = sym (take-length ys) ∙ ap (λ (n : ℕ). take n ys) same ∙ begins
+
+none_left : (n : ℕ) (xs : List Entry) → length xs ≤ n → drop n xs ≡ []
+none_left zero [] less = refl
+none_left (suc n) [] less = refl
+none_left zero (x ∷ xs) less = absurd (omega (arith, less))
+none_left (suc n) (x ∷ xs) less = none_left n xs (omega (arith, less))
+
+-- what caught up with another list is what it was, or that other list
+pub begins_caught : (old other new : List Entry) → new ≡ old ++ drop (length old) other → Begins other new → (new ≡ old) ⊎ (new ≡ other)
+begins_caught old other new is begins = elim (cases_lt (length old) (length other)) [
+  | inl longer ↦ inr (begins_whole other new begins (omega (arith, ap length is, length-append old (drop (length old) other), length-drop (length old) other, longer)))
+  | inr shorter ↦ inl (is ∙ ap (λ (l : List Entry). old ++ l) (none_left (length old) other (omega (arith, shorter))) ∙ append-nil old)
+]

@@ -1,9 +1,10 @@
 -- Entries of the history, and how they lie in their cells.
-use Rattle.std.specs.Prelude.{◌≡◌, ℕ, List, [], ◌∷◌, ◌++◌, length, take, refl}
+use Rattle.std.specs.Prelude.{◌≡◌, ℕ, List, [], ◌∷◌, ◌++◌, length, map, take, refl}
 use Rattle.std.specs.Coded.{Coded, code_by, coded×, coded_ℕ, coded_list}
 use base.Stored.{Gv, gnil, gnum, gcons}
 use Rattle.history.specs.declared.entry.Entry.{Entry}
 use Rattle.history.specs.contracts.entry.Entry as entry
+use Rattle.ipc_model.specs.declared.record.Record.{Record}
 
 -- a tree of numbers as a list of numbers
 unfoldable pub numbers_of_tree : Gv → List ℕ
@@ -38,3 +39,7 @@ placed entries = placed_from [] entries
 -- one list begins the other
 abbrev pub Begins : List Entry → List Entry → Type 0
 Begins short long = take (length short) long ≡ short
+
+-- the records of entries
+abbrev pub records_of : List Entry → List Record
+records_of entries = map (λ e. e.«record») entries

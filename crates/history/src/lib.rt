@@ -4,6 +4,7 @@
 mod cell;
 mod entry;
 mod fault;
+mod founding;
 mod held;
 mod link;
 mod meeting;
@@ -15,6 +16,7 @@ mod row;
 
 pub use entry::Entry;
 pub use fault::{AddFault, CatchUpFault};
+pub use founding::Founding;
 pub use past::Past;
 pub use place::FirstRow;
 pub use row::Row;

@@ -1,0 +1,17 @@
+use crate::FirstRow;
+use std::marker::Brand;
+use std::sync::ledger::Ledger;
+
+/// Which history it is: the names of its first row's cells, the ledger that counts its records, and the state that it begins
+/// with. A program picks it at a call.
+pub trait Founding: Ledger + FirstRow {
+    ghost use Rattle.ipc_model.specs.state.State.{State};
+
+    ghost base: { State };
+}
+
+impl Founding for Brand {
+    ghost use Rattle.ipc_model.specs.state.State.{opening_state};
+
+    ghost base = { opening_state };
+}

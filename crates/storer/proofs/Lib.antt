@@ -1,0 +1,2 @@
+mod Storers
+mod StoreSteps

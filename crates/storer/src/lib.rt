@@ -1,0 +1,12 @@
+//! What lies under the lock of the store: the half that stores, and the beginning of the history that it stores. It knows nothing
+//! of the lock of the kernel but what loads and ends bring.
+#![tactic(auto)]
+
+mod fault;
+mod load;
+mod steps;
+mod storer;
+
+pub use fault::{NotBegun, NotStored};
+pub use load::{End, Load};
+pub use storer::Storer;
