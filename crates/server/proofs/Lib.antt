@@ -1,4 +1,4 @@
-mod Answered
+pub mod Answered
 mod Ended
 mod Going
 mod Keeping

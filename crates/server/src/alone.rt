@@ -238,7 +238,7 @@ fn make_call<D: Disk>(
 }
 
 /// The answer to a call that memory or room for its record is wanted for. It takes no memory.
-fn shortage(alloc: Global, call: &Call) -> Reply
+pub fn shortage(alloc: Global, call: &Call) -> Reply
     ensures answer { result ≡ shortage_of call.now }
     ensures unrecorded { has_record call.now result ≡ false }
 {

@@ -6,7 +6,7 @@ mod laws;
 mod program;
 mod service;
 
-pub use alone::{Alone, CHECKPOINT_RECORDS, Caller};
+pub use alone::{Alone, CHECKPOINT_RECORDS, Caller, shortage};
 pub use laws::{
     answered_is_stored, breaking_loses_nothing, failure_loses_nothing, frame_is_stored,
 };

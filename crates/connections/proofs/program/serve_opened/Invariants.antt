@@ -1,0 +1,13 @@
+use Rattle.std.specs.Arc.{arc_value}
+use Rattle.connections.proofs.program.serve_opened.Given as goal
+
+-- the history begins in the opened state, with the row and the ledger that were just made
+
+abbrev pub ghosts-serve_history-L-Founding : goal.ghosts-serve_history-L-Founding
+ghosts-serve_history-L-Founding g a = record { base = a.opened.kernel }
+
+abbrev pub ghosts-serve_history-L-Ledger : goal.ghosts-serve_history-L-Ledger
+ghosts-serve_history-L-Ledger g a = record { name = a.blank.name; parts = a.blank.parts }
+
+abbrev pub ghosts-serve_history-L-FirstRow : goal.ghosts-serve_history-L-FirstRow
+ghosts-serve_history-L-FirstRow g a = record { first = arc_value a.row }

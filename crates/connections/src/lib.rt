@@ -1,0 +1,12 @@
+//! Many connections on one store: each is served in a thread of its own, as a session of the store's history.
+#![tactic(auto)]
+
+mod bound;
+mod connected;
+mod ending;
+mod program;
+mod threads;
+
+pub use connected::Connected;
+pub use ending::SocketEnd;
+pub use program::serve_opened;

@@ -1,0 +1,98 @@
+ghost use Rattle.std.specs.Prelude.{◌≡◌};
+ghost use Rattle.std.specs.Arc.{arc_value};
+
+use crate::bound::bind;
+use crate::ending::SocketEnd;
+use crate::threads::{accept, start_loops};
+use codes::MAX_RECORDS;
+use disk::Disk;
+use journal::StoreFault;
+use system::Opened;
+use sessions::{Founding, MOST_SESSIONS, OpenGate, Row, Shared};
+use std::alloc::{AllocGlobal, Global};
+use std::io::Write;
+use std::marker::Brand;
+use std::net::{Net, TcpListener, TcpStream};
+use std::os::unix::net::UnixListener;
+use std::rt::Files;
+use std::sync::ledger::Blank;
+use std::sync::{Arc, Wait};
+use std::thread::Threads;
+use std::time::Clock;
+
+/// Binds the socket's path, says on the output that it is ready, and serves an opened store there, each connection in a thread of its
+/// own as a session of the store's history. It ends only by a fault.
+pub fn serve_opened<
+    D: Disk + Drop + Send + 'static,
+    R: Threads
+        + Wait
+        + Net<Listener = TcpListener, Stream = TcpStream>
+        + Files
+        + Clock
+        + AllocGlobal
+        + Copy
+        + Send
+        + Sync
+        + 'static,
+    O: Write,
+>(rt: R, path: &str, opened: Opened<D>, output: &mut O) -> SocketEnd {
+    let Some(listener) = bind(&rt, path) else {
+        return SocketEnd::Socket;
+    };
+    let Some(row) = first_row(rt.alloc()) else {
+        return SocketEnd::Store(StoreFault::NoMemory);
+    };
+    let Ok(path) = String::from_str(rt.alloc(), path) else {
+        return SocketEnd::Store(StoreFault::NoMemory);
+    };
+    let blank = Blank::new(u64::from(MOST_SESSIONS));
+    serve_history::<Brand, _, _, _>(rt, path, &listener, opened, row, blank, output)
+}
+
+/// The row of the history's first entries.
+fn first_row(alloc: Global) -> Option<Arc<Row, Global>> {
+    let row = Row::new(alloc, MAX_RECORDS as usize).ok()?;
+    Arc::new(alloc, row).ok()
+}
+
+/// Serves a history that begins with an opened store, until the store fails.
+fn serve_history<
+    L: Founding + Send + Sync + 'static,
+    D: Disk + Drop + Send + 'static,
+    R: Threads
+        + Wait
+        + Net<Listener = TcpListener, Stream = TcpStream>
+        + Clock
+        + AllocGlobal
+        + Copy
+        + Send
+        + Sync
+        + 'static,
+    O: Write,
+>(
+    rt: R,
+    path: String,
+    listener: &UnixListener,
+    opened: Opened<D>,
+    row: Arc<Row, Global>,
+    blank: Blank,
+    output: &mut O,
+) -> SocketEnd
+    requires base { opened.kernel ≡ L.base }
+    requires row { arc_value row ≡ L.first }
+    requires blank { (blank.name ≡ L.name) × (blank.parts ≡ L.parts) × (L.parts ≡ MOST_SESSIONS) }
+{
+    let Ok(shared) = Shared::<L, D, OpenGate>::new(rt.alloc(), opened, row, blank, OpenGate) else {
+        return SocketEnd::Store(StoreFault::NoMemory);
+    };
+    let Ok(shared) = Arc::new(rt.alloc(), shared) else {
+        return SocketEnd::Store(StoreFault::NoMemory);
+    };
+    if start_loops(rt, rt.alloc(), &shared, path.as_str()).is_err() {
+        return SocketEnd::Socket;
+    }
+    if output.write_all(b"machipcd: ready\n").is_err() || output.flush().is_err() {
+        return SocketEnd::Socket;
+    }
+    SocketEnd::Store(accept(rt, listener, &shared))
+}

@@ -1,0 +1,101 @@
+//! The threads: one that stores, one that makes images, one for each connection.
+
+use crate::connected::Connected;
+use crate::ending::SocketEnd;
+use disk::Disk;
+use journal::StoreFault;
+use server::serve;
+use sessions::{CHECKPOINT_RECORDS, Founding, OpenGate, Shared};
+use std::alloc::{AllocGlobal, Global};
+use std::io::{self, BufReader, BufWriter};
+use std::net::{Net, Shutdown, TcpListener, TcpStream};
+use std::os::unix::net::{UnixListener, UnixStream};
+use std::sync::{Arc, Wait};
+use std::thread::{self, Threads};
+use std::time::{Clock, Duration};
+
+/// For how many seconds a peer may leave unread what it was sent before its connection is closed.
+const PATIENCE_SECONDS: u64 = 5;
+
+/// How many bytes of a connection are read at once.
+const READ_BYTES: usize = 65_536;
+
+/// Serves each connection in a thread of its own, until the store fails.
+pub(crate) fn accept<
+    L: Founding + Send + Sync + 'static,
+    D: Disk + Drop + Send + 'static,
+    R: Threads + Wait + AllocGlobal + Clock + Copy + Send + Sync + 'static,
+>(rt: R, listener: &UnixListener, shared: &Arc<Shared<L, D, OpenGate>, Global>) -> StoreFault {
+    for stream in listener.incoming() {
+        if let Some(fault) = shared.fault(&rt) {
+            return fault;
+        }
+        match stream {
+            Ok(stream) => begin(rt, stream, shared),
+            // No descriptor is left: wait for one.
+            Err(_) => thread::sleep(&rt, Duration::from_millis(20)),
+        }
+    }
+    StoreFault::Failed
+}
+
+/// Begins to serve a connection. One that no session, thread or memory is there for is closed.
+fn begin<
+    L: Founding + Send + Sync + 'static,
+    D: Disk + Drop + Send + 'static,
+    R: Threads + Wait + AllocGlobal + Copy + Send + Sync + 'static,
+>(rt: R, stream: UnixStream, shared: &Arc<Shared<L, D, OpenGate>, Global>) {
+    let Ok(mine) = Arc::try_clone(shared) else {
+        return;
+    };
+    let _ = thread::spawn(&rt, move || {
+        let _ = serve_stream(&rt, &stream, &mine);
+        // What is still to be written fails at once then, and isn't waited for.
+        let _ = stream.shutdown(Shutdown::Both);
+    });
+}
+
+/// Serves a connection to its end.
+fn serve_stream<L: Founding, D: Disk, R: Wait + AllocGlobal>(
+    rt: &R,
+    stream: &UnixStream,
+    shared: &Shared<L, D, OpenGate>,
+) -> io::Result<()> {
+    stream.set_write_timeout(Some(Duration::from_secs(PATIENCE_SECONDS)))?;
+    let mut reader = BufReader::with_capacity(rt.alloc(), READ_BYTES, stream)?;
+    let mut writer = BufWriter::new(rt.alloc(), stream)?;
+    let Ok(session) = shared.session(rt) else {
+        return Ok(());
+    };
+    let mut caller = Connected::new(rt.alloc(), rt, shared, session);
+    if serve(rt.alloc(), &mut reader, &mut writer, &mut caller).is_err() {
+        return stream.shutdown(Shutdown::Both);
+    }
+    Ok(())
+}
+
+/// Starts the loops that store and make images. Says whether both run.
+pub(crate) fn start_loops<
+    L: Founding + Send + Sync + 'static,
+    D: Disk + Drop + Send + 'static,
+    R: Threads + Wait + Net<Listener = TcpListener, Stream = TcpStream> + Clock + Copy + Send + Sync + 'static,
+>(rt: R, alloc: Global, shared: &Arc<Shared<L, D, OpenGate>, Global>, path: &str) -> io::Result<()> {
+    let mine = Arc::try_clone(shared)?;
+    let own = String::from_str(alloc, path)?;
+    thread::spawn(&rt, move || {
+        mine.flusher(&rt);
+        wake(&rt, own.as_str());
+    })?;
+    let mine = Arc::try_clone(shared)?;
+    let own = String::from_str(alloc, path)?;
+    thread::spawn(&rt, move || {
+        mine.checkpointer(&rt, CHECKPOINT_RECORDS);
+        wake(&rt, own.as_str());
+    })?;
+    Ok(())
+}
+
+/// Wakes the thread that accepts, which looks then whether the store failed.
+fn wake<R: Net>(rt: &R, path: &str) {
+    let _ = UnixStream::connect(rt, path);
+}

@@ -1,0 +1,19 @@
+use Rattle.std.proofs.Common.{◌≡◌, ◌∙◌, sym, ap, subst}
+use Rattle.std.specs.Prelude.{OnOk}
+use Rattle.history.specs.Entries.{Begins}
+use Rattle.history.specs.Pasts.{PastValue}
+use Rattle.sessions.specs.Keeping.{BesideValue}
+use Rattle.sessions.proofs.Cores.{both_begin, both_seen}
+use Rattle.sessions.proofs.making.apply_beside.Goals as goal
+
+pub returns-clause-seen : goal.returns-clause-seen
+returns-clause-seen g c =
+    let old : BesideValue = record { number = c.args.number; kept = c.level.new.kept; mine = c.level.new.mine } in
+    subst (λ (v : BesideValue). OnOk c.submit_beside-beside.result.1 (v.mine.entries ≡ v.kept.entries)) (sym c.beside.view_is)
+    (both_seen old c.submit_beside-beside.result.0 c.args.space c.args.call.now c.submit_beside-beside.result.1 (c.in_default.ensures.level ∙ ap (λ (p : PastValue). p.entries) (sym c.level.ensures.same)) c.submit_beside-beside.ensures.learned c.submit_beside-beside.ensures.unlearned)
+
+pub returns-clause-begins : goal.returns-clause-begins
+returns-clause-begins g c =
+    let old : BesideValue = record { number = c.args.number; kept = c.level.new.kept; mine = c.level.new.mine } in
+    subst (λ (v : BesideValue). Begins c.args.seen.entries v.mine.entries) (sym c.beside.view_is)
+    (both_begin old c.submit_beside-beside.result.0 c.args.space c.args.call.now _ c.submit_beside-beside.result.1 c.args.seen.entries c.level.ensures.begins c.submit_beside-beside.ensures.learned c.submit_beside-beside.ensures.unlearned c.submit_beside-beside.ensures.err)

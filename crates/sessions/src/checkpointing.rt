@@ -1,0 +1,136 @@
+//! The loop that makes images while calls go on.
+
+use crate::gate::{Gate, Step};
+use crate::shared::Shared;
+use codes::MAX_RECORDS;
+use disk::Disk;
+use history::{Founding, Row};
+use journal::StoreFault;
+use std::sync::{Arc, Wait};
+use std::time::Clock;
+use storer::{End, NotBegun};
+use storing::Finished;
+
+/// How many records an epoch's row has when a checkpoint is begun.
+pub const CHECKPOINT_RECORDS: u64 = 32_768;
+
+impl<L: Founding, D: Disk, G: Gate> Shared<L, D, G> {
+    /// Makes an image each time that the epoch's row has `records` records, until it is told to stop or the store fails.
+    pub fn checkpointer<R: Wait + Clock>(&self, rt: &R, records: u64) {
+        for _ in rt.forever() {
+            let Some(end) = self.next_end(rt, records) else {
+                return;
+            };
+            match self.checkpoint(rt, end) {
+                Ok(finished) => {
+                    self.gate.pass(rt, Step::Finished);
+                    self.keeper.lock(rt).finished(finished);
+                    self.calls.notify_all();
+                }
+                Err(fault) => {
+                    self.fail(rt, fault);
+                    return;
+                }
+            }
+        }
+    }
+
+    /// The end of an epoch, once its row is long enough. None where the loop is to end.
+    fn next_end<R: Wait + Clock>(&self, rt: &R, records: u64) -> Option<End<L>> {
+        for _ in rt.forever() {
+            let keeper = self.calls.wait_while(rt, self.keeper.lock(rt), |keeper| keeper.is_short(records));
+            let is_over = keeper.is_ending();
+            drop(keeper);
+            if is_over {
+                return None;
+            }
+            self.gate.pass(rt, Step::Cut);
+            if let Some(end) = self.cut(rt) {
+                return Some(end);
+            }
+            self.pause(rt);
+        }
+        None
+    }
+
+    /// Ends the epoch, where memory is there for it.
+    fn cut<R: Wait>(&self, rt: &R) -> Option<End<L>> {
+        let row = Row::new(self.alloc, MAX_RECORDS as usize).ok()?;
+        let row = Arc::new(self.alloc, row).ok()?;
+        let cut = self.keeper.lock(rt).cut(row);
+        cut.ok()?
+    }
+
+    /// Does all steps of a checkpoint.
+    fn checkpoint<R: Wait + Clock>(&self, rt: &R, end: End<L>) -> Result<Finished, StoreFault> {
+        self.begin(rt, end)?;
+        self.roll(rt)?;
+        self.image(rt)
+    }
+
+    /// Brings the state to the store.
+    fn begin<R: Wait + Clock>(&self, rt: &R, end: End<L>) -> Result<(), StoreFault> {
+        let mut end = end;
+        for _ in rt.forever() {
+            let begun = self.storer.lock(rt).begin(end);
+            match begun {
+                Ok(()) => return Ok(()),
+                Err((NotBegun::NotNow, _)) => return Err(StoreFault::Failed),
+                Err((NotBegun::NoMemory, back)) => {
+                    end = back;
+                    self.pause(rt);
+                }
+            }
+        }
+        Err(StoreFault::Failed)
+    }
+
+    /// Makes the next segment, which is opened once the one before holds all of its records.
+    fn roll<R: Wait + Clock>(&self, rt: &R) -> Result<(), StoreFault> {
+        self.gate.pass(rt, Step::RollClose);
+        self.storer.lock(rt).roll_close()?;
+        self.gate.pass(rt, Step::RollHead);
+        self.storer.lock(rt).roll_head()?;
+        for _ in rt.forever() {
+            let storer = self.stored.wait_while(rt, self.storer.lock(rt), |storer| storer.is_behind());
+            drop(storer);
+            self.gate.pass(rt, Step::RollOpen);
+            let opened = self.storer.lock(rt).roll_open()?;
+            if opened {
+                self.stored.notify_all();
+                return Ok(());
+            }
+            self.pause(rt);
+        }
+        Err(StoreFault::Failed)
+    }
+
+    /// Makes the image, piece by piece.
+    fn image<R: Wait + Clock>(&self, rt: &R) -> Result<Finished, StoreFault> {
+        self.close_image(rt)?;
+        for piece in 0..u64::MAX {
+            self.gate.pass(rt, Step::Piece(piece));
+            let written = self.storer.lock(rt).write_piece()?;
+            if !written {
+                break;
+            }
+        }
+        self.gate.pass(rt, Step::Finish);
+        let finished = self.storer.lock(rt).finish()?;
+        finished.ok_or(StoreFault::Failed)
+    }
+
+    /// Closes the image's slot, once memory is there for its text.
+    fn close_image<R: Wait + Clock>(&self, rt: &R) -> Result<(), StoreFault> {
+        for _ in rt.forever() {
+            self.gate.pass(rt, Step::ImageClose);
+            let closed = self.storer.lock(rt).close_image(self.alloc);
+            match closed {
+                Err(StoreFault::NoMemory) => self.pause(rt),
+                Err(fault) => return Err(fault),
+                Ok(_) => return Ok(()),
+            }
+        }
+        Err(StoreFault::Failed)
+    }
+}

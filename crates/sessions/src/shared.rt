@@ -1,0 +1,145 @@
+ghost use Rattle.std.specs.Prelude.{◌≡◌, ◌≤◌, [], length, IfOk, IfErr, OnErr};
+ghost use Rattle.std.specs.Arc.{arc_value};
+ghost use Rattle.codes.specs.declared.limits.TheConstants.{MAX_FRAME_CONTENT};
+ghost use Rattle.codes.specs.declared.name.TheConstants.{FIRST_SPACE};
+ghost use Rattle.ipc_model.specs.history.History.{called, looked, redeemed};
+ghost use Rattle.ipc_model.specs.texts.Texts.{reply_text};
+ghost use Rattle.sessions.specs.Tokens.{Did};
+
+use crate::fault::SessionFault;
+use crate::keeper::{Keeper, MOST_SESSIONS};
+use crate::session::Session;
+use disk::Disk;
+use history::{Founding, Past, Row};
+use ipc_model::{Call, Reply};
+use journal::StoreFault;
+use std::alloc::Global;
+use std::sync::ledger::Blank;
+use std::sync::{Arc, Condvar, Mutex, Wait};
+use storer::Storer;
+use system::{Opened, SubmitFault, Ticket};
+
+/// The two halves of the core, each under a lock of its own, for any number of sessions, one thread that stores their calls and one
+/// that makes images. No lock is taken within the other.
+#[derive(Drop)]
+pub struct Shared<L: Founding, D: Disk, G> {
+    pub(crate) alloc: Global,
+    pub(crate) gate: G,
+    pub(crate) keeper: Mutex<Keeper<L>>,
+    pub(crate) storer: Mutex<Storer<L, D>>,
+
+    // Waited on under the kernel's lock: that there is something to do for the loops, and that replies can be told.
+    pub(crate) calls: Condvar,
+    pub(crate) news: Condvar,
+
+    // Waited on under the store's lock: that it changed.
+    pub(crate) stored: Condvar,
+}
+
+impl<L: Founding, D: Disk, G: Drop> Shared<L, D, G> {
+    /// Shares an opened store. The history begins in its state, with this row. Where memory is wanted the disk comes back.
+    pub fn new(
+        alloc: Global,
+        opened: Opened<D>,
+        row: Arc<Row, Global>,
+        blank: Blank,
+        gate: G,
+    ) -> Result<Self, D>
+        requires base { opened.kernel ≡ L.base }
+        requires row { arc_value row ≡ L.first }
+        requires blank { (blank.name ≡ L.name) × (blank.parts ≡ L.parts) × (L.parts ≡ MOST_SESSIONS) }
+        ensures { IfErr result (λ disk. disk ≡ opened.disk) }
+    {
+        let mut past = Past::new(alloc, row);
+        let Opened {
+            kernel,
+            disk,
+            segment,
+        } = opened;
+        kernel.has_image();
+        let Ok(mine) = past.again() else {
+            return Err(disk);
+        };
+        let storer = Storer::new(disk, segment, mine);
+        let keeper = Keeper::new(alloc, kernel, segment.epoch, segment.records, past, blank);
+        Ok(Shared {
+            alloc,
+            gate,
+            keeper: Mutex::new(keeper),
+            storer: Mutex::new(storer),
+            calls: Condvar::new(),
+            news: Condvar::new(),
+            stored: Condvar::new(),
+        })
+    }
+
+    /// A new session, of a task that is attached to space 1 and has seen all that was made.
+    pub fn session(&self, rt: &impl Wait) -> Result<Session<L>, SessionFault>
+        ensures new { IfOk result (λ session. (session.task.space ≡ FIRST_SPACE) × (session.task.told ≡ 0) × (session.task.places ≡ [])) }
+    {
+        self.keeper.lock(rt).session()
+    }
+
+    /// Makes a call of a session, whose ticket keeps its reply. Also where it isn't made, the session may have seen more.
+    ///
+    /// `NoMemory`: a growth was refused. `EpochFull`: no room is left for its record.
+    pub fn submit(
+        &self,
+        rt: &impl Wait,
+        session: Session<L>,
+        call: &Call,
+    ) -> (Session<L>, Result<Ticket, SubmitFault>)
+        ensures given { IfOk result.1 (λ ticket. Did L.base session (called call.now ticket.answer) result.0 × (ticket.seen ≡ result.0.task.seen)) }
+        ensures err { OnErr result.1 (Did L.base session looked result.0) }
+    {
+        let made = self.keeper.lock(rt).submit(session, call);
+        self.calls.notify_all();
+        made
+    }
+
+    /// The reply that a ticket of this session keeps, once all that its call saw is stored; until then it waits.
+    ///
+    /// A fault is one that a loop met, which stores nothing more then; or `Failed`: the ticket isn't of this session.
+    pub fn redeem<R: Wait>(
+        &self,
+        rt: &R,
+        session: Session<L>,
+        ticket: Ticket,
+    ) -> (Session<L>, Result<Reply, StoreFault>)
+        ensures redeemed { IfOk result.1 (λ reply. (reply ≡ ticket.answer) × Did L.base session (redeemed ticket.seen) result.0) }
+        ensures fits { IfOk result.1 (λ reply. length (reply_text reply) ≤ MAX_FRAME_CONTENT) }
+        ensures err { OnErr result.1 (result.0 ≡ session) }
+    {
+        let seen = ticket.seen();
+        let mut keeper = self.news.wait_while(
+            rt,
+            self.keeper.lock(rt),
+            |keeper| keeper.is_awaited(seen),
+        );
+        let fault = keeper.fault();
+        let (session, told) = keeper.redeem(session, ticket);
+        match told {
+            Ok(reply) => (session, Ok(reply)),
+            Err(_) => (session, Err(fault.unwrap_or(StoreFault::Failed))),
+        }
+    }
+
+    /// The fault that a loop met, if one did: nothing more is stored then.
+    pub fn fault(&self, rt: &impl Wait) -> Option<StoreFault> {
+        self.keeper.lock(rt).fault()
+    }
+
+    /// Tells both loops to end, behind what was called until now.
+    pub fn stop(&self, rt: &impl Wait) {
+        self.keeper.lock(rt).stop();
+        self.calls.notify_all();
+    }
+
+    /// A loop met a fault: it tells all who wait.
+    pub(crate) fn fail(&self, rt: &impl Wait, fault: StoreFault) {
+        self.keeper.lock(rt).fail(fault);
+        self.news.notify_all();
+        self.calls.notify_all();
+        self.stored.notify_all();
+    }
+}
