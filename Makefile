@@ -1,4 +1,4 @@
-.PHONY: demo test bin bench
+.PHONY: demo test bin bench load
 
 # The main job on a new folder, with its bytes explained. It proves nothing: the program runs checked, and where bin/ has
 # the proved one, that.
@@ -9,13 +9,18 @@ demo:
 test:
 	.ci/run
 
-# The programs, proved and built, in bin/. (Nobody listens for machc, which ends with 1 then.)
+# The programs, proved and built, in bin/. (Nobody listens for machc, and load wants other words, so these end with a fault.)
 bin:
 	@mkdir -p bin
-	@empty=$$(mktemp -d) && for program in machipcd machls machmap machc; do \
-	  (cd crates/$$program && rt run -- "$$empty" < /dev/null > /dev/null || [ $$program = machc ]) && cp crates/$$program/out/$$program bin/ || exit 1; \
+	@empty=$$(mktemp -d) && for program in machipcd machls machmap machc load; do \
+	  (cd crates/$$program && rt run -- "$$empty" < /dev/null > /dev/null || [ $$program = machc ] || [ $$program = load ]) && cp crates/$$program/out/$$program bin/ || exit 1; \
 	done; rm -r "$$empty"
 
 # What calls, messages, deaths, batches, openings and checkpoints cost, in a new folder: it proves the program first.
 bench:
 	@folder=$$(mktemp -d) && (cd crates/bench && rt run -- "$$folder") && rm -r "$$folder"
+
+# How many calls a second a server on a socket answers, for several numbers of connections and of frames that are written at once,
+# in a new folder: it proves the programs first.
+load: bin
+	@demo/load

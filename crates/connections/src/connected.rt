@@ -39,12 +39,7 @@ impl<'a, L: Founding, D: Disk, G, R> Model for Connected<'a, L, D, G, R> {
 
 impl<'a, L: Founding, D: Disk, G, R> Connected<'a, L, D, G, R> {
     /// The caller of this session.
-    pub fn new(
-        alloc: Global,
-        rt: &'a R,
-        shared: &'a Shared<L, D, G>,
-        session: Session<L>,
-    ) -> Self
+    pub fn new(alloc: Global, rt: &'a R, shared: &'a Shared<L, D, G>, session: Session<L>) -> Self
         ensures { result ≡ Some session }
     {
         Connected {

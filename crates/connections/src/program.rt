@@ -7,7 +7,6 @@ use crate::threads::{accept, start_loops};
 use codes::MAX_RECORDS;
 use disk::Disk;
 use journal::StoreFault;
-use system::Opened;
 use sessions::{Founding, MOST_SESSIONS, OpenGate, Row, Shared};
 use std::alloc::{AllocGlobal, Global};
 use std::io::Write;
@@ -19,6 +18,7 @@ use std::sync::ledger::Blank;
 use std::sync::{Arc, Wait};
 use std::thread::Threads;
 use std::time::Clock;
+use system::Opened;
 
 /// Binds the socket's path, says on the output that it is ready, and serves an opened store there, each connection in a thread of its
 /// own as a session of the store's history. It ends only by a fault.

@@ -78,8 +78,20 @@ fn serve_stream<L: Founding, D: Disk, R: Wait + AllocGlobal>(
 pub(crate) fn start_loops<
     L: Founding + Send + Sync + 'static,
     D: Disk + Drop + Send + 'static,
-    R: Threads + Wait + Net<Listener = TcpListener, Stream = TcpStream> + Clock + Copy + Send + Sync + 'static,
->(rt: R, alloc: Global, shared: &Arc<Shared<L, D, OpenGate>, Global>, path: &str) -> io::Result<()> {
+    R: Threads
+        + Wait
+        + Net<Listener = TcpListener, Stream = TcpStream>
+        + Clock
+        + Copy
+        + Send
+        + Sync
+        + 'static,
+>(
+    rt: R,
+    alloc: Global,
+    shared: &Arc<Shared<L, D, OpenGate>, Global>,
+    path: &str,
+) -> io::Result<()> {
     let mine = Arc::try_clone(shared)?;
     let own = String::from_str(alloc, path)?;
     thread::spawn(&rt, move || {

@@ -48,12 +48,5 @@ fn serve_alone(rt: HostRuntime, words: Option<&[String]>) -> ExitCode {
         return ExitCode::from(1);
     };
     let mut errors = rt.stderr();
-    ExitCode::from(lone(
-        rt.alloc(),
-        &rt,
-        words,
-        &mut input,
-        &mut output,
-        &mut errors,
-    ))
+    ExitCode::from(lone(rt.alloc(), &rt, words, &mut input, &mut output, &mut errors))
 }

@@ -123,7 +123,7 @@ module _ (base : State) (old : SessionValue) (c : Call) (ticket : TicketValue) (
   called_session amount number space told more places same kept recorded answered is = elim (cases_lt old_made (length past.entries)) [
     | inl grew ↦ card_as number space told more places old.task.space (old.task.places ++ old_made ∷ []) same (recorded grew).0 kept (recorded grew).1 (
       did_session base old (called c ticket.answer) (calling old past old.task.space (old.task.places ++ old_made ∷ [])) amount more did.history is (recorded_did grew) refl (recorded_own grew is.own)
-      (omega (arith, (recorded grew).2, is.counted, length-append old.task.places (old_made ∷ []))),
+          (omega (arith, (recorded grew).2, is.counted, length-append old.task.places (old_made ∷ []))),
       recorded_did grew,
     )
     | inr none ↦ card_as number space told more places (space_after old.task.space c ticket.answer) old.task.places same (answered none).0 kept (answered none).1 (

@@ -105,10 +105,13 @@ pub unapplied_call : {E : Type 0} (base : State) (old new : KernelValue) (past :
     → OnErr r ((new ≡ old) × (after ≡ kept) × ((mine ≡ seen) ⊎ (mine ≡ kept.entries))) → OnErr r (Learns base seen mine × (record { half = new; past = Some after; opened = opened; earlier = earlier; taken = taken; older = older } ≡ now))
 unapplied_call base old new past kept after opened earlier taken older now core there view (Ok ticket) seen mine history begins err = tt
 unapplied_call base old new past kept after opened earlier taken older now core there view (Err fault) seen mine history begins err = (
-  record { begins = begins; history = elim err.2 [
-    | inl same ↦ subst (IsHistory base) (sym same) history
-    | inr all ↦ subst (IsHistory base) (sym all) (core_history base old kept.entries opened earlier taken older core)
-  ] },
+  record {
+    begins = begins;
+    history = elim err.2 [
+      | inl same ↦ subst (IsHistory base) (sym same) history
+      | inr all ↦ subst (IsHistory base) (sym all) (core_history base old kept.entries opened earlier taken older core)
+    ];
+  },
   (λ i. record { half = err.0 i; past = (ap Some err.1 ∙ sym there) i; opened = opened; earlier = earlier; taken = taken; older = older }) ∙ view,
 )
 

@@ -38,7 +38,11 @@ impl<L: Founding, D: Disk, G: Gate> Shared<L, D, G> {
     /// The end of an epoch, once its row is long enough. None where the loop is to end.
     fn next_end<R: Wait + Clock>(&self, rt: &R, records: u64) -> Option<End<L>> {
         for _ in rt.forever() {
-            let keeper = self.calls.wait_while(rt, self.keeper.lock(rt), |keeper| keeper.is_short(records));
+            let keeper = self.calls.wait_while(
+                rt,
+                self.keeper.lock(rt),
+                |keeper| keeper.is_short(records),
+            );
             let is_over = keeper.is_ending();
             drop(keeper);
             if is_over {
@@ -92,7 +96,9 @@ impl<L: Founding, D: Disk, G: Gate> Shared<L, D, G> {
         self.gate.pass(rt, Step::RollHead);
         self.storer.lock(rt).roll_head()?;
         for _ in rt.forever() {
-            let storer = self.stored.wait_while(rt, self.storer.lock(rt), |storer| storer.is_behind());
+            let storer = self
+                .stored
+                .wait_while(rt, self.storer.lock(rt), |storer| storer.is_behind());
             drop(storer);
             self.gate.pass(rt, Step::RollOpen);
             let opened = self.storer.lock(rt).roll_open()?;

@@ -13,22 +13,26 @@ use storer::{Load, NotStored};
 const PATIENCE_MILLISECONDS: u64 = 10;
 
 impl<L: Founding, D: Disk, G: Gate> Shared<L, D, G> {
-    /// Stores what calls make, batch by batch, until it is told to stop and nothing waits, or the store fails.
+    /// Stores what calls make, batch by batch, until it is told to stop and nothing waits, or the store fails. It is for one
+    /// thread. No reply is told of a call that is made after it ended.
     pub fn flusher<R: Wait + Clock>(&self, rt: &R) {
         for _ in rt.forever() {
             let Some(load) = self.next_load(rt) else {
-                return;
+                break;
             };
             if !self.store(rt, load) {
-                return;
+                break;
             }
         }
+        self.end(rt);
     }
 
     /// The records that wait, once there are some. None where the loop is to end.
     fn next_load<R: Wait + Clock>(&self, rt: &R) -> Option<Load<L>> {
         for _ in rt.forever() {
-            let keeper = self.calls.wait_while(rt, self.keeper.lock(rt), |keeper| keeper.is_idle());
+            let keeper = self
+                .calls
+                .wait_while(rt, self.keeper.lock(rt), |keeper| keeper.is_idle());
             let is_over = keeper.is_over();
             drop(keeper);
             if is_over {
@@ -38,9 +42,8 @@ impl<L: Founding, D: Disk, G: Gate> Shared<L, D, G> {
             let taken = self.keeper.lock(rt).take();
             match taken {
                 Ok(Some(load)) => return Some(load),
-                // Another loop took them.
-                Ok(None) => {}
-                Err(_) => self.pause(rt),
+                // Memory is wanted, or a load is out, as only a second loop of this kind meets.
+                Ok(None) | Err(_) => self.pause(rt),
             }
         }
         None
@@ -71,6 +74,9 @@ impl<L: Founding, D: Disk, G: Gate> Shared<L, D, G> {
                 Err((NotStored::NotNow, back)) => {
                     load = back;
                     self.await_segment(rt, load.epoch);
+                    if self.fault(rt).is_some() {
+                        return false;
+                    }
                 }
             }
         }

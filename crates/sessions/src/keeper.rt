@@ -40,6 +40,9 @@ pub(crate) struct Keeper<L: Founding> {
     // What a loop met, and whether the loops are to end.
     fault: Option<StoreFault>,
     is_stopping: bool,
+
+    // Whether nothing is stored any more.
+    is_ended: bool,
     ghost counted: { book.total ≡ core.half.row.made },
     ghost numbers: { made + left ≡ MOST_SESSIONS },
     ghost parts: { rest.parts ≡ left },
@@ -69,6 +72,7 @@ impl<L: Founding> Keeper<L> {
             rest,
             fault: None,
             is_stopping: false,
+            is_ended: false,
         }
     }
 
@@ -90,6 +94,7 @@ impl<L: Founding> Keeper<L> {
             rest: _,
             fault: _,
             is_stopping: _,
+            is_ended: _,
         } = self;
         let Session { card, past } = session;
         let before = core.made();
@@ -175,7 +180,7 @@ impl<L: Founding> Keeper<L> {
 
     /// Whether a ticket that saw so many records waits, and may be told one day.
     pub(crate) fn is_awaited(&self, seen: u64) -> bool {
-        self.fault.is_none() && self.core.handed() < seen
+        self.fault.is_none() && !self.is_ended && self.core.handed() < seen
     }
 
     /// What a loop met.
@@ -203,6 +208,11 @@ impl<L: Founding> Keeper<L> {
     /// Whether the loop that makes images is to end.
     pub(crate) fn is_ending(&self) -> bool {
         self.fault.is_some() || self.is_stopping
+    }
+
+    /// Nothing is stored any more.
+    pub(crate) fn end(&mut self) {
+        self.is_ended = true;
     }
 
     /// Tells the loops to end.

@@ -98,7 +98,15 @@ impl<L: Founding> Core<L> {
         let Some(kept) = self.past.take() else {
             unreachable!()
         };
-        let (kept, mine, made) = apply_beside(self.alloc, &mut self.half, number, space, kept, seen, call);
+        let (kept, mine, made) = apply_beside(
+            self.alloc,
+            &mut self.half,
+            number,
+            space,
+            kept,
+            seen,
+            call,
+        );
         self.past = Some(kept);
         (mine, made)
     }

@@ -1,8 +1,8 @@
 ghost use Rattle.std.specs.Prelude.{◌≡◌, true, false, IfOk, IfErr, MatchBool};
 ghost use Rattle.sessions.specs.Tokens.{IsBehind, Meets};
 
-use history::Founding;
 use crate::session::Session;
+use history::Founding;
 
 /// Two sessions that couldn't meet, as they were.
 #[derive(Drop)]

@@ -1,9 +1,8 @@
 ghost use Rattle.std.specs.Prelude.{◌≡◌, ◌+◌, ◌≤◌, ◌<◌, ◌-◌, Some, length, option_map, slice_get, MatchOption, OnOk, OnErr};
 ghost use Rattle.sessions.specs.Tokens.{HasRead};
 
-use history::Founding;
 use boxcar::tag::Tag;
-use history::Past;
+use history::{Founding, Past};
 use ipc_model::Record;
 use std::alloc::AllocError;
 use std::marker::Model;

@@ -99,7 +99,8 @@ impl<L: Founding, D: Disk, G: Drop> Shared<L, D, G> {
 
     /// The reply that a ticket of this session keeps, once all that its call saw is stored; until then it waits.
     ///
-    /// A fault is one that a loop met, which stores nothing more then; or `Failed`: the ticket isn't of this session.
+    /// A fault is one that a loop met, which stores nothing more then; or `Failed`: the loop that stores has ended, or the ticket
+    /// isn't of this session.
     pub fn redeem<R: Wait>(
         &self,
         rt: &R,
@@ -111,11 +112,9 @@ impl<L: Founding, D: Disk, G: Drop> Shared<L, D, G> {
         ensures err { OnErr result.1 (result.0 ≡ session) }
     {
         let seen = ticket.seen();
-        let mut keeper = self.news.wait_while(
-            rt,
-            self.keeper.lock(rt),
-            |keeper| keeper.is_awaited(seen),
-        );
+        let mut keeper = self
+            .news
+            .wait_while(rt, self.keeper.lock(rt), |keeper| keeper.is_awaited(seen));
         let fault = keeper.fault();
         let (session, told) = keeper.redeem(session, ticket);
         match told {
@@ -133,6 +132,12 @@ impl<L: Founding, D: Disk, G: Drop> Shared<L, D, G> {
     pub fn stop(&self, rt: &impl Wait) {
         self.keeper.lock(rt).stop();
         self.calls.notify_all();
+    }
+
+    /// The loop that stores ends: it tells all who wait.
+    pub(crate) fn end(&self, rt: &impl Wait) {
+        self.keeper.lock(rt).end();
+        self.news.notify_all();
     }
 
     /// A loop met a fault: it tells all who wait.

@@ -304,7 +304,7 @@ module _ {D : Type 0} (honest : Type 0) (view : D → View) (base : State) where
         kept = λ is_honest _.
             let kept = is.kept is_honest room.0 in
             let after = kept_after old is load is_load begins next.first next.number room.1 kept new.disk (written is_honest) (synced is_honest)
-                (moments is_honest (kept_synced (view old.store.disk) old.store.segment old.store.checkpoint kept.mid kept.state kept.kept)) in
+            (moments is_honest (kept_synced (view old.store.disk) old.store.segment old.store.checkpoint kept.mid kept.state kept.kept)) in
             record {
               state = after.state;
               before = after.before;

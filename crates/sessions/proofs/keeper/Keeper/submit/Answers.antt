@@ -33,7 +33,7 @@ invariant_of-result g c =
     let grew = λ (more : made < length past.entries). c.note_call.ensures.recorded (omega (arith, more, c.made-before.ensures, c.len.ensures)) in
     let none = λ (same : length past.entries ≤ made). c.note_call.ensures.answered (omega (arith, same, c.made-before.ensures, c.len.ensures)) in
     let both = called_session g.L.Founding.base old c.args.call.now c.in-Ok.ticket past made c.apply-past.new.self.half.row.made did refl card.share.amount c.note_call.new.card.number c.note_call.new.card.space c.note_call.new.card.told c.note_call.new.card.share.amount c.note_call.new.card.places.numbers
-        c.note_call.ensures.same.0 c.note_call.ensures.same.1 (λ more. ((grew more).0, (grew more).1 ∙ ap (λ (n : ℕ). card.places.numbers ++ n ∷ []) c.made-before.ensures, (grew more).2)) (λ same. ((none same).0, (none same).1, (none same).2)) c.session.invariant.0 in
+    c.note_call.ensures.same.0 c.note_call.ensures.same.1 (λ more. ((grew more).0, (grew more).1 ∙ ap (λ (n : ℕ). card.places.numbers ++ n ∷ []) c.made-before.ensures, (grew more).2)) (λ same. ((none same).0, (none same).1, (none same).2)) c.session.invariant.0 in
     (both.0, omega (arith, c.note_call.ensures.same.2, c.session.invariant.1))
 
 pub invariant_of-result-in-Err : goal.invariant_of-result-in-Err
@@ -53,5 +53,5 @@ returns-in-Ok-clause-given g c =
     let grew = λ (more : made < length past.entries). c.note_call.ensures.recorded (omega (arith, more, c.made-before.ensures, c.len.ensures)) in
     let none = λ (same : length past.entries ≤ made). c.note_call.ensures.answered (omega (arith, same, c.made-before.ensures, c.len.ensures)) in
     let both = called_session g.L.Founding.base old c.args.call.now c.in-Ok.ticket past made c.apply-past.new.self.half.row.made did refl card.share.amount c.note_call.new.card.number c.note_call.new.card.space c.note_call.new.card.told c.note_call.new.card.share.amount c.note_call.new.card.places.numbers
-        c.note_call.ensures.same.0 c.note_call.ensures.same.1 (λ more. ((grew more).0, (grew more).1 ∙ ap (λ (n : ℕ). card.places.numbers ++ n ∷ []) c.made-before.ensures, (grew more).2)) (λ same. ((none same).0, (none same).1, (none same).2)) c.session.invariant.0 in
+    c.note_call.ensures.same.0 c.note_call.ensures.same.1 (λ more. ((grew more).0, (grew more).1 ∙ ap (λ (n : ℕ). card.places.numbers ++ n ∷ []) c.made-before.ensures, (grew more).2)) (λ same. ((none same).0, (none same).1, (none same).2)) c.session.invariant.0 in
     (subst (λ (v : SessionValue). Did g.L.Founding.base v (called c.args.call.now c.in-Ok.ticket.answer) (session_of c.note_call.new.card.number c.note_call.new.card.space c.note_call.new.card.told c.note_call.new.card.places.numbers past)) c.session.view_is both.1, did.seen_is)

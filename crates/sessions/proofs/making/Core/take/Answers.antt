@@ -56,5 +56,5 @@ invariant_of-self-2 g c =
       taken_handed g.L.Founding.base s.half c.take.new.self entries s.opened s.earlier s.taken s.older core t takes.some takes.which ∙ c.self.invariant.0,
       omega (arith, c.self.invariant.1),
       kept_again (λ (l : List Entry). IsCore g.L.Founding.base s.half l s.opened s.earlier s.taken s.older) (λ (l : List Entry). IsCore g.L.Founding.base c.take.new.self l s.opened s.earlier (s.taken + c.from.result) s.older) s.past entries there c.self.invariant.2
-      (subst (λ (n : ℕ). IsCore g.L.Founding.base c.take.new.self entries s.opened s.earlier (s.taken + n) s.older) (sym (c.from.ensures ∙ c.count.ensures)) all.core),
+          (subst (λ (n : ℕ). IsCore g.L.Founding.base c.take.new.self entries s.opened s.earlier (s.taken + n) s.older) (sym (c.from.ensures ∙ c.count.ensures)) all.core),
     )

@@ -13,9 +13,11 @@ pub invariant_of-self : goal.invariant_of-self
 invariant_of-self g c =
     let old : SessionValue = session_of c.self.inside.card.number c.self.inside.card.space c.self.inside.card.told c.self.inside.card.places.numbers c.self.inside.past in
     let behind = behind_within c.args.self.now c.args.other.now c.self.inside.past c.other.inside.past (ap (λ (v : SessionValue). v.past) c.self.view_is) (ap (λ (v : SessionValue). v.past) c.other.view_is) c.requires.behind in
-    let up = c.catch_up.ensures in
-    (learned g.L.Founding.base old c.other.inside.past c.catch_up.new.self c.self.inside.card.share.amount c.self.invariant.0 c.other.invariant.0.history
-    (caught_or_same c.self.inside.past c.other.inside.past c.catch_up.new.self c.catch_up.result behind up.ok up.begins up.moved up.err), c.self.invariant.1)
+    let up = c.catch_up.ensures in (
+      learned g.L.Founding.base old c.other.inside.past c.catch_up.new.self c.self.inside.card.share.amount c.self.invariant.0 c.other.invariant.0.history
+          (caught_or_same c.self.inside.past c.other.inside.past c.catch_up.new.self c.catch_up.result behind up.ok up.begins up.moved up.err),
+      c.self.invariant.1,
+    )
 
 pub returns-clause-met : goal.returns-clause-met
 returns-clause-met g c is =

@@ -1,0 +1,76 @@
+//! The connections, each in a thread of its own.
+use crate::asker::Asker;
+use crate::plan::{Kind, Plan};
+use crate::spread::Spread;
+use std::alloc::{AllocGlobal, Global};
+use std::net::{Net, TcpListener, TcpStream};
+use std::os::unix::net::UnixStream;
+use std::sync::Wait;
+use std::thread::{self, JoinHandle, Threads};
+use std::time::{Clock, Duration, Instant};
+
+/// Has all connections make calls for so many seconds. None where one of them ended before.
+pub(crate) fn run<
+    R: Threads
+        + Wait
+        + Net<Listener = TcpListener, Stream = TcpStream>
+        + Clock
+        + AllocGlobal
+        + Copy
+        + Send
+        + 'static,
+>(rt: R, alloc: Global, plan: &Plan) -> Option<Spread> {
+    let mut tasks = Vec::new(alloc);
+    for _ in 0..plan.connections {
+        let path = String::from_str(alloc, plan.path).ok()?;
+        tasks
+            .push(begin(rt, path, plan.seconds, plan.kind, plan.frames)?)
+            .ok()?;
+    }
+    let mut all = Spread::new(alloc).ok()?;
+    for task in tasks {
+        all.merge(&task.join(&rt)?);
+    }
+    Some(all)
+}
+
+fn begin<
+    R: Threads
+        + Wait
+        + Net<Listener = TcpListener, Stream = TcpStream>
+        + Clock
+        + AllocGlobal
+        + Copy
+        + Send
+        + 'static,
+>(
+    rt: R,
+    path: String,
+    seconds: u64,
+    kind: Kind,
+    frames: u32,
+) -> Option<JoinHandle<Option<Spread>>> {
+    thread::spawn(&rt, move || ask(&rt, path.as_str(), seconds, kind, frames)).ok()
+}
+
+/// Makes calls on a connection for so many seconds.
+fn ask<R: Net<Listener = TcpListener, Stream = TcpStream> + Wait + Clock + AllocGlobal>(
+    rt: &R,
+    path: &str,
+    seconds: u64,
+    kind: Kind,
+    frames: u32,
+) -> Option<Spread> {
+    let stream = UnixStream::connect(rt, path).ok()?;
+    let mut asker = Asker::new(rt.alloc(), &stream)?;
+    let mut spread = Spread::new(rt.alloc()).ok()?;
+    let port = asker.port()?;
+    let start = Instant::now(rt).ok()?;
+    for _ in rt.forever() {
+        asker.round(rt, kind, port, frames, &mut spread)?;
+        if start.elapsed(rt).ok()? >= Duration::from_secs(seconds) {
+            break;
+        }
+    }
+    Some(spread)
+}

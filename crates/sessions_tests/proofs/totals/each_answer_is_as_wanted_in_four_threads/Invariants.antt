@@ -1,0 +1,14 @@
+use Rattle.std.specs.Arc.{arc_value}
+use Rattle.sessions_tests.proofs.totals.each_answer_is_as_wanted_in_four_threads.Given as goal
+
+-- the state that was opened
+abbrev pub ghosts-counts-L-Founding : goal.ghosts-counts-L-Founding
+ghosts-counts-L-Founding g a = record { base = a.start.opened.kernel }
+
+-- the row that was just made
+abbrev pub ghosts-counts-L-FirstRow : goal.ghosts-counts-L-FirstRow
+ghosts-counts-L-FirstRow g a = record { first = arc_value a.start.row }
+
+-- the ledger that was just made
+abbrev pub ghosts-counts-L-Ledger : goal.ghosts-counts-L-Ledger
+ghosts-counts-L-Ledger g a = record { name = a.start.blank.name; parts = a.start.blank.parts }

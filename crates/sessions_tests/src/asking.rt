@@ -1,0 +1,73 @@
+//! Calls of a session, and what they answer.
+
+use crate::service::Service;
+use ipc_model::{Call, Reply};
+use std::sync::Wait;
+use system::Ticket;
+
+/// Waits for the reply of a call, if it was made.
+pub(crate) fn told<S: Service, R: Wait>(
+    rt: &R,
+    service: &S,
+    session: S::Session,
+    ticket: Option<Ticket>,
+) -> (S::Session, Option<Reply>) {
+    match ticket {
+        Some(ticket) => service.tell(rt, session, ticket),
+        None => (session, None),
+    }
+}
+
+/// Makes a call, and waits for its reply. None where it wasn't made or the store failed.
+pub(crate) fn asked<S: Service, R: Wait>(
+    rt: &R,
+    service: &S,
+    session: S::Session,
+    call: &Call,
+) -> (S::Session, Option<Reply>) {
+    let (session, ticket) = service.make(rt, session, call);
+    told(rt, service, session, ticket)
+}
+
+/// The name that a reply gives.
+pub(crate) fn name_in(reply: Option<Reply>) -> Option<u32> {
+    match reply {
+        Some(Reply::Allocate { name }) => Some(name),
+        _ => None,
+    }
+}
+
+/// The type bits that a reply tells.
+pub(crate) fn bits_in(reply: Option<Reply>) -> Option<u32> {
+    match reply {
+        Some(Reply::Type { bits }) => Some(bits),
+        _ => None,
+    }
+}
+
+/// Allocates a receive right, and asks for the type of its name: whether that is a receive right.
+fn allocates<S: Service, R: Wait>(rt: &R, service: &S, session: S::Session) -> (S::Session, bool) {
+    let (session, reply) = asked(rt, service, session, &Call::Allocate { right: 1 });
+    let Some(name) = name_in(reply) else {
+        return (session, false);
+    };
+    let (session, reply) = asked(rt, service, session, &Call::Type { name });
+    (session, bits_in(reply) == Some(0x2_0000))
+}
+
+/// Allocates so many receive rights, and asks for the type of each. How many were answered as they have to be.
+pub(crate) fn allocates_many<S: Service, R: Wait>(
+    rt: &R,
+    service: &S,
+    session: S::Session,
+    count: u32,
+) -> (S::Session, u32) {
+    let mut session = session;
+    let mut done = 0u32;
+    for _ in 0..count {
+        let (back, is_done) = allocates(rt, service, session);
+        session = back;
+        done = done.saturating_add(u32::from(is_done));
+    }
+    (session, done)
+}

@@ -1,0 +1,23 @@
+//! Tests of sessions in threads of their own, beside the loops.
+#![tactic(auto)]
+
+#[cfg(test)]
+mod asking;
+#[cfg(test)]
+mod expect;
+#[cfg(test)]
+mod flag;
+#[cfg(test)]
+mod pieces;
+#[cfg(test)]
+mod service;
+#[cfg(test)]
+mod shares;
+#[cfg(test)]
+mod slow_sync;
+#[cfg(test)]
+mod stop;
+#[cfg(test)]
+mod totals;
+#[cfg(test)]
+mod unstored;

@@ -1,0 +1,127 @@
+//! A call while a checkpoint is held up.
+ghost use Rattle.std.specs.Prelude.{◌≡◌};
+ghost use Rattle.std.specs.Arc.{arc_value};
+
+use crate::asking::{allocates_many, asked, name_in};
+use crate::expect::same;
+use crate::service::Service;
+use crate::shares::{Start, shared_from, start_on};
+use crate::stop::{Stay, Stop};
+use disk::{Disk, MemDisk};
+use ipc_model::Call;
+use sessions::{Founding, Gate, Shared, Step};
+use std::alloc::Global;
+use std::marker::Brand;
+use std::sync::Wait;
+use std::test::Fail;
+use std::thread::{Threads, join};
+use std::time::Clock;
+
+/// How many records a checkpoint is begun at.
+const RECORDS: u32 = 4;
+
+#[derive(Debug, Drop, PartialEq)]
+struct Seen {
+    /// How many rights were allocated before the checkpoint.
+    count: u32,
+    /// Whether the checkpoint was about to write a piece.
+    has_come: bool,
+    /// The name that a call gave then.
+    name: Option<u32>,
+    /// Whether the checkpoint went on before that.
+    was_late: bool,
+    has_finished: bool,
+}
+
+/// Makes calls until a checkpoint begins, and one more while it is held up.
+fn call_beside_a_checkpoint<S: Service, R: Wait + Clock>(
+    rt: &R,
+    service: &S,
+    session: S::Session,
+    stay: &Stay,
+) -> Seen {
+    let (session, count) = allocates_many(rt, service, session, RECORDS);
+    let has_come = stay.has_come.comes(rt);
+    let (_, reply) = asked(rt, service, session, &Call::Allocate { right: 1 });
+    let was_late = stay.was_late.is_set();
+    stay.may_go.set();
+    Seen {
+        count,
+        has_come,
+        name: name_in(reply),
+        was_late,
+        has_finished: stay.has_finished.comes(rt),
+    }
+}
+
+/// The same in a new session, behind which the loops are told to end.
+fn call_and_end<S: Service, R: Wait + Clock>(rt: &R, service: &S, stay: &Stay) -> Option<Seen> {
+    let seen = match service.begin(rt) {
+        Some(session) => Some(call_beside_a_checkpoint(rt, service, session, stay)),
+        None => None,
+    };
+    service.end(rt);
+    seen
+}
+
+fn call_beside_the_loop<S: Service + Sync, R: Threads + Wait + Clock + Sync>(
+    rt: &R,
+    service: &S,
+    stay: &Stay,
+) -> Option<Seen> {
+    let (_, seen) = join(
+        rt,
+        || service.store_calls(rt),
+        || call_and_end(rt, service, stay),
+    );
+    seen
+}
+
+fn call_beside_both_loops<S: Service + Sync, R: Threads + Wait + Clock + Sync>(
+    rt: &R,
+    service: &S,
+    stay: &Stay,
+) -> Option<Seen> {
+    let (_, seen) = join(
+        rt,
+        || service.make_images(rt, u64::from(RECORDS)),
+        || call_beside_the_loop(rt, service, stay),
+    );
+    seen
+}
+
+/// What is seen on a new store, whose checkpoint is held up so.
+fn seen_on<
+    L: Founding + Send + Sync,
+    D: Disk + Drop + Send,
+    G: Gate + Send + Sync,
+    R: Threads + Wait + Clock + Sync,
+>(rt: &R, alloc: Global, start: Start<D>, gate: G, stay: &Stay) -> Option<Seen>
+    requires base { start.opened.kernel ≡ L.base }
+    requires row { arc_value start.row ≡ L.first }
+    requires blank { (start.blank.name ≡ L.name) × (start.blank.parts ≡ L.parts) }
+{
+    let shared: Shared<L, D, G> = shared_from(alloc, start, gate)?;
+    call_beside_both_loops(rt, &shared, stay)
+}
+
+#[test]
+fn a_call_is_stored_while_a_checkpoint_is_held_up(rt: HostRuntime) -> Result<(), Fail> {
+    let stay = Stay::new();
+    let gate = Stop {
+        rt: &rt,
+        at: Step::Piece(0),
+        stay: &stay,
+    };
+    let start = start_on(rt.alloc(), MemDisk::new(rt.alloc())).ok_or("no store")?;
+    let seen = seen_on::<Brand, _, _, _>(&rt, rt.alloc(), start, gate, &stay);
+    let wanted = Seen {
+        count: RECORDS,
+        has_come: true,
+        name: Some(0x104),
+        was_late: false,
+        has_finished: true,
+    };
+    same(&rt, seen, Some(wanted));
+    Ok(())
+}

@@ -1,0 +1,91 @@
+//! Sessions of one history and their loops, as the tests see them. Nothing has a clause, so that a test's proof carries nothing
+//! of a session: what is known of one would be written out at each exit of a function that owns it.
+
+use disk::Disk;
+use ipc_model::{Call, Reply};
+use sessions::{Founding, Gate, Session, Shared, meet};
+use std::sync::Wait;
+use std::time::Clock;
+use system::Ticket;
+
+/// What gives sessions, makes their calls, and has loops.
+pub(crate) trait Service {
+    type Session: Drop + Send;
+
+    fn begin<R: Wait>(&self, rt: &R) -> Option<Self::Session>;
+
+    /// Makes a call. Its ticket, where it was made.
+    fn make<R: Wait>(
+        &self,
+        rt: &R,
+        session: Self::Session,
+        call: &Call,
+    ) -> (Self::Session, Option<Ticket>);
+
+    /// Waits for a reply. None where the store failed.
+    fn tell<R: Wait>(
+        &self,
+        rt: &R,
+        session: Self::Session,
+        ticket: Ticket,
+    ) -> (Self::Session, Option<Reply>);
+
+    /// How many records two sessions have seen once they met. None where they couldn't.
+    fn seen_together(one: Self::Session, other: Self::Session) -> Option<[usize; 2]>;
+
+    /// The loop that stores calls.
+    fn store_calls<R: Wait + Clock>(&self, rt: &R);
+
+    /// The loop that makes an image each time that so many records were made.
+    fn make_images<R: Wait + Clock>(&self, rt: &R, records: u64);
+
+    /// Tells the loops to end.
+    fn end<R: Wait>(&self, rt: &R);
+}
+
+impl<L: Founding + Send + Sync, D: Disk, G: Gate> Service for Shared<L, D, G> {
+    type Session = Session<L>;
+
+    fn begin<R: Wait>(&self, rt: &R) -> Option<Session<L>> {
+        self.session(rt).ok()
+    }
+
+    fn make<R: Wait>(
+        &self,
+        rt: &R,
+        session: Session<L>,
+        call: &Call,
+    ) -> (Session<L>, Option<Ticket>) {
+        let (session, made) = self.submit(rt, session, call);
+        (session, made.ok())
+    }
+
+    fn tell<R: Wait>(
+        &self,
+        rt: &R,
+        session: Session<L>,
+        ticket: Ticket,
+    ) -> (Session<L>, Option<Reply>) {
+        let (session, told) = self.redeem(rt, session, ticket);
+        (session, told.ok())
+    }
+
+    fn seen_together(one: Session<L>, other: Session<L>) -> Option<[usize; 2]> {
+        match meet(one, other) {
+            Ok((one, other)) => Some([one.seen(), other.seen()]),
+            Err(_) => None,
+        }
+    }
+
+    fn store_calls<R: Wait + Clock>(&self, rt: &R) {
+        self.flusher(rt);
+    }
+
+    fn make_images<R: Wait + Clock>(&self, rt: &R, records: u64) {
+        self.checkpointer(rt, records);
+    }
+
+    fn end<R: Wait>(&self, rt: &R) {
+        self.stop(rt);
+    }
+}

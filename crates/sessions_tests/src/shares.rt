@@ -1,0 +1,56 @@
+//! New stores that are shared.
+ghost use Rattle.std.specs.Prelude.{◌≡◌};
+ghost use Rattle.std.specs.Arc.{arc_value};
+ghost use Rattle.sessions.specs.declared.keeper.TheConstants.{MOST_SESSIONS};
+
+use codes::MAX_RECORDS;
+use disk::Disk;
+use sessions::{Founding, Gate, MOST_SESSIONS, Row, Shared};
+use std::alloc::Global;
+use std::sync::Arc;
+use std::sync::ledger::Blank;
+use system::{Opened, open};
+
+/// What a history begins with: an opened store, its first row, and a ledger for its sessions.
+#[derive(Drop)]
+pub(crate) struct Start<D: Disk> {
+    pub(crate) opened: Opened<D>,
+    pub(crate) row: Arc<Row, Global>,
+    pub(crate) blank: Blank,
+    ghost parts: { blank.parts ≡ MOST_SESSIONS },
+}
+
+fn first_row(alloc: Global) -> Option<Arc<Row, Global>> {
+    let row = Row::new(alloc, MAX_RECORDS as usize).ok()?;
+    Arc::new(alloc, row).ok()
+}
+
+/// The beginning on a disk. None where its store can't be opened.
+pub(crate) fn start_on<D: Disk + Drop>(alloc: Global, disk: D) -> Option<Start<D>> {
+    let row = first_row(alloc)?;
+    match open(alloc, disk) {
+        Ok(opened) => Some(Start {
+            opened,
+            row,
+            blank: Blank::new(u64::from(MOST_SESSIONS)),
+        }),
+        Err(_) => None,
+    }
+}
+
+/// The history that begins so, shared. None where memory is wanted.
+pub(crate) fn shared_from<L: Founding, D: Disk + Drop, G: Gate>(
+    alloc: Global,
+    start: Start<D>,
+    gate: G,
+) -> Option<Shared<L, D, G>>
+    requires base { start.opened.kernel ≡ L.base }
+    requires row { arc_value start.row ≡ L.first }
+    requires blank { (start.blank.name ≡ L.name) × (start.blank.parts ≡ L.parts) }
+{
+    let Start { opened, row, blank } = start;
+    match Shared::new(alloc, opened, row, blank, gate) {
+        Ok(shared) => Some(shared),
+        Err(_) => None,
+    }
+}

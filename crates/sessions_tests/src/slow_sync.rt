@@ -1,0 +1,181 @@
+//! A call while the store is in the middle of a sync.
+ghost use Rattle.std.specs.Prelude.{◌≡◌};
+ghost use Rattle.std.specs.Arc.{arc_value};
+
+use crate::asking::{name_in, told};
+use crate::expect::same;
+use crate::flag::Flag;
+use crate::service::Service;
+use crate::shares::{Start, shared_from, start_on};
+use disk::{Disk, DiskFault, MemDisk, Slot};
+use ipc_model::Call;
+use sessions::{Founding, OpenGate, Shared};
+use std::alloc::Global;
+use std::marker::Brand;
+use std::sync::Wait;
+use std::test::Fail;
+use std::thread::{Threads, join};
+use std::time::Clock;
+
+/// What becomes of the sync that is held.
+#[derive(Drop)]
+struct Hold {
+    /// From now on the next sync is held.
+    is_wanted: Flag,
+    has_begun: Flag,
+    may_end: Flag,
+    /// It wasn't told to end in time.
+    was_late: Flag,
+}
+
+impl Hold {
+    fn new() -> Hold {
+        Hold {
+            is_wanted: Flag::new(),
+            has_begun: Flag::new(),
+            may_end: Flag::new(),
+            was_late: Flag::new(),
+        }
+    }
+}
+
+/// A disk whose sync is held.
+#[derive(Drop)]
+struct SlowDisk<'a, D, R> {
+    disk: D,
+    hold: &'a Hold,
+    rt: &'a R,
+}
+
+impl<'a, D: Disk, R: Clock> SlowDisk<'a, D, R> {
+    fn wait(&self) {
+        if !self.hold.is_wanted.is_set() {
+            return;
+        }
+        self.hold.has_begun.set();
+        if !self.hold.may_end.comes(self.rt) {
+            self.hold.was_late.set();
+        }
+    }
+}
+
+impl<'a, D: Disk, R: Clock> Disk for SlowDisk<'a, D, R> {
+    ghost honest = { D.honest };
+
+    ghost view = { λ slow. D.view slow.disk };
+
+    ghost failed_calls = { λ slow. D.failed_calls slow.disk };
+
+    fn failures(&self) -> u64 {
+        self.disk.failures()
+    }
+
+    fn length(&self, slot: Slot) -> u64 {
+        self.disk.length(slot)
+    }
+
+    fn read(&mut self, slot: Slot, at: u64, buffer: &mut [u8]) -> Result<usize, DiskFault> {
+        self.disk.read(slot, at, buffer)
+    }
+
+    fn write_at(&mut self, slot: Slot, at: u64, bytes: &[u8]) -> Result<(), DiskFault> {
+        self.disk.write_at(slot, at, bytes)
+    }
+
+    fn cut(&mut self, slot: Slot, len: u64) -> Result<(), DiskFault> {
+        self.disk.cut(slot, len)
+    }
+
+    fn sync(&mut self, slot: Slot) -> Result<(), DiskFault> {
+        self.wait();
+        self.disk.sync(slot)
+    }
+}
+
+#[derive(Debug, Drop, PartialEq)]
+struct Seen {
+    has_begun: bool,
+    /// Whether the sync ended before the second call was made.
+    was_late: bool,
+    /// The names of both calls.
+    names: [Option<u32>; 2],
+}
+
+/// Makes a call, and another while the sync for it is held.
+fn call_twice<S: Service, R: Wait + Clock>(
+    rt: &R,
+    service: &S,
+    session: S::Session,
+    hold: &Hold,
+) -> Seen {
+    let call = Call::Allocate { right: 1 };
+    hold.is_wanted.set();
+    let (session, first) = service.make(rt, session, &call);
+    let has_begun = hold.has_begun.comes(rt);
+    let (session, second) = service.make(rt, session, &call);
+    hold.may_end.set();
+    let (session, first) = told(rt, service, session, first);
+    let (_, second) = told(rt, service, session, second);
+    Seen {
+        has_begun,
+        was_late: hold.was_late.is_set(),
+        names: [name_in(first), name_in(second)],
+    }
+}
+
+/// The same in a session of its own, behind which the loops are told to end.
+fn call_and_end<S: Service, R: Wait + Clock>(rt: &R, service: &S, hold: &Hold) -> Option<Seen> {
+    let seen = match service.begin(rt) {
+        Some(session) => Some(call_twice(rt, service, session, hold)),
+        None => None,
+    };
+    service.end(rt);
+    seen
+}
+
+fn call_beside_the_loop<S: Service + Sync, R: Threads + Wait + Clock + Sync>(
+    rt: &R,
+    service: &S,
+    hold: &Hold,
+) -> Option<Seen> {
+    let (_, seen) = join(
+        rt,
+        || service.store_calls(rt),
+        || call_and_end(rt, service, hold),
+    );
+    seen
+}
+
+/// What is seen on a new store, whose disk is held so.
+fn seen_on<L: Founding + Send + Sync, D: Disk + Drop + Send, R: Threads + Wait + Clock + Sync>(
+    rt: &R,
+    alloc: Global,
+    start: Start<D>,
+    hold: &Hold,
+) -> Option<Seen>
+    requires base { start.opened.kernel ≡ L.base }
+    requires row { arc_value start.row ≡ L.first }
+    requires blank { (start.blank.name ≡ L.name) × (start.blank.parts ≡ L.parts) }
+{
+    let shared: Shared<L, D, OpenGate> = shared_from(alloc, start, OpenGate)?;
+    call_beside_the_loop(rt, &shared, hold)
+}
+
+#[test]
+fn a_call_is_made_while_a_sync_is_held(rt: HostRuntime) -> Result<(), Fail> {
+    let hold = Hold::new();
+    let disk = SlowDisk {
+        disk: MemDisk::new(rt.alloc()),
+        hold: &hold,
+        rt: &rt,
+    };
+    let start = start_on(rt.alloc(), disk).ok_or("no store")?;
+    let seen = seen_on::<Brand, _, _>(&rt, rt.alloc(), start, &hold);
+    let wanted = Seen {
+        has_begun: true,
+        was_late: false,
+        names: [Some(0x100), Some(0x101)],
+    };
+    same(&rt, seen, Some(wanted));
+    Ok(())
+}

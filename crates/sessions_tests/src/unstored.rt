@@ -1,0 +1,168 @@
+//! A call that saw what another session's call did, which isn't stored.
+ghost use Rattle.std.specs.Prelude.{◌≡◌};
+ghost use Rattle.std.specs.Arc.{arc_value};
+
+use crate::asking::{asked, bits_in, name_in, told};
+use crate::expect::same;
+use crate::flag::Flag;
+use crate::service::Service;
+use crate::shares::{Start, shared_from, start_on};
+use crate::stop::{Stay, Stop};
+use disk::{Disk, MemDisk};
+use ipc_model::{Call, Reply};
+use sessions::{Founding, Gate, Shared, Step};
+use std::alloc::Global;
+use std::marker::Brand;
+use std::sync::Wait;
+use std::test::Fail;
+use std::thread::{Threads, join};
+use std::time::Clock;
+use system::Ticket;
+
+/// For how many turns of a millisecond a reply mustn't come.
+const TURNS: u32 = 100;
+
+#[derive(Debug, Drop, PartialEq)]
+struct Seen {
+    /// Whether the loop was about to store the first call, and wasn't let go too late.
+    was_held: bool,
+    /// Whether the second call's reply came while the loop was held up.
+    came_early: bool,
+    /// What both calls were answered.
+    name: Option<u32>,
+    bits: Option<u32>,
+    /// How many records both have seen once they met.
+    together: Option<[usize; 2]>,
+}
+
+/// Watches for a reply while the loop is held up, and lets it go. Whether it was held up, and the reply came nevertheless.
+fn watch<R: Clock>(rt: &R, stay: &Stay, has_answered: &Flag) -> (bool, bool) {
+    let has_come = stay.has_come.comes(rt);
+    let came_early = has_answered.comes_within(rt, TURNS);
+    let was_held = has_come && !stay.was_late.is_set();
+    stay.may_go.set();
+    (was_held, came_early)
+}
+
+/// Waits for a reply, and tells when it has come.
+fn told_and_noted<S: Service, R: Wait>(
+    rt: &R,
+    service: &S,
+    session: S::Session,
+    ticket: Option<Ticket>,
+    has_answered: &Flag,
+) -> (S::Session, Option<Reply>) {
+    let told = told(rt, service, session, ticket);
+    has_answered.set();
+    told
+}
+
+/// Waits for a reply, beside who watches for it.
+fn watched<S: Service + Sync, R: Threads + Wait + Clock + Sync>(
+    rt: &R,
+    service: &S,
+    session: S::Session,
+    ticket: Option<Ticket>,
+    stay: &Stay,
+) -> ((bool, bool), (S::Session, Option<Reply>)) {
+    let has_answered = Flag::new();
+    let flag = &has_answered;
+    join(
+        rt,
+        || watch(rt, stay, flag),
+        move || told_and_noted(rt, service, session, ticket, flag),
+    )
+}
+
+/// One session allocates a right, and another asks for the type of its name. They meet once the other made a record more.
+fn call_in_both<S: Service + Sync, R: Threads + Wait + Clock + Sync>(
+    rt: &R,
+    service: &S,
+    one: S::Session,
+    other: S::Session,
+    stay: &Stay,
+) -> Seen {
+    let (one, first) = service.make(rt, one, &Call::Allocate { right: 1 });
+    let (other, second) = service.make(rt, other, &Call::Type { name: 0x100 });
+    let (held, (other, second)) = watched(rt, service, other, second, stay);
+    let (one, first) = told(rt, service, one, first);
+    let (other, _) = asked(rt, service, other, &Call::Allocate { right: 1 });
+    Seen {
+        was_held: held.0,
+        came_early: held.1,
+        name: name_in(first),
+        bits: bits_in(second),
+        together: S::seen_together(one, other),
+    }
+}
+
+/// The same in two new sessions.
+fn call_in_new<S: Service + Sync, R: Threads + Wait + Clock + Sync>(
+    rt: &R,
+    service: &S,
+    stay: &Stay,
+) -> Option<Seen> {
+    let one = service.begin(rt)?;
+    let other = service.begin(rt)?;
+    Some(call_in_both(rt, service, one, other, stay))
+}
+
+/// The same, behind which the loops are told to end.
+fn call_and_end<S: Service + Sync, R: Threads + Wait + Clock + Sync>(
+    rt: &R,
+    service: &S,
+    stay: &Stay,
+) -> Option<Seen> {
+    let seen = call_in_new(rt, service, stay);
+    service.end(rt);
+    seen
+}
+
+fn call_beside_the_loop<S: Service + Sync, R: Threads + Wait + Clock + Sync>(
+    rt: &R,
+    service: &S,
+    stay: &Stay,
+) -> Option<Seen> {
+    let (_, seen) = join(
+        rt,
+        || service.store_calls(rt),
+        || call_and_end(rt, service, stay),
+    );
+    seen
+}
+
+/// What is seen on a new store, whose loop is held up so.
+fn seen_on<
+    L: Founding + Send + Sync,
+    D: Disk + Drop + Send,
+    G: Gate + Send + Sync,
+    R: Threads + Wait + Clock + Sync,
+>(rt: &R, alloc: Global, start: Start<D>, gate: G, stay: &Stay) -> Option<Seen>
+    requires base { start.opened.kernel ≡ L.base }
+    requires row { arc_value start.row ≡ L.first }
+    requires blank { (start.blank.name ≡ L.name) × (start.blank.parts ≡ L.parts) }
+{
+    let shared: Shared<L, D, G> = shared_from(alloc, start, gate)?;
+    call_beside_the_loop(rt, &shared, stay)
+}
+
+#[test]
+fn a_reply_waits_for_what_its_call_saw(rt: HostRuntime) -> Result<(), Fail> {
+    let stay = Stay::new();
+    let gate = Stop {
+        rt: &rt,
+        at: Step::Append,
+        stay: &stay,
+    };
+    let start = start_on(rt.alloc(), MemDisk::new(rt.alloc())).ok_or("no store")?;
+    let seen = seen_on::<Brand, _, _, _>(&rt, rt.alloc(), start, gate, &stay);
+    let wanted = Seen {
+        was_held: true,
+        came_early: false,
+        name: Some(0x100),
+        bits: Some(0x2_0000),
+        together: Some([2, 2]),
+    };
+    same(&rt, seen, Some(wanted));
+    Ok(())
+}
