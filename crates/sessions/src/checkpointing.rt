@@ -17,6 +17,7 @@ pub const CHECKPOINT_RECORDS: u64 = 32_768;
 impl<L: Founding, D: Disk, G: Gate> Shared<L, D, G> {
     /// Makes an image each time that the epoch's row has `records` records, until it is told to stop or the store fails.
     pub fn checkpointer<R: Wait + Clock>(&self, rt: &R, records: u64) {
+        self.keeper.lock(rt).begin_images();
         for _ in rt.forever() {
             let Some(end) = self.next_end(rt, records) else {
                 return;
@@ -62,6 +63,7 @@ impl<L: Founding, D: Disk, G: Gate> Shared<L, D, G> {
         let row = Row::new(self.alloc, MAX_RECORDS as usize).ok()?;
         let row = Arc::new(self.alloc, row).ok()?;
         let cut = self.keeper.lock(rt).cut(row);
+        self.news.notify_all();
         cut.ok()?
     }
 

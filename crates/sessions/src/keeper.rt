@@ -12,7 +12,7 @@ use crate::fault::SessionFault;
 use crate::making::Core;
 use crate::session::{Card, Session};
 use boxcar::tag::{Names, Tag};
-use codes::FIRST_SPACE;
+use codes::{FIRST_SPACE, MAX_RECORDS};
 use history::{Founding, Past, Row};
 use ipc_model::{Call, Reply};
 use journal::StoreFault;
@@ -41,8 +41,9 @@ pub(crate) struct Keeper<L: Founding> {
     fault: Option<StoreFault>,
     is_stopping: bool,
 
-    // Whether nothing is stored any more.
+    // Whether nothing is stored any more, and whether a loop makes images, so that a full row is followed by another.
     is_ended: bool,
+    makes_images: bool,
     ghost counted: { book.total ≡ core.half.row.made },
     ghost numbers: { made + left ≡ MOST_SESSIONS },
     ghost parts: { rest.parts ≡ left },
@@ -73,6 +74,7 @@ impl<L: Founding> Keeper<L> {
             fault: None,
             is_stopping: false,
             is_ended: false,
+            makes_images: false,
         }
     }
 
@@ -95,6 +97,7 @@ impl<L: Founding> Keeper<L> {
             fault: _,
             is_stopping: _,
             is_ended: _,
+            makes_images: _,
         } = self;
         let Session { card, past } = session;
         let before = core.made();
@@ -208,6 +211,16 @@ impl<L: Founding> Keeper<L> {
     /// Whether the loop that makes images is to end.
     pub(crate) fn is_ending(&self) -> bool {
         self.fault.is_some() || self.is_stopping
+    }
+
+    /// Whether the epoch's row is full, and the next epoch will begin.
+    pub(crate) fn awaits_epoch(&self) -> bool {
+        self.makes_images && !self.is_ending() && self.core.row_length() >= MAX_RECORDS
+    }
+
+    /// A loop makes images from now on.
+    pub(crate) fn begin_images(&mut self) {
+        self.makes_images = true;
     }
 
     /// Nothing is stored any more.

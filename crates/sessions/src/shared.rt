@@ -82,17 +82,22 @@ impl<L: Founding, D: Disk, G: Drop> Shared<L, D, G> {
 
     /// Makes a call of a session, whose ticket keeps its reply. Also where it isn't made, the session may have seen more.
     ///
-    /// `NoMemory`: a growth was refused. `EpochFull`: no room is left for its record.
-    pub fn submit(
+    /// Where the epoch's row is full and a loop makes images, it waits for the next epoch. `NoMemory`: a growth was refused.
+    /// `EpochFull`: no room is left for its record, and no next epoch comes.
+    pub fn submit<R: Wait>(
         &self,
-        rt: &impl Wait,
+        rt: &R,
         session: Session<L>,
         call: &Call,
     ) -> (Session<L>, Result<Ticket, SubmitFault>)
         ensures given { IfOk result.1 (λ ticket. Did L.base session (called call.now ticket.answer) result.0 × (ticket.seen ≡ result.0.task.seen)) }
         ensures err { OnErr result.1 (Did L.base session looked result.0) }
     {
-        let made = self.keeper.lock(rt).submit(session, call);
+        let mut keeper = self
+            .news
+            .wait_while(rt, self.keeper.lock(rt), |keeper| keeper.awaits_epoch());
+        let made = keeper.submit(session, call);
+        drop(keeper);
         self.calls.notify_all();
         made
     }
@@ -132,6 +137,7 @@ impl<L: Founding, D: Disk, G: Drop> Shared<L, D, G> {
     pub fn stop(&self, rt: &impl Wait) {
         self.keeper.lock(rt).stop();
         self.calls.notify_all();
+        self.news.notify_all();
     }
 
     /// The loop that stores ends: it tells all who wait.
