@@ -142,6 +142,7 @@ impl<L: Founding> Keeper<L> {
         ticket: Ticket,
     ) -> (Session<L>, Result<Reply, Ticket>)
         ensures redeemed { IfOk result.1 (λ reply. (reply ≡ ticket.answer) × Did L.base session (redeemed ticket.seen) result.0) }
+        ensures stored { IfOk result.1 (λ reply. ticket.seen ≤ self.old.core.half.handed) }
         ensures fits { IfOk result.1 (λ reply. length (reply_text reply) ≤ MAX_FRAME_CONTENT) }
         ensures back { IfErr result.1 (λ kept. (kept ≡ ticket) × (result.0 ≡ session)) }
     {

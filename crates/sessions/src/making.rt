@@ -218,7 +218,7 @@ impl<L: Founding> Core<L> {
 
     /// The reply that a ticket keeps, where all that it saw is stored; else the ticket comes back.
     pub(crate) fn reply(&self, ticket: Ticket) -> Result<Reply, Ticket>
-        ensures ok { IfOk result (λ reply. reply ≡ ticket.answer) }
+        ensures ok { IfOk result (λ reply. (ticket.seen ≤ self.now.half.handed) × (reply ≡ ticket.answer)) }
         ensures fits { IfOk result (λ reply. length (reply_text reply) ≤ MAX_FRAME_CONTENT) }
         ensures err { IfErr result (λ kept. kept ≡ ticket) }
     {
