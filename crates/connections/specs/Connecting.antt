@@ -7,9 +7,9 @@ use Rattle.ipc_model.specs.declared.call.Reply.{Reply}
 use Rattle.ipc_model.specs.history.History.{called, looked, redeemed}
 use Rattle.ipc_model.specs.state.State.{State}
 use Rattle.server.specs.Program as lone
-use Rattle.server.specs.Serving.{shortage_of}
+use Rattle.serving.specs.Serving.{shortage_of}
 use Rattle.server.specs.declared.program.LoneEnd.TheVariants.{Fault}
-use Rattle.server.specs.declared.service.ServeFault.TheVariants as serve_fault
+use Rattle.serving.specs.declared.service.ServeFault.TheVariants as serve_fault
 use Rattle.sessions.specs.Tokens.{SessionValue, Did}
 
 -- A call was made, and its ticket redeemed, whose call saw all that the session had seen then; or it wasn't made, since memory

@@ -1,6 +1,4 @@
-pub mod Answered
 mod Ended
-mod Going
 mod Keeping
 mod Making
 mod Stopping

@@ -19,7 +19,7 @@ use Rattle.ipc_model.specs.store.Recovery.{Recovered}
 use Rattle.server.proofs.Keeping.{no_time, passes_so}
 use Rattle.server.specs.Keeping.{AloneValue, AnswersKept, BreaksKept, FailsKept, IsHeld, RestsKept}
 use Rattle.standing.specs.Standing.{as_written}
-use Rattle.server.specs.Serving.{Answers, AnswersMessage, AnswersRequest, Exchanges, FailsMessage, FailsRequest, IsAnswered, IsFailed, StepOrShortage, shortage_of}
+use Rattle.serving.specs.Serving.{Answers, AnswersMessage, AnswersRequest, Exchanges, FailsMessage, FailsRequest, IsAnswered, IsFailed, StepOrShortage, shortage_of}
 use Rattle.server.specs.Stopping.{IsStoredFrame, IsStoredWhole, Makes, MakesAll, MakesMessage, MakesRequest, StandsWithin, AreOf, calls_of, given, record_of}
 
 run_append : (old mid new : State) (records more : List Record) → Run old records mid → Run mid more new → Run old (records ++ more) new

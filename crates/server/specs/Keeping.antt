@@ -15,7 +15,7 @@ use Rattle.ipc_model.specs.store.Recovery.{Recovered}
 use Rattle.standing.specs.Standing.{as_written}
 use Rattle.system.specs.GoingOn.{GoesOn, TakesMemory}
 use Rattle.system.specs.Passed.{StoreValue, store_code}
-use Rattle.server.specs.Serving.{StepOrShortage}
+use Rattle.serving.specs.Serving.{StepOrShortage}
 use Rattle.server.specs.declared.alone.TheConstants.{CHECKPOINT_RECORDS}
 
 -- The state after the calls so far, the store, the space that the caller is attached to, and whether a call failed.

@@ -1,4 +1,3 @@
 pub mod Keeping
 pub mod Program
-pub mod Serving
 pub mod Stopping

@@ -4,11 +4,11 @@ use Rattle.disk.specs.Moments.{View}
 use Rattle.journal.specs.Fault as store
 use Rattle.journal.specs.declared.fault.StoreFault.{StoreFault}
 use Rattle.server.specs.Keeping.{AloneValue, AnswersKept, BreaksKept, FailsKept, IsHeld, RestsKept}
-use Rattle.server.specs.Serving.{Ends}
+use Rattle.serving.specs.Serving.{Ends}
 use Rattle.server.specs.declared.program.LoneEnd.{LoneEnd}
 use Rattle.server.specs.declared.program.LoneEnd.TheVariants.{Served, CommandLine, Fault}
-use Rattle.server.specs.declared.service.ServeFault.{ServeFault}
-use Rattle.server.specs.declared.service.ServeFault.TheVariants.{Wire, Store}
+use Rattle.serving.specs.declared.service.ServeFault.{ServeFault}
+use Rattle.serving.specs.declared.service.ServeFault.TheVariants.{Wire, Store}
 use Rattle.wire.specs.Fault as wire
 
 -- 0: the input was served to its end; 1: a fault; 2: the words are not one, or can't be read

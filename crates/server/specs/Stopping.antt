@@ -18,7 +18,7 @@ use Rattle.journal.specs.declared.fault.StoreFault.{StoreFault}
 use Rattle.ipc_model.specs.store.Recovery.{Recovered}
 use Rattle.standing.specs.Standing.{as_written}
 use Rattle.server.specs.Keeping.{AloneValue, AnswersKept, BreaksKept, FailsKept, IsHeld, RestsKept}
-use Rattle.server.specs.Serving.{Answers, Exchanges, IsAnswered, IsFailed, IsRefused, LacksMemory}
+use Rattle.serving.specs.Serving.{Answers, Exchanges, IsAnswered, IsFailed, IsRefused, LacksMemory}
 
 -- the record of a call of a task of this space that was answered so, if it has one
 abbrev pub record_of : ℕ → Call → Reply → List Record

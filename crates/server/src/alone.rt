@@ -8,50 +8,24 @@ ghost use Rattle.system.specs.Core.{first_system};
 ghost use Rattle.system.specs.Counting.{counted};
 ghost use Rattle.system.specs.GoingOn.{GoesOn, IsStanding};
 ghost use Rattle.server.specs.Keeping.{AnswersKept, BreaksKept, FailsKept, IsBeforeOrAfter, IsCounted, IsHeld, IsMoved, IsShortOf, RestsKept, attached_by};
-ghost use Rattle.server.specs.Serving.{StepOrShortage, shortage_of};
+ghost use Rattle.serving.specs.Serving.{StepOrShortage};
 ghost use Rattle.ipc_model.specs.calls.Step.{has_record, succeeded};
 ghost use Rattle.ipc_model.specs.texts.Texts.{reply_text};
 ghost use Rattle.ipc_model.specs.declared.call.Call.{Call};
 ghost use Rattle.ipc_model.specs.declared.call.Reply.{Reply};
 ghost use Rattle.journal.specs.declared.fault.StoreFault.{StoreFault};
 
-use codes::{FIRST_SPACE, KernReturn, MACH_PORT_NULL, MAX_FRAME_CONTENT};
+use codes::{FIRST_SPACE, MAX_FRAME_CONTENT};
 use disk::Disk;
 use ipc_model::{Call, Reply};
 use journal::StoreFault;
+use serving::{Caller, shortage};
 use std::alloc::Global;
 use std::marker::Model;
 use system::{CallFault, Opened, System};
 
 /// How many records an epoch's row has when a checkpoint is begun.
 pub const CHECKPOINT_RECORDS: u64 = 32_768;
-
-/// Who makes the calls of a connection.
-pub trait Caller {
-    /// What it may answer to a call, and what it is afterwards.
-    ghost answers: { Self → Call → Reply → Self → Type 0 };
-
-    /// How a call may fail in the store, and what it is afterwards.
-    ghost fails: { Self → Call → StoreFault → Self → Type 0 };
-
-    /// What it may be after it was given time between two frames.
-    ghost rests: { Self → Self → Type 0 };
-
-    /// How that may fail in the store, and what it is afterwards.
-    ghost breaks: { Self → StoreFault → Self → Type 0 };
-
-    /// Makes a call. A reply is given only when all that it tells of is stored, and it
-    /// fits in a frame.
-    fn call(&mut self, call: Call) -> Result<Reply, StoreFault>
-        ensures answers { IfOk result (λ reply. answers self.old call reply self.new) }
-        ensures fits { IfOk result (λ reply. length (reply_text reply) ≤ MAX_FRAME_CONTENT) }
-        ensures fails { IfErr result (λ fault. fails self.old call fault self.new) };
-
-    /// Takes time after a frame's reply was written, for what no reply waits for. Answers whether memory was there for it.
-    fn rest(&mut self) -> Result<bool, StoreFault>
-        ensures rests { OnOk result (rests self.old self.new) }
-        ensures breaks { IfErr result (λ fault. breaks self.old fault self.new) };
-}
 
 /// The caller of a lone connection: the core over an opened store that nobody else uses.
 #[derive(Drop)]
@@ -234,24 +208,5 @@ fn make_call<D: Disk>(
         Ok(reply) => Ok(reply),
         Err(CallFault::Submit(_)) => Ok(shortage(alloc, call)),
         Err(CallFault::Store(fault)) => Err(fault),
-    }
-}
-
-/// The answer to a call that memory or room for its record is wanted for. It takes no memory.
-pub fn shortage(alloc: Global, call: &Call) -> Reply
-    ensures answer { result ≡ shortage_of call.now }
-    ensures unrecorded { has_record call.now result ≡ false }
-{
-    match call {
-        Call::Send { .. } => {
-            Reply::without_message(alloc, KernReturn::SendNoBuffer, 0, MACH_PORT_NULL)
-        }
-        Call::Receive { .. } => {
-            Reply::without_message(alloc, KernReturn::RcvHeaderErrorKernel, 0, MACH_PORT_NULL)
-        }
-        _ => Reply::Refused {
-            number: call.number(),
-            code: KernReturn::ResourceShortage,
-        },
     }
 }

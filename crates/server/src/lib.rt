@@ -4,12 +4,11 @@
 mod alone;
 mod laws;
 mod program;
-mod service;
 
-pub use alone::{Alone, CHECKPOINT_RECORDS, Caller, shortage};
+pub use alone::{Alone, CHECKPOINT_RECORDS};
 pub use laws::{
     answered_is_stored, breaking_loses_nothing, failure_loses_nothing, frame_is_stored,
 };
 pub use program::{LoneEnd, lone, run_alone};
-pub use service::{ServeFault, serve};
+pub use serving::{Caller, ServeFault, serve, shortage};
 pub use system::{Event, Kernel, Opened, Outcome, SubmitFault, System, open};

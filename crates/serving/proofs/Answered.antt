@@ -12,7 +12,7 @@ use Rattle.ipc_model.specs.messages.Receiving.{without_message}
 use Rattle.ipc_model.specs.calls.Refusals.{refused_of}
 use Rattle.ipc_model.specs.calls.Step.{number_of_call}
 use Rattle.ipc_model.specs.texts.Texts.{reply_text}
-use Rattle.server.specs.Serving.{shortage_of}
+use Rattle.serving.specs.Serving.{shortage_of}
 use Rattle.words.specs.WordLaws.{length-word}
 use Rattle.words.specs.Words.{word}
 

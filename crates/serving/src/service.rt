@@ -2,7 +2,7 @@ ghost use Rattle.std.specs.Prelude.{◌≡◌, ◌≤◌, ◌<◌, length, IfErr
 ghost use Rattle.ipc_model.specs.messages.Receiving as receiving;
 ghost use Rattle.ipc_model.specs.calls.Refusals.{refused_of};
 ghost use Rattle.ipc_model.specs.texts.Texts.{reply_text};
-ghost use Rattle.server.specs.Serving.{AnswersBoth, AnswersMessage, AnswersRequest, Ends, FailsBoth, FailsMessage, FailsRequest, IsAnswered, IsFailed};
+ghost use Rattle.serving.specs.Serving.{AnswersBoth, AnswersMessage, AnswersRequest, Ends, FailsBoth, FailsMessage, FailsRequest, IsAnswered, IsFailed};
 
 use crate::Caller;
 use calls::{CallFault, Request, read_request, reply_frame};
@@ -24,7 +24,7 @@ pub enum ServeFault {
 
 impl From<WireFault> for ServeFault {
     ghost use Rattle.std.specs.Prelude.{◌≡◌};
-    ghost use Rattle.server.specs.declared.service.ServeFault.TheVariants.{Wire};
+    ghost use Rattle.serving.specs.declared.service.ServeFault.TheVariants.{Wire};
 
     ghost from_gives = { λ fault e. e ≡ Wire fault };
 
@@ -35,7 +35,7 @@ impl From<WireFault> for ServeFault {
 
 impl From<StoreFault> for ServeFault {
     ghost use Rattle.std.specs.Prelude.{◌≡◌};
-    ghost use Rattle.server.specs.declared.service.ServeFault.TheVariants.{Store};
+    ghost use Rattle.serving.specs.declared.service.ServeFault.TheVariants.{Store};
 
     ghost from_gives = { λ fault e. e ≡ Store fault };
 

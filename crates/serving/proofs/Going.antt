@@ -10,7 +10,7 @@ use Rattle.words.specs.Words.{frame_text}
 use Rattle.byteorder.specs.Endian.{little_number}
 use Rattle.wire.specs.declared.fault.WireFault.TheVariants.{Short, TooLong}
 use Rattle.wire.specs.Frame.{Front, ended, whole, faulty, front_of, content_at}
-use Rattle.server.specs.Serving.{Exchanges, Answers, IsAnswered, ServesAll, requests_text, replies_text}
+use Rattle.serving.specs.Serving.{Exchanges, Answers, IsAnswered, ServesAll, requests_text, replies_text}
 
 pub appends_is : (out bytes : List ℕ) (old new : Option (List ℕ)) → old ≡ Some out → Appends old new bytes → new ≡ Some (out ++ bytes)
 appends_is out bytes old new e is = known new (subst (λ o. Appends o new bytes) e is)

@@ -16,8 +16,8 @@ use Rattle.ipc_model.specs.state.State.{State}
 use Rattle.ipc_model.specs.calls.Step.{Step, number_of_call, succeeded}
 use Rattle.ipc_model.specs.texts.Texts.{reply_text}
 use Rattle.journal.specs.declared.fault.StoreFault.{StoreFault}
-use Rattle.server.specs.declared.service.ServeFault.{ServeFault}
-use Rattle.server.specs.declared.service.ServeFault.TheVariants.{Wire, Store}
+use Rattle.serving.specs.declared.service.ServeFault.{ServeFault}
+use Rattle.serving.specs.declared.service.ServeFault.TheVariants.{Wire, Store}
 use Rattle.wire.specs.Frame.{IsReadOf}
 use Rattle.wire.specs.Writing.{AppendsPart}
 use Rattle.wire.specs.declared.fault.WireFault.{WireFault}

@@ -1,7 +1,7 @@
 use Rattle.std.proofs.Common.{◌≡◌, ◌≤◌, ℕ, List, Some}
 use Rattle.codes.specs.declared.limits.TheConstants.{MAX_FRAME_CONTENT}
-use Rattle.server.proofs.Going.{Going}
-use Rattle.server.proofs.service.serve.Given as goal
+use Rattle.serving.proofs.Going.{Going}
+use Rattle.serving.proofs.service.serve.Given as goal
 
 -- the replies' frame keeps its room, and what was read so far was served
 abbrev pub invariant-loop : goal.invariant-loop

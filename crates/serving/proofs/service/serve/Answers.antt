@@ -4,10 +4,10 @@ use Rattle.ipc_model.specs.texts.Texts.{reply_text}
 use Rattle.wire.specs.Writing.{AppendsPart}
 use Rattle.wire.specs.declared.fault.WireFault.TheVariants.{Device}
 use Rattle.words.specs.Words.{frame_text}
-use Rattle.server.specs.Serving.{replies_text}
-use Rattle.server.proofs.Going.{begun, goes_on, ended_whole, frame_read, end_read, appends_is, keeps_is, both_known}
-use Rattle.server.proofs.Ended.{ends_at_most, ends_calling, ends_reading, ends_resting, ends_writing, part_whole}
-use Rattle.server.proofs.service.serve.Goals as goal
+use Rattle.serving.specs.Serving.{replies_text}
+use Rattle.serving.proofs.Going.{begun, goes_on, ended_whole, frame_read, end_read, appends_is, keeps_is, both_known}
+use Rattle.serving.proofs.Ended.{ends_at_most, ends_calling, ends_reading, ends_resting, ends_writing, part_whole}
+use Rattle.serving.proofs.service.serve.Goals as goal
 
 pub loop-init : goal.loop-init
 loop-init g c = record {

@@ -1,6 +1,6 @@
 use Rattle.std.proofs.Common.{inr, refl, sym, ◌∙◌}
-use Rattle.server.proofs.Answered.{if_err, if_ok, at_true, at_false}
-use Rattle.server.proofs.service.send_and_receive.Goals as goal
+use Rattle.serving.proofs.Answered.{if_err, if_ok, at_true, at_false}
+use Rattle.serving.proofs.service.send_and_receive.Goals as goal
 
 pub returns-then-not-is_success-clause-answered : goal.returns-then-not-is_success-clause-answered
 returns-then-not-is_success-clause-answered g c = (
