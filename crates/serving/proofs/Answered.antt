@@ -51,6 +51,10 @@ refusal_fits n code answer is = let fits : IsShort answer = subst IsShort (sym i
 short : (given answer : Reply) → answer ≡ given → IsShort given → IsShort answer
 short given answer is holds = subst IsShort (sym is) holds
 
+-- A refusal fits in a frame.
+pub refused_fits : (n : ℕ) (code : KernReturn) → length (reply_text (reply.Refused n code)) ≤ MAX_FRAME_CONTENT
+refused_fits n code = let fits : IsShort (reply.Refused n code) = short_refusal n code in omega (arith, fits)
+
 -- A shortage fits in a frame.
 pub shortage_fits : (c : Call) (answer : Reply) → answer ≡ shortage_of c → length (reply_text answer) ≤ MAX_FRAME_CONTENT
 shortage_fits c answer is = let fits : IsShort answer = short (shortage_of c) answer is (short_shortage c) in omega (arith, fits)

@@ -1,3 +1,6 @@
+mod Acting
 pub mod Answered
 mod Ended
 mod Going
+mod Sent
+mod Turns

@@ -38,10 +38,12 @@ pub trait Caller {
         ensures breaks { IfErr result (λ fault. breaks self.old fault self.new) };
 }
 
+#[tactic(auto, using(crate::proofs::Answered::message_fits, crate::proofs::Answered::refused_fits))]
 /// The answer to a call that memory or room for its record is wanted for. It takes no memory.
 pub fn shortage(alloc: Global, call: &Call) -> Reply
     ensures answer { result ≡ shortage_of call.now }
     ensures unrecorded { has_record call.now result ≡ false }
+    ensures fits { length (reply_text result) ≤ MAX_FRAME_CONTENT }
 {
     match call {
         Call::Send { .. } => {

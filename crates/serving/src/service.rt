@@ -158,7 +158,7 @@ fn send_and_receive<C: Caller>(
 }
 
 /// The answer to a frame that asks for nothing.
-fn no_call(alloc: Global, number: u32) -> Reply
+pub(crate) fn no_call(alloc: Global, number: u32) -> Reply
     ensures answer { result ≡ refused_of number KernReturn.InvalidArgument }
     ensures fits { length (reply_text result) ≤ MAX_FRAME_CONTENT }
 {
@@ -166,7 +166,7 @@ fn no_call(alloc: Global, number: u32) -> Reply
 }
 
 /// What `mach_msg` answers where no message is told of.
-fn without_message(alloc: Global, code: KernReturn) -> Reply
+pub(crate) fn without_message(alloc: Global, code: KernReturn) -> Reply
     ensures answer { result ≡ receiving.without_message code 0 MACH_PORT_NULL }
     ensures fits { length (reply_text result) ≤ MAX_FRAME_CONTENT }
 {

@@ -1,0 +1,86 @@
+-- What a connection did, and went on to do.
+use Rattle.std.proofs.Common.{◌≡◌, ◌≤◌, ◌+◌, ℕ, List, [], ◌∷◌, ◌++◌, length, Option, Some, refl, sym, ap, subst, ◌∙◌, arith, append_assoc, length-append}
+use Rattle.std.proofs.lemmas.List.{append-nil}
+use Rattle.ipc_model.specs.declared.call.Call.{Call}
+use Rattle.ipc_model.specs.declared.call.Reply.{Reply}
+use Rattle.ipc_model.specs.texts.Texts.{reply_text}
+use Rattle.journal.specs.declared.fault.StoreFault.{StoreFault}
+use Rattle.serving.specs.Asking.{Act, took, told, Acted, IsTaken, IsTold, Went, frames_of, replies_of}
+use Rattle.serving.specs.declared.asking.Hand.{Hand}
+use Rattle.words.specs.Words.{frame_text}
+
+pub frames_both : {T : Type 0} (acts more : List (Act T)) → frames_of (acts ++ more) ≡ frames_of acts ++ frames_of more
+frames_both [] more = refl
+frames_both (took content hand ∷ acts) more = ap (λ l. frame_text content ++ l) (frames_both acts more) ∙ sym (append_assoc (frame_text content) (frames_of acts) (frames_of more))
+frames_both (told reply ∷ acts) more = frames_both acts more
+
+pub replies_both : {T : Type 0} (acts more : List (Act T)) → replies_of (acts ++ more) ≡ replies_of acts ++ replies_of more
+replies_both [] more = refl
+replies_both (took content hand ∷ acts) more = replies_both acts more
+replies_both (told reply ∷ acts) more = ap (λ l. frame_text (reply_text reply) ++ l) (replies_both acts more) ∙ sym (append_assoc (frame_text (reply_text reply)) (replies_of acts) (replies_of more))
+
+module _ {C T : Type 0} (answer : T → Reply) (makes : C → Call → T → C → Type 0) (lacks : C → Call → C → Type 0) (tells : C → T → C → Type 0) (fails : C → T → StoreFault → C → Type 0) where
+  pub acted_both : (old mid new : C) (queue between left : List (Hand T)) (acts more : List (Act T)) → Acted answer makes lacks tells fails old queue acts between mid → Acted answer makes lacks tells fails mid between more left new
+      → Acted answer makes lacks tells fails old queue (acts ++ more) left new
+  acted_both old mid new queue between left [] more first second =
+      subst (λ c. Acted answer makes lacks tells fails c queue more left new) first.1 (subst (λ q. Acted answer makes lacks tells fails mid q more left new) first.0 second)
+  acted_both old mid new queue between left (took content hand ∷ acts) more first second = (first.0, first.1, acted_both first.0 mid new (queue ++ hand ∷ []) between left acts more first.2 second)
+  acted_both old mid new [] between left (told reply ∷ acts) more first second = absurd first
+  acted_both old mid new (hand ∷ queue) between left (told reply ∷ acts) more first second = (first.0, first.1, acted_both first.0 mid new queue between left acts more first.2 second)
+
+  -- So far, and further.
+  pub went_both : (old mid new : C) (queue between left : List (Hand T)) (input before rest sent further out : List ℕ) → Went answer makes lacks tells fails old queue mid input before rest sent between → Went answer makes lacks tells fails mid between new rest sent further out left
+      → Went answer makes lacks tells fails old queue new input before further out left
+  went_both old mid new queue between left input before rest sent further out first second = record {
+    acts = first.acts ++ second.acts;
+    acted = acted_both old mid new queue between left first.acts second.acts first.acted second.acted;
+    read = first.read ∙ ap (λ l. frames_of first.acts ++ l) second.read ∙ sym (append_assoc (frames_of first.acts) (frames_of second.acts) further) ∙ ap (λ l. l ++ further) (sym (frames_both first.acts second.acts));
+    told_is = second.told_is ∙ ap (λ l. l ++ replies_of second.acts) first.told_is ∙ append_assoc before (replies_of first.acts) (replies_of second.acts) ∙ ap (λ l. before ++ l) (sym (replies_both first.acts second.acts));
+  }
+
+  pub acts_both : (old mid new : C) (queue between left : List (Hand T)) (input before rest sent further out : List ℕ) (first : Went answer makes lacks tells fails old queue mid input before rest sent between) (second : Went answer makes lacks tells fails mid between new rest sent further out left)
+      → length (went_both old mid new queue between left input before rest sent further out first second).acts ≡ length first.acts + length second.acts
+  unfolding went_both
+  acts_both old mid new queue between left input before rest sent further out first second = length-append first.acts second.acts
+
+  -- Nothing was done yet.
+  pub begun : (old : C) (queue : List (Hand T)) (input before : List ℕ) → Went answer makes lacks tells fails old queue old input before input before queue
+  begun old queue input before = record { acts = []; acted = (refl, refl); read = refl; told_is = sym (append-nil before) }
+
+  -- The first in hand was told.
+  pub one_told : (old new : C) (hand : Hand T) (hands : List (Hand T)) (reply : Reply) (input before sent : List ℕ) → IsTold answer makes lacks tells fails old hand reply new → sent ≡ before ++ frame_text (reply_text reply)
+      → Went answer makes lacks tells fails old (hand ∷ hands) new input before input sent hands
+  one_told old new hand hands reply input before sent is out = record {
+    acts = told reply ∷ [];
+    acted = (new, is, (refl, refl));
+    read = refl;
+    told_is = out ∙ ap (λ l. before ++ l) (sym (append-nil (frame_text (reply_text reply))));
+  }
+
+  -- Frames were taken so far, and so many.
+  pub record Taking (old now : C) (hands : List (Hand T)) (input : List ℕ) (left : Option (List ℕ)) (count : ℕ) : Type 0 where
+    pub acts : List (Act T)
+    pub rest : List ℕ
+    pub acted : Acted answer makes lacks tells fails old [] acts hands now
+    pub read : input ≡ frames_of acts ++ rest
+    pub silent : replies_of acts ≡ []
+    pub counted : length acts ≡ count
+    pub left_is : left ≡ Some rest
+
+  pub none_taken : (old : C) (hands : List (Hand T)) (input : List ℕ) (left : Option (List ℕ)) → hands ≡ [] → left ≡ Some input → Taking old old hands input left 0
+  none_taken old hands input left none is = record { acts = []; rest = input; acted = (none, refl); read = refl; silent = refl; counted = refl; left_is = is }
+
+  pub one_taken : (old mid new : C) (hands more : List (Hand T)) (hand : Hand T) (input content behind : List ℕ) (left now : Option (List ℕ)) (count : ℕ) (so_far : Taking old mid hands input left count)
+      → so_far.rest ≡ frame_text content ++ behind → now ≡ Some behind → IsTaken answer makes lacks mid content hand new → more ≡ hands ++ hand ∷ [] → Taking old new more input now (count + 1)
+  one_taken old mid new hands more hand input content behind left now count so_far front is taken pushed =
+      let one : List (Act T) = took content hand ∷ [] in
+      record {
+        acts = so_far.acts ++ one;
+        rest = behind;
+        acted = acted_both old mid new [] hands more so_far.acts one so_far.acted (new, taken, (pushed, refl));
+        read = so_far.read ∙ ap (λ l. frames_of so_far.acts ++ l) front ∙ sym (append_assoc (frames_of so_far.acts) (frame_text content) behind)
+            ∙ ap (λ l. l ++ behind) (ap (λ l. frames_of so_far.acts ++ l) (sym (append-nil (frame_text content))) ∙ sym (frames_both so_far.acts one));
+        silent = replies_both so_far.acts one ∙ ap (λ l. l ++ []) so_far.silent;
+        counted = omega (arith, so_far.counted, length-append so_far.acts one);
+        left_is = is;
+      }

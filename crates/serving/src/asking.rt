@@ -1,0 +1,81 @@
+ghost use Rattle.std.specs.Prelude.{◌≡◌, ◌≤◌, length, IfErr, IfNone, IfOk, IfSome};
+ghost use Rattle.codes.specs.declared.limits.TheConstants.{MAX_FRAME_CONTENT};
+ghost use Rattle.ipc_model.specs.calls.Step.{succeeded};
+ghost use Rattle.ipc_model.specs.declared.call.Call.{Call};
+ghost use Rattle.ipc_model.specs.declared.call.Reply.{Reply};
+ghost use Rattle.ipc_model.specs.texts.Texts.{reply_text};
+ghost use Rattle.journal.specs.declared.fault.StoreFault.{StoreFault};
+ghost use Rattle.serving.specs.Asking.{timed_out};
+
+use crate::brief::Brief;
+use calls::MessageRequest;
+use ipc_model::{Call, Reply};
+use journal::StoreFault;
+
+/// What a frame comes to whose calls were made.
+#[derive(Drop)]
+pub enum Ready<T> {
+    /// Its reply is known.
+    Known(Brief),
+    /// Its last call was made, and the ticket keeps the reply.
+    Made(T),
+}
+
+/// A frame that was read and isn't answered yet.
+#[derive(Drop)]
+pub enum Hand<T> {
+    /// It only waits to be told.
+    Settled(Ready<T>),
+    /// The first of these calls found nothing to do, and is made again after a wait.
+    Waits(MessageRequest),
+}
+
+/// Who makes calls, and may be asked for more before it tells what it was asked first.
+pub trait Asker {
+    /// A call that was made, whose reply isn't told yet.
+    type Ticket: Drop;
+
+    /// How long a call still waits.
+    type Patience: Drop;
+
+    /// The reply that a ticket keeps.
+    ghost answer: { Self.Ticket → Reply };
+
+    /// What it is after a call for which it gave a ticket.
+    ghost makes: { Self → Call → Self.Ticket → Self → Type 0 };
+
+    /// What it is after a call that it didn't make, since memory or room for its record was wanted.
+    ghost lacks: { Self → Call → Self → Type 0 };
+
+    /// What it is after a ticket's reply was told.
+    ghost tells: { Self → Self.Ticket → Self → Type 0 };
+
+    /// How the store may fail before a ticket's reply is told, and what it is afterwards.
+    ghost fails: { Self → Self.Ticket → StoreFault → Self → Type 0 };
+
+    /// Makes a call. `None`: memory or room for its record is wanted, and it isn't made.
+    fn submit(&mut self, call: &Call) -> Option<Self::Ticket>
+        ensures makes { IfSome result (λ ticket. makes self.old call.now ticket self.new) }
+        ensures lacks { IfNone result (lacks self.old call.now self.new) };
+
+    /// Whether a ticket's call was done: its code is 0.
+    fn is_done(&self, ticket: &Self::Ticket) -> bool
+        ensures { (call : Call) → result ≡ succeeded call (answer ticket.now) };
+
+    /// Whether a ticket's call found nothing to do: no message was there, or no room in the queue.
+    fn is_timed_out(&self, ticket: &Self::Ticket) -> bool
+        ensures { result ≡ timed_out (answer ticket.now) };
+
+    /// The reply that a ticket keeps, once all that its call saw is stored.
+    fn redeem(&mut self, ticket: Self::Ticket) -> Result<Reply, StoreFault>
+        ensures reply { IfOk result (λ reply. reply ≡ answer ticket) }
+        ensures tells { IfOk result (λ reply. tells self.old ticket self.new) }
+        ensures fits { IfOk result (λ reply. length (reply_text reply) ≤ MAX_FRAME_CONTENT) }
+        ensures fails { IfErr result (λ fault. fails self.old ticket fault self.new) };
+
+    /// What is left of a wait of so many milliseconds that begins now, or of one without a bound.
+    fn patience(&self, bound: Option<u32>) -> Self::Patience;
+
+    /// Waits until a call may find something to do that found nothing before. Says whether it may still wait afterwards.
+    fn wait(&self, patience: &Self::Patience) -> bool;
+}
