@@ -1,29 +1,35 @@
-ghost use Rattle.std.specs.Prelude.{◌≡◌, ◌≤◌, length, IfOk, IfErr, OnOk};
+ghost use Rattle.std.specs.Prelude.{◌≡◌, ◌≤◌, Some, length, IfOk, IfErr, IfSome, IfNone};
 ghost use Rattle.codes.specs.declared.limits.TheConstants.{MAX_FRAME_CONTENT};
-ghost use Rattle.connections.specs.Connecting.{LeavesOne, MakesOne};
+ghost use Rattle.connections.specs.Connecting.{LacksOne, MakesOne, TellsOne};
+ghost use Rattle.ipc_model.specs.calls.Step.{succeeded};
+ghost use Rattle.ipc_model.specs.declared.call.Call.{Call};
 ghost use Rattle.ipc_model.specs.texts.Texts.{reply_text};
+ghost use Rattle.serving.specs.Asking.{timed_out};
 
+use crate::patience::{Patience, Peer};
+use codes::KernReturn;
 use disk::Disk;
 use ipc_model::{Call, Reply};
 use journal::StoreFault;
-use server::{Caller, shortage};
-use sessions::{Founding, Session, Shared};
-use std::alloc::Global;
+use serving::Asker;
+use sessions::{Founding, Session, Shared, Waited};
 use std::marker::Model;
 use std::sync::Wait;
+use std::time::Clock;
+use system::Ticket;
 
 /// The caller of a connection among others: a session of a shared store.
 #[derive(Drop)]
-pub struct Connected<'a, L: Founding, D: Disk, G, R> {
-    alloc: Global,
+pub struct Connected<'a, L: Founding, D: Disk, G, R, P> {
     rt: &'a R,
     shared: &'a Shared<L, D, G>,
+    peer: P,
 
     // None while a call is being made.
     session: Option<Session<L>>,
 }
 
-impl<'a, L: Founding, D: Disk, G, R> Model for Connected<'a, L, D, G, R> {
+impl<'a, L: Founding, D: Disk, G, R, P> Model for Connected<'a, L, D, G, R, P> {
     ghost use Rattle.std.specs.Prelude.{◌≡◌, Option, true, is_some};
     ghost use Rattle.sessions.specs.Tokens.{SessionValue, session_code};
     ghost use Rattle.std.specs.Coded.{coded_option};
@@ -37,53 +43,103 @@ impl<'a, L: Founding, D: Disk, G, R> Model for Connected<'a, L, D, G, R> {
     ghost invariant = { λ c. is_some c.session ≡ true };
 }
 
-impl<'a, L: Founding, D: Disk, G, R> Connected<'a, L, D, G, R> {
-    /// The caller of this session.
-    pub fn new(alloc: Global, rt: &'a R, shared: &'a Shared<L, D, G>, session: Session<L>) -> Self
+impl<'a, L: Founding, D: Disk, G, R, P> Connected<'a, L, D, G, R, P> {
+    /// The caller of this session, whose task is at the other side of this connection.
+    pub fn new(rt: &'a R, shared: &'a Shared<L, D, G>, peer: P, session: Session<L>) -> Self
         ensures { result ≡ Some session }
     {
         Connected {
-            alloc,
             rt,
             shared,
+            peer,
             session: Some(session),
         }
     }
 }
 
-impl<'a, L: Founding, D: Disk, G: Drop, R: Wait> Caller for Connected<'a, L, D, G, R> {
-    ghost answers = { MakesOne L.base };
+impl<'a, L: Founding, D: Disk, G: Drop, R: Wait + Clock, P: Peer> Asker
+    for Connected<'a, L, D, G, R, P>
+{
+    type Ticket = Ticket;
 
-    ghost fails = { λ old call fault new. LeavesOne L.base old call new };
+    type Patience = Patience;
 
-    ghost rests = { λ old new. new ≡ old };
+    ghost answer = { λ ticket. ticket.answer };
 
-    ghost breaks = { λ old fault new. ⊥ };
+    ghost makes = { MakesOne L.base };
 
-    /// Makes a call, and waits until all that it saw is stored.
-    fn call(&mut self, call: Call) -> Result<Reply, StoreFault>
-        ensures answers { IfOk result (λ reply. MakesOne L.base self.old call reply self.new) }
-        ensures fits { IfOk result (λ reply. length (reply_text reply) ≤ MAX_FRAME_CONTENT) }
-        ensures fails { IfErr result (λ fault. LeavesOne L.base self.old call self.new) }
+    ghost lacks = { LacksOne L.base };
+
+    ghost tells = { TellsOne L.base };
+
+    ghost fails = { λ old ticket fault new. new ≡ old };
+
+    fn submit(&mut self, call: &Call) -> Option<Ticket>
+        ensures makes { IfSome result (λ ticket. MakesOne L.base self.old call.now ticket self.new) }
+        ensures lacks { IfNone result (LacksOne L.base self.old call.now self.new) }
     {
         let Some(session) = self.session.take() else {
             unreachable!()
         };
-        let (session, made) = self.shared.submit(self.rt, session, &call);
-        let Ok(ticket) = made else {
-            self.session = Some(session);
-            return Ok(shortage(self.alloc, &call));
+        let (session, made) = self.shared.submit(self.rt, session, call);
+        self.session = Some(session);
+        made.ok()
+    }
+
+    fn is_done(&self, ticket: &Ticket) -> bool
+        ensures { (call : Call) → result ≡ succeeded call ticket.now.answer }
+    {
+        ticket.is_success()
+    }
+
+    fn is_timed_out(&self, ticket: &Ticket) -> bool
+        ensures { result ≡ timed_out ticket.now.answer }
+    {
+        match ticket.message_code() {
+            Some(KernReturn::SendTimedOut) => true,
+            Some(KernReturn::RcvTimedOut) => true,
+            _ => false,
+        }
+    }
+
+    /// Waits until all that the ticket's call saw is stored.
+    fn redeem(&mut self, ticket: Ticket) -> Result<Reply, StoreFault>
+        ensures reply { IfOk result (λ reply. reply ≡ ticket.answer) }
+        ensures tells { IfOk result (λ reply. TellsOne L.base self.old ticket self.new) }
+        ensures fits { IfOk result (λ reply. length (reply_text reply) ≤ MAX_FRAME_CONTENT) }
+        ensures fails { IfErr result (λ fault. self.new ≡ self.old) }
+    {
+        let Some(session) = self.session.take() else {
+            unreachable!()
         };
         let (session, told) = self.shared.redeem(self.rt, session, ticket);
         self.session = Some(session);
         told
     }
 
-    fn rest(&mut self) -> Result<bool, StoreFault>
-        ensures rests { OnOk result (self.new ≡ self.old) }
-        ensures breaks { IfErr result (λ fault. ⊥) }
-    {
-        let _ = &self.session;
-        Ok(true)
+    fn patience(&self, bound: Option<u32>) -> Patience {
+        Patience::new(self.rt, bound)
+    }
+
+    /// Waits until more was recorded than the session has seen. It doesn't wait on for a peer that is gone.
+    fn wait(&self, patience: &Patience) -> bool {
+        let Some(session) = &self.session else {
+            return false;
+        };
+        for _ in self.rt.forever() {
+            let Some(most) = patience.left(self.rt) else {
+                return false;
+            };
+            match self.shared.wait_for_more(self.rt, session, most) {
+                Waited::Changed => return true,
+                Waited::Ended => return false,
+                Waited::Unchanged => {
+                    if self.peer.is_gone() {
+                        return false;
+                    }
+                }
+            }
+        }
+        false
     }
 }

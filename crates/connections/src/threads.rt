@@ -1,10 +1,10 @@
 //! The threads: one that stores, one that makes images, one for each connection.
 
 use crate::connected::Connected;
-use crate::ending::SocketEnd;
+use crate::patience::SocketPeer;
 use disk::Disk;
 use journal::StoreFault;
-use server::serve;
+use serving::serve_asked;
 use sessions::{CHECKPOINT_RECORDS, Founding, OpenGate, Shared};
 use std::alloc::{AllocGlobal, Global};
 use std::io::{self, BufReader, BufWriter};
@@ -43,7 +43,7 @@ pub(crate) fn accept<
 fn begin<
     L: Founding + Send + Sync + 'static,
     D: Disk + Drop + Send + 'static,
-    R: Threads + Wait + AllocGlobal + Copy + Send + Sync + 'static,
+    R: Threads + Wait + Clock + AllocGlobal + Copy + Send + Sync + 'static,
 >(rt: R, stream: UnixStream, shared: &Arc<Shared<L, D, OpenGate>, Global>) {
     let Ok(mine) = Arc::try_clone(shared) else {
         return;
@@ -56,7 +56,7 @@ fn begin<
 }
 
 /// Serves a connection to its end.
-fn serve_stream<L: Founding, D: Disk, R: Wait + AllocGlobal>(
+fn serve_stream<L: Founding, D: Disk, R: Wait + Clock + AllocGlobal>(
     rt: &R,
     stream: &UnixStream,
     shared: &Shared<L, D, OpenGate>,
@@ -67,8 +67,8 @@ fn serve_stream<L: Founding, D: Disk, R: Wait + AllocGlobal>(
     let Ok(session) = shared.session(rt) else {
         return Ok(());
     };
-    let mut caller = Connected::new(rt.alloc(), rt, shared, session);
-    if serve(rt.alloc(), &mut reader, &mut writer, &mut caller).is_err() {
+    let mut asker = Connected::new(rt, shared, SocketPeer::new(stream), session);
+    if serve_asked(rt.alloc(), &mut reader, &mut writer, &mut asker).is_err() {
         return stream.shutdown(Shutdown::Both);
     }
     Ok(())

@@ -26,6 +26,17 @@ use system::{Kernel, SubmitFault, Ticket};
 /// How many sessions one history gives at most.
 pub const MOST_SESSIONS: u32 = u32::MAX;
 
+/// How a wait for a change of the state ended.
+#[derive(Clone, Copy, Debug, PartialEq, Eq)]
+pub enum Waited {
+    /// More was recorded.
+    Changed,
+    /// Nothing was.
+    Unchanged,
+    /// Nothing is stored any more.
+    Ended,
+}
+
 /// What lies under the lock of the kernel: the core, and the book that counts all sessions' records.
 #[derive(Drop)]
 pub(crate) struct Keeper<L: Founding> {
@@ -185,6 +196,28 @@ impl<L: Founding> Keeper<L> {
     /// Whether a ticket that saw so many records waits, and may be told one day.
     pub(crate) fn is_awaited(&self, seen: u64) -> bool {
         self.fault.is_none() && !self.is_ended && self.core.handed() < seen
+    }
+
+    /// How many records were made since the store was opened.
+    pub(crate) fn made(&self) -> u64 {
+        self.core.made()
+    }
+
+    /// Whether no more than so many records were made, and more may be.
+    pub(crate) fn is_unchanged(&self, seen: u64) -> bool {
+        self.waited(seen) == Waited::Unchanged
+    }
+
+    /// How a wait ends of who has seen so many records.
+    pub(crate) fn waited(&self, seen: u64) -> Waited {
+        if self.fault.is_some() || self.is_ended {
+            return Waited::Ended;
+        }
+        if seen < self.core.made() {
+            Waited::Changed
+        } else {
+            Waited::Unchanged
+        }
     }
 
     /// What a loop met.

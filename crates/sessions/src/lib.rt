@@ -17,7 +17,7 @@ pub use checkpointing::CHECKPOINT_RECORDS;
 pub use fault::SessionFault;
 pub use gate::{Gate, OpenGate, Step};
 pub use history::{Founding, Row};
-pub use keeper::MOST_SESSIONS;
+pub use keeper::{MOST_SESSIONS, Waited};
 pub use meeting::{Unmet, meet};
 pub use session::Session;
 pub use shared::Shared;

@@ -7,7 +7,7 @@ ghost use Rattle.ipc_model.specs.texts.Texts.{reply_text};
 ghost use Rattle.sessions.specs.Tokens.{Did};
 
 use crate::fault::SessionFault;
-use crate::keeper::{Keeper, MOST_SESSIONS};
+use crate::keeper::{Keeper, MOST_SESSIONS, Waited};
 use crate::session::Session;
 use disk::Disk;
 use history::{Founding, Past, Row};
@@ -16,6 +16,7 @@ use journal::StoreFault;
 use std::alloc::Global;
 use std::sync::ledger::Blank;
 use std::sync::{Arc, Condvar, Mutex, Wait};
+use std::time::{Clock, Duration};
 use storer::Storer;
 use system::{Opened, SubmitFault, Ticket};
 
@@ -28,9 +29,11 @@ pub struct Shared<L: Founding, D: Disk, G> {
     pub(crate) keeper: Mutex<Keeper<L>>,
     pub(crate) storer: Mutex<Storer<L, D>>,
 
-    // Waited on under the kernel's lock: that there is something to do for the loops, and that replies can be told.
+    // Waited on under the kernel's lock: that there is something to do for the loops, that replies can be told, and that the state
+    // changed.
     pub(crate) calls: Condvar,
     pub(crate) news: Condvar,
+    pub(crate) changes: Condvar,
 
     // Waited on under the store's lock: that it changed.
     pub(crate) stored: Condvar,
@@ -69,6 +72,7 @@ impl<L: Founding, D: Disk, G: Drop> Shared<L, D, G> {
             storer: Mutex::new(storer),
             calls: Condvar::new(),
             news: Condvar::new(),
+            changes: Condvar::new(),
             stored: Condvar::new(),
         })
     }
@@ -96,10 +100,35 @@ impl<L: Founding, D: Disk, G: Drop> Shared<L, D, G> {
         let mut keeper = self
             .news
             .wait_while(rt, self.keeper.lock(rt), |keeper| keeper.awaits_epoch());
+        let before = keeper.made();
         let made = keeper.submit(session, call);
+        let has_more = before < keeper.made();
         drop(keeper);
-        self.calls.notify_all();
+        self.tell_of_record(has_more);
         made
+    }
+
+    /// Wakes the loops and all who wait for a change, where there was one.
+    fn tell_of_record(&self, has_more: bool) {
+        if has_more {
+            self.calls.notify_all();
+            self.changes.notify_all();
+        }
+    }
+
+    /// Waits until more was recorded than this session has seen, so that a call that found nothing to do may find something now; or
+    /// until this time is over, or nothing is stored any more.
+    pub fn wait_for_more<R: Wait + Clock>(
+        &self,
+        rt: &R,
+        session: &Session<L>,
+        most: Duration,
+    ) -> Waited {
+        let seen = session.seen() as u64;
+        let (keeper, _) = self
+            .changes
+            .wait_timeout_while(rt, self.keeper.lock(rt), most, |keeper| keeper.is_unchanged(seen));
+        keeper.waited(seen)
     }
 
     /// The reply that a ticket of this session keeps, once all that its call saw is stored; until then it waits.
@@ -144,12 +173,14 @@ impl<L: Founding, D: Disk, G: Drop> Shared<L, D, G> {
     pub(crate) fn end(&self, rt: &impl Wait) {
         self.keeper.lock(rt).end();
         self.news.notify_all();
+        self.changes.notify_all();
     }
 
     /// A loop met a fault: it tells all who wait.
     pub(crate) fn fail(&self, rt: &impl Wait, fault: StoreFault) {
         self.keeper.lock(rt).fail(fault);
         self.news.notify_all();
+        self.changes.notify_all();
         self.calls.notify_all();
         self.stored.notify_all();
     }

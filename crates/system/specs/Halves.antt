@@ -1,10 +1,12 @@
 -- What clauses see of the half that makes calls.
-use Rattle.std.specs.Prelude.{◌≡◌, ◌⊎◌, ℕ, ◌+◌, ◌-◌, ◌^◌, ◌<◌, ◌≤◌, Bool, true, false, if◌then◌else◌, refl}
+use Rattle.std.specs.Prelude.{◌≡◌, ◌⊎◌, ℕ, ◌+◌, ◌-◌, ◌^◌, ◌<◌, ◌≤◌, Bool, true, false, Option, None, Some, if◌then◌else◌, refl}
 use Rattle.std.specs.Coded.{Coded, code_by, coded×, coded_ℕ, coded_bool}
+use Rattle.codes.specs.declared.kern_return.KernReturn.{KernReturn}
 use Rattle.codes.specs.declared.limits.TheConstants.{MAX_RECORDS}
 use Rattle.ipc_model.specs.calls.Step.{Step, has_record}
 use Rattle.ipc_model.specs.declared.call.Call.{Call}
 use Rattle.ipc_model.specs.declared.call.Reply.{Reply}
+use Rattle.ipc_model.specs.declared.call.Reply.TheVariants as reply
 use Rattle.ipc_model.specs.declared.record.Record.{Record}
 use Rattle.ipc_model.specs.state.State.{State}
 use Rattle.ipc_model.specs.state.StateCode.{state_code}
@@ -47,6 +49,11 @@ next_row row = record { length = 0; made = row.made; waiting = empty_batch }
 pub record TicketValue : Type 0 where
   pub answer : Reply
   pub seen : ℕ
+
+-- the code of what mach_msg answered
+abbrev pub message_code : Reply → Option KernReturn
+message_code (reply.Message code size member message) = Some code
+message_code answer = None
 
 -- records of one epoch that were taken to be stored
 pub record TakenValue : Type 0 where

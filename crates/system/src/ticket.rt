@@ -5,8 +5,9 @@ ghost use Rattle.ipc_model.specs.calls.Step.{succeeded};
 ghost use Rattle.ipc_model.specs.declared.call.Call.{Call};
 ghost use Rattle.ipc_model.specs.texts.Texts.{reply_text};
 ghost use Rattle.system.specs.Core.{TicketsValue};
-ghost use Rattle.system.specs.Halves.{TicketValue};
+ghost use Rattle.system.specs.Halves.{TicketValue, message_code};
 
+use codes::KernReturn;
 use ipc_model::Reply;
 use number_map::NumberMap;
 use std::alloc::{AllocError, Global};
@@ -49,6 +50,16 @@ impl Ticket {
         ensures { (call : Call) → result ≡ succeeded call self.now.answer }
     {
         self.reply.is_success()
+    }
+
+    /// The code of its reply, if its call is a `mach_msg`'s.
+    pub fn message_code(&self) -> Option<KernReturn>
+        ensures { result ≡ message_code self.now.answer }
+    {
+        match &self.reply {
+            Reply::Message { code, .. } => Some(*code),
+            _ => None,
+        }
     }
 
     /// The reply that it keeps.
