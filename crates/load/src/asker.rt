@@ -26,7 +26,7 @@ impl<'a> Asker<'a> {
         })
     }
 
-    /// Makes so many calls of a kind, or twice as many.
+    /// Makes so many calls of a kind, or twice as many. A pair's are made by `pair`.
     pub(crate) fn round<R: Clock>(
         &mut self,
         rt: &R,
@@ -37,7 +37,7 @@ impl<'a> Asker<'a> {
     ) -> Option<()> {
         match kind {
             Kind::Allocate => self.allocate(rt, frames, spread),
-            Kind::Message => self.exchange(rt, port, frames, spread),
+            Kind::Message | Kind::Pair => self.exchange(rt, port, frames, spread),
             Kind::Read => self.ask_all(rt, &[2, port], frames, spread),
         }
     }
@@ -87,6 +87,42 @@ impl<'a> Asker<'a> {
         self.ask_all(rt, &message, frames, spread)
     }
 
+    /// Asks another connection so many times, each by a message whose reply is waited for. The other waits for each message, and
+    /// answers it by the right that came with it.
+    pub(crate) fn pair<R: Clock>(
+        &mut self,
+        rt: &R,
+        other: &mut Asker<'a>,
+        ports: [u32; 2],
+        frames: u32,
+        spread: &mut Spread,
+    ) -> Option<()> {
+        let [port, back] = ports;
+        let start = Instant::now(rt).ok()?;
+        let question = [19, 3, 28, back, 0, 0x1514, 28, port, back, 0, 7, 0x4433_2211];
+        for _ in 0..frames {
+            self.write(&question)?;
+        }
+        self.writer.flush().ok()?;
+        for _ in 0..frames {
+            other.answer(port)?;
+            let _ = self.read()?;
+            note(rt, &start, spread)?;
+        }
+        Some(())
+    }
+
+    /// Waits for a message, and answers it.
+    fn answer(&mut self, port: u32) -> Option<()> {
+        self.write(&[19, 2, 28, port, 0])?;
+        self.writer.flush().ok()?;
+        let name = self.read_at(6)?;
+        self.write(&[19, 1, 0, 0, 0, 0x12, 28, name, 0, 0, 8, 0])?;
+        self.writer.flush().ok()?;
+        let _ = self.read()?;
+        Some(())
+    }
+
     /// Writes a frame so many times, and reads the replies.
     fn ask_all<R: Clock>(
         &mut self,
@@ -119,19 +155,24 @@ impl<'a> Asker<'a> {
 
     /// Reads a reply whose code is 0, and gives the word behind that, or 0.
     fn read(&mut self) -> Option<u32> {
+        self.read_at(2)
+    }
+
+    /// Reads a reply whose code is 0, and gives its word at this index, or 0.
+    fn read_at(&mut self, at: u32) -> Option<u32> {
         let count = self.word()?;
         let _ = self.word()?;
         if self.word()? != 0 {
             return None;
         }
-        let mut first = 0;
+        let mut found = 0;
         for index in 2..count / 4 {
             let word = self.word()?;
-            if index == 2 {
-                first = word;
+            if index == at {
+                found = word;
             }
         }
-        Some(first)
+        Some(found)
     }
 
     fn word(&mut self) -> Option<u32> {

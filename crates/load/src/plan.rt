@@ -3,6 +3,7 @@
 pub(crate) enum Kind {
     Allocate,
     Message,
+    Pair,
     Read,
 }
 
@@ -45,6 +46,7 @@ fn kind_of(word: &String) -> Option<Kind> {
     match word.as_str() {
         "allocate" => Some(Kind::Allocate),
         "message" => Some(Kind::Message),
+        "pair" => Some(Kind::Pair),
         "read" => Some(Kind::Read),
         _ => None,
     }

@@ -61,6 +61,9 @@ fn ask<R: Net<Listener = TcpListener, Stream = TcpStream> + Wait + Clock + Alloc
     kind: Kind,
     frames: u32,
 ) -> Option<Spread> {
+    if kind == Kind::Pair {
+        return ask_pairs(rt, path, seconds, frames);
+    }
     let stream = UnixStream::connect(rt, path).ok()?;
     let mut asker = Asker::new(rt.alloc(), &stream)?;
     let mut spread = Spread::new(rt.alloc()).ok()?;
@@ -68,6 +71,29 @@ fn ask<R: Net<Listener = TcpListener, Stream = TcpStream> + Wait + Clock + Alloc
     let start = Instant::now(rt).ok()?;
     for _ in rt.forever() {
         asker.round(rt, kind, port, frames, &mut spread)?;
+        if start.elapsed(rt).ok()? >= Duration::from_secs(seconds) {
+            break;
+        }
+    }
+    Some(spread)
+}
+
+/// Has a connection ask another one for so many seconds.
+fn ask_pairs<R: Net<Listener = TcpListener, Stream = TcpStream> + Wait + Clock + AllocGlobal>(
+    rt: &R,
+    path: &str,
+    seconds: u64,
+    frames: u32,
+) -> Option<Spread> {
+    let stream = UnixStream::connect(rt, path).ok()?;
+    let partner = UnixStream::connect(rt, path).ok()?;
+    let mut asker = Asker::new(rt.alloc(), &stream)?;
+    let mut other = Asker::new(rt.alloc(), &partner)?;
+    let mut spread = Spread::new(rt.alloc()).ok()?;
+    let ports = [asker.port()?, asker.port()?];
+    let start = Instant::now(rt).ok()?;
+    for _ in rt.forever() {
+        asker.pair(rt, &mut other, ports, frames, &mut spread)?;
         if start.elapsed(rt).ok()? >= Duration::from_secs(seconds) {
             break;
         }
