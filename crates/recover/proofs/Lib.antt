@@ -1,3 +1,4 @@
+mod Apart
 pub mod Fronts
 pub mod Gates
 pub mod Joined

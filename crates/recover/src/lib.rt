@@ -1,6 +1,7 @@
 //! Opening a store: what its slots stand for, and the repair of their ends.
 #![tactic(auto)]
 
+mod behind;
 mod finding;
 mod headers;
 mod laws;

@@ -12,6 +12,7 @@ ghost use Rattle.recover.specs.Stopping.{HaveLastGates, LeavesSame, StandForSame
 ghost use Rattle.recover.specs.Surveyed.{IsInUse, IsUnused, Surveys};
 ghost use Rattle.standing.specs.Standing.{as_written};
 
+use crate::behind::{both, end_behind, write_behind};
 use crate::finding::{have_no_batch, read_epoch};
 use crate::headers::{Header, Headers, read_headers};
 use crate::making::{end_segment, make_segment, sync_all};
@@ -152,10 +153,10 @@ fn go_on_next<D: Disk>(
     ensures faults { OnErr result ((result ≡ Err StoreFault.Device) ⊎ ((result ≡ Err StoreFault.Damaged) ⊎ (result ≡ Err StoreFault.NoMemory))) }
 {
     let (base, _, _) = read_epoch(alloc, disk, epoch)?;
-    let image = image_of(alloc, epoch + 1, &base)?;
+    let (base, image) = with_image(alloc, base, epoch + 1)?;
     let (kernel, records, end) = replay_segment(alloc, base, disk, segment_slot(epoch + 1))?;
-    image.write(disk)?;
-    end_segment(disk, segment_slot(epoch + 1), end)?;
+    let kernel = write_behind(disk, &image, kernel)?;
+    let kernel = end_behind(disk, segment_slot(epoch + 1), end, kernel)?;
     Ok((
         kernel,
         Segment {
@@ -163,6 +164,16 @@ fn go_on_next<D: Disk>(
             records,
         },
     ))
+}
+
+/// A state and the image of an epoch that begins with it.
+fn with_image(alloc: Global, kernel: Kernel, epoch: u64) -> Result<(Kernel, Image), AllocError>
+    ensures base { IfOk result (λ r. r.0 ≡ kernel) }
+    ensures image { IfOk result (λ r. r.1 ≡ unwritten epoch (image_text kernel)) }
+    ensures holds { OnOk result (HoldsImage epoch (open_image epoch (image_text kernel)) kernel) }
+{
+    let image = image_of(alloc, epoch, &kernel);
+    both(kernel, image)
 }
 
 /// What the headers of a disk's slots say, once all that was written is on it.

@@ -1,12 +1,17 @@
-use Rattle.std.proofs.Common.{◌+◌, Err, ap, drop, sym, subst, ◌∙◌}
+use Rattle.std.proofs.Common.{◌+◌, ◌≤◌, Err, ap, drop, length, sym, subst, ◌∙◌}
 use Rattle.std.proofs.lemmas.Result.{err_from_is_err_and}
 use Rattle.checkpoint.specs.Images.{open_image}
 use Rattle.disk.specs.Slots.{Slots, slot_of}
 use Rattle.ipc_model.specs.store.Store.{SpellsBatches}
 use Rattle.ipc_model.specs.texts.Images.{image_text}
+use Rattle.ipc_model.specs.state.State.{State}
+use Rattle.ipc_model.specs.store.Recovery.{Recovered}
+use Rattle.recover.specs.Kept.{IsKept}
 use Rattle.recover.specs.Replayed.{ReplaysAll}
+use Rattle.standing.specs.Standing.{as_written}
 use Rattle.slot_steps.proofs.Moments.{unchanged_then}
 use Rattle.slot_steps.specs.Steps.{segment_slot}
+use Rattle.recover.proofs.Apart.{stays_inside}
 use Rattle.recover.proofs.Joined.{device_err, next_end_same, next_image_same, next_kept, rested_after_image}
 use Rattle.recover.proofs.Rest.{rest_kept}
 use Rattle.recover.proofs.Ways.{next_damaged, next_found, next_parts, read_damaged, still_same}
@@ -21,8 +26,8 @@ pub returns-in_err-base-clause-any_moment : goal.returns-in_err-base-clause-any_
 returns-in_err-base-clause-any_moment g c = λ honest gates.
     still_same (g.D.Disk.view c.args.disk.now) (g.D.Disk.view c.read_epoch.new.disk) (c.requires.rest honest) gates (c.read_epoch.ensures.time honest)
 
-pub returns-in_err-image-clause-any_moment : goal.returns-in_err-image-clause-any_moment
-returns-in_err-image-clause-any_moment g c = λ honest gates.
+pub returns-in_err-base-2-clause-any_moment : goal.returns-in_err-base-2-clause-any_moment
+returns-in_err-base-2-clause-any_moment g c = λ honest gates.
     still_same (g.D.Disk.view c.args.disk.now) (g.D.Disk.view c.read_epoch.new.disk) (c.requires.rest honest) gates (c.read_epoch.ensures.time honest)
 
 pub returns-in_err-kernel-clause-damaged : goal.returns-in_err-kernel-clause-damaged
@@ -32,7 +37,7 @@ returns-in_err-kernel-clause-damaged g c = λ honest told.
     let seen = (g.D.Disk.view c.args.disk.now).seen in
     let read = c.in_ok-base in
     next_damaged seen e read.base read.field-0-1 read.field-0-2 (c.requires.used honest) (read.ensures.read honest)
-    (λ rs s spelled. c.in_err-kernel.ensures.damaged honest (cc (p.1, p.2, told)) rs s
+    (λ rs s spelled. (rw c.in_ok-base-2.ensures.base at c.in_err-kernel.ensures.damaged honest (cc (p.1, p.2, told))) rs s
     (subst (λ slot. SpellsBatches (drop 16 (slot_of (g.D.Disk.view c.read_epoch.new.disk).seen slot)) rs) (sym c.segment_slot.ensures)
     (subst (λ (d : Slots). SpellsBatches (drop 16 (slot_of d (segment_slot (e + 1)))) rs) (sym (read.ensures.seen honest)) spelled)))
 
@@ -43,60 +48,60 @@ returns-in_err-kernel-clause-any_moment g c = λ honest gates.
     let first = g.D.Disk.view c.read_epoch.new.disk in
     still_same old (g.D.Disk.view c.replay_segment.new.disk) (c.requires.rest honest) gates (unchanged_then old first (g.D.Disk.view c.replay_segment.new.disk) (c.read_epoch.ensures.time honest) (c.replay_segment.ensures.time honest))
 
-pub returns-in_err-write-clause-unchanged : goal.returns-in_err-write-clause-unchanged
-returns-in_err-write-clause-unchanged g c = λ honest.
-    let p = err_from_is_err_and c.from_residual-in_err-write.result c.from_residual-in_err-write.ensures.1 in
-    device_err _ c.from_residual-in_err-write.result _ (p.1 ∙ ap Err p.2)
+pub returns-in_err-kernel-2-clause-unchanged : goal.returns-in_err-kernel-2-clause-unchanged
+returns-in_err-kernel-2-clause-unchanged g c = λ honest.
+    let p = err_from_is_err_and c.from_residual-in_err-kernel-2.result c.from_residual-in_err-kernel-2.ensures.1 in
+    device_err _ c.from_residual-in_err-kernel-2.result _ (p.1 ∙ ap Err p.2)
 
-pub returns-in_err-write-clause-untouched : goal.returns-in_err-write-clause-untouched
-returns-in_err-write-clause-untouched g c = λ honest.
-    let p = err_from_is_err_and c.from_residual-in_err-write.result c.from_residual-in_err-write.ensures.1 in
-    device_err _ c.from_residual-in_err-write.result _ (p.1 ∙ ap Err p.2)
+pub returns-in_err-kernel-2-clause-untouched : goal.returns-in_err-kernel-2-clause-untouched
+returns-in_err-kernel-2-clause-untouched g c = λ honest.
+    let p = err_from_is_err_and c.from_residual-in_err-kernel-2.result c.from_residual-in_err-kernel-2.ensures.1 in
+    device_err _ c.from_residual-in_err-kernel-2.result _ (p.1 ∙ ap Err p.2)
 
-pub returns-in_err-end_segment-clause-unchanged : goal.returns-in_err-end_segment-clause-unchanged
-returns-in_err-end_segment-clause-unchanged g c = λ honest.
-    let p = err_from_is_err_and c.from_residual-in_err-end_segment.result c.from_residual-in_err-end_segment.ensures.1 in
-    device_err _ c.from_residual-in_err-end_segment.result _ (p.1 ∙ ap Err p.2)
+pub returns-in_err-kernel-3-clause-unchanged : goal.returns-in_err-kernel-3-clause-unchanged
+returns-in_err-kernel-3-clause-unchanged g c = λ honest.
+    let p = err_from_is_err_and c.from_residual-in_err-kernel-3.result c.from_residual-in_err-kernel-3.ensures.1 in
+    device_err _ c.from_residual-in_err-kernel-3.result _ (p.1 ∙ ap Err p.2)
 
-pub returns-in_err-end_segment-clause-untouched : goal.returns-in_err-end_segment-clause-untouched
-returns-in_err-end_segment-clause-untouched g c = λ honest.
-    let p = err_from_is_err_and c.from_residual-in_err-end_segment.result c.from_residual-in_err-end_segment.ensures.1 in
-    device_err _ c.from_residual-in_err-end_segment.result _ (p.1 ∙ ap Err p.2)
+pub returns-in_err-kernel-3-clause-untouched : goal.returns-in_err-kernel-3-clause-untouched
+returns-in_err-kernel-3-clause-untouched g c = λ honest.
+    let p = err_from_is_err_and c.from_residual-in_err-kernel-3.result c.from_residual-in_err-kernel-3.ensures.1 in
+    device_err _ c.from_residual-in_err-kernel-3.result _ (p.1 ∙ ap Err p.2)
 
-pub returns-in_err-write-clause-any_moment : goal.returns-in_err-write-clause-any_moment
-returns-in_err-write-clause-any_moment g c = λ honest gates.
+pub returns-in_err-kernel-2-clause-any_moment : goal.returns-in_err-kernel-2-clause-any_moment
+returns-in_err-kernel-2-clause-any_moment g c = λ honest gates.
     let e = c.args.epoch in
     let old = g.D.Disk.view c.args.disk.now in
     let first = g.D.Disk.view c.read_epoch.new.disk in
     let mid = g.D.Disk.view c.replay_segment.new.disk in
     let read = c.in_ok-base in
     let next = c.in_ok-kernel in
-    let image = c.in_ok-image.image in
+    let image = c.in_ok-base-2.image in
     let content = open_image (e + 1) (image_text read.base) in
     let replays = subst (λ slot. ReplaysAll (slot_of old.seen slot) read.base next.kernel next.records next.end) c.segment_slot.ensures
-    (subst (λ (d : Slots). ReplaysAll (slot_of d c.segment_slot.result) read.base next.kernel next.records next.end) (read.ensures.seen honest) (next.ensures.state honest)) in
-    let parts = next_parts old.seen e content read.base next.kernel read.field-0-1 read.field-0-2 next.records next.end (c.requires.used honest) (read.ensures.read honest) replays c.in_ok-image.ensures.holds in
+    (subst (λ (d : Slots). ReplaysAll (slot_of d c.segment_slot.result) read.base next.kernel next.records next.end) (read.ensures.seen honest) (rw c.in_ok-base-2.ensures.base at next.ensures.state honest)) in
+    let parts = next_parts old.seen e content read.base next.kernel read.field-0-1 read.field-0-2 next.records next.end (c.requires.used honest) (read.ensures.read honest) replays c.in_ok-base-2.ensures.holds in
     let still = unchanged_then old first mid (c.read_epoch.ensures.time honest) (c.replay_segment.ensures.time honest) in
     let same = next.ensures.seen honest ∙ read.ensures.seen honest in
-    next_image_same old mid (g.D.Disk.view c.write.new.disk) e read.base next.kernel image next.records next.end c.in_ok-image.ensures.image (c.requires.rest honest) gates still same parts (c.write.ensures.any_moment honest)
+    next_image_same old mid (g.D.Disk.view c.write_behind.new.disk) e read.base next.kernel image next.records next.end c.in_ok-base-2.ensures.image (c.requires.rest honest) gates still same parts (c.write_behind.ensures.any_moment honest)
 
-pub returns-in_err-end_segment-clause-any_moment : goal.returns-in_err-end_segment-clause-any_moment
-returns-in_err-end_segment-clause-any_moment g c = λ honest gates.
+pub returns-in_err-kernel-3-clause-any_moment : goal.returns-in_err-kernel-3-clause-any_moment
+returns-in_err-kernel-3-clause-any_moment g c = λ honest gates.
     let e = c.args.epoch in
     let old = g.D.Disk.view c.args.disk.now in
     let first = g.D.Disk.view c.read_epoch.new.disk in
     let mid = g.D.Disk.view c.replay_segment.new.disk in
     let read = c.in_ok-base in
     let next = c.in_ok-kernel in
-    let image = c.in_ok-image.image in
+    let image = c.in_ok-base-2.image in
     let content = open_image (e + 1) (image_text read.base) in
     let replays = subst (λ slot. ReplaysAll (slot_of old.seen slot) read.base next.kernel next.records next.end) c.segment_slot.ensures
-    (subst (λ (d : Slots). ReplaysAll (slot_of d c.segment_slot.result) read.base next.kernel next.records next.end) (read.ensures.seen honest) (next.ensures.state honest)) in
-    let parts = next_parts old.seen e content read.base next.kernel read.field-0-1 read.field-0-2 next.records next.end (c.requires.used honest) (read.ensures.read honest) replays c.in_ok-image.ensures.holds in
+    (subst (λ (d : Slots). ReplaysAll (slot_of d c.segment_slot.result) read.base next.kernel next.records next.end) (read.ensures.seen honest) (rw c.in_ok-base-2.ensures.base at next.ensures.state honest)) in
+    let parts = next_parts old.seen e content read.base next.kernel read.field-0-1 read.field-0-2 next.records next.end (c.requires.used honest) (read.ensures.read honest) replays c.in_ok-base-2.ensures.holds in
     let still = unchanged_then old first mid (c.read_epoch.ensures.time honest) (c.replay_segment.ensures.time honest) in
     let same = next.ensures.seen honest ∙ read.ensures.seen honest in
-    next_end_same old mid (g.D.Disk.view c.write.new.disk) (g.D.Disk.view c.end_segment.new.disk) e read.base next.kernel image c.segment_slot-2.result next.records next.end c.in_ok-image.ensures.image c.segment_slot-2.ensures (c.requires.rest honest) gates
-    still same parts (c.write.ensures.any_moment honest) (c.in_ok-write.ensures.made honest) (c.in_ok-write.ensures.synced honest) (c.end_segment.ensures.any_moment honest)
+    next_end_same old mid (g.D.Disk.view c.write_behind.new.disk) (g.D.Disk.view c.end_behind.new.disk) e read.base next.kernel image c.segment_slot-2.result next.records next.end c.in_ok-base-2.ensures.image c.segment_slot-2.ensures (c.requires.rest honest) gates
+    still same parts (c.write_behind.ensures.any_moment honest) (c.in_ok-kernel-2.ensures.made honest) (c.in_ok-kernel-2.ensures.synced honest) (c.end_behind.ensures.any_moment honest)
 
 pub returns-clause-state : goal.returns-clause-state
 returns-clause-state g c = λ honest.
@@ -106,14 +111,14 @@ returns-clause-state g c = λ honest.
     let mid = g.D.Disk.view c.replay_segment.new.disk in
     let read = c.in_ok-base in
     let next = c.in_ok-kernel in
-    let image = c.in_ok-image.image in
+    let image = c.in_ok-base-2.image in
     let content = open_image (e + 1) (image_text read.base) in
     let replays = subst (λ slot. ReplaysAll (slot_of old.seen slot) read.base next.kernel next.records next.end) c.segment_slot.ensures
-    (subst (λ (d : Slots). ReplaysAll (slot_of d c.segment_slot.result) read.base next.kernel next.records next.end) (read.ensures.seen honest) (next.ensures.state honest)) in
-    let parts = next_parts old.seen e content read.base next.kernel read.field-0-1 read.field-0-2 next.records next.end (c.requires.used honest) (read.ensures.read honest) replays c.in_ok-image.ensures.holds in
+    (subst (λ (d : Slots). ReplaysAll (slot_of d c.segment_slot.result) read.base next.kernel next.records next.end) (read.ensures.seen honest) (rw c.in_ok-base-2.ensures.base at next.ensures.state honest)) in
+    let parts = next_parts old.seen e content read.base next.kernel read.field-0-1 read.field-0-2 next.records next.end (c.requires.used honest) (read.ensures.read honest) replays c.in_ok-base-2.ensures.holds in
     let still = unchanged_then old first mid (c.read_epoch.ensures.time honest) (c.replay_segment.ensures.time honest) in
     let same = next.ensures.seen honest ∙ read.ensures.seen honest in
-    next_found old.seen e content next.kernel next.records next.end parts
+    subst (λ (k : State). Recovered (as_written old.seen) k) (sym (c.in_ok-kernel-3.ensures.value ∙ c.in_ok-kernel-2.ensures.value)) (next_found old.seen e content next.kernel next.records next.end parts)
 
 pub returns-clause-kept : goal.returns-clause-kept
 returns-clause-kept g c = λ honest.
@@ -123,17 +128,18 @@ returns-clause-kept g c = λ honest.
     let mid = g.D.Disk.view c.replay_segment.new.disk in
     let read = c.in_ok-base in
     let next = c.in_ok-kernel in
-    let image = c.in_ok-image.image in
+    let image = c.in_ok-base-2.image in
     let content = open_image (e + 1) (image_text read.base) in
     let replays = subst (λ slot. ReplaysAll (slot_of old.seen slot) read.base next.kernel next.records next.end) c.segment_slot.ensures
-    (subst (λ (d : Slots). ReplaysAll (slot_of d c.segment_slot.result) read.base next.kernel next.records next.end) (read.ensures.seen honest) (next.ensures.state honest)) in
-    let parts = next_parts old.seen e content read.base next.kernel read.field-0-1 read.field-0-2 next.records next.end (c.requires.used honest) (read.ensures.read honest) replays c.in_ok-image.ensures.holds in
+    (subst (λ (d : Slots). ReplaysAll (slot_of d c.segment_slot.result) read.base next.kernel next.records next.end) (read.ensures.seen honest) (rw c.in_ok-base-2.ensures.base at next.ensures.state honest)) in
+    let parts = next_parts old.seen e content read.base next.kernel read.field-0-1 read.field-0-2 next.records next.end (c.requires.used honest) (read.ensures.read honest) replays c.in_ok-base-2.ensures.holds in
     let still = unchanged_then old first mid (c.read_epoch.ensures.time honest) (c.replay_segment.ensures.time honest) in
     let same = next.ensures.seen honest ∙ read.ensures.seen honest in
-    let written = g.D.Disk.view c.write.new.disk in
-    let rest = rested_after_image old mid written e read.base image c.in_ok-image.ensures.image (c.requires.rest honest) still same (c.write.ensures.any_moment honest) (c.in_ok-write.ensures.made honest) (c.in_ok-write.ensures.synced honest) in
-    next_kept old mid written (g.D.Disk.view c.end_segment.new.disk) e read.base next.kernel image c.segment_slot-2.result next.records next.end c.in_ok-image.ensures.image c.segment_slot-2.ensures same parts (c.in_ok-write.ensures.made honest)
-    (c.in_ok-end_segment.ensures.rest honest rest) (c.in_ok-end_segment.ensures.ended honest)
+    let written = g.D.Disk.view c.write_behind.new.disk in
+    let rest = rested_after_image old mid written e read.base image c.in_ok-base-2.ensures.image (c.requires.rest honest) still same (c.write_behind.ensures.any_moment honest) (c.in_ok-kernel-2.ensures.made honest) (c.in_ok-kernel-2.ensures.synced honest) in
+    subst (λ (k : State). IsKept (g.D.Disk.view c.end_behind.new.disk) (record { epoch = e + 1; records = next.records }) k) (sym (c.in_ok-kernel-3.ensures.value ∙ c.in_ok-kernel-2.ensures.value))
+    (next_kept old mid written (g.D.Disk.view c.end_behind.new.disk) e read.base next.kernel image c.segment_slot-2.result next.records next.end c.in_ok-base-2.ensures.image c.segment_slot-2.ensures same parts (c.in_ok-kernel-2.ensures.made honest)
+    (c.in_ok-kernel-3.ensures.rest honest rest) (c.in_ok-kernel-3.ensures.ended honest))
 
 pub returns-clause-any_moment : goal.returns-clause-any_moment
 returns-clause-any_moment g c = λ honest gates.
@@ -143,12 +149,18 @@ returns-clause-any_moment g c = λ honest gates.
     let mid = g.D.Disk.view c.replay_segment.new.disk in
     let read = c.in_ok-base in
     let next = c.in_ok-kernel in
-    let image = c.in_ok-image.image in
+    let image = c.in_ok-base-2.image in
     let content = open_image (e + 1) (image_text read.base) in
     let replays = subst (λ slot. ReplaysAll (slot_of old.seen slot) read.base next.kernel next.records next.end) c.segment_slot.ensures
-    (subst (λ (d : Slots). ReplaysAll (slot_of d c.segment_slot.result) read.base next.kernel next.records next.end) (read.ensures.seen honest) (next.ensures.state honest)) in
-    let parts = next_parts old.seen e content read.base next.kernel read.field-0-1 read.field-0-2 next.records next.end (c.requires.used honest) (read.ensures.read honest) replays c.in_ok-image.ensures.holds in
+    (subst (λ (d : Slots). ReplaysAll (slot_of d c.segment_slot.result) read.base next.kernel next.records next.end) (read.ensures.seen honest) (rw c.in_ok-base-2.ensures.base at next.ensures.state honest)) in
+    let parts = next_parts old.seen e content read.base next.kernel read.field-0-1 read.field-0-2 next.records next.end (c.requires.used honest) (read.ensures.read honest) replays c.in_ok-base-2.ensures.holds in
     let still = unchanged_then old first mid (c.read_epoch.ensures.time honest) (c.replay_segment.ensures.time honest) in
     let same = next.ensures.seen honest ∙ read.ensures.seen honest in
-    next_end_same old mid (g.D.Disk.view c.write.new.disk) (g.D.Disk.view c.end_segment.new.disk) e read.base next.kernel image c.segment_slot-2.result next.records next.end c.in_ok-image.ensures.image c.segment_slot-2.ensures (c.requires.rest honest) gates
-    still same parts (c.write.ensures.any_moment honest) (c.in_ok-write.ensures.made honest) (c.in_ok-write.ensures.synced honest) (c.end_segment.ensures.any_moment honest)
+    next_end_same old mid (g.D.Disk.view c.write_behind.new.disk) (g.D.Disk.view c.end_behind.new.disk) e read.base next.kernel image c.segment_slot-2.result next.records next.end c.in_ok-base-2.ensures.image c.segment_slot-2.ensures (c.requires.rest honest) gates
+    still same parts (c.write_behind.ensures.any_moment honest) (c.in_ok-kernel-2.ensures.made honest) (c.in_ok-kernel-2.ensures.synced honest) (c.end_behind.ensures.any_moment honest)
+
+pub end_behind-requires : goal.end_behind-requires
+end_behind-requires g c = λ honest.
+    stays_inside _ (c.args.epoch + 1) c.in_ok-kernel.end c.segment_slot-2.result (g.D.Disk.view c.read_epoch.new.disk).seen (g.D.Disk.view c.replay_segment.new.disk).seen (g.D.Disk.view c.write_behind.new.disk).seen _ c.segment_slot-2.ensures
+    (subst (λ s. c.in_ok-kernel.end ≤ length (slot_of (g.D.Disk.view c.read_epoch.new.disk).seen s)) (c.segment_slot.ensures ∙ sym c.segment_slot-2.ensures) (c.in_ok-kernel.ensures.state honest).inside)
+    (c.in_ok-kernel.ensures.seen honest) (c.in_ok-kernel-2.ensures.made honest)
