@@ -58,8 +58,7 @@ impl<'a, L: Founding, D: Disk, G, R, P> Connected<'a, L, D, G, R, P> {
 }
 
 impl<'a, L: Founding, D: Disk, G: Drop, R: Wait + Clock, P: Peer> Asker
-    for Connected<'a, L, D, G, R, P>
-{
+    for Connected<'a, L, D, G, R, P> {
     type Ticket = Ticket;
 
     type Patience = Patience;

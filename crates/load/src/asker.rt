@@ -99,7 +99,20 @@ impl<'a> Asker<'a> {
     ) -> Option<()> {
         let [port, back] = ports;
         let start = Instant::now(rt).ok()?;
-        let question = [19, 3, 28, back, 0, 0x1514, 28, port, back, 0, 7, 0x4433_2211];
+        let question = [
+            19,
+            3,
+            28,
+            back,
+            0,
+            0x1514,
+            28,
+            port,
+            back,
+            0,
+            7,
+            0x4433_2211,
+        ];
         for _ in 0..frames {
             self.write(&question)?;
         }

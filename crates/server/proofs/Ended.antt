@@ -1,25 +1,14 @@
 -- How a connection on an opened store ends.
-use Rattle.std.proofs.Common.{◌≡◌, ◌-◌, ◌^◌, inl, inr, List, [], ℕ, ◌++◌, false, Option, None, Some, IfSome, Result, Ok, Err, refl, sym, ap, subst, ◌∙◌, append_assoc}
+use Rattle.std.proofs.Common.{◌≡◌, ◌-◌, List, ℕ, ◌++◌, false, Option, None, Some, IfSome, Result, Ok, Err, sym, ap, subst, ◌∙◌, append_assoc}
 use Rattle.std.specs.Prelude.{OnErr}
 use Rattle.std.specs.Io.KnownBytes.{Appends}
 use Rattle.std.proofs.KnownBytes.{Appends-trans}
-use Rattle.std.proofs.lemmas.List.{append-nil}
-use Rattle.ipc_model.specs.declared.call.Call.{Call}
-use Rattle.ipc_model.specs.declared.call.Reply.{Reply}
-use Rattle.ipc_model.specs.texts.Texts.{reply_text}
-use Rattle.journal.specs.declared.fault.StoreFault.{StoreFault}
 use Rattle.disk.specs.Moments.{View}
-use Rattle.serving.proofs.Going.{Going}
 use Rattle.server.specs.Keeping.{AloneValue, AnswersKept, BreaksKept, FailsKept, IsHeld, RestsKept}
 use Rattle.server.specs.Program.{ServesOpened}
-use Rattle.serving.specs.Serving.{Ends, Exchanged, IsAnswered, IsFailed, replies_text}
+use Rattle.serving.specs.Serving.{Ends}
 use Rattle.serving.specs.declared.service.ServeFault.{ServeFault}
-use Rattle.serving.specs.declared.service.ServeFault.TheVariants.{Wire, Store}
-use Rattle.wire.specs.Frame.{IsReadOf}
 use Rattle.wire.specs.Writing.{AppendsPart}
-use Rattle.wire.specs.declared.fault.WireFault.{WireFault}
-use Rattle.wire.specs.declared.fault.WireFault.TheVariants.{Device}
-use Rattle.words.specs.Words.{frame_text}
 
 pub at_any : {T E P : Type 0} (r : Result T E) → P → OnErr r P
 at_any (Ok x) p = tt

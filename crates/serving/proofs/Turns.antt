@@ -86,11 +86,10 @@ module _ {C T : Type 0} (answer : T → Reply) (makes : C → Call → T → C �
   pub tells_more : (old mid new : C) (queue hands rest : List (Hand T)) (hand : Hand T) (input before sent : List ℕ) (o written : Option (List ℕ)) → So old queue mid input before input sent hands → hands ≡ hand ∷ rest → o ≡ Some sent
       → IfSome o (λ b. EndsOne answer makes lacks tells fails mid hand new b written (Ok tt)) → (out : List ℕ) × So old queue new input before input out rest × (written ≡ Some out)
   tells_more old mid new queue hands rest hand input before sent o written so_far front is one =
-      let ends = at_known o sent (λ b. EndsOne answer makes lacks tells fails mid hand new b written (Ok tt)) is one in
-      (
+      let ends = at_known o sent (λ b. EndsOne answer makes lacks tells fails mid hand new b written (Ok tt)) is one in (
         sent ++ frame_text (reply_text ends.0),
         went_both answer makes lacks tells fails old mid new queue (hand ∷ rest) rest input before input sent input (sent ++ frame_text (reply_text ends.0)) (subst (λ q. So old queue mid input before input sent q) front so_far)
-        (one_told answer makes lacks tells fails mid new hand rest ends.0 input sent _ ends.1 refl),
+            (one_told answer makes lacks tells fails mid new hand rest ends.0 input sent _ ends.1 refl),
         ends.2,
       )
 
@@ -102,6 +101,7 @@ module _ {C T : Type 0} (answer : T → Reply) (makes : C → Call → T → C �
     where
       here : So old queue mid input before input sent (hand ∷ rest)
       here = subst (λ q. So old queue mid input before input sent q) front so_far
+
       by : (f : ServeFault) → EndsOne answer makes lacks tells fails mid hand new sent written (Err f) → EndsTelling answer makes lacks tells fails old queue new input before left written (Err f)
       by (Store f) ends = record { mid = mid; rest = input; sent = sent; hand = hand; hands = rest; went = here; untold = ends.0; unread = unread; written_is = ends.1 }
       by (Wire f) (device, inl told) = inl (record { fault_is = device; mid = mid; rest = input; sent = sent; hand = hand; hands = rest; went = here; reply = told.0; is_told = told.1; unread = unread; part = told.2 })
@@ -131,6 +131,7 @@ module _ {C T : Type 0} (answer : T → Reply) (makes : C → Call → T → C �
     where
       front : So old [] mid input before taking.rest before hands
       front = took_went old mid hands input before left taken taking
+
       by : (f : ServeFault) → EndsTelling answer makes lacks tells fails mid hands new taking.rest before left written (Err f) → EndsRound answer makes lacks tells fails old [] new input before left written (Err f)
       by (Store f) s = record {
         mid = s.mid;
@@ -191,7 +192,7 @@ module _ {C T : Type 0} (answer : T → Reply) (makes : C → Call → T → C �
         rest = taking.rest;
         sent = t.0;
         went = both;
-        some = omega (arith, acts_both answer makes lacks tells fails old mid new [] hands [] input before taking.rest before taking.rest t.0 front t.1, some_taken old mid hands input before left taking); 
+        some = omega (arith, acts_both answer makes lacks tells fails old mid new [] hands [] input before taking.rest before taking.rest t.0 front t.1, some_taken old mid hands input before left taking);
         unread = taking.is_read;
         written_is = t.2;
       }
@@ -262,6 +263,7 @@ module _ {C T : Type 0} (answer : T → Reply) (makes : C → Call → T → C �
     where
       on : (later : C) (rest sent : List ℕ) (hands : List (Hand T)) → So mid [] later so_far.rest so_far.sent rest sent hands → So old [] later input before rest sent hands
       on later rest sent hands went = went_both answer makes lacks tells fails old mid later [] [] hands input before so_far.rest so_far.sent rest sent so_far.went went
+
       by : (f : ServeFault) → EndsRound answer makes lacks tells fails mid [] new so_far.rest so_far.sent now out (Err f) → EndsAsked answer makes lacks tells fails old [] new input before now out (Err f)
       by (Store f) s = record { mid = s.mid; rest = s.rest; sent = s.sent; hand = s.hand; hands = s.hands; went = on s.mid s.rest s.sent (s.hand ∷ s.hands) s.went; untold = s.untold; unread = s.unread; written_is = s.written_is }
       by (Wire f) (inl s) = inr (inl (record { rest = s.rest; sent = s.sent; went = on new s.rest s.sent [] s.went; unreadable = s.unreadable; written_is = s.written_is }))

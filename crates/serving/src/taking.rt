@@ -23,7 +23,10 @@ pub(crate) fn take_frame<A: Asker>(alloc: Global, asker: &mut A, request: &Frame
 {
     match read_request(alloc, request) {
         Ok(asked) => take_request(alloc, asker, asked),
-        Err(CallFault::NoCall) => Hand::Settled(Ready::Known(Brief::new(no_call(alloc, request.number())))),
+        Err(CallFault::NoCall) => Hand::Settled(Ready::Known(Brief::new(no_call(
+            alloc,
+            request.number(),
+        )))),
         Err(CallFault::NoMemory) => Hand::Settled(known_code(alloc, KernReturn::SendNoBuffer)),
     }
 }
@@ -87,7 +90,9 @@ pub(crate) fn proceed<A: Asker>(
         (None, None) => Hand::Settled(known_code(alloc, KernReturn::Success)),
         (Some(send), None) => send_now(alloc, asker, send, bounds, may_wait),
         (None, Some(receive)) => receive_now(alloc, asker, receive, bounds, may_wait),
-        (Some(send), Some(receive)) => send_and_receive(alloc, asker, send, receive, bounds, may_wait),
+        (Some(send), Some(receive)) => send_and_receive(
+            alloc, asker, send, receive, bounds, may_wait,
+        ),
     }
 }
 
@@ -251,7 +256,10 @@ fn again(call: Call) -> Call
 {
     match call {
         Call::Receive {
-            limit, large, name, ..
+            limit,
+            large,
+            name,
+            ..
         } => Call::Receive {
             limit,
             large,

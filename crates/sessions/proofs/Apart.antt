@@ -50,7 +50,7 @@ apart_beside entries number least end (place ∷ places) others rise own foreign
     go other (inl one) same = absurd (omega (arith, same, risen (place + 1) end places one.0 other rise.1 one.1))
     go other (inr one) same = foreign one.0 other one.1 (subst (λ (p : ℕ). option_map (λ e. e.session) (slice_get entries p) ≡ Some number) same (own zero place refl))
 
-none_apart : AllPairs (λ (one : ℕ) (other : ℕ). one ≢ other) []
+pub none_apart : AllPairs (λ (one : ℕ) (other : ℕ). one ≢ other) []
 none_apart i j d before within = absurd (omega (arith, within))
 
 -- places of a session of another number
@@ -64,3 +64,14 @@ two_apart entries number other least end lower upper one two differ rise own ris
     let second = apart_beside entries other lower upper two.places [] rise_too own_too (λ k place at there. absurd (cc at)) none_apart in
     apart_beside entries number least end one.places (two.places ++ []) rise own
     (subst (AreForeign entries number) (sym (append-nil two.places)) (foreign_to entries number other two.places differ own_too)) second
+
+-- places of several sessions of other numbers
+pub none_foreign : (entries : List Entry) (number : ℕ) → AreForeign entries number []
+none_foreign entries number k place at there = cc at
+
+pub foreign_both : (entries : List Entry) (number : ℕ) (places others : List ℕ) → AreForeign entries number places → AreForeign entries number others → AreForeign entries number (places ++ others)
+foreign_both entries number places others one two k place at there = go (got_of_two places others k place at)
+  where
+    go : ((n : ℕ) × (slice_get places n ≡ Some place)) ⊎ ((n : ℕ) × (slice_get others n ≡ Some place)) → ⊥
+    go (inl here) = one here.0 place here.1 there
+    go (inr behind) = two behind.0 place behind.1 there

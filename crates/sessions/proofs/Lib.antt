@@ -1,6 +1,7 @@
 mod Apart
 mod Calling
 mod Calls
+mod Closings
 mod Cores
 mod Cutting
 mod Histories

@@ -5,11 +5,13 @@ ghost use Rattle.ipc_model.specs.history.History.{attached_by, called, looked, r
 ghost use Rattle.ipc_model.specs.texts.Texts.{reply_text};
 ghost use Rattle.ipc_model.specs.state.Circular.{Grounded};
 ghost use Rattle.ipc_model.specs.state.Lawful.{Lawful};
-ghost use Rattle.sessions.specs.Tokens.{Did};
+ghost use Rattle.sessions.specs.Tokens.{Did, IsHistory};
 ghost use Rattle.sessions.specs.declared.keeper.TheConstants.{MOST_SESSIONS};
 
+use crate::closing::Tally;
 use crate::fault::SessionFault;
 use crate::making::Core;
+use crate::numbers::Numbers;
 use crate::session::{Card, Session};
 use boxcar::tag::{Names, Tag};
 use codes::{FIRST_SPACE, MAX_RECORDS};
@@ -18,7 +20,7 @@ use ipc_model::{Call, Reply};
 use journal::StoreFault;
 use std::alloc::{AllocError, Global};
 use std::sync::Arc;
-use std::sync::ledger::{Blank, Book, Share};
+use std::sync::ledger::{Blank, Book};
 use storer::{End, Load};
 use storing::{Finished, Receipt};
 use system::{Kernel, SubmitFault, Ticket};
@@ -42,11 +44,7 @@ pub enum Waited {
 pub(crate) struct Keeper<L: Founding> {
     core: Core<L>,
     book: Book<L>,
-
-    // How many sessions were made, and how many can still be. Each of these gets a part of the ledger.
-    made: u32,
-    left: u32,
-    rest: Share<L>,
+    numbers: Numbers<L>,
 
     // What a loop met, and whether the loops are to end.
     fault: Option<StoreFault>,
@@ -56,9 +54,6 @@ pub(crate) struct Keeper<L: Founding> {
     is_ended: bool,
     makes_images: bool,
     ghost counted: { book.total ≡ core.half.row.made },
-    ghost numbers: { made + left ≡ MOST_SESSIONS },
-    ghost parts: { rest.parts ≡ left },
-    ghost amount: { rest.amount ≡ 0 },
 }
 
 impl<L: Founding> Keeper<L> {
@@ -79,9 +74,7 @@ impl<L: Founding> Keeper<L> {
         Keeper {
             core: Core::new(alloc, kernel, epoch, records, past),
             book,
-            made: 0,
-            left: MOST_SESSIONS,
-            rest,
+            numbers: Numbers::new(rest),
             fault: None,
             is_stopping: false,
             is_ended: false,
@@ -102,9 +95,7 @@ impl<L: Founding> Keeper<L> {
         let Keeper {
             core,
             book,
-            made: _,
-            left: _,
-            rest: _,
+            numbers: _,
             fault: _,
             is_stopping: _,
             is_ended: _,
@@ -129,15 +120,12 @@ impl<L: Founding> Keeper<L> {
     pub(crate) fn session(&mut self) -> Result<Session<L>, SessionFault>
         ensures new { IfOk result (λ session. (session.task.space ≡ FIRST_SPACE) × (session.task.told ≡ 0) × (session.task.places ≡ [])) }
     {
-        if self.left == 0 {
-            return Err(SessionFault::Spent);
-        }
         let past = self.core.again()?;
-        self.left -= 1;
-        self.made += 1;
-        let share = self.rest.split_off(1, 0);
+        let Some((number, share)) = self.numbers.next() else {
+            return Err(SessionFault::Spent);
+        };
         let card = Card {
-            number: self.made,
+            number,
             space: FIRST_SPACE,
             told: 0,
             places: Tag::empty(),
@@ -173,6 +161,31 @@ impl<L: Founding> Keeper<L> {
 }
 
 impl<L: Founding> Keeper<L> {
+    /// All of the history, and the ledger that counts its records.
+    pub(crate) fn into_tally(self) -> Tally<L>
+        ensures history { IsHistory L.base result.past.entries }
+        ensures counted { result.book.total ≡ length result.past.entries }
+        ensures parts { result.made + result.share.parts ≡ L.parts }
+        ensures amount { result.share.amount ≡ 0 }
+    {
+        let Keeper {
+            core,
+            book,
+            numbers,
+            fault: _,
+            is_stopping: _,
+            is_ended: _,
+            makes_images: _,
+        } = self;
+        let (made, share) = numbers.into_rest();
+        Tally {
+            past: core.into_past(),
+            made,
+            book,
+            share,
+        }
+    }
+
     /// Takes records that wait to be stored. There is none while a load is out, or where no record waits.
     pub(crate) fn take(&mut self) -> Result<Option<Load<L>>, AllocError> {
         self.core.take()

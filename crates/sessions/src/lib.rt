@@ -3,6 +3,7 @@
 
 mod beside;
 mod checkpointing;
+mod closing;
 mod copies;
 mod fault;
 mod flushing;
@@ -10,10 +11,12 @@ mod gate;
 mod keeper;
 mod making;
 mod meeting;
+mod numbers;
 mod session;
 mod shared;
 
 pub use checkpointing::CHECKPOINT_RECORDS;
+pub use closing::{Book, Unmatched, close};
 pub use fault::SessionFault;
 pub use gate::{Gate, OpenGate, Step};
 pub use history::{Founding, Row};

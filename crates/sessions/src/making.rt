@@ -225,6 +225,26 @@ impl<L: Founding> Core<L> {
         self.half.reply(ticket)
     }
 
+    /// The history, with all that was made.
+    pub(crate) fn into_past(self) -> Past<L>
+        ensures past { self.past ≡ Some result }
+        ensures history { IsHistory L.base result.entries }
+        ensures all { self.half.row.made ≡ length result.entries }
+    {
+        let Core {
+            alloc: _,
+            half: _,
+            past,
+            opened: _,
+            earlier: _,
+            taken: _,
+            handed: _,
+            older: _,
+        } = self;
+        let Some(past) = past else { unreachable!() };
+        past
+    }
+
     /// The history once more.
     pub(crate) fn again(&mut self) -> Result<Past<L>, AllocError>
         ensures same { self.new ≡ self.old }

@@ -125,9 +125,12 @@ impl<L: Founding, D: Disk, G: Drop> Shared<L, D, G> {
         most: Duration,
     ) -> Waited {
         let seen = session.seen() as u64;
-        let (keeper, _) = self
-            .changes
-            .wait_timeout_while(rt, self.keeper.lock(rt), most, |keeper| keeper.is_unchanged(seen));
+        let (keeper, _) = self.changes.wait_timeout_while(
+            rt,
+            self.keeper.lock(rt),
+            most,
+            |keeper| keeper.is_unchanged(seen),
+        );
         keeper.waited(seen)
     }
 

@@ -106,6 +106,22 @@ impl<L: Founding, D: Disk> Storer<L, D> {
         store.into_disk()
     }
 
+    /// The disk of the store, and what it knows of the history.
+    pub fn into_parts(self) -> (D, Past<L>)
+        ensures disk { result.0 ≡ self.store.disk }
+        ensures past { result.1.entries ≡ self.entries }
+        ensures recorded { IsRecorded L.base self.entries }
+        ensures left { D.honest → (c : Slots) → MayLeave (D.view result.0) c → StandsFor L.base self.stored (records_of self.entries) c }
+    {
+        let Storer {
+            store,
+            past,
+            stored: _,
+            earlier: _,
+        } = self;
+        (store.into_disk(), past)
+    }
+
     /// Learns a history that it is in, or that is in it. Says whether it did.
     fn learn(&mut self, past: &mut Past<L>) -> bool
         requires { IsRecorded L.base past.old.entries }

@@ -18,9 +18,6 @@ invariant_of-self g c =
     let none = λ (same : length past.entries ≤ made). c.note_call.ensures.answered (omega (arith, same, c.made-before.ensures, c.len.ensures)) in
     record {
       counted = book_counts g.L.Founding.base old c.args.call.now c.in-Ok.ticket past made c.apply-past.new.self.half.row.made did refl c.args.self.now.book.total c.note_call.new.book.total c.args.self.now.counted (λ more. (grew more).3) (λ same. (none same).3);
-      numbers = c.args.self.now.numbers;
-      parts = c.args.self.now.parts;
-      amount = c.args.self.now.amount;
     }
 
 pub invariant_of-result : goal.invariant_of-result
