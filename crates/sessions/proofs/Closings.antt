@@ -1,5 +1,5 @@
 -- Sessions that belong to one history, once it is closed.
-use Rattle.std.proofs.Common.{◌≡◌, ◌≢◌, ℕ, zero, suc, ◌+◌, ◌<◌, ◌≤◌, List, [], ◌∷◌, ◌++◌, length, take, drop, map, refl, sym, ap, subst, ◌∙◌, arith, length-append}
+use Rattle.std.proofs.Common.{◌≡◌, ℕ, zero, suc, ◌+◌, ◌<◌, ◌≤◌, List, [], ◌∷◌, length, take, drop, map, refl, sym, ap, subst, ◌∙◌, arith}
 use Rattle.std.specs.Prelude.{All, AllPairs, slice_index_or}
 use Rattle.std.proofs.lemmas.List.{take-append-le}
 use Rattle.disk.specs.Slots.{Slots}
@@ -93,10 +93,6 @@ stands_in base known entries stored c begins (k, more, within, (state, run, stan
     let front : take k (records_of entries) ≡ take k (records_of known) =
     ap (take k) (begins_records known entries begins) ∙ take-append-le k (records_of known) (records_of (drop (length known) entries)) within in
     (k, more, omega (arith, within, begins_records_length known entries begins), (state, subst (λ (l : List Record). Run base l state) (sym front) run, stands))
-
--- Places of one session and of those behind it.
-pub places_more : (s : SessionValue) (sessions : List SessionValue) → length (places_of (tasks_of (s ∷ sessions))) ≡ length s.task.places + length (places_of (tasks_of sessions))
-places_more s sessions = length-append s.task.places (places_of (tasks_of sessions))
 
 -- All parts of the ledger are found where as many sessions are handed in as were made.
 pub matched : (base : State) (known entries : List Entry) (stored made : ℕ) (sessions : List SessionValue) (whole rest gathered amount total : ℕ) → IsHistory base entries → Begins known entries → AllBelong base entries stored 0 sessions → made + rest ≡ whole

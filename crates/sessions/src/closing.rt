@@ -1,4 +1,4 @@
-ghost use Rattle.std.specs.Prelude.{◌≡◌, ◌≢◌, ◌+◌, ◌<◌, ◌≤◌, true, length, All, AllPairs, IfOk, IfErr, IfSome};
+ghost use Rattle.std.specs.Prelude.{◌≡◌, ◌+◌, ◌<◌, ◌≤◌, true, length, All, AllPairs, IfOk, IfErr, IfSome};
 ghost use Rattle.disk.specs.Moments.{MayLeave};
 ghost use Rattle.disk.specs.Slots.{Slots};
 ghost use Rattle.history.specs.Entries.{Begins, records_of};

@@ -39,7 +39,7 @@ pub enum Waited {
     Ended,
 }
 
-/// What lies under the lock of the kernel: the core, and the book that counts all sessions' records.
+/// What lies under the lock of the kernel: the core, the book that counts all sessions' records, and the sessions' numbers.
 #[derive(Drop)]
 pub(crate) struct Keeper<L: Founding> {
     core: Core<L>,

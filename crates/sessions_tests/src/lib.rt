@@ -4,6 +4,8 @@
 #[cfg(test)]
 mod asking;
 #[cfg(test)]
+mod closed;
+#[cfg(test)]
 mod expect;
 #[cfg(test)]
 mod flag;

@@ -3,7 +3,7 @@
 
 use disk::Disk;
 use ipc_model::{Call, Reply};
-use sessions::{Founding, Gate, Session, Shared, meet};
+use sessions::{Founding, Gate, Session, Shared, close, meet};
 use std::sync::Wait;
 use std::time::Clock;
 use system::Ticket;
@@ -41,9 +41,13 @@ pub(crate) trait Service {
 
     /// Tells the loops to end.
     fn end<R: Wait>(&self, rt: &R);
+
+    /// How many sessions were made, how many records they made, and how many of these are stored, once all is closed. None where
+    /// the sessions that are handed in don't match.
+    fn counts_closed(self, sessions: Vec<Self::Session>) -> Option<[u64; 3]>;
 }
 
-impl<L: Founding + Send + Sync, D: Disk, G: Gate> Service for Shared<L, D, G> {
+impl<L: Founding + Send + Sync, D: Disk + Drop, G: Gate> Service for Shared<L, D, G> {
     type Session = Session<L>;
 
     fn begin<R: Wait>(&self, rt: &R) -> Option<Session<L>> {
@@ -87,5 +91,12 @@ impl<L: Founding + Send + Sync, D: Disk, G: Gate> Service for Shared<L, D, G> {
 
     fn end<R: Wait>(&self, rt: &R) {
         self.stop(rt);
+    }
+
+    fn counts_closed(self, sessions: Vec<Session<L>>) -> Option<[u64; 3]> {
+        match close(self, sessions) {
+            Ok(book) => Some([u64::from(book.made), book.past.len() as u64, book.stored]),
+            Err(_) => None,
+        }
     }
 }

@@ -1,0 +1,14 @@
+use Rattle.std.specs.Arc.{arc_value}
+use Rattle.sessions_tests.proofs.closed.sessions_of_several_epochs_are_of_one_history.Given as goal
+
+-- the state that was opened
+abbrev pub ghosts-closed_on-L-Founding : goal.ghosts-closed_on-L-Founding
+ghosts-closed_on-L-Founding g a = record { base = a.start.opened.kernel }
+
+-- the row that was just made
+abbrev pub ghosts-closed_on-L-FirstRow : goal.ghosts-closed_on-L-FirstRow
+ghosts-closed_on-L-FirstRow g a = record { first = arc_value a.start.row }
+
+-- the ledger that was just made
+abbrev pub ghosts-closed_on-L-Ledger : goal.ghosts-closed_on-L-Ledger
+ghosts-closed_on-L-Ledger g a = record { name = a.start.blank.name; parts = a.start.blank.parts }
