@@ -4,11 +4,15 @@
 #[cfg(test)]
 mod asking;
 #[cfg(test)]
+mod client;
+#[cfg(test)]
 mod closed;
 #[cfg(test)]
 mod expect;
 #[cfg(test)]
 mod flag;
+#[cfg(test)]
+mod full_row;
 #[cfg(test)]
 mod pieces;
 #[cfg(test)]
@@ -21,5 +25,7 @@ mod slow_sync;
 mod stop;
 #[cfg(test)]
 mod totals;
+#[cfg(test)]
+mod two_connections;
 #[cfg(test)]
 mod unstored;

@@ -1,0 +1,14 @@
+use Rattle.std.specs.Arc.{arc_value}
+use Rattle.sessions_tests.proofs.full_row.a_call_waits_for_the_next_row.Given as goal
+
+-- the state that was opened
+abbrev pub ghosts-seen_on-L-Founding : goal.ghosts-seen_on-L-Founding
+ghosts-seen_on-L-Founding g a = record { base = a.start.opened.kernel }
+
+-- the row that was just made
+abbrev pub ghosts-seen_on-L-FirstRow : goal.ghosts-seen_on-L-FirstRow
+ghosts-seen_on-L-FirstRow g a = record { first = arc_value a.start.row }
+
+-- the ledger that was just made
+abbrev pub ghosts-seen_on-L-Ledger : goal.ghosts-seen_on-L-Ledger
+ghosts-seen_on-L-Ledger g a = record { name = a.start.blank.name; parts = a.start.blank.parts }
