@@ -34,6 +34,10 @@ abbrev pub AllBelong : State → List Entry → ℕ → ℕ → List SessionValu
 AllBelong base entries stored last [] = Unit {0}
 AllBelong base entries stored last (session ∷ sessions) = Belongs base entries stored last session × AllBelong base entries stored session.number sessions
 
+abbrev pub AllCanBelong : PastValue → ℕ → ℕ → List SessionValue → Type 0
+AllCanBelong past stored last [] = Unit {0}
+AllCanBelong past stored last (session ∷ sessions) = CanBelong past stored last session × AllCanBelong past stored session.number sessions
+
 -- Operations made each of these sessions in one legal history.
 pub record AreLegal (base : State) (entries : List Entry) (sessions : List SessionValue) : Type 0 where
   pub each : Sessions

@@ -1,9 +1,9 @@
-ghost use Rattle.std.specs.Prelude.{◌≡◌, ◌+◌, ◌<◌, ◌≤◌, true, length, All, AllPairs, IfOk, IfErr, IfSome};
+ghost use Rattle.std.specs.Prelude.{◌≡◌, ◌+◌, ◌<◌, ◌≤◌, true, length, All, AllPairs, IfOk, IfErr, IfSome, is_some};
 ghost use Rattle.disk.specs.Moments.{MayLeave};
 ghost use Rattle.disk.specs.Slots.{Slots};
 ghost use Rattle.history.specs.Entries.{Begins, records_of};
 ghost use Rattle.ipc_model.specs.history.History.{AreAll, AreApart, places_of};
-ghost use Rattle.sessions.specs.Closing.{AllBelong, AreLegal, Belongs, CanBelong, IsLeft, Match, tasks_of};
+ghost use Rattle.sessions.specs.Closing.{AllBelong, AllCanBelong, AreLegal, Belongs, CanBelong, IsLeft, Match, tasks_of};
 ghost use Rattle.sessions.specs.Tokens.{IsHistory};
 ghost use Rattle.storer.specs.Storing.{StandsFor};
 
@@ -97,7 +97,8 @@ fn match_all<L: Founding>(
     requires counted { tally.book.total ≡ length tally.past.entries }
     requires parts { tally.made + tally.share.parts ≡ L.parts }
     requires amount { tally.share.amount ≡ 0 }
-    ensures { IfSome result (λ matched. Match L.base known.entries matched.0.entries stored matched.1 sessions.items) }
+    ensures matched { IfSome result (λ matched. Match L.base known.entries matched.0.entries stored matched.1 sessions.items) }
+    ensures seen { known.rows ≡ tally.past.rows → length known.entries ≤ length tally.past.entries → AllCanBelong tally.past stored 0 sessions.items → is_some result ≡ true }
 {
     let Tally {
         past,
@@ -153,6 +154,7 @@ fn count_all<L: Founding>(
     ensures belong { result ≡ true → AllBelong L.base past.old.entries stored 0 sessions.items }
     ensures parts { result ≡ true → share.old.parts + length sessions.items ≤ share.new.parts }
     ensures amount { result ≡ true → share.new.amount ≡ share.old.amount + length (places_of (tasks_of sessions.items)) }
+    ensures seen { AllCanBelong past.old stored 0 sessions.items → result ≡ true }
 {
     let mut last = 0;
     for session in sessions {

@@ -19,28 +19,28 @@ returns-in_default-clause-unmatched g c honest =
 
 pub returns-clause-seen : goal.returns-clause-seen
 returns-clause-seen g c =
-    all_of g.L.Founding.base c.in-Some.past.entries c.stored-stored.result (λ (s : SessionValue). Begins s.past.entries c.in-Some.past.entries) (λ last s belongs. belongs.begins) 0 c.args.sessions.items c.in-Some.ensures.belong
+    all_of g.L.Founding.base c.in-Some.past.entries c.stored-stored.result (λ (s : SessionValue). Begins s.past.entries c.in-Some.past.entries) (λ last s belongs. belongs.begins) 0 c.args.sessions.items c.in-Some.ensures.matched.belong
 
 pub returns-clause-rise : goal.returns-clause-rise
-returns-clause-rise g c = all_rise g.L.Founding.base c.in-Some.past.entries c.stored-stored.result 0 c.args.sessions.items c.in-Some.ensures.belong
+returns-clause-rise g c = all_rise g.L.Founding.base c.in-Some.past.entries c.stored-stored.result 0 c.args.sessions.items c.in-Some.ensures.matched.belong
 
 pub returns-clause-apart : goal.returns-clause-apart
-returns-clause-apart g c = all_apart g.L.Founding.base c.in-Some.past.entries c.stored-stored.result 0 c.args.sessions.items c.in-Some.ensures.belong
+returns-clause-apart g c = all_apart g.L.Founding.base c.in-Some.past.entries c.stored-stored.result 0 c.args.sessions.items c.in-Some.ensures.matched.belong
 
 pub returns-clause-legal : goal.returns-clause-legal
-returns-clause-legal g c = all_legal g.L.Founding.base c.in-Some.past.entries c.stored-stored.result c.in-Some.ensures.history 0 c.args.sessions.items c.in-Some.ensures.belong
+returns-clause-legal g c = all_legal g.L.Founding.base c.in-Some.past.entries c.stored-stored.result c.in-Some.ensures.matched.history 0 c.args.sessions.items c.in-Some.ensures.matched.belong
 
 pub returns-clause-all : goal.returns-clause-all
-returns-clause-all g c same = are_all c.in-Some.past.entries c.args.sessions.items (c.in-Some.ensures.all same)
+returns-clause-all g c same = are_all c.in-Some.past.entries c.args.sessions.items (c.in-Some.ensures.matched.all same)
 
 pub returns-clause-told : goal.returns-clause-told
 returns-clause-told g c =
-    all_of g.L.Founding.base c.in-Some.past.entries c.stored-stored.result (λ (s : SessionValue). s.task.told ≤ c.stored-stored.result) (λ last s belongs. belongs.told) 0 c.args.sessions.items c.in-Some.ensures.belong
+    all_of g.L.Founding.base c.in-Some.past.entries c.stored-stored.result (λ (s : SessionValue). s.task.told ≤ c.stored-stored.result) (λ last s belongs. belongs.told) 0 c.args.sessions.items c.in-Some.ensures.matched.belong
 
 pub returns-clause-left : goal.returns-clause-left
 returns-clause-left g c honest slots may =
     let storer = c.into_inner-storer.result in
     let parts = c.into_parts-disk.ensures in
-    stands_in g.L.Founding.base c.into_parts-disk.result.1.entries c.in-Some.past.entries c.stored-stored.result slots c.in-Some.ensures.begins
+    stands_in g.L.Founding.base c.into_parts-disk.result.1.entries c.in-Some.past.entries c.stored-stored.result slots c.in-Some.ensures.matched.begins
     (subst (λ (l : List Entry). StandsFor g.L.Founding.base c.stored-stored.result (records_of l) slots) (sym parts.past)
     (subst (λ (n : ℕ). StandsFor g.L.Founding.base n (records_of storer.entries) slots) (sym c.stored-stored.ensures.stored) (parts.left honest slots may)))
