@@ -92,7 +92,7 @@ impl<'a> Asker<'a> {
     pub(crate) fn pair<R: Clock>(
         &mut self,
         rt: &R,
-        other: &mut Asker<'a>,
+        other: &mut Asker<'_>,
         ports: [u32; 2],
         frames: u32,
         spread: &mut Spread,
