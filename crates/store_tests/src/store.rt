@@ -47,14 +47,14 @@ pub(crate) trait Store: Disk {
     fn go_on(self, alloc: Global) -> Option<(Self, Segment)>;
 }
 
-fn type_bits(opened: &Opened<MemDisk>, name: u32) -> u32 {
+fn type_bits<D: Disk>(opened: &Opened<D>, name: u32) -> u32 {
     match opened.kernel.port_type(1, name) {
         Reply::Type { bits } => bits,
         _ => 0,
     }
 }
 
-fn see(opened: &Opened<MemDisk>, names: &[u32; 4]) -> Seen {
+fn see<D: Disk>(opened: &Opened<D>, names: &[u32; 4]) -> Seen {
     let [first, second, third, fourth] = *names;
     let bits = [
         type_bits(opened, first),
@@ -66,6 +66,22 @@ fn see(opened: &Opened<MemDisk>, names: &[u32; 4]) -> Seen {
         epoch: opened.segment.epoch,
         records: opened.segment.records,
         bits,
+    }
+}
+
+/// What opening the store gives, and the disk. It knows nothing of the disk, as dropping a disk in memory is dear to prove.
+fn see_on<D: Disk + Drop>(alloc: Global, disk: D, names: &[u32; 4]) -> (Opening, D) {
+    match open(alloc, disk) {
+        Ok(opened) => (Ok(see(&opened, names)), opened.disk),
+        Err((fault, disk)) => (Err(fault), disk),
+    }
+}
+
+/// The disk of the opened store, and the segment in use.
+fn go_on_with<D: Disk + Drop>(alloc: Global, disk: D) -> Option<(D, Segment)> {
+    match open(alloc, disk) {
+        Ok(opened) => Some((opened.disk, opened.segment)),
+        Err(_) => None,
     }
 }
 
@@ -92,17 +108,11 @@ impl Store for MemDisk {
     }
 
     fn open(self, alloc: Global, names: &[u32; 4]) -> (Opening, MemDisk) {
-        match open(alloc, self) {
-            Ok(opened) => (Ok(see(&opened, names)), opened.disk),
-            Err((fault, disk)) => (Err(fault), disk),
-        }
+        see_on(alloc, self, names)
     }
 
     fn go_on(self, alloc: Global) -> Option<(MemDisk, Segment)> {
-        match open(alloc, self) {
-            Ok(opened) => Some((opened.disk, opened.segment)),
-            Err(_) => None,
-        }
+        go_on_with(alloc, self)
     }
 }
 
