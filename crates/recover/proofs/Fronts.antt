@@ -1,10 +1,10 @@
 -- What the front of a slot says, the slot says.
-use Rattle.std.proofs.Common.{◌≡◌, ◌≢◌, inl, inr, ℕ, ◌+◌, ◌≤◌, ◌<◌, ◌%◌, ◌^◌, List, [], ◌∷◌, ◌++◌, length, take, drop, refl, sym, ap, subst, ◌∙◌, arith, append_assoc, take-append-drop, length-take, length-append}
+use Rattle.std.proofs.Common.{◌≡◌, inl, inr, ℕ, ◌+◌, ◌≤◌, ◌<◌, ◌%◌, ◌^◌, List, ◌++◌, length, take, drop, refl, sym, ap, ◌∙◌, arith, append_assoc, take-append-drop, length-take}
 use Rattle.std.specs.Prelude.{slice_index, ◌-◌, min}
 use Rattle.std.proofs.Math.Seq.{take-append-add}
 use Rattle.std.proofs.lemmas.List.{take-take, get_or-take, take_at, take_all}
 use Rattle.std.proofs.lemmas.Bool.{cases_lt}
-use Rattle.ipc_model.specs.store.Recovery.{HasOtherVersion, IsOfEpoch, IsOpen}
+use Rattle.ipc_model.specs.store.Recovery.{IsOfEpoch, IsOpen}
 use Rattle.ipc_model.specs.store.Store.{segment_header, open_gate}
 use Rattle.words.specs.Words.{long_word}
 use Rattle.recover.specs.Headers.{Says, version_one}

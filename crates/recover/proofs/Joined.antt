@@ -1,5 +1,5 @@
 -- What opening a store does, joined call by call.
-use Rattle.std.proofs.Common.{◌≡◌, ◌⊎◌, inl, inr, ℕ, ◌+◌, ◌%◌, ◌<◌, List, [], ◌∷◌, ◌++◌, length, take, refl, sym, ap, subst, ◌∙◌, arith, false, true, Result, Ok, Err, OnErr}
+use Rattle.std.proofs.Common.{◌≡◌, ◌⊎◌, inl, inr, ℕ, ◌+◌, ◌<◌, List, [], ◌∷◌, ◌++◌, length, take, refl, sym, ap, subst, ◌∙◌, Result, Ok, Err, OnErr}
 use Rattle.disk.specs.declared.slot.Slot.{Slot}
 use Rattle.disk.specs.declared.slot.Slot.TheVariants.{Image0, Segment0}
 use Rattle.disk.specs.Moments.{View, MayLeave, Passes, Follows, IsSynced}
@@ -11,19 +11,17 @@ use Rattle.ipc_model.specs.store.Store.{closed_gate}
 use Rattle.ipc_model.specs.texts.Images.{image_text}
 use Rattle.journal.specs.declared.segment.Segment.{Segment}
 use Rattle.slot_steps.specs.Steps.{IsRemade, image_slot, segment_slot}
-use Rattle.slot_steps.proofs.Moments.{own_bytes, passes_as, passes_then}
+use Rattle.slot_steps.proofs.Moments.{passes_as, passes_then}
 use Rattle.standing.specs.Standing.{as_written, InOne}
 use Rattle.recover.specs.AtRest.{IsAtRest}
-use Rattle.recover.specs.Found.{ReadsOne}
 use Rattle.recover.specs.Kept.{IsKept}
 use Rattle.recover.specs.Making.{DiffersIn, empty_segment}
-use Rattle.recover.specs.Replayed.{ReplaysAll}
-use Rattle.recover.specs.Stopping.{HasLastGate, HaveLastGates, LeavesSame, RecoverSame, StandForSame}
-use Rattle.recover.specs.Surveyed.{IsInUse as Uses, IsUnused}
+use Rattle.recover.specs.Stopping.{HasLastGate, HaveLastGates, LeavesSame, StandForSame}
+use Rattle.recover.specs.Surveyed.{IsUnused}
 use Rattle.recover.proofs.Gates.{empty_has_gate}
 use Rattle.recover.proofs.Rest.{rest_after, rest_called, rest_is_synced, rest_kept}
 use Rattle.recover.proofs.Stages.{IsFresh, empty_in_use, first_made, fresh_image, fresh_recovered, fresh_segment, one_recovered, same_by_one, segment_keeps_gate, unused_fresh}
-use Rattle.recover.proofs.Ways.{NextParts, OneParts, gates_beside_image, next_ending, next_found, next_written, next_writing, one_ending, one_found, one_kept, recover_as, same_after, still_same}
+use Rattle.recover.proofs.Ways.{NextParts, OneParts, next_ending, next_written, next_writing, one_ending, one_kept, recover_as, same_after, still_same}
 
 -- after reads
 

@@ -1,10 +1,10 @@
 -- Disks that are synced, and stay so through what changes one slot.
-use Rattle.std.proofs.Common.{◌≡◌, ◌⊎◌, inl, inr, ℕ, List, refl, sym, ap, subst, ◌∙◌, arith}
+use Rattle.std.proofs.Common.{◌≡◌, inl, inr, ℕ, List, sym, ap, subst, ◌∙◌}
 use Rattle.disk.specs.declared.slot.Slot.{Slot}
 use Rattle.disk.specs.declared.slot.Slot.TheVariants.{Image0, Image1, Segment0, Segment1}
 use Rattle.disk.specs.Moments.{View, MayLeave, Passes, Follows, IsSynced}
 use Rattle.disk.specs.Slots.{Slots, slot_of, with_slot}
-use Rattle.slot_steps.proofs.Moments.{left_now, left_before, passes_then, passes_as, with_own, with_twice, own_bytes}
+use Rattle.slot_steps.proofs.Moments.{left_now, left_before, passes_then, passes_as, with_own, with_twice}
 use Rattle.recover.specs.AtRest.{IsAtRest}
 use Rattle.recover.specs.Making.{DiffersIn}
 

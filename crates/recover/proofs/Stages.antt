@@ -1,30 +1,24 @@
 -- What a store stands for while it is made, while a checkpoint is finished, and while its segment is ended.
-use Rattle.std.proofs.Common.{◌≡◌, ◌⊎◌, inl, inr, ℕ, ◌+◌, ◌%◌, ◌^◌, ◌<◌, ◌≤◌, List, [], ◌∷◌, ◌++◌, length, take, drop, refl, sym, ap, subst, ◌∙◌, arith, append_assoc, take-append-drop, length-append}
-use Rattle.std.specs.Prelude.{◌-◌, max}
+use Rattle.std.proofs.Common.{◌≡◌, inl, inr, ℕ, ◌+◌, ◌%◌, ◌<◌, List, [], ◌∷◌, ◌++◌, length, take, drop, refl, sym, ap, subst, ◌∙◌, arith, append_assoc, take-append-drop, length-append}
 use Rattle.std.proofs.Math.Seq.{take-append-add}
 use Rattle.disk.specs.declared.slot.Slot.TheVariants.{Image0, Segment0}
 use Rattle.disk.specs.Slots.{Slots, slot_of, with_slot}
-use Rattle.checkpoint.specs.Images.{open_image}
 use Rattle.ipc_laws.specs.Counted.{SpellsCounted}
 use Rattle.ipc_laws.specs.RecoveryLaws.{one_epoch, recovers_once}
-use Rattle.ipc_laws.specs.RunLaws.{run_split}
 use Rattle.ipc_model.specs.calls.Step.{Run}
 use Rattle.ipc_model.specs.declared.record.Record.{Record}
 use Rattle.ipc_model.specs.state.State.{State, opening_state}
 use Rattle.ipc_model.specs.store.Recovery.{HasHeader, HoldsImage, IsNew, IsOfEpoch, IsOpen, Recovered, Spells, image_header, segment_header_length}
 use Rattle.ipc_model.specs.store.Store.{SpellsBatches, SpellsSegment, IsClosed, IsInUse, NoneEmpty, all_records, open_gate, closed_gate, segment_header, batches_text}
-use Rattle.ipc_model.specs.texts.Images.{image_text}
-use Rattle.slot_steps.specs.Steps.{IsClosing, IsRemade, image_slot, segment_slot}
-use Rattle.standing.specs.Changes.{closing_image, one_segment_changed, two_finished, two_image_changed}
+use Rattle.slot_steps.specs.Steps.{IsRemade, image_slot}
+use Rattle.standing.specs.Changes.{closing_image, two_finished, two_image_changed}
 use Rattle.standing.specs.Slots.{one_of_two}
 use Rattle.standing.specs.Spelled.{one_spells, two_spells}
-use Rattle.standing.specs.Standing.{as_written, InOne, InTwo, IsPassedImage, IsPassedSegment}
-use Rattle.recover.specs.Found.{ReadsOne}
-use Rattle.recover.specs.Making.{DiffersIn, empty_segment}
-use Rattle.recover.specs.Replayed.{ReplaysAll}
-use Rattle.recover.specs.Stopping.{HasLastGate, HaveLastGates, RecoverSame, StandForSame}
-use Rattle.recover.specs.Surveyed.{IsInUse as Uses, IsUnused}
-use Rattle.recover.proofs.Gates.{has_gate, shut_has_gate, empty_has_gate}
+use Rattle.standing.specs.Standing.{as_written, InOne, InTwo}
+use Rattle.recover.specs.Making.{empty_segment}
+use Rattle.recover.specs.Stopping.{HasLastGate, RecoverSame}
+use Rattle.recover.specs.Surveyed.{IsUnused}
+use Rattle.recover.proofs.Gates.{shut_has_gate, empty_has_gate}
 
 -- what is recovered
 

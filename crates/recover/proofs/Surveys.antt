@@ -1,13 +1,13 @@
 -- What a store is, by the epochs of its open slots.
-use Rattle.std.proofs.Common.{◌≡◌, ◌≢◌, ◌⊎◌, inl, inr, ℕ, suc, ◌+◌, ◌≤◌, ◌<◌, ◌%◌, ◌^◌, List, [], ◌∷◌, ◌++◌, length, Bool, true, false, nat_eq, Option, None, Some, IfSome, IfNone, Result, Ok, Err, IfOk, OnOk, OnErr, refl, sym, ap, subst, ◌∙◌, arith}
+use Rattle.std.proofs.Common.{◌≡◌, ◌≢◌, ◌⊎◌, inl, inr, ℕ, ◌+◌, ◌≤◌, ◌<◌, ◌%◌, ◌^◌, List, ◌++◌, length, Bool, true, false, Option, None, Some, IfSome, IfNone, Result, Ok, Err, IfOk, OnOk, OnErr, refl, sym, ap, subst, ◌∙◌, arith}
 use Rattle.std.specs.Prelude.{MatchBool, if◌then◌else◌, ◌==◌, slice_index}
 use Rattle.disk.specs.declared.slot.Slot.TheVariants.{Image0, Image1, Segment0, Segment1}
 use Rattle.disk.specs.Slots.{Slots, slot_of}
 use Rattle.ipc_laws.specs.RecoveryLaws.{image_header_is, image_is_open, one_epoch, segment_is_open}
 use Rattle.ipc_model.specs.declared.record.Record.{Record}
 use Rattle.ipc_model.specs.state.State.{State}
-use Rattle.ipc_model.specs.store.Recovery.{Continues, HasHeader, HasOtherVersion, HeadersFit, HoldsImage, IsNew, IsOfEpoch, IsOpen, IsOtherVersion, IsStored, Spells, image_header, segment_header_length}
-use Rattle.ipc_model.specs.store.Store.{SpellsSegment, segment_header, open_gate}
+use Rattle.ipc_model.specs.store.Recovery.{Continues, HasHeader, HasOtherVersion, HoldsImage, IsNew, IsOfEpoch, IsOpen, IsOtherVersion, IsStored, Spells, image_header, segment_header_length}
+use Rattle.ipc_model.specs.store.Store.{SpellsSegment}
 use Rattle.slot_steps.specs.Steps.{image_slot, segment_slot}
 use Rattle.standing.specs.Standing.{as_written, IsPassedImage, IsPassedSegment}
 use Rattle.standing.specs.Slots.{image_at, segment_at, one_of_two}

@@ -1,14 +1,14 @@
 -- Images that are read from their slots.
-use Rattle.std.proofs.Common.{◌≡◌, ℕ, ◌+◌, ◌≤◌, ◌<◌, ◌^◌, List, [], ◌∷◌, ◌++◌, length, take, drop, refl, sym, ap, subst, ◌∙◌, arith, append_assoc, length-append, take-append-drop, length-take, length-drop}
+use Rattle.std.proofs.Common.{◌≡◌, ℕ, ◌≤◌, ◌<◌, ◌^◌, List, [], ◌∷◌, ◌++◌, length, take, drop, refl, sym, ap, subst, ◌∙◌, arith, append_assoc, length-append, take-append-drop, length-take, length-drop}
 use Rattle.std.specs.Prelude.{◌-◌, min}
 use Rattle.std.proofs.lemmas.List.{append-nil, drop-drop, take_at}
-use Rattle.words.specs.WordLaws.{same_long_word, length-long_word}
+use Rattle.words.specs.WordLaws.{same_long_word}
 use Rattle.words.specs.Words.{long_word}
 use Rattle.ipc_model.specs.state.Circular.{Grounded}
 use Rattle.ipc_model.specs.state.Lawful.{Lawful, ShortQueues}
 use Rattle.ipc_model.specs.state.State.{State}
 use Rattle.ipc_model.specs.store.Recovery.{HoldsImage, IsOfEpoch}
-use Rattle.ipc_model.specs.store.Store.{epoch_text, image_content, open_gate, segment_header}
+use Rattle.ipc_model.specs.store.Store.{image_content, open_gate, segment_header}
 use Rattle.ipc_model.specs.texts.Images.{image_text}
 use Rattle.image.specs.Fitting.{FitsImage}
 use Rattle.image.specs.LawfulFits.{lawful_snapshots_fit}

@@ -1,7 +1,6 @@
 -- How a store in use is read and ended.
-use Rattle.std.proofs.Common.{◌≡◌, ◌⊎◌, inl, inr, ℕ, suc, ◌+◌, ◌%◌, ◌^◌, ◌<◌, ◌≤◌, List, [], ◌∷◌, ◌++◌, length, take, drop, refl, sym, ap, subst, ◌∙◌, arith, length-append}
+use Rattle.std.proofs.Common.{◌≡◌, inl, inr, ℕ, ◌+◌, ◌%◌, ◌^◌, ◌<◌, ◌≤◌, List, [], ◌∷◌, ◌++◌, length, take, drop, refl, sym, ap, subst, ◌∙◌, arith, length-append}
 use Rattle.std.specs.Prelude.{◌-◌, Bool, true, false}
-use Rattle.disk.specs.declared.slot.Slot.{Slot}
 use Rattle.disk.specs.Moments.{View, MayLeave, Passes, Follows}
 use Rattle.disk.specs.Slots.{Slots, slot_of, with_slot}
 use Rattle.ipc_laws.specs.BatchLaws.{one_segment}
@@ -18,9 +17,9 @@ use Rattle.ipc_model.specs.store.Recovery.{Continues, HoldsImage, IsNew, IsOfEpo
 use Rattle.ipc_model.specs.store.Store.{AreRecords, SpellsBatches, SpellsSegment, IsInUse, image_content, open_gate, closed_gate, segment_header}
 use Rattle.ipc_model.specs.texts.Images.{image_text}
 use Rattle.slot_steps.specs.Steps.{IsRemade, image_slot, segment_slot}
-use Rattle.slot_steps.proofs.Moments.{left_before, passes_as, passes_then, own_bytes}
+use Rattle.slot_steps.proofs.Moments.{passes_as, passes_then, own_bytes}
 use Rattle.standing.specs.Changes.{one_segment_changed, two_finished}
-use Rattle.standing.specs.Slots.{beside_image, by_parity, image_at, one_of_two, segment_at}
+use Rattle.standing.specs.Slots.{beside_image, by_parity, image_at, one_of_two}
 use Rattle.standing.specs.Spelled.{one_spells, two_spells}
 use Rattle.standing.specs.Standing.{as_written, InOne, InTwo}
 use Rattle.recover.specs.AtRest.{IsAtRest}

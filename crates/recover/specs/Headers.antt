@@ -1,5 +1,5 @@
 -- What the headers of the slots say.
-use Rattle.std.specs.Prelude.{◌≡◌, ◌≢◌, ℕ, ◌%◌, ◌^◌, ◌<◌, List, [], ◌∷◌, Option, MatchOption}
+use Rattle.std.specs.Prelude.{◌≢◌, ℕ, ◌%◌, List, [], ◌∷◌, Option, MatchOption}
 use Rattle.disk.specs.Slots.{Slots}
 use Rattle.ipc_model.specs.store.Recovery.{HasOtherVersion, IsOfEpoch, IsOpen, image_header, segment_header_length}
 use Rattle.ipc_model.specs.store.Store.{open_gate}

@@ -1,5 +1,5 @@
 -- What an open store is between calls.
-use Rattle.std.specs.Prelude.{◌≡◌, ℕ, List, length}
+use Rattle.std.specs.Prelude.{◌≡◌, List, length}
 use Rattle.disk.specs.Moments.{View}
 use Rattle.disk.specs.Slots.{slot_of}
 use Rattle.ipc_model.specs.calls.Step.{Run}

@@ -43,8 +43,7 @@ pub(crate) fn read_epoch<D: Disk>(
     ensures faults { OnErr result ((result ≡ Err StoreFault.Device) ⊎ ((result ≡ Err StoreFault.Damaged) ⊎ (result ≡ Err StoreFault.NoMemory))) }
 {
     let base = load_image(alloc, disk, image_slot(epoch))?;
-    let (kernel, records, end) = replay_segment(alloc, base, disk, segment_slot(epoch))?;
-    Ok((kernel, records, end))
+    replay_segment(alloc, base, disk, segment_slot(epoch))
 }
 
 /// Whether segment 0 has an open batch.

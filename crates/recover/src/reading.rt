@@ -9,6 +9,7 @@ ghost use Rattle.journal.specs.Readers.{place_of};
 ghost use Rattle.journal.specs.Windows.{IsOver};
 ghost use Rattle.recover.specs.Replayed.{Replays, ReplaysAll};
 
+use crate::behind::both;
 use disk::{Disk, Slot};
 use ipc_model::Record;
 use journal::{PIECE, RecordReader, StoreFault};
@@ -56,10 +57,14 @@ fn replay_all<D: Disk>(
     ensures faults { OnErr result ((result ≡ Err StoreFault.Device) ⊎ ((result ≡ Err StoreFault.Damaged) ⊎ (result ≡ Err StoreFault.NoMemory))) }
 {
     let mut state = kernel;
-    while let Some(entry) = reader.next(disk)? {
-        state = replay_one(state, entry)?;
+    loop {
+        let next = reader.next(disk);
+        let (now, next) = both(state, next)?;
+        let Some(entry) = next else {
+            return Ok(now);
+        };
+        state = replay_one(now, entry)?;
     }
-    Ok(state)
 }
 
 /// The state after the records of a segment, how many they are, and where the last batch ends.
@@ -80,7 +85,8 @@ pub(crate) fn replay_segment<D: Disk>(
     ensures device { IsErrOf result StoreFault.Device → D.failed_calls disk.new ≡ one_more (D.failed_calls disk.old) }
     ensures faults { OnErr result ((result ≡ Err StoreFault.Device) ⊎ ((result ≡ Err StoreFault.Damaged) ⊎ (result ≡ Err StoreFault.NoMemory))) }
 {
-    let mut reader = RecordReader::new(alloc, disk, slot, SEGMENT_HEADER as u64, PIECE)?;
-    let kernel = replay_all(kernel, &mut reader, disk, slot)?;
+    let made = RecordReader::new(alloc, disk, slot, SEGMENT_HEADER as u64, PIECE);
+    let (base, mut reader) = both(kernel, made)?;
+    let kernel = replay_all(base, &mut reader, disk, slot)?;
     Ok((kernel, reader.number(), reader.at()))
 }

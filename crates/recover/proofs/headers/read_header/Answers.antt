@@ -1,4 +1,4 @@
-use Rattle.std.proofs.Common.{List, ℕ, subst, take, arith}
+use Rattle.std.proofs.Common.{List, ℕ, subst, arith}
 use Rattle.disk.specs.Slots.{slot_of}
 use Rattle.recover.specs.Headers.{Says}
 use Rattle.recover.proofs.Fronts.{front_read, says_of_front}

@@ -1,4 +1,4 @@
-use Rattle.std.proofs.Common.{ap, subst, ◌∙◌}
+use Rattle.std.proofs.Common.{subst, ◌∙◌}
 use Rattle.disk.specs.Slots.{Slots}
 use Rattle.ipc_model.specs.store.Recovery.{image_header, segment_header_length}
 use Rattle.recover.specs.Headers.{Says}

@@ -1,8 +1,8 @@
-use Rattle.std.proofs.Common.{◌≡◌, ◌+◌, ◌∙◌, ℕ, List, drop, sym, ap, subst, arith, true, false}
+use Rattle.std.proofs.Common.{◌+◌, ℕ, drop, sym, subst, arith}
 use Rattle.std.proofs.lemmas.Result.{err_from_is_err_and}
 use Rattle.disk.specs.Slots.{Slots, slot_of}
 use Rattle.ipc_model.specs.store.Store.{SpellsBatches}
-use Rattle.recover.specs.Found.{Reads, ReadsOne}
+use Rattle.recover.specs.Found.{Reads}
 use Rattle.recover.specs.Replayed.{ReplaysAll}
 use Rattle.recover.specs.Surveyed.{IsInUse as Uses}
 use Rattle.slot_steps.specs.Steps.{segment_slot}

@@ -13,7 +13,6 @@ use Rattle.slot_steps.proofs.Moments.{unchanged_then}
 use Rattle.slot_steps.specs.Steps.{segment_slot}
 use Rattle.recover.proofs.Apart.{stays_inside}
 use Rattle.recover.proofs.Joined.{device_err, next_end_same, next_image_same, next_kept, rested_after_image}
-use Rattle.recover.proofs.Rest.{rest_kept}
 use Rattle.recover.proofs.Ways.{next_damaged, next_found, next_parts, read_damaged, still_same}
 use Rattle.recover.proofs.opening.go_on_next.Goals as goal
 

@@ -1,7 +1,5 @@
-use Rattle.std.proofs.Common.{Err, ap, sym, subst}
-use Rattle.disk.specs.Slots.{Slots}
+use Rattle.std.proofs.Common.{Err, ap}
 use Rattle.ipc_laws.specs.RecoveryLaws.{recovers_once, recovers_version_one}
-use Rattle.ipc_model.specs.store.Recovery.{Recovered}
 use Rattle.standing.specs.Standing.{as_written}
 use Rattle.recover.proofs.Joined.{kept_recovered}
 use Rattle.recover.proofs.opening.open.Goals as goal

@@ -1,60 +1,79 @@
-use Rattle.std.proofs.Common.{◌≡◌, ◌∙◌, subst}
+use Rattle.std.proofs.Common.{◌≡◌, ◌∙◌, sym, subst}
 use Rattle.std.proofs.lemmas.Result.{err_from_is_err_and}
 use Rattle.disk.specs.Slots.{slot_of}
+use Rattle.ipc_model.specs.state.State.{State}
 use Rattle.journal.specs.Readers.{place_of}
-use Rattle.journal.specs.Reading.{Leads, IsNothing}
+use Rattle.journal.specs.Reading.{Place, Leads, IsLast, IsNothing}
 use Rattle.journal.specs.Windows.{IsOver}
+use Rattle.recover.specs.Replayed.{Replays}
 use Rattle.slot_steps.proofs.Moments.{unchanged_then}
-use Rattle.recover.proofs.Streams.{left_on, none_left, unread}
+use Rattle.recover.proofs.Streams.{IsLeft, all_replayed, left_on, none_left, unread}
 use Rattle.recover.proofs.Surveys.{some_is}
 use Rattle.recover.proofs.reading.replay_all.Goals as goal
 
 -- nothing is spelled from here on
-pub returns-in_err-entry-clause-damaged : goal.returns-in_err-entry-clause-damaged
-returns-in_err-entry-clause-damaged g c = λ honest told.
-    let inv = c.loop-state.invariant in
+pub returns-in_err-now-clause-damaged : goal.returns-in_err-now-clause-damaged
+returns-in_err-now-clause-damaged g c = λ honest told.
+    let inv = c.loop-now.invariant in
     let p = err_from_is_err_and c.from_residual.result c.from_residual.ensures.1 in
     let segment = slot_of (g.D.Disk.view c.args.disk.now).seen c.args.slot in
-    let same : slot_of (g.D.Disk.view c.loop-state.disk).seen c.loop-state.reader.window.slot ≡ segment = λ i. slot_of (inv.seen honest i) (inv.slot i) in
-    unread segment (place_of c.args.reader.now) (place_of c.loop-state.reader) c.args.kernel c.loop-state.state (inv.left honest)
-    (subst (λ l. IsNothing l (place_of c.loop-state.reader)) same (c.in_err-entry.ensures.damaged honest (cc (p.1, p.2, told))))
+    let same : slot_of (g.D.Disk.view c.loop-now.disk).seen c.loop-now.reader.window.slot ≡ segment = λ i. slot_of (inv.seen honest i) (inv.slot i) in
+    unread segment (place_of c.args.reader.now) (place_of c.loop-now.reader) c.args.kernel c.loop-now.state (inv.left honest)
+    (subst (λ l. IsNothing l (place_of c.loop-now.reader)) same (c.next-next.ensures.damaged honest (cc (p.1, p.2, told, c.in_err-now.ensures.err))))
+
+-- all was replayed
+pub returns-in_default-clause-state : goal.returns-in_default-clause-state
+returns-in_default-clause-state g c = λ honest.
+    let inv = c.loop-now.invariant in
+    let first = place_of c.args.reader.now in
+    let here = place_of c.next-next.new.self in
+    let segment = slot_of (g.D.Disk.view c.args.disk.now).seen c.args.slot in
+    let same : slot_of (g.D.Disk.view c.loop-now.disk).seen c.loop-now.reader.window.slot ≡ segment = λ i. slot_of (inv.seen honest i) (inv.slot i) in
+    let last = rw c.in_default.is at (rw c.in_ok-now.ensures.ok.1 at c.next-next.ensures.last honest) in
+    let stays = rw c.in_default.is at (rw c.in_ok-now.ensures.ok.1 at c.next-next.ensures.stays) in
+    let left = subst (λ (at : Place). IsLeft segment first at c.args.kernel c.loop-now.state) (sym stays) (inv.left honest) in
+    subst (λ (s : State). Replays segment first c.args.kernel s here.number here.at) (sym c.in_ok-now.ensures.ok.0) (all_replayed segment first here c.args.kernel c.loop-now.state left (subst (λ l. IsLast l here) same last))
 
 -- the record is no step
 pub returns-in_err-state-clause-damaged : goal.returns-in_err-state-clause-damaged
 returns-in_err-state-clause-damaged g c = λ honest told.
-    let inv = c.loop-state.invariant in
+    let inv = c.loop-now.invariant in
     let p = err_from_is_err_and c.from_residual-in_err-state.result c.from_residual-in_err-state.ensures.1 in
+    let first = place_of c.args.reader.now in
     let segment = slot_of (g.D.Disk.view c.args.disk.now).seen c.args.slot in
-    let same : slot_of (g.D.Disk.view c.loop-state.disk).seen c.loop-state.reader.window.slot ≡ segment = λ i. slot_of (inv.seen honest i) (inv.slot i) in
-    let leads = some_is _ c.in_ok-entry.field-0 c.in-Some.entry c.in-Some.is (c.in_ok-entry.ensures.leads honest) in
-    none_left segment (place_of c.args.reader.now) (place_of c.loop-state.reader) (place_of c.next.new.self) c.in-Some.entry c.args.kernel c.loop-state.state (inv.left honest)
-    (subst (λ l. Leads l (place_of c.loop-state.reader) c.in-Some.entry (place_of c.next.new.self)) same leads) (c.in_err-state.ensures.damaged (cc (p.1, p.2, told)))
+    let same : slot_of (g.D.Disk.view c.loop-now.disk).seen c.loop-now.reader.window.slot ≡ segment = λ i. slot_of (inv.seen honest i) (inv.slot i) in
+    let left = subst (λ (s : State). IsLeft segment first (place_of c.loop-now.reader) c.args.kernel s) (sym c.in_ok-now.ensures.ok.0) (inv.left honest) in
+    let leads = some_is _ c.in_ok-now.next c.in-Some.entry c.in-Some.is (rw c.in_ok-now.ensures.ok.1 at c.next-next.ensures.leads honest) in
+    none_left segment first (place_of c.loop-now.reader) (place_of c.next-next.new.self) c.in-Some.entry c.args.kernel c.in_ok-now.now left
+    (subst (λ l. Leads l (place_of c.loop-now.reader) c.in-Some.entry (place_of c.next-next.new.self)) same leads) (c.in_err-state.ensures.damaged (cc (p.1, p.2, told)))
 
-pub loop-state-preserved : goal.loop-state-preserved
-loop-state-preserved g c =
-    let inv = c.loop-state.invariant in
+pub loop-now-preserved : goal.loop-now-preserved
+loop-now-preserved g c =
+    let inv = c.loop-now.invariant in
+    let first = place_of c.args.reader.now in
     let segment = slot_of (g.D.Disk.view c.args.disk.now).seen c.args.slot in
     record {
       left = λ honest.
-          let same : slot_of (g.D.Disk.view c.loop-state.disk).seen c.loop-state.reader.window.slot ≡ segment = λ i. slot_of (inv.seen honest i) (inv.slot i) in
-          let leads = some_is _ c.in_ok-entry.field-0 c.in-Some.entry c.in-Some.is (c.in_ok-entry.ensures.leads honest) in
-          let counted = some_is _ c.in_ok-entry.field-0 c.in-Some.entry c.in-Some.is c.in_ok-entry.ensures.counted in
-          left_on segment (place_of c.args.reader.now) (place_of c.loop-state.reader) (place_of c.next.new.self) c.in-Some.entry c.args.kernel c.loop-state.state c.in_ok-state.state (inv.left honest)
-          (subst (λ l. Leads l (place_of c.loop-state.reader) c.in-Some.entry (place_of c.next.new.self)) same leads) counted.0 c.in_ok-state.ensures.step c.in_ok-state.ensures.only;
+          let same : slot_of (g.D.Disk.view c.loop-now.disk).seen c.loop-now.reader.window.slot ≡ segment = λ i. slot_of (inv.seen honest i) (inv.slot i) in
+          let left = subst (λ (s : State). IsLeft segment first (place_of c.loop-now.reader) c.args.kernel s) (sym c.in_ok-now.ensures.ok.0) (inv.left honest) in
+          let leads = some_is _ c.in_ok-now.next c.in-Some.entry c.in-Some.is (rw c.in_ok-now.ensures.ok.1 at c.next-next.ensures.leads honest) in
+          let counted = some_is _ c.in_ok-now.next c.in-Some.entry c.in-Some.is (rw c.in_ok-now.ensures.ok.1 at c.next-next.ensures.counted) in
+          left_on segment first (place_of c.loop-now.reader) (place_of c.next-next.new.self) c.in-Some.entry c.args.kernel c.in_ok-now.now c.in_ok-state.state left
+          (subst (λ l. Leads l (place_of c.loop-now.reader) c.in-Some.entry (place_of c.next-next.new.self)) same leads) counted.0 c.in_ok-state.ensures.step c.in_ok-state.ensures.only;
       over = λ honest.
-          let same : slot_of (g.D.Disk.view c.loop-state.disk).seen c.loop-state.reader.window.slot ≡ segment = λ i. slot_of (inv.seen honest i) (inv.slot i) in
-          subst (λ l. IsOver l c.next.new.self.window) same (c.in_ok-entry.ensures.over honest);
-      slot = c.in_ok-entry.ensures.slot ∙ inv.slot;
-      seen = λ honest. c.in_ok-entry.ensures.seen honest ∙ inv.seen honest;
-      time = λ honest. unchanged_then (g.D.Disk.view c.args.disk.now) (g.D.Disk.view c.loop-state.disk) (g.D.Disk.view c.next.new.disk) (inv.time honest) (c.in_ok-entry.ensures.time honest);
-      quiet = c.in_ok-entry.ensures.quiet ∙ inv.quiet;
+          let same : slot_of (g.D.Disk.view c.loop-now.disk).seen c.loop-now.reader.window.slot ≡ segment = λ i. slot_of (inv.seen honest i) (inv.slot i) in
+          subst (λ l. IsOver l c.next-next.new.self.window) same (rw c.in_ok-now.ensures.ok.1 at c.next-next.ensures.over honest);
+      slot = c.next-next.ensures.slot ∙ inv.slot;
+      seen = λ honest. c.next-next.ensures.seen honest ∙ inv.seen honest;
+      time = λ honest. unchanged_then (g.D.Disk.view c.args.disk.now) (g.D.Disk.view c.loop-now.disk) (g.D.Disk.view c.next-next.new.disk) (inv.time honest) (c.next-next.ensures.time honest);
+      quiet = (rw c.in_ok-now.ensures.ok.1 at c.next-next.ensures.quiet) ∙ inv.quiet;
     }
 
-pub returns-clause-time : goal.returns-clause-time
-returns-clause-time g c = λ honest. unchanged_then (g.D.Disk.view c.args.disk.now) (g.D.Disk.view c.loop-state.disk) (g.D.Disk.view c.next.new.disk) (c.loop-state.invariant.time honest) (c.in_ok-entry.ensures.time honest)
+pub returns-in_default-clause-time : goal.returns-in_default-clause-time
+returns-in_default-clause-time g c = λ honest. unchanged_then (g.D.Disk.view c.args.disk.now) (g.D.Disk.view c.loop-now.disk) (g.D.Disk.view c.next-next.new.disk) (c.loop-now.invariant.time honest) (c.next-next.ensures.time honest)
 
-pub returns-in_err-entry-clause-time : goal.returns-in_err-entry-clause-time
-returns-in_err-entry-clause-time g c = λ honest. unchanged_then (g.D.Disk.view c.args.disk.now) (g.D.Disk.view c.loop-state.disk) (g.D.Disk.view c.next.new.disk) (c.loop-state.invariant.time honest) (c.in_err-entry.ensures.time honest)
+pub returns-in_err-now-clause-time : goal.returns-in_err-now-clause-time
+returns-in_err-now-clause-time g c = λ honest. unchanged_then (g.D.Disk.view c.args.disk.now) (g.D.Disk.view c.loop-now.disk) (g.D.Disk.view c.next-next.new.disk) (c.loop-now.invariant.time honest) (c.next-next.ensures.time honest)
 
 pub returns-in_err-state-clause-time : goal.returns-in_err-state-clause-time
-returns-in_err-state-clause-time g c = λ honest. unchanged_then (g.D.Disk.view c.args.disk.now) (g.D.Disk.view c.loop-state.disk) (g.D.Disk.view c.next.new.disk) (c.loop-state.invariant.time honest) (c.in_ok-entry.ensures.time honest)
+returns-in_err-state-clause-time g c = λ honest. unchanged_then (g.D.Disk.view c.args.disk.now) (g.D.Disk.view c.loop-now.disk) (g.D.Disk.view c.next-next.new.disk) (c.loop-now.invariant.time honest) (c.next-next.ensures.time honest)

@@ -8,8 +8,8 @@ use Rattle.recover.proofs.Streams.{IsLeft}
 use Rattle.recover.proofs.reading.replay_all.Given as goal
 
 -- what is left to be replayed is what was to be replayed, and the disk is as it was
-abbrev pub invariant-loop-state : goal.invariant-loop-state
-invariant-loop-state g l = record {
+abbrev pub invariant-loop-now : goal.invariant-loop-now
+invariant-loop-now g l = record {
   left : g.D.Disk.honest → IsLeft (slot_of (g.D.Disk.view l.fn.disk).seen l.fn.slot) (place_of l.fn.reader) (place_of l.reader) l.fn.kernel l.state;
   over : g.D.Disk.honest → IsOver (slot_of (g.D.Disk.view l.fn.disk).seen l.fn.slot) l.reader.window;
   slot : l.reader.window.slot ≡ l.fn.slot;
@@ -18,5 +18,5 @@ invariant-loop-state g l = record {
   quiet : g.D.Disk.failed_calls l.disk ≡ g.D.Disk.failed_calls l.fn.disk;
 }
 
-abbrev pub decreases-loop-state : goal.decreases-loop-state
-decreases-loop-state g l = MAX_RECORDS - l.reader.number
+abbrev pub decreases-loop-now : goal.decreases-loop-now
+decreases-loop-now g l = MAX_RECORDS - l.reader.number

@@ -11,15 +11,15 @@ returns-in_err-kernel-clause-damaged g c = λ honest told.
     let p = err_from_is_err_and c.from_residual-in_err-kernel.result c.from_residual-in_err-kernel.ensures.1 in
     let segment : List ℕ = slot_of (g.D.Disk.view c.args.disk.now).seen c.args.slot in
     never_replayed segment 16 c.args.kernel (c.requires honest)
-    (λ state count end replays. c.in_err-kernel.ensures.damaged honest (cc (p.1, p.2, told)) state count end
-    (subst (λ (place : Place). Replays segment place c.args.kernel state count end) (sym (c.in_ok-reader.ensures.place honest)) replays))
+    (λ state count end replays. (rw c.in_ok-base.ensures.ok.0 at c.in_err-kernel.ensures.damaged honest (cc (p.1, p.2, told))) state count end
+    (subst (λ (place : Place). Replays segment place c.args.kernel state count end) (sym (rw c.in_ok-base.ensures.ok.1 at c.new-made.ensures.place honest)) replays))
 
 pub returns-clause-state : goal.returns-clause-state
 returns-clause-state g c = λ honest.
     let segment : List ℕ = slot_of (g.D.Disk.view c.args.disk.now).seen c.args.slot in
     let last = c.replay_all.new.reader in
     let replays : Replays segment (first_place 16) c.args.kernel c.in_ok-kernel.kernel last.number last.window.at =
-    subst (λ (place : Place). Replays segment place c.args.kernel c.in_ok-kernel.kernel last.number last.window.at) (c.in_ok-reader.ensures.place honest) (c.in_ok-kernel.ensures.state honest) in
+    subst (λ (place : Place). Replays segment place c.args.kernel c.in_ok-kernel.kernel last.number last.window.at) (rw c.in_ok-base.ensures.ok.1 at c.new-made.ensures.place honest) (rw c.in_ok-base.ensures.ok.0 at c.in_ok-kernel.ensures.state honest) in
     let all = replayed_all segment c.args.kernel c.in_ok-kernel.kernel last.number last.window.at (c.requires honest) replays in
     subst (λ n. ReplaysAll segment c.args.kernel c.in_ok-kernel.kernel n c.at.result) (sym c.number.ensures)
     (subst (λ at. ReplaysAll segment c.args.kernel c.in_ok-kernel.kernel last.number at) (sym c.at.ensures) all)

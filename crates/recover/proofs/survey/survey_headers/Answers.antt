@@ -1,6 +1,4 @@
 use Rattle.std.proofs.Common.{inl, inr}
-use Rattle.disk.specs.Slots.{Slots}
-use Rattle.recover.specs.Headers.{TellAll}
 use Rattle.recover.proofs.Surveys.{always_err, foreign_damaged, tells_of}
 use Rattle.recover.proofs.survey.survey_headers.Goals as goal
 
