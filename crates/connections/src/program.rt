@@ -36,17 +36,27 @@ pub fn serve_opened<
         + 'static,
     O: Write,
 >(rt: R, path: &str, opened: Opened<D>, output: &mut O) -> SocketEnd {
-    let Some(listener) = bind(&rt, path) else {
-        return SocketEnd::Socket;
-    };
-    let Some(row) = first_row(rt.alloc()) else {
-        return SocketEnd::Store(StoreFault::NoMemory);
-    };
-    let Ok(path) = String::from_str(rt.alloc(), path) else {
-        return SocketEnd::Store(StoreFault::NoMemory);
+    let (listener, row, path) = match prepare(&rt, path) {
+        Ok(prepared) => prepared,
+        Err(end) => {
+            drop(opened);
+            return end;
+        }
     };
     let blank = Blank::new(u64::from(MOST_SESSIONS));
     serve_history::<Brand, _, _, _>(rt, path, &listener, opened, row, blank, output)
+}
+
+/// The listener at a socket's path, the row of the history's first entries, and the path.
+fn prepare<R: Files + Net + AllocGlobal>(
+    rt: &R,
+    path: &str,
+) -> Result<(UnixListener, Arc<Row, Global>, String), SocketEnd> {
+    let no_memory = SocketEnd::Store(StoreFault::NoMemory);
+    let listener = bind(rt, path).ok_or(SocketEnd::Socket)?;
+    let row = first_row(rt.alloc()).ok_or(no_memory)?;
+    let path = String::from_str(rt.alloc(), path).or(Err(no_memory))?;
+    Ok((listener, row, path))
 }
 
 /// The row of the history's first entries.

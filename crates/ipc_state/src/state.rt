@@ -54,18 +54,28 @@ impl IpcState {
         ensures { IfOk result (λ state. state ≡ at_rest opening_state) }
     {
         let mut state = IpcState::new(alloc);
-        state.add_space(FIRST_SPACE)?;
-        state.keep();
-        Ok(state)
+        match state.add_space(FIRST_SPACE) {
+            Ok(()) => {
+                state.keep();
+                Ok(state)
+            }
+            Err(error) => {
+                drop(state);
+                Err(error)
+            }
+        }
     }
 
     /// The same state again, at rest.
     pub fn copy(&self) -> Result<Self, AllocError>
         ensures { IfOk result (λ copy. copy ≡ at_rest self.now.current) }
     {
-        let spaces = self.spaces.copy()?;
-        let ports = self.ports.copy()?;
         let members = self.members.copy()?;
+        let spaces = self.spaces.copy()?;
+        let Ok(ports) = self.ports.copy() else {
+            drop(spaces);
+            return Err(AllocError);
+        };
         let mut copy = IpcState {
             spaces,
             ports,

@@ -148,8 +148,9 @@ impl Kernel {
         ensures fits { IfOk result (λ answer. IfSome answer (λ reply. length (reply_text reply) ≤ MAX_FRAME_CONTENT)) }
     {
         let mut state = self.state.copy()?;
-        let answer = try_answer(self.alloc, &mut state, space, call)?;
-        Ok(answer)
+        let answer = try_answer(self.alloc, &mut state, space, call);
+        drop(state);
+        answer
     }
 
     /// What `answer` answers, without a copy of the state: the call is made and given up.
@@ -207,10 +208,17 @@ impl Kernel {
     {
         let Kernel { alloc, mut state } = self;
         call_in_range(&record.call);
-        step_again(alloc, &mut state, record)?;
-        state.keep();
-        state.queues_are_short();
-        Ok(Kernel { alloc, state })
+        match step_again(alloc, &mut state, record) {
+            Ok(()) => {
+                state.keep();
+                state.queues_are_short();
+                Ok(Kernel { alloc, state })
+            }
+            Err(fault) => {
+                drop(state);
+                Err(fault)
+            }
+        }
     }
 }
 

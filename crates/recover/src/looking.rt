@@ -7,6 +7,7 @@ ghost use Rattle.recover.specs.Found.{Reads};
 ghost use Rattle.recover.specs.Headers.{Says};
 ghost use Rattle.recover.specs.Looked.{IsLook};
 ghost use Rattle.recover.specs.Surveyed.{FitsNext, IsInUse, IsUnused};
+ghost use Rattle.snapshot.specs.Snapshots.{snapshot_of};
 ghost use Rattle.standing.specs.Standing.{as_written};
 
 use crate::finding::{have_no_batch, read_epoch};
@@ -17,7 +18,7 @@ use disk::Disk;
 use journal::StoreFault;
 use kernel::{Kernel, Snapshot};
 use slot_steps::segment_slot;
-use std::alloc::Global;
+use std::alloc::{AllocError, Global};
 
 /// What a store holds.
 #[derive(Debug, Drop)]
@@ -94,6 +95,15 @@ fn find<D: Disk>(alloc: Global, disk: &mut D) -> Result<(u64, u64, Kernel), Stor
     }
 }
 
+/// A state as plain rows, which are all that is left of it.
+fn into_rows(alloc: Global, kernel: Kernel) -> Result<Snapshot, AllocError>
+    ensures { IfOk result (λ rows. rows ≡ snapshot_of kernel) }
+{
+    let rows = kernel.copy(alloc);
+    drop(kernel);
+    rows
+}
+
 /// Looks at a store, and writes nothing: neither what it holds nor what a stop leaves of it changes.
 ///
 /// `Device`: the device failed. `Damaged`: the slots are none that a server leaves. `Version`: an open slot is
@@ -109,7 +119,7 @@ pub fn look<D: Disk>(alloc: Global, disk: &mut D) -> Result<Looked, StoreFault>
     ensures device { IsErrOf result StoreFault.Device → D.failed_calls disk.new ≡ one_more (D.failed_calls disk.old) }
 {
     let (epoch, records, kernel) = find(alloc, disk)?;
-    let snapshot = kernel.copy(alloc)?;
+    let snapshot = into_rows(alloc, kernel)?;
     Ok(Looked {
         epoch,
         records,

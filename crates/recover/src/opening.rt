@@ -15,7 +15,7 @@ ghost use Rattle.standing.specs.Standing.{as_written};
 use crate::behind::{both, end_behind, write_behind};
 use crate::finding::{have_no_batch, read_epoch};
 use crate::headers::{Header, Headers, read_headers};
-use crate::making::{end_segment, make_segment, sync_all};
+use crate::making::{make_segment, sync_all};
 use crate::reading::replay_segment;
 use crate::survey::{Survey, survey_store};
 use checkpoint::Image;
@@ -62,21 +62,26 @@ fn image_of(alloc: Global, epoch: u64, kernel: &Kernel) -> Result<Image, AllocEr
     Ok(image)
 }
 
-/// Makes a new store: its segment first, and once that is whole, its image.
-fn write_first<D: Disk>(disk: &mut D, image: &Image) -> Result<Segment, DiskFault>
+/// Makes a new store: its segment first, and once that is whole, its image. A value comes back behind that.
+fn write_first<D: Disk, T: Drop>(
+    disk: &mut D,
+    image: &Image,
+    value: T,
+) -> Result<(T, Segment), DiskFault>
     requires image { image.now ≡ unwritten 0 (image_text opening_state) }
     requires holds { HoldsImage 0 (open_image 0 (image_text opening_state)) opening_state }
     requires rest { D.honest → IsAtRest (D.view disk.old) }
     requires unused { D.honest → IsUnused (D.view disk.old).seen }
     requires new { D.honest → IsNew (as_written (D.view disk.old).seen) }
-    ensures kept { D.honest → IfOk result (λ segment. IsKept (D.view disk.new) segment opening_state) }
+    ensures value { IfOk result (λ r. r.0 ≡ value) }
+    ensures kept { D.honest → IfOk result (λ r. IsKept (D.view disk.new) r.1 opening_state) }
     ensures any_moment { D.honest → HaveLastGates (D.view disk.old).seen
         → Passes (D.view disk.old) (D.view disk.new) (StandForSame (D.view disk.old).seen) }
     ensures failures { CountsFailure (D.failed_calls disk.old) (D.failed_calls disk.new) result }
 {
     let segment = make_segment(disk, 0)?;
     image.write(disk)?;
-    Ok(segment)
+    Ok((value, segment))
 }
 
 /// A store that was never in use is made.
@@ -103,8 +108,8 @@ fn begin<D: Disk>(
 {
     have_no_batch(disk, segment0)?;
     let kernel = Kernel::opening(alloc)?;
-    let image = image_of(alloc, 0, &kernel)?;
-    let segment = write_first(disk, &image)?;
+    let (kernel, image) = with_image(alloc, kernel, 0)?;
+    let (kernel, segment) = write_first(disk, &image, kernel)?;
     Ok((kernel, segment))
 }
 
@@ -126,7 +131,7 @@ fn go_on<D: Disk>(alloc: Global, disk: &mut D, epoch: u64) -> Result<(Kernel, Se
     ensures faults { OnErr result ((result ≡ Err StoreFault.Device) ⊎ ((result ≡ Err StoreFault.Damaged) ⊎ (result ≡ Err StoreFault.NoMemory))) }
 {
     let (kernel, records, end) = read_epoch(alloc, disk, epoch)?;
-    end_segment(disk, segment_slot(epoch), end)?;
+    let kernel = end_behind(disk, segment_slot(epoch), end, kernel)?;
     Ok((kernel, Segment { epoch, records }))
 }
 

@@ -41,7 +41,9 @@ pub fn lawful(alloc: Global, snapshot: &Snapshot) -> Result<bool, AllocError>
     ensures { IfOk result (λ yes. IsTrue yes ↔ IsLawfulSnapshot snapshot.now) }
 {
     let mut state = IpcState::new(alloc);
-    verdict(fill(alloc, &mut state, snapshot))
+    let filled = fill(alloc, &mut state, snapshot);
+    drop(state);
+    verdict(filled)
 }
 
 /// Whether what was filled in is lawful.
@@ -65,9 +67,16 @@ pub fn restore(alloc: Global, snapshot: &Snapshot) -> Result<IpcState, SnapshotF
     ensures unlawful { IsErrOf result SnapshotFault.NotLawful → IsLawfulSnapshot snapshot.now → ⊥ }
 {
     let mut state = IpcState::new(alloc);
-    fill(alloc, &mut state, snapshot)?;
-    state.keep();
-    Ok(state)
+    match fill(alloc, &mut state, snapshot) {
+        Ok(()) => {
+            state.keep();
+            Ok(state)
+        }
+        Err(fault) => {
+            drop(state);
+            Err(fault)
+        }
+    }
 }
 
 /// Fills a state of nothing with the rows of a snapshot. With a fault it is to be given up.

@@ -162,6 +162,7 @@ fn serve_opened<D: Disk + Drop, I: Read, O: Write>(
         ServesOpened D.honest D.view bytes before (I.remaining input.new) (O.contents output.new) result)) }
 {
     let mut caller = Alone::new(alloc, opened);
-    serve(alloc, input, output, &mut caller)?;
-    Ok(())
+    let served = serve(alloc, input, output, &mut caller);
+    drop(caller);
+    served
 }

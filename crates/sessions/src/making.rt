@@ -233,7 +233,7 @@ impl<L: Founding> Core<L> {
     {
         let Core {
             alloc: _,
-            half: _,
+            half,
             past,
             opened: _,
             earlier: _,
@@ -241,6 +241,7 @@ impl<L: Founding> Core<L> {
             handed: _,
             older: _,
         } = self;
+        drop(half);
         let Some(past) = past else { unreachable!() };
         past
     }

@@ -61,6 +61,7 @@ impl<L: Founding, D: Disk, G: Drop> Shared<L, D, G> {
         } = opened;
         kernel.has_image();
         let Ok(mine) = past.again() else {
+            drop(kernel);
             return Err(disk);
         };
         let storer = Storer::new(disk, segment, mine);

@@ -115,7 +115,7 @@ impl<D: Disk> System<D> {
     {
         let System {
             alloc: _,
-            core: _,
+            core,
             store,
             out: _,
             receipt: _,
@@ -123,6 +123,7 @@ impl<D: Disk> System<D> {
             finished_first: _,
             tickets: _,
         } = self;
+        drop(core);
         store.into_disk()
     }
 

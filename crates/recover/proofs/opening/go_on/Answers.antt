@@ -1,5 +1,9 @@
-use Rattle.std.proofs.Common.{Err, ap, ◌∙◌}
+use Rattle.std.proofs.Common.{Err, ap, sym, subst, ◌∙◌}
 use Rattle.std.proofs.lemmas.Result.{err_from_is_err_and}
+use Rattle.ipc_model.specs.state.State.{State}
+use Rattle.ipc_model.specs.store.Recovery.{Recovered}
+use Rattle.recover.specs.Kept.{IsKept}
+use Rattle.standing.specs.Standing.{as_written}
 use Rattle.recover.proofs.Joined.{device_err, go_on_kept, go_on_same}
 use Rattle.recover.proofs.Rest.{rest_kept}
 use Rattle.recover.proofs.Ways.{one_found, one_parts, read_damaged, still_same}
@@ -13,41 +17,42 @@ returns-in_err-kernel-clause-damaged g c = λ honest told.
 pub returns-in_err-kernel-clause-any_moment : goal.returns-in_err-kernel-clause-any_moment
 returns-in_err-kernel-clause-any_moment g c = λ honest gates. still_same (g.D.Disk.view c.args.disk.now) (g.D.Disk.view c.read_epoch.new.disk) (c.requires.rest honest) gates (c.read_epoch.ensures.time honest)
 
-pub returns-in_err-end_segment-clause-unchanged : goal.returns-in_err-end_segment-clause-unchanged
-returns-in_err-end_segment-clause-unchanged g c = λ honest.
-    let p = err_from_is_err_and c.from_residual-in_err-end_segment.result c.from_residual-in_err-end_segment.ensures.1 in
-    device_err _ c.from_residual-in_err-end_segment.result _ (p.1 ∙ ap Err p.2)
+pub returns-in_err-kernel-2-clause-unchanged : goal.returns-in_err-kernel-2-clause-unchanged
+returns-in_err-kernel-2-clause-unchanged g c = λ honest.
+    let p = err_from_is_err_and c.from_residual-in_err-kernel-2.result c.from_residual-in_err-kernel-2.ensures.1 in
+    device_err _ c.from_residual-in_err-kernel-2.result _ (p.1 ∙ ap Err p.2)
 
-pub returns-in_err-end_segment-clause-untouched : goal.returns-in_err-end_segment-clause-untouched
-returns-in_err-end_segment-clause-untouched g c = λ honest.
-    let p = err_from_is_err_and c.from_residual-in_err-end_segment.result c.from_residual-in_err-end_segment.ensures.1 in
-    device_err _ c.from_residual-in_err-end_segment.result _ (p.1 ∙ ap Err p.2)
+pub returns-in_err-kernel-2-clause-untouched : goal.returns-in_err-kernel-2-clause-untouched
+returns-in_err-kernel-2-clause-untouched g c = λ honest.
+    let p = err_from_is_err_and c.from_residual-in_err-kernel-2.result c.from_residual-in_err-kernel-2.ensures.1 in
+    device_err _ c.from_residual-in_err-kernel-2.result _ (p.1 ∙ ap Err p.2)
 
-pub returns-in_err-end_segment-clause-any_moment : goal.returns-in_err-end_segment-clause-any_moment
-returns-in_err-end_segment-clause-any_moment g c = λ honest gates.
+pub returns-in_err-kernel-2-clause-any_moment : goal.returns-in_err-kernel-2-clause-any_moment
+returns-in_err-kernel-2-clause-any_moment g c = λ honest gates.
     let old = g.D.Disk.view c.args.disk.now in
     let read = c.in_ok-kernel in
-    go_on_same old (g.D.Disk.view c.read_epoch.new.disk) (g.D.Disk.view c.end_segment.new.disk) c.args.epoch c.segment_slot.result read.kernel read.records read.end c.segment_slot.ensures (c.requires.rest honest) gates
-    (c.read_epoch.ensures.time honest) (read.ensures.seen honest) (one_parts old.seen c.args.epoch read.kernel read.records read.end (c.requires.used honest) (read.ensures.read honest)) (c.end_segment.ensures.any_moment honest)
+    go_on_same old (g.D.Disk.view c.read_epoch.new.disk) (g.D.Disk.view c.end_behind.new.disk) c.args.epoch c.segment_slot.result read.kernel read.records read.end c.segment_slot.ensures (c.requires.rest honest) gates
+    (c.read_epoch.ensures.time honest) (read.ensures.seen honest) (one_parts old.seen c.args.epoch read.kernel read.records read.end (c.requires.used honest) (read.ensures.read honest)) (c.end_behind.ensures.any_moment honest)
 
 pub returns-clause-state : goal.returns-clause-state
 returns-clause-state g c = λ honest.
     let seen = (g.D.Disk.view c.args.disk.now).seen in
     let read = c.in_ok-kernel in
-    one_found seen c.args.epoch read.kernel read.records read.end (one_parts seen c.args.epoch read.kernel read.records read.end (c.requires.used honest) (read.ensures.read honest))
+    subst (λ (k : State). Recovered (as_written seen) k) (sym c.in_ok-kernel-2.ensures.value) (one_found seen c.args.epoch read.kernel read.records read.end (one_parts seen c.args.epoch read.kernel read.records read.end (c.requires.used honest) (read.ensures.read honest)))
 
 pub returns-clause-kept : goal.returns-clause-kept
 returns-clause-kept g c = λ honest.
     let old = g.D.Disk.view c.args.disk.now in
     let mid = g.D.Disk.view c.read_epoch.new.disk in
     let read = c.in_ok-kernel in
-    go_on_kept old mid (g.D.Disk.view c.end_segment.new.disk) c.args.epoch c.segment_slot.result read.kernel read.records read.end c.segment_slot.ensures (read.ensures.seen honest)
+    subst (λ (k : State). IsKept (g.D.Disk.view c.end_behind.new.disk) (record { epoch = c.args.epoch; records = read.records }) k) (sym c.in_ok-kernel-2.ensures.value)
+    (go_on_kept old mid (g.D.Disk.view c.end_behind.new.disk) c.args.epoch c.segment_slot.result read.kernel read.records read.end c.segment_slot.ensures (read.ensures.seen honest)
     (one_parts old.seen c.args.epoch read.kernel read.records read.end (c.requires.used honest) (read.ensures.read honest))
-    (c.in_ok-end_segment.ensures.rest honest (rest_kept old mid (c.read_epoch.ensures.time honest) (read.ensures.seen honest) (c.requires.rest honest))) (c.in_ok-end_segment.ensures.ended honest)
+    (c.in_ok-kernel-2.ensures.rest honest (rest_kept old mid (c.read_epoch.ensures.time honest) (read.ensures.seen honest) (c.requires.rest honest))) (c.in_ok-kernel-2.ensures.ended honest))
 
 pub returns-clause-any_moment : goal.returns-clause-any_moment
 returns-clause-any_moment g c = λ honest gates.
     let old = g.D.Disk.view c.args.disk.now in
     let read = c.in_ok-kernel in
-    go_on_same old (g.D.Disk.view c.read_epoch.new.disk) (g.D.Disk.view c.end_segment.new.disk) c.args.epoch c.segment_slot.result read.kernel read.records read.end c.segment_slot.ensures (c.requires.rest honest) gates
-    (c.read_epoch.ensures.time honest) (read.ensures.seen honest) (one_parts old.seen c.args.epoch read.kernel read.records read.end (c.requires.used honest) (read.ensures.read honest)) (c.end_segment.ensures.any_moment honest)
+    go_on_same old (g.D.Disk.view c.read_epoch.new.disk) (g.D.Disk.view c.end_behind.new.disk) c.args.epoch c.segment_slot.result read.kernel read.records read.end c.segment_slot.ensures (c.requires.rest honest) gates
+    (c.read_epoch.ensures.time honest) (read.ensures.seen honest) (one_parts old.seen c.args.epoch read.kernel read.records read.end (c.requires.used honest) (read.ensures.read honest)) (c.end_behind.ensures.any_moment honest)

@@ -5,5 +5,5 @@ use Rattle.restoring.proofs.making.lawful.Goals as goal
 pub returns : goal.returns
 returns c =
     let snapshot = c.args.snapshot.now in
-    told c.verdict.result c.fill.result (IsLawfulSnapshot snapshot) c.verdict.ensures.yes c.verdict.ensures.no
-    (all_told c.fill.result snapshot c.fill.new.state.current c.fill.ensures.same c.fill.ensures.lawful c.fill.ensures.short) c.fill.ensures.unlawful
+    told c.verdict.result c.fill-filled.result (IsLawfulSnapshot snapshot) c.verdict.ensures.yes c.verdict.ensures.no
+    (all_told c.fill-filled.result snapshot c.fill-filled.new.state.current c.fill-filled.ensures.same c.fill-filled.ensures.lawful c.fill-filled.ensures.short) c.fill-filled.ensures.unlawful
