@@ -27,7 +27,11 @@ fn known<D: Disk>(opened: &Opened<D>) -> Known {
 /// What a store knows, where it can be opened.
 fn known_again<D: Disk + Drop>(alloc: Global, disk: D) -> Option<Known> {
     match open(alloc, disk) {
-        Ok(opened) => Some(known(&opened)),
+        Ok(opened) => {
+            let known = known(&opened);
+            drop(opened);
+            Some(known)
+        }
         Err(_) => None,
     }
 }

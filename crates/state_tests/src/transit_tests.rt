@@ -42,7 +42,9 @@ fn circles(alloc: Global, state: &mut IpcState) -> Result<[bool; 6], Fail> {
 
 fn circles_anew(alloc: Global) -> Result<[bool; 6], Fail> {
     let mut state = IpcState::opening(alloc)?;
-    circles(alloc, &mut state)
+    let found = circles(alloc, &mut state);
+    drop(state);
+    found
 }
 
 #[test]

@@ -72,17 +72,24 @@ fn see<D: Disk>(opened: &Opened<D>, names: &[u32; 4]) -> Seen {
 /// What opening the store gives, and the disk. It knows nothing of the disk, as dropping a disk in memory is dear to prove.
 fn see_on<D: Disk + Drop>(alloc: Global, disk: D, names: &[u32; 4]) -> (Opening, D) {
     match open(alloc, disk) {
-        Ok(opened) => (Ok(see(&opened, names)), opened.disk),
+        Ok(opened) => {
+            let seen = see(&opened, names);
+            let (disk, _) = parts_of(opened);
+            (Ok(seen), disk)
+        }
         Err((fault, disk)) => (Err(fault), disk),
     }
 }
 
-/// The disk of the opened store, and the segment in use.
-fn go_on_with<D: Disk + Drop>(alloc: Global, disk: D) -> Option<(D, Segment)> {
-    match open(alloc, disk) {
-        Ok(opened) => Some((opened.disk, opened.segment)),
-        Err(_) => None,
-    }
+/// The disk of an opened store, and the segment in use.
+fn parts_of<D: Disk + Drop>(opened: Opened<D>) -> (D, Segment) {
+    let Opened {
+        kernel,
+        disk,
+        segment,
+    } = opened;
+    drop(kernel);
+    (disk, segment)
 }
 
 impl Store for MemDisk {
@@ -112,7 +119,7 @@ impl Store for MemDisk {
     }
 
     fn go_on(self, alloc: Global) -> Option<(MemDisk, Segment)> {
-        go_on_with(alloc, self)
+        open(alloc, self).ok().map(parts_of)
     }
 }
 

@@ -6,7 +6,7 @@ use crate::asking::{EPOCH_FULL, FAULT, NO_MEMORY, NOT_NOW, Row, fill, unlike};
 use disk::{Disk, MemDisk, Slot, Torn};
 use ipc_model::{Call, Reply};
 use std::alloc::Global;
-use system::{Event, Outcome, SubmitFault, System, open};
+use system::{Event, Opened, Outcome, SubmitFault, System, open};
 
 /// What makes calls, stores them and replies. Answers are numbers, as in a row.
 pub(crate) trait Core {
@@ -115,7 +115,15 @@ impl Store for MemDisk {
 /// The disk of a store, which was opened or couldn't be, and how many records its segment has if it was.
 pub(crate) fn reopened<D: Disk + Drop>(alloc: Global, disk: D) -> (D, Option<u64>) {
     match open(alloc, disk) {
-        Ok(opened) => (opened.disk, Some(opened.segment.records)),
+        Ok(opened) => {
+            let Opened {
+                kernel,
+                disk,
+                segment,
+            } = opened;
+            drop(kernel);
+            (disk, Some(segment.records))
+        }
         Err((_, disk)) => (disk, None),
     }
 }
@@ -147,7 +155,9 @@ pub(crate) fn asked_full<D: Disk + Drop>(
 ) -> Option<(bool, Option<(usize, u64)>)> {
     let mut core = core_on(alloc, disk)?;
     let is_full = fill(&mut core);
-    Some((is_full, unlike(&mut core, rows)))
+    let unlike = unlike(&mut core, rows);
+    drop(core);
+    Some((is_full, unlike))
 }
 
 /// What a list of events gives on the core of a store, where there is memory, and the disk then.
