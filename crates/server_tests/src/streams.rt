@@ -107,13 +107,17 @@ fn drip_twice<C: Caller>(alloc: Global, caller: &mut C, room: usize, seen: &Seen
 /// The same on a new store.
 fn dripped<S: Store + Drop>(alloc: Global, room: usize, seen: &Seen) -> Option<(Run, Run)> {
     let mut caller = caller(alloc, S::empty(alloc)).ok()?;
-    Some(drip_twice(alloc, &mut caller, room, seen))
+    let runs = drip_twice(alloc, &mut caller, room, seen);
+    drop(caller);
+    Some(runs)
 }
 
 /// Three calls on a new store, at once.
 fn whole<S: Store + Drop>(alloc: Global) -> Option<Run> {
     let mut caller = caller(alloc, S::empty(alloc)).ok()?;
-    Some(serve_on(alloc, &mut caller, &three_calls()))
+    let run = serve_on(alloc, &mut caller, &three_calls());
+    drop(caller);
+    Some(run)
 }
 
 /// Whether three calls byte by byte end well, and give what they give at once; and how many bytes that is.
