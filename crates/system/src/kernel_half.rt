@@ -139,7 +139,6 @@ impl KernelHalf {
         ensures full { IsErrOf result.1 SubmitFault.EpochFull → IsFullFor self.old space call.now }
         ensures err { OnErr result.1 ((self.new ≡ self.old) × (result.0 ≡ witness)) }
     {
-        call_in_range(call);
         // No machine makes so many records.
         if self.row.made() == u64::MAX {
             return (witness, Err(SubmitFault::NoMemory));
@@ -148,9 +147,31 @@ impl KernelHalf {
         if length >= MAX_RECORDS {
             return (witness, self.submit_without_room(space, call));
         }
+        let (witness, made) = self.submit_with_room(space, call, witness);
+        match made {
+            Ok(ticket) => (witness, Ok(ticket)),
+            Err(_) => (witness, Err(SubmitFault::NoMemory)),
+        }
+    }
+
+    /// Makes a call whose record, if it has one, has room.
+    fn submit_with_room<W: Witness>(
+        &mut self,
+        space: u32,
+        call: &Call,
+        witness: W,
+    ) -> (W, Result<Ticket, AllocError>)
+        requires { (self.old.row.length < MAX_RECORDS) × (self.old.row.made < 2 ^ 64 - 1) }
+        ensures given { IfOk result.1 (λ ticket. Gives self.old space call.now ticket self.new) }
+        ensures learned { IfOk result.1 (λ ticket. has_record call.now ticket.answer ≡ true → W.learned witness space call.now ticket.answer result.0) }
+        ensures unlearned { IfOk result.1 (λ ticket. has_record call.now ticket.answer ≡ false → result.0 ≡ witness) }
+        ensures err { OnErr result.1 ((self.new ≡ self.old) × (result.0 ≡ witness)) }
+    {
+        call_in_range(call);
         let (witness, made) = apply_beside(&mut self.kernel, &mut self.row, space, call, witness);
-        let Ok(reply) = made else {
-            return (witness, Err(SubmitFault::NoMemory));
+        let reply = match made {
+            Ok(reply) => reply,
+            Err(refused) => return (witness, Err(refused)),
         };
         let seen = self.row.made();
         (witness, Ok(Ticket { reply, seen }))

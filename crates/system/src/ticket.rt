@@ -113,7 +113,7 @@ impl Tickets {
         ensures ok { OnOk result (self.new ≡ record { kept = map.insert self.old.kept self.old.given None; given = self.old.given }) }
         ensures err { OnErr result (self.new ≡ self.old) }
     {
-        let _ = self.kept.insert(u128::from(self.given), None)?;
+        drop(self.kept.insert(u128::from(self.given), None)?);
         Ok(())
     }
 
@@ -121,7 +121,7 @@ impl Tickets {
     pub(crate) fn drop_place(&mut self)
         ensures { self.new ≡ record { kept = map.remove self.old.kept self.old.given; given = self.old.given } }
     {
-        let _ = self.kept.remove(u128::from(self.given));
+        drop(self.kept.remove(u128::from(self.given)));
     }
 
     /// Keeps the next ticket in its place, and gives its number.
@@ -164,6 +164,8 @@ fn keep_ticket(tickets: &mut NumberMap<Option<Ticket>>, number: u64, ticket: Tic
     ensures { tickets.new ≡ map.insert tickets.old number (Some ticket) }
 {
     if let Some(place) = tickets.get_mut(u128::from(number)) {
-        *place = Some(ticket);
+        drop(place.replace(ticket));
+    } else {
+        drop(ticket);
     }
 }
