@@ -1,3 +1,4 @@
+use crate::image_tests::ONE_PORT;
 use checkpoint::Image;
 use disk::{DiskFault, MemDisk, Slot, Torn};
 use image::read;
@@ -6,14 +7,7 @@ use std::alloc::{AllocError, Global};
 use std::process::Abort;
 use std::test::Fail;
 
-/// One port, whose receive right space 1 holds under 0x100.
-static ONE_PORT: [u8; 94] = [
-    2, 0, 0, 0, 0, 0, 0, 0, 1, 0, 0, 0, 1, 0, 0, 0, 1, 0, 0, 0, 0, 1, 0, 0, 1, 1, 0, 0, 0, 0, 0, 0,
-    0, 1, 0, 0, 0, 0, 0, 0, 0, 0, 0, 0, 0, 0, 1, 0, 0, 0, 1, 0, 0, 0, 0, 0, 0, 0, 5, 0, 0, 0, 0, 0,
-    0, 0, 0, 0, 0, 0, 0, 0, 0, 0, 0, 0, 0, 0, 0, 0, 0, 0, 0, 0, 0, 0, 0, 0, 0, 0, 0, 0, 0, 0,
-];
-
-/// What stands before that text in the image of epoch 1.
+/// What stands before the text of one port in the image of epoch 1.
 static HEADER: [u8; 24] = [
     0x5a, 1, 0, 0, 0, 0, 0, 0, 1, 0, 0, 0, 0, 0, 0, 0, 94, 0, 0, 0, 0, 0, 0, 0,
 ];
