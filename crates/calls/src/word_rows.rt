@@ -1,4 +1,4 @@
-ghost use Rattle.std.specs.Prelude.{◌≡◌, ◌≢◌, ◌++◌, ◌<◌, ◌^◌, All, OnOk, IfSome, IfNone, flat_map, length};
+ghost use Rattle.std.specs.Prelude.{◌≡◌, ◌≢◌, ◌++◌, ◌<◌, ◌^◌, OnOk, IfSome, IfNone, flat_map, length};
 ghost use Rattle.words.specs.Words.{word};
 
 use std::alloc::AllocError;
@@ -7,7 +7,6 @@ use words::{push_word, take_word};
 /// Adds numbers of four bytes. Where memory is wanted some of them may have been added.
 pub(crate) fn push_words(out: &mut Vec<u8>, numbers: &[u32]) -> Result<(), AllocError>
     ensures ok { OnOk result (out.new.items ≡ out.old.items ++ flat_map word numbers.now) }
-    ensures fit { All (λ number. number < 2 ^ 32) numbers.now }
 {
     for &number in numbers {
         push_word(out, number)?;
