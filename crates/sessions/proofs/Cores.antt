@@ -76,6 +76,10 @@ module _ (old new : BesideValue) (space : ℕ) (c : Call) where
   ]
   both_begin P (Err fault) seen begins learned unlearned err = subst (λ (v : BesideValue). Begins seen v.mine.entries) (sym err.1) begins
 
+  pub both_back : {E : Type 0} (P : Type 0) (r : Result TicketValue E) (kept : PastValue) (seen : List Entry) → old.kept ≡ kept → old.mine.entries ≡ kept.entries → OnErr r (P × (new ≡ old)) → OnErr r (P × (new.kept ≡ kept) × ((new.mine.entries ≡ seen) ⊎ (new.mine.entries ≡ kept.entries)))
+  both_back P (Ok ticket) kept seen same level err = tt
+  both_back P (Err fault) kept seen same level err = (err.0, ap (λ (v : BesideValue). v.kept) err.1 ∙ same, inr (ap (λ (v : BesideValue). v.mine.entries) err.1 ∙ level))
+
 -- A call that was made, or wasn't.
 module _ {E : Type 0} (base : State) (old new : KernelValue) (kept after : PastValue) (opened earlier taken older number space : ℕ) (c : Call) (core : IsCore base old kept.entries opened earlier taken older) (P : Type 0) (r : Result TicketValue E)
     (gives : IfOk r (λ ticket. Gives old space c ticket new)) (is : IfOk r (λ ticket. after.entries ≡ kept.entries ++ entries_of_call number space c ticket)) (err : OnErr r ((new ≡ old) × (after ≡ kept) × P)) where

@@ -7,12 +7,14 @@ ghost use Rattle.sessions.specs.Closing.{AllBelong, AllCanBelong, AreLegal, Belo
 ghost use Rattle.sessions.specs.Tokens.{IsHistory};
 ghost use Rattle.storer.specs.Storing.{StandsFor};
 
+use crate::keeper::Keeper;
 use crate::session::{Card, Session};
 use crate::shared::Shared;
 use disk::Disk;
 use history::{Founding, Past};
 use std::sync::ledger;
 use std::sync::ledger::Share;
+use storer::Storer;
 
 /// What is left once both halves are closed: the disk, how many records of the history are stored there, how many sessions were
 /// made, and the history itself, with the rows that are left of it.
@@ -51,21 +53,10 @@ pub fn close<L: Founding, D: Disk, G: Drop>(
     ensures left { IfOk result (λ book. D.honest → (c : Slots) → MayLeave (D.view book.disk) c → StandsFor L.base book.stored (records_of book.past.entries) c) }
     ensures unmatched { IfErr result (λ unmatched. D.honest → IsLeft L.base unmatched.stored (D.view unmatched.disk)) }
 {
-    let Shared {
-        alloc: _,
-        gate: _,
-        keeper,
-        storer,
-        calls: _,
-        news: _,
-        changes: _,
-        stored: _,
-    } = shared;
-    let tally = keeper.into_inner().into_tally();
-    let storer = storer.into_inner();
+    let (keeper, storer) = into_halves(shared);
     let stored = storer.stored();
     let (disk, known) = storer.into_parts();
-    let Some((past, made)) = match_all(tally, known, stored, sessions) else {
+    let Some((past, made)) = match_all(keeper.into_tally(), known, stored, sessions) else {
         return Err(Unmatched { disk, stored });
     };
     Ok(Book {
@@ -74,6 +65,14 @@ pub fn close<L: Founding, D: Disk, G: Drop>(
         made,
         past,
     })
+}
+
+/// What stands under the two locks.
+fn into_halves<L: Founding, D: Disk, G: Drop>(
+    shared: Shared<L, D, G>,
+) -> (Keeper<L>, Storer<L, D>) {
+    let Shared { keeper, storer, .. } = shared;
+    (keeper.into_inner(), storer.into_inner())
 }
 
 /// The whole history, how many sessions were made, the book that counts its records, and a share of the ledger: what no session
@@ -109,10 +108,10 @@ fn match_all<L: Founding>(
     let mut past = past;
     let mut known = known;
     let mut share = share;
-    if !begins(&mut known, &mut past) {
-        return None;
-    }
-    if !count_all(sessions, stored, &mut past, &mut share) {
+    let is_known = begins(&mut known, &mut past);
+    drop(known);
+    if !is_known || !count_all(sessions, stored, &mut past, &mut share) {
+        drop(past);
         return None;
     }
     audit(book, share);

@@ -9,7 +9,7 @@ use Rattle.storer.specs.Storing.{StandsFor}
 
 pub returns-in_default-clause-unmatched : goal.returns-in_default-clause-unmatched
 returns-in_default-clause-unmatched g c honest =
-    let storer = c.into_inner-storer.result in
+    let storer = c.into_halves-keeper.result.1 in
     let parts = c.into_parts-disk.ensures in
     record {
       entries = storer.entries;
@@ -39,7 +39,7 @@ returns-clause-told g c =
 
 pub returns-clause-left : goal.returns-clause-left
 returns-clause-left g c honest slots may =
-    let storer = c.into_inner-storer.result in
+    let storer = c.into_halves-keeper.result.1 in
     let parts = c.into_parts-disk.ensures in
     stands_in g.L.Founding.base c.into_parts-disk.result.1.entries c.in-Some.past.entries c.stored-stored.result slots c.in-Some.ensures.matched.begins
     (subst (λ (l : List Entry). StandsFor g.L.Founding.base c.stored-stored.result (records_of l) slots) (sym parts.past)
