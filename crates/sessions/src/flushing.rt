@@ -38,49 +38,76 @@ impl<L: Founding, D: Disk, G: Gate> Shared<L, D, G> {
             if is_over {
                 return None;
             }
-            self.gate.pass(rt, Step::Take);
-            let taken = self.keeper.lock(rt).take();
-            match taken {
-                Ok(Some(load)) => return Some(load),
-                // Memory is wanted, or a load is out, as only a second loop of this kind meets.
-                Ok(None) | Err(_) => self.pause(rt),
+            if let Some(load) = self.take_load(rt) {
+                return Some(load);
             }
+            // Memory is wanted, or a load is out, as only a second loop of this kind meets.
+            self.pause(rt);
         }
         None
+    }
+
+    /// Takes the records that wait.
+    fn take_load<R: Wait>(&self, rt: &R) -> Option<Load<L>> {
+        self.gate.pass(rt, Step::Take);
+        self.keeper.lock(rt).take().ok().flatten()
     }
 
     /// Stores a load, and hands its receipt in. Says whether it did: else the store failed, which all are told.
     fn store<R: Wait + Clock>(&self, rt: &R, load: Load<L>) -> bool {
         let mut load = load;
         for _ in rt.forever() {
-            self.gate.pass(rt, Step::Append);
-            let stored = self.storer.lock(rt).append(load);
-            match stored {
-                Ok(receipt) => {
-                    self.stored.notify_all();
-                    self.gate.pass(rt, Step::Durable);
-                    self.keeper.lock(rt).durable(receipt);
-                    self.news.notify_all();
-                    return true;
-                }
-                Err((NotStored::Store(fault), _)) => {
-                    self.fail(rt, fault);
-                    return false;
-                }
-                Err((NotStored::NoMemory, back)) => {
-                    load = back;
-                    self.pause(rt);
-                }
-                Err((NotStored::NotNow, back)) => {
-                    load = back;
-                    self.await_segment(rt, load.epoch);
-                    if self.fault(rt).is_some() {
-                        return false;
-                    }
-                }
+            match self.try_to_store(rt, load) {
+                Ok(is_stored) => return is_stored,
+                Err(back) => load = back,
             }
         }
+        drop(load);
         false
+    }
+
+    /// Stores a load as `store` does, unless it comes back to be tried once more.
+    fn try_to_store<R: Wait + Clock>(&self, rt: &R, load: Load<L>) -> Result<bool, Load<L>> {
+        self.gate.pass(rt, Step::Append);
+        let stored = self.storer.lock(rt).append(load);
+        match stored {
+            Ok(receipt) => {
+                self.stored.notify_all();
+                self.gate.pass(rt, Step::Durable);
+                self.keeper.lock(rt).durable(receipt);
+                self.news.notify_all();
+                Ok(true)
+            }
+            Err((why, back)) => self.put_off(rt, why, back),
+        }
+    }
+
+    /// Gives a load that wasn't stored back, once that may be tried again; or tells all that the store failed.
+    fn put_off<R: Wait + Clock>(
+        &self,
+        rt: &R,
+        why: NotStored,
+        load: Load<L>,
+    ) -> Result<bool, Load<L>> {
+        let is_over = match why {
+            NotStored::Store(fault) => {
+                self.fail(rt, fault);
+                true
+            }
+            NotStored::NoMemory => {
+                self.pause(rt);
+                false
+            }
+            NotStored::NotNow => {
+                self.await_segment(rt, load.epoch);
+                self.fault(rt).is_some()
+            }
+        };
+        if is_over {
+            drop(load);
+            return Ok(false);
+        }
+        Err(load)
     }
 
     /// Waits until the segment of an epoch is open, or a while.

@@ -188,8 +188,16 @@ impl<L: Founding> Core<L> {
         self.begin_row(row)?;
         let past = self.again()?;
         let length = self.half.row_length();
-        let Some(cut) = self.half.cut(self.alloc)? else {
-            return Ok(None);
+        let cut = match self.half.cut(self.alloc) {
+            Ok(Some(cut)) => cut,
+            Ok(None) => {
+                drop(past);
+                return Ok(None);
+            }
+            Err(refused) => {
+                drop(past);
+                return Err(refused);
+            }
         };
         let earlier = past.len() as u64;
         self.opened = 0;
