@@ -13,7 +13,7 @@ use words::take_word;
 
 /// What a `mach_msg` asks for: to send, to receive, or first the one and then the other. How long each may wait is
 /// for the session; the machine never waits.
-#[derive(Debug, Drop)]
+#[derive(Drop)]
 pub struct MessageRequest {
     /// The send, if it asks for one.
     pub send: Option<Call>,
@@ -26,7 +26,7 @@ pub struct MessageRequest {
 }
 
 /// What a frame asks for.
-#[derive(Debug, Drop)]
+#[derive(Drop)]
 pub enum Request {
     /// A call of any number but that of `mach_msg`.
     One(Call),

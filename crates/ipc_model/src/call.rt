@@ -10,7 +10,7 @@ use codes::{
 use std::alloc::Global;
 
 /// A call of a task. Arguments are kept as they were sent, whether they are allowed or not.
-#[derive(Debug, Drop)]
+#[derive(Drop)]
 pub enum Call {
     /// Number 0: the task goes on in this space.
     Attach {
@@ -226,7 +226,7 @@ pub struct ReceiveStatus {
 }
 
 /// What a call answered. It shows each choice that the machine made.
-#[derive(Debug, Drop)]
+#[derive(Drop)]
 pub enum Reply {
     /// The call of this number was refused, and changed nothing.
     Refused {

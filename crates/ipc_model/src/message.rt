@@ -30,7 +30,7 @@ pub struct CarriedRight {
 }
 
 /// A message in a port's queue.
-#[derive(Debug, Drop)]
+#[derive(Drop)]
 pub struct Message {
     /// The right that it was sent by: a send right or a send-once right of the port whose queue it is in.
     pub destination: RightKind,

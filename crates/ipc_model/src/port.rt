@@ -1,7 +1,7 @@
 use crate::{Message, Sequence};
 
 /// What a live port keeps beside its rights.
-#[derive(Debug, Drop)]
+#[derive(Drop)]
 pub struct PortState {
     /// How many messages its queue holds at most, for sends that the limit stops.
     pub limit: u32,

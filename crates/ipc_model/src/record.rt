@@ -1,7 +1,7 @@
 use crate::{Call, Reply};
 
 /// A call that changed the state, as the journal keeps it: who made it and what it answered.
-#[derive(Debug, Drop)]
+#[derive(Drop)]
 pub struct Record {
     /// The number of the caller's space.
     pub space: u32,

@@ -2,7 +2,7 @@ use std::marker::Model;
 
 /// A row of items. Contracts see it as the list of them. It is made of a `Vec` and gives it back, and neither
 /// takes memory.
-#[derive(Debug, Drop)]
+#[derive(Drop)]
 pub struct Sequence<T> {
     items: Vec<T>,
 }

@@ -9,7 +9,7 @@ use receiving::{Preference, names_shown};
 use std::alloc::{AllocError, Global};
 
 /// What a reply shows of that which its call leaves open.
-#[derive(Debug, Drop)]
+#[derive(Drop)]
 pub struct Shown {
     /// A name that a right got.
     pub name: Option<u32>,

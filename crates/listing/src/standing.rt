@@ -1,7 +1,7 @@
 use ipc_model::RightKind;
 
 /// Where a right stands.
-#[derive(Clone, Copy, Debug)]
+#[derive(Clone, Copy)]
 pub(crate) enum Standing {
     /// Under a name of a space.
     Held { space: u32, name: u32 },
@@ -16,7 +16,7 @@ pub(crate) enum Standing {
 }
 
 /// A right of a port, and where it stands.
-#[derive(Clone, Copy, Debug)]
+#[derive(Clone, Copy)]
 pub(crate) struct StandingRight {
     pub(crate) kind: RightKind,
     /// The port's serial.

@@ -11,7 +11,7 @@ use snapshot::Snapshot;
 use std::alloc::{AllocError, Global};
 
 /// The rights of a port.
-#[derive(Clone, Copy, Debug)]
+#[derive(Clone, Copy)]
 pub(crate) struct Tally {
     /// Where its receive right stands.
     pub(crate) receive: Option<Standing>,

@@ -51,6 +51,11 @@ impl<'a> Asker<'a> {
 
     /// Allocates so many receive rights, and destroys their names.
     fn allocate<R: Clock>(&mut self, rt: &R, frames: u32, spread: &mut Spread) -> Option<()> {
+        self.take_names(rt, frames, spread)?;
+        self.give_up_names(rt, frames, spread)
+    }
+
+    fn take_names<R: Clock>(&mut self, rt: &R, frames: u32, spread: &mut Spread) -> Option<()> {
         let start = Instant::now(rt).ok()?;
         for _ in 0..frames {
             self.write(&[5, 1])?;
@@ -62,6 +67,10 @@ impl<'a> Asker<'a> {
             self.names.push(name).ok()?;
             note(rt, &start, spread)?;
         }
+        Some(())
+    }
+
+    fn give_up_names<R: Clock>(&mut self, rt: &R, frames: u32, spread: &mut Spread) -> Option<()> {
         let start = Instant::now(rt).ok()?;
         for index in 0..self.names.len() {
             let name = *self.names.get(index)?;

@@ -22,10 +22,7 @@ pub(crate) fn run<
 >(rt: R, alloc: Global, plan: &Plan) -> Option<Spread> {
     let mut tasks = Vec::new(alloc);
     for _ in 0..plan.connections {
-        let path = String::from_str(alloc, plan.path).ok()?;
-        tasks
-            .push(begin(rt, path, plan.seconds, plan.kind, plan.frames)?)
-            .ok()?;
+        tasks.push(begin(rt, alloc, plan)?).ok()?;
     }
     let mut all = Spread::new(alloc).ok()?;
     for task in tasks {
@@ -43,13 +40,9 @@ fn begin<
         + Copy
         + Send
         + 'static,
->(
-    rt: R,
-    path: String,
-    seconds: u64,
-    kind: Kind,
-    frames: u32,
-) -> Option<JoinHandle<Option<Spread>>> {
+>(rt: R, alloc: Global, plan: &Plan) -> Option<JoinHandle<Option<Spread>>> {
+    let path = String::from_str(alloc, plan.path).ok()?;
+    let (seconds, kind, frames) = (plan.seconds, plan.kind, plan.frames);
     thread::spawn(&rt, move || ask(&rt, path.as_str(), seconds, kind, frames)).ok()
 }
 
@@ -65,17 +58,31 @@ fn ask<R: Net<Listener = TcpListener, Stream = TcpStream> + Wait + Clock + Alloc
         return ask_pairs(rt, path, seconds, frames);
     }
     let stream = UnixStream::connect(rt, path).ok()?;
-    let mut asker = Asker::new(rt.alloc(), &stream)?;
     let mut spread = Spread::new(rt.alloc()).ok()?;
+    let mut asker = Asker::new(rt.alloc(), &stream)?;
+    let asked = ask_all(rt, &mut asker, seconds, kind, frames, &mut spread);
+    drop(asker);
+    asked?;
+    Some(spread)
+}
+
+fn ask_all<R: Wait + Clock>(
+    rt: &R,
+    asker: &mut Asker<'_>,
+    seconds: u64,
+    kind: Kind,
+    frames: u32,
+    spread: &mut Spread,
+) -> Option<()> {
     let port = asker.port()?;
     let start = Instant::now(rt).ok()?;
     for _ in rt.forever() {
-        asker.round(rt, kind, port, frames, &mut spread)?;
+        asker.round(rt, kind, port, frames, spread)?;
         if start.elapsed(rt).ok()? >= Duration::from_secs(seconds) {
             break;
         }
     }
-    Some(spread)
+    Some(())
 }
 
 /// Has a connection ask another one for so many seconds.
@@ -86,17 +93,44 @@ fn ask_pairs<R: Net<Listener = TcpListener, Stream = TcpStream> + Wait + Clock +
     frames: u32,
 ) -> Option<Spread> {
     let stream = UnixStream::connect(rt, path).ok()?;
-    let partner = UnixStream::connect(rt, path).ok()?;
-    let mut asker = Asker::new(rt.alloc(), &stream)?;
-    let mut other = Asker::new(rt.alloc(), &partner)?;
     let mut spread = Spread::new(rt.alloc()).ok()?;
+    let mut asker = Asker::new(rt.alloc(), &stream)?;
+    let asked = ask_partner(rt, &mut asker, path, seconds, frames, &mut spread);
+    drop(asker);
+    asked?;
+    Some(spread)
+}
+
+fn ask_partner<R: Net<Listener = TcpListener, Stream = TcpStream> + Wait + Clock + AllocGlobal>(
+    rt: &R,
+    asker: &mut Asker<'_>,
+    path: &str,
+    seconds: u64,
+    frames: u32,
+    spread: &mut Spread,
+) -> Option<()> {
+    let stream = UnixStream::connect(rt, path).ok()?;
+    let mut partner = Asker::new(rt.alloc(), &stream)?;
+    let asked = ask_each(rt, asker, &mut partner, seconds, frames, spread);
+    drop(partner);
+    asked
+}
+
+fn ask_each<R: Wait + Clock>(
+    rt: &R,
+    asker: &mut Asker<'_>,
+    partner: &mut Asker<'_>,
+    seconds: u64,
+    frames: u32,
+    spread: &mut Spread,
+) -> Option<()> {
     let ports = [asker.port()?, asker.port()?];
     let start = Instant::now(rt).ok()?;
     for _ in rt.forever() {
-        asker.pair(rt, &mut other, ports, frames, &mut spread)?;
+        asker.pair(rt, partner, ports, frames, spread)?;
         if start.elapsed(rt).ok()? >= Duration::from_secs(seconds) {
             break;
         }
     }
-    Some(spread)
+    Some(())
 }

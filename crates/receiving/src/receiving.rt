@@ -28,7 +28,7 @@ use rights::{IpcState, arrive};
 use std::alloc::{AllocError, Global};
 
 /// What is to be known of a message before it is taken out.
-#[derive(Clone, Copy, Debug, PartialEq, Eq)]
+#[derive(Clone, Copy)]
 struct Outline {
     size: u32,
     destination: RightKind,

@@ -15,7 +15,7 @@ use rights::IpcState;
 use std::alloc::{AllocError, Global};
 
 /// What a name gives messages by.
-#[derive(Clone, Copy, Debug, PartialEq, Eq)]
+#[derive(Clone, Copy)]
 pub(crate) enum Giver {
     /// The name isn't in use, or holds no receive right and is no set.
     Nothing,
@@ -26,7 +26,7 @@ pub(crate) enum Giver {
 }
 
 /// A port that gives a message, and the name of its receive right.
-#[derive(Clone, Copy, Debug, PartialEq, Eq)]
+#[derive(Clone, Copy)]
 pub(crate) struct Source {
     pub(crate) member: u32,
     pub(crate) port: u64,

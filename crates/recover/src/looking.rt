@@ -21,7 +21,7 @@ use slot_steps::segment_slot;
 use std::alloc::{AllocError, Global};
 
 /// What a store holds.
-#[derive(Debug, Drop)]
+#[derive(Drop)]
 pub struct Looked {
     /// The epoch of its image, 0 for a new store.
     pub epoch: u64,

@@ -98,7 +98,7 @@ impl fmt::Display for ScriptFault {
 impl Error for ScriptFault {}
 
 /// Where words can't be read.
-#[derive(Clone, Copy, Debug, PartialEq, Eq)]
+#[derive(Clone, Copy)]
 pub(crate) struct Stop {
     /// How many words of the line are left there.
     pub(crate) left: usize,
@@ -107,7 +107,7 @@ pub(crate) struct Stop {
 }
 
 /// Why words can't be read.
-#[derive(Clone, Copy, Debug, PartialEq, Eq)]
+#[derive(Clone, Copy)]
 pub(crate) enum Fault {
     /// Something else was expected.
     Unreadable(Stop),

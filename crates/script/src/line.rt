@@ -14,7 +14,7 @@ use ipc_model::{Call, Reply};
 use std::alloc::{AllocError, Global};
 
 /// A call, and what it answered.
-#[derive(Debug, Drop)]
+#[derive(Drop)]
 pub struct Exchange {
     /// The call.
     pub call: Call,

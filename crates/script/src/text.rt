@@ -9,7 +9,7 @@ use crate::line::{Exchange, read_line};
 use std::alloc::Global;
 
 /// A line of a script that holds a call.
-#[derive(Debug, Drop)]
+#[derive(Drop)]
 pub struct Line {
     /// The line's number, from 1.
     pub number: usize,

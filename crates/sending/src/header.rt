@@ -12,7 +12,7 @@ use ipc_model::{CarriedRight, RightKind};
 use rights::IpcState;
 
 /// Whose rights a message's header names, and how they are handed over.
-#[derive(Clone, Copy, Debug, PartialEq, Eq)]
+#[derive(Clone, Copy)]
 pub(crate) struct Named {
     pub(crate) remote: u32,
     pub(crate) destination: Disposition,
@@ -22,7 +22,7 @@ pub(crate) struct Named {
 }
 
 /// The rights that were taken for a header: the kind of the destination right and its port, and the reply right.
-#[derive(Clone, Copy, Debug, PartialEq, Eq)]
+#[derive(Clone, Copy)]
 pub(crate) struct HeaderRights {
     pub(crate) kind: RightKind,
     pub(crate) port: u64,

@@ -27,7 +27,7 @@ use std::alloc::{AllocError, Global};
 use type_desc::{Item, has_too_many_ports, push_stored_items};
 
 /// What was read of a message: its header, the items of its body if that was looked at, and the body.
-#[derive(Clone, Copy, Debug)]
+#[derive(Clone, Copy)]
 pub(crate) struct Read<'a> {
     pub(crate) header: Header,
     pub(crate) items: &'a [Item<'a>],

@@ -1,14 +1,14 @@
 use ipc_model::{Entry, PortState, Sequence};
 
 /// A name of a space and what it stands for.
-#[derive(Debug, Drop)]
+#[derive(Drop)]
 pub struct NamedEntry {
     pub name: u32,
     pub entry: Entry,
 }
 
 /// A port space.
-#[derive(Debug, Drop)]
+#[derive(Drop)]
 pub struct Space {
     /// The space's number.
     pub number: u32,
@@ -17,7 +17,7 @@ pub struct Space {
 }
 
 /// A live port.
-#[derive(Debug, Drop)]
+#[derive(Drop)]
 pub struct LivePort {
     /// The port's serial number.
     pub serial: u64,
@@ -26,7 +26,7 @@ pub struct LivePort {
 }
 
 /// A state: the spaces by their numbers, the live ports by their serials.
-#[derive(Debug, Drop)]
+#[derive(Drop)]
 pub struct Snapshot {
     /// The serial that the next port gets.
     pub next_serial: u64,

@@ -2,7 +2,7 @@ use ipc_model::{Call, Reply};
 use journal::StoreFault;
 
 /// What can happen to the core.
-#[derive(Debug, Drop)]
+#[derive(Drop)]
 pub enum Event {
     /// A task of this space makes a call.
     Submit { space: u32, call: Call },
@@ -31,7 +31,7 @@ pub enum Event {
 }
 
 /// What an event answered.
-#[derive(Debug, Drop)]
+#[derive(Drop)]
 pub enum Outcome {
     /// The call was made. Its reply is told for the ticket of this number, once all that it saw is stored.
     Ticket(u64),
