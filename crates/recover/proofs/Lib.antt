@@ -1,6 +1,7 @@
 mod Apart
 pub mod Fronts
 pub mod Gates
+mod Faults
 pub mod Joined
 pub mod Rest
 pub mod Stages

@@ -6,6 +6,7 @@ use Rattle.recover.specs.Headers.{Says}
 use Rattle.recover.specs.Stopping.{HaveLastGates}
 use Rattle.recover.specs.Surveyed.{IsInUse as Uses, IsUnused, Surveys}
 use Rattle.standing.specs.Standing.{as_written}
+use Rattle.recover.proofs.Faults.{never_version, one_of_four}
 use Rattle.recover.proofs.Joined.{leaves_same}
 use Rattle.recover.proofs.opening.load.Goals as goal
 
@@ -74,3 +75,21 @@ pub returns-in-InUse-default-false-clause-any_moment : goal.returns-in-InUse-def
 returns-in-InUse-default-false-clause-any_moment g c = λ honest gates.
     let same = c.in_ok-headers.ensures.seen honest in
     leaves_same (g.D.Disk.view c.args.disk.now) (g.D.Disk.view c.read_synced.new.disk) (g.D.Disk.view c.go_on.new.disk) (c.read_synced.ensures.time honest) same (c.go_on.ensures.any_moment honest (subst HaveLastGates (sym same) gates))
+
+pub returns-in-New-clause-version : goal.returns-in-New-clause-version
+returns-in-New-clause-version g c = λ honest told. absurd (never_version c.begin.result c.begin.ensures.faults told)
+
+pub returns-in-New-clause-faults : goal.returns-in-New-clause-faults
+returns-in-New-clause-faults g c = one_of_four c.begin.result c.begin.ensures.faults
+
+pub returns-in-InUse-default-true-clause-version : goal.returns-in-InUse-default-true-clause-version
+returns-in-InUse-default-true-clause-version g c = λ honest told. absurd (never_version c.go_on_next.result c.go_on_next.ensures.faults told)
+
+pub returns-in-InUse-default-true-clause-faults : goal.returns-in-InUse-default-true-clause-faults
+returns-in-InUse-default-true-clause-faults g c = one_of_four c.go_on_next.result c.go_on_next.ensures.faults
+
+pub returns-in-InUse-default-false-clause-version : goal.returns-in-InUse-default-false-clause-version
+returns-in-InUse-default-false-clause-version g c = λ honest told. absurd (never_version c.go_on.result c.go_on.ensures.faults told)
+
+pub returns-in-InUse-default-false-clause-faults : goal.returns-in-InUse-default-false-clause-faults
+returns-in-InUse-default-false-clause-faults g c = one_of_four c.go_on.result c.go_on.ensures.faults
