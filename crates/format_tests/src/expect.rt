@@ -19,7 +19,7 @@ pub(crate) fn same_in_row<T: PartialEq + Debug + Drop>(
     assert_eq!(rt; seen, wanted, "{row:?}");
 }
 
-/// Compares bytes.
-pub(crate) fn same_bytes(rt: &impl Abort, seen: &Vec<u8>, wanted: &[u8]) {
-    assert_eq!(rt; seen.as_slice(), wanted);
+/// Compares bytes, which have to be there.
+pub(crate) fn same_bytes(rt: &impl Abort, seen: Option<Vec<u8>>, wanted: &[u8]) {
+    assert_eq!(rt; seen.as_deref(), Some(wanted));
 }

@@ -1,11 +1,11 @@
-ghost use Rattle.std.specs.Prelude.{◌<◌, ◌^◌, length, IfOk};
+ghost use Rattle.std.specs.Prelude.{◌<◌, ◌^◌, length};
 ghost use Rattle.ipc_model.specs.texts.Texts.{call_text, reply_text};
 
 use crate::expect::{same, same_bytes, same_in_row};
 use codes::KernReturn;
 use ipc_model::{Call, Record, Reply, Sequence};
 use record::{in_range, push_record, take_frame, take_record};
-use std::test::Fail;
+use std::alloc::Global;
 
 // Number 0: space 1, the call allocate of a receive right, and the reply with the name 0x100.
 const ALLOCATION: [u8; 40] = [
@@ -27,54 +27,54 @@ const RECEIPT: [u8; 84] = [
     0, 0, 0, 0, 0, 0, 0, 0, 1, 0, 0, 0, 0, 0, 0, 7, 0, 0, 0, 68, 51, 34, 17,
 ];
 
-// The record that these bytes are, with its number.
-fn record_of(rt: &HostRuntime, text: &[u8]) -> Result<(u64, Record), Fail>
-    ensures call { IfOk result (λ found. length (call_text found.1.call) < 2 ^ 32) }
-    ensures reply { IfOk result (λ found. length (reply_text found.1.reply) < 2 ^ 32) }
-{
-    let (number, record, rest) = take_record(rt.alloc(), text)?.ok_or("a record stands there")?;
-    if !rest.is_empty() {
-        return Err(Fail::from("nothing stands behind it"));
-    }
-    Ok((number, record))
-}
-
-fn record_bytes(rt: &HostRuntime, number: u64, record: &Record) -> Result<Vec<u8>, Fail>
+fn record_bytes(alloc: Global, number: u64, record: &Record) -> Option<Vec<u8>>
     requires call { length (call_text «record».now.call) < 2 ^ 32 }
     requires reply { length (reply_text «record».now.reply) < 2 ^ 32 }
 {
-    let mut out = Vec::new(rt.alloc());
-    push_record(rt.alloc(), &mut out, number, record)?;
-    Ok(out)
+    let mut out = Vec::new(alloc);
+    push_record(alloc, &mut out, number, record).ok()?;
+    Some(out)
+}
+
+// Writes a record behind which nothing stands.
+fn written_alone(alloc: Global, number: u64, record: &Record, rest: &[u8]) -> Option<Vec<u8>>
+    requires call { length (call_text «record».now.call) < 2 ^ 32 }
+    requires reply { length (reply_text «record».now.reply) < 2 ^ 32 }
+{
+    if !rest.is_empty() {
+        return None;
+    }
+    in_range(record.space, &record.call, &record.reply);
+    record_bytes(alloc, number, record)
 }
 
 // Reads the record that these bytes are, and writes it again.
-fn read_and_written(rt: &HostRuntime, text: &[u8]) -> Result<Vec<u8>, Fail> {
-    let (number, record) = record_of(rt, text)?;
-    in_range(record.space, &record.call, &record.reply);
-    record_bytes(rt, number, &record)
+fn read_and_written(alloc: Global, text: &[u8]) -> Option<Vec<u8>> {
+    let (number, record, rest) = take_record(alloc, text).ok()??;
+    let written = written_alone(alloc, number, &record, rest);
+    drop(record);
+    written
 }
 
-fn is_record(rt: &HostRuntime, text: &[u8]) -> Result<bool, Fail> {
-    Ok(take_record(rt.alloc(), text)?.is_some())
+fn is_record(alloc: Global, text: &[u8]) -> Option<bool> {
+    let taken = take_record(alloc, text).ok()?;
+    let found = taken.is_some();
+    drop(taken);
+    Some(found)
 }
 
 #[test]
-fn records_as_bytes(rt: HostRuntime) -> Result<(), Fail> {
+fn records_as_bytes(rt: HostRuntime) {
     for text in [&ALLOCATION[..], &SEND[..], &RECEIPT[..]] {
-        same_bytes(&rt, &read_and_written(&rt, text)?, text);
-        same(
-            &rt,
-            is_record(&rt, &text[..text.len().saturating_sub(1)])?,
-            false,
-        );
+        same_bytes(&rt, read_and_written(rt.alloc(), text), text);
+        let cut = &text[..text.len().saturating_sub(1)];
+        same(&rt, is_record(rt.alloc(), cut), Some(false));
     }
-    Ok(())
 }
 
 #[tactic(auto, unfolding(ipc_model::specs::texts::Texts::call_text, ipc_model::specs::texts::Texts::reply_text))]
-fn receipt_bytes(rt: &HostRuntime) -> Result<Vec<u8>, Fail> {
-    let message = Sequence::new(Vec::from_slice(rt.alloc(), &RECEIPT[56..])?);
+fn receipt_bytes(alloc: Global) -> Option<Vec<u8>> {
+    let message = Sequence::new(Vec::from_slice(alloc, &RECEIPT[56..]).ok()?);
     let record = Record {
         space: 1,
         call: Call::Receive {
@@ -90,60 +90,68 @@ fn receipt_bytes(rt: &HostRuntime) -> Result<Vec<u8>, Fail> {
             message,
         },
     };
-    record_bytes(rt, 2, &record)
+    let written = record_bytes(alloc, 2, &record);
+    drop(record);
+    written
 }
 
 // The record holds a send without what it ignores: unused bits, a size and a sequence number.
 #[tactic(auto, unfolding(ipc_model::specs::texts::Texts::call_text, ipc_model::specs::texts::Texts::reply_text))]
-fn raw_send_bytes(rt: &HostRuntime) -> Result<Vec<u8>, Fail> {
+fn raw_send_bytes(alloc: Global) -> Option<Vec<u8>> {
     let sent = b"\x13\0\xff\x7f\xff\xff\xff\xff\0\x01\0\0\0\0\0\0\xff\xff\xff\xff\
         \x07\0\0\0\x44\x33\x22\x11";
     let record = Record {
         space: 1,
         call: Call::Send {
-            message: Sequence::new(Vec::from_slice(rt.alloc(), sent)?),
+            message: Sequence::new(Vec::from_slice(alloc, sent).ok()?),
         },
-        reply: Reply::without_message(rt.alloc(), KernReturn::Success, 0, 0),
+        reply: Reply::without_message(alloc, KernReturn::Success, 0, 0),
     };
-    record_bytes(rt, 1, &record)
+    let written = record_bytes(alloc, 1, &record);
+    drop(record);
+    written
 }
 
 #[test]
-fn written_records(rt: HostRuntime) -> Result<(), Fail> {
-    same_bytes(&rt, &receipt_bytes(&rt)?, &RECEIPT);
-    same_bytes(&rt, &raw_send_bytes(&rt)?, &SEND);
-    Ok(())
+fn written_records(rt: HostRuntime) {
+    same_bytes(&rt, receipt_bytes(rt.alloc()), &RECEIPT);
+    same_bytes(&rt, raw_send_bytes(rt.alloc()), &SEND);
 }
 
-// A text with one byte put in the place of another.
-fn bent(rt: &HostRuntime, text: &[u8], at: usize, byte: u8) -> Result<Vec<u8>, Fail> {
-    let mut bent = Vec::from_slice(rt.alloc(), text)?;
-    *bent.get_mut(at).ok_or("the text has that byte")? = byte;
-    Ok(bent)
+// Puts a byte in the place of another.
+fn put_byte(text: &mut [u8], at: usize, byte: u8) -> Option<()> {
+    *text.get_mut(at)? = byte;
+    Some(())
+}
+
+// Whether a text with one byte put in the place of another is a record.
+fn is_record_once_bent(alloc: Global, text: &[u8], at: usize, byte: u8) -> Option<bool> {
+    let mut bent = Vec::from_slice(alloc, text).ok()?;
+    let put = put_byte(&mut bent, at, byte);
+    let found = is_record(alloc, &bent);
+    drop(bent);
+    put.and(found)
 }
 
 // The reply is one to another call; the message isn't as it is kept; a send brings something; a receipt has another
 // size, its message is above its limit, or no port that it could have come by.
+static BENT: [(&'static [u8], usize, u8); 8] = [
+    (&ALLOCATION, 28, 4),
+    (&SEND, 38, 1),
+    (&SEND, 40, 28),
+    (&SEND, 76, 28),
+    (&RECEIPT, 48, 29),
+    (&RECEIPT, 48, 32),
+    (&RECEIPT, 24, 27),
+    (&RECEIPT, 53, 0),
+];
+
 #[test]
-fn bent_texts_are_no_records(rt: HostRuntime) -> Result<(), Fail> {
-    for (text, at, byte) in [
-        (&ALLOCATION[..], 28, 4),
-        (&SEND[..], 38, 1),
-        (&SEND[..], 40, 28),
-        (&SEND[..], 76, 28),
-        (&RECEIPT[..], 48, 29),
-        (&RECEIPT[..], 48, 32),
-        (&RECEIPT[..], 24, 27),
-        (&RECEIPT[..], 53, 0),
-    ] {
-        same_in_row(
-            &rt,
-            (byte, at),
-            is_record(&rt, &bent(&rt, text, at, byte)?)?,
-            false,
-        );
+fn bent_texts_are_no_records(rt: HostRuntime) {
+    for (text, at, byte) in &BENT {
+        let found = is_record_once_bent(rt.alloc(), text, *at, *byte);
+        same_in_row(&rt, (*byte, *at), found, Some(false));
     }
-    Ok(())
 }
 
 #[test]

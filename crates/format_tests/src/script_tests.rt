@@ -5,42 +5,45 @@ use script::{
     Exchange, Expected, Line, LineFault, push_call, push_exchange, push_reply, read_line,
     read_request_line, read_script,
 };
-use std::alloc::AllocError;
-use std::test::Fail;
+use std::alloc::{AllocError, Global};
 
-fn printed(rt: &HostRuntime, exchange: &Exchange) -> Result<Vec<u8>, AllocError> {
-    let mut printed = Vec::new(rt.alloc());
-    push_exchange(&mut printed, exchange)?;
-    Ok(printed)
+// Whether an exchange is printed as this line.
+fn is_printed_as(alloc: Global, exchange: &Exchange, line: &[u8]) -> Option<bool> {
+    let mut printed = Vec::new(alloc);
+    push_exchange(&mut printed, exchange).ok()?;
+    Some(printed.as_slice() == line)
 }
 
-fn exchange_of(rt: &HostRuntime, line: &[u8]) -> Result<Option<Exchange>, LineFault> {
-    read_line(rt.alloc(), line)
+fn exchange_of(alloc: Global, line: &[u8]) -> Result<Option<Exchange>, LineFault> {
+    read_line(alloc, line)
 }
 
-fn call_of(rt: &HostRuntime, line: &[u8]) -> Result<Call, LineFault> {
-    read_request_line(rt.alloc(), line)
+// Whether a line is read as an exchange that is printed as the line again.
+fn is_read_as_printed(alloc: Global, line: &[u8]) -> Option<bool> {
+    let read = exchange_of(alloc, line).ok()??;
+    let printed = is_printed_as(alloc, &read, line);
+    drop(read);
+    printed
 }
 
-fn send_of(rt: &HostRuntime, message: &[u8]) -> Result<Exchange, AllocError> {
-    Ok(Exchange {
+// Whether there is an exchange that is printed as this line, and the line is read and printed again.
+fn both_ways(alloc: Global, exchange: Option<Exchange>, line: &[u8]) -> Option<[Option<bool>; 2]> {
+    let exchange = exchange?;
+    let printed = is_printed_as(alloc, &exchange, line);
+    drop(exchange);
+    Some([printed, is_read_as_printed(alloc, line)])
+}
+
+fn send_of(alloc: Global, message: &[u8]) -> Option<Exchange> {
+    Some(Exchange {
         call: Call::Send {
-            message: Sequence::new(Vec::from_slice(rt.alloc(), message)?),
+            message: Sequence::new(Vec::from_slice(alloc, message).ok()?),
         },
-        reply: Reply::without_message(rt.alloc(), KernReturn::Success, 0, 0),
+        reply: Reply::without_message(alloc, KernReturn::Success, 0, 0),
     })
 }
 
-// Whether an exchange is printed as this line, and the line is read and printed again.
-fn printed_and_read(rt: &HostRuntime, exchange: &Exchange, line: &[u8]) -> Result<[bool; 2], Fail> {
-    let read = exchange_of(rt, line)?.ok_or("a line is read")?;
-    Ok([
-        printed(rt, exchange)?.as_slice() == line,
-        printed(rt, &read)?.as_slice() == line,
-    ])
-}
-
-fn state_of_a_port(rt: &HostRuntime) -> Result<[bool; 2], Fail> {
+fn state_of_a_port() -> Exchange {
     let status = ReceiveStatus {
         set: 0,
         sequence_number: 0,
@@ -52,117 +55,133 @@ fn state_of_a_port(rt: &HostRuntime) -> Result<[bool; 2], Fail> {
         has_port_destroyed_request: true,
         has_no_senders_request: false,
     };
-    let exchange = Exchange {
+    Exchange {
         call: Call::GetReceiveStatus { name: 0x100 },
         reply: Reply::ReceiveStatus { status },
-    };
-    let line =
-        b"get_receive_status 0x100 = set 0x0 seqno 0 mscount 1 qlimit 5 messages 1 send_once 2 senders no port_destroyed yes no_senders no";
-    printed_and_read(rt, &exchange, line)
+    }
 }
 
-fn a_sent_message(rt: &HostRuntime) -> Result<[bool; 2], Fail> {
-    let message = b"\x14\0\0\0\0\0\0\0\0\x01\0\0\0\0\0\0\0\0\0\0\x07\0\0\0\x44\x33\x22\x11";
-    let send = send_of(rt, message)?;
-    let line = b"send make_send 0x100 id 7 data 44332211";
-    printed_and_read(rt, &send, line)
-}
+const STATE_OF_A_PORT: &[u8] =
+    b"get_receive_status 0x100 = set 0x0 seqno 0 mscount 1 qlimit 5 messages 1 send_once 2 senders no port_destroyed yes no_senders no";
 
-fn a_message_that_is_too_large(rt: &HostRuntime) -> Result<[bool; 2], Fail> {
-    let receive = Exchange {
+fn a_message_that_is_too_large(alloc: Global) -> Exchange {
+    Exchange {
         call: Call::Receive {
             limit: 24,
             large: true,
             name: 0x100,
             waited: false,
         },
-        reply: Reply::without_message(rt.alloc(), KernReturn::RcvTooLarge, 28, 0x100),
-    };
-    let line = b"receive 0x100 limit 24 large ! MACH_RCV_TOO_LARGE size 28 member 0x100";
-    printed_and_read(rt, &receive, line)
+        reply: Reply::without_message(alloc, KernReturn::RcvTooLarge, 28, 0x100),
+    }
 }
 
-fn items_of_a_body(rt: &HostRuntime) -> Result<[bool; 2], Fail> {
-    let message = b"\x14\0\0\x80\0\0\0\0\0\x01\0\0\0\0\0\0\0\0\0\0\x07\0\0\0\
+const TOO_LARGE: &[u8] = b"receive 0x100 limit 24 large ! MACH_RCV_TOO_LARGE size 28 member 0x100";
+
+// Messages, and the lines of their sends.
+static SENDS: [(&'static [u8], &'static [u8]); 2] = [
+    (
+        b"\x14\0\0\0\0\0\0\0\0\x01\0\0\0\0\0\0\0\0\0\0\x07\0\0\0\x44\x33\x22\x11",
+        b"send make_send 0x100 id 7 data 44332211",
+    ),
+    (
+        b"\x14\0\0\x80\0\0\0\0\0\x01\0\0\0\0\0\0\0\0\0\0\x07\0\0\0\
         \x14\x20\x02\x10\x01\x01\0\0\x02\x01\0\0\
         \x09\x08\x03\x10\x44\x33\x22\0\
-        \x02\x20\x01\x10\x0a\0\0\0\xff";
-    let send = send_of(rt, message)?;
-    let line =
-        b"send make_send 0x100 id 7 complex item make_send 0x101 0x102 item bytes 443322 item words 10 data ff";
-    printed_and_read(rt, &send, line)
-}
+        \x02\x20\x01\x10\x0a\0\0\0\xff",
+        b"send make_send 0x100 id 7 complex item make_send 0x101 0x102 item bytes 443322 item words 10 data ff",
+    ),
+];
 
 #[test]
-fn exchanges_as_lines(rt: HostRuntime) -> Result<(), Fail> {
+fn exchanges_as_lines(rt: HostRuntime) {
+    let alloc = rt.alloc();
+    let too_large = a_message_that_is_too_large(alloc);
     let seen = [
-        state_of_a_port(&rt)?,
-        a_sent_message(&rt)?,
-        a_message_that_is_too_large(&rt)?,
-        items_of_a_body(&rt)?,
+        both_ways(alloc, Some(state_of_a_port()), STATE_OF_A_PORT),
+        both_ways(alloc, Some(too_large), TOO_LARGE),
     ];
-    same(&rt, seen, [[true; 2]; 4]);
-    Ok(())
+    same(&rt, seen, [Some([Some(true); 2]); 2]);
+    for (message, line) in &SENDS {
+        let seen = both_ways(alloc, send_of(alloc, message), line);
+        same_in_row(&rt, *line, seen, Some([Some(true); 2]));
+    }
 }
 
 // Where a line, or that of a call alone, is no line, and what was expected there.
 fn unreadable<T: Drop>(read: Result<T, LineFault>) -> Option<(usize, Expected)> {
-    match read {
-        Err(LineFault::Unreadable { column, expected }) => Some((column, expected)),
-        _ => None,
+    match read.err()? {
+        LineFault::Unreadable { column, expected } => Some((column, expected)),
+        LineFault::NoMemory => None,
     }
 }
+
+fn fault_of_call(alloc: Global, line: &str) -> Option<(usize, Expected)> {
+    unreadable(read_request_line(alloc, line.as_bytes()))
+}
+
+// Whether a line has no exchange.
+fn is_blank(alloc: Global, line: &[u8]) -> Option<bool> {
+    let read = exchange_of(alloc, line).ok()?;
+    let none = read.is_none();
+    drop(read);
+    Some(none)
+}
+
+static NO_CALLS: [(&'static str, usize, Expected); 3] = [
+    ("names =", 6, Expected::End),
+    (
+        "send make_send 0x100 id 7 item words 1 make_send",
+        39,
+        Expected::End,
+    ),
+    ("send message", 5, Expected::Message),
+];
 
 #[test]
-fn what_is_no_line(rt: HostRuntime) -> Result<(), Fail> {
-    let line = b"allocate  nine # no right";
-    same(
-        &rt,
-        unreadable(exchange_of(&rt, line)),
-        Some((10, Expected::Number)),
-    );
-    same(
-        &rt,
-        matches!(exchange_of(&rt, b"  # names"), Ok(None)),
-        true,
-    );
-    for (line, column, expected) in [
-        ("names =", 6, Expected::End),
-        (
-            "send make_send 0x100 id 7 item words 1 make_send",
-            39,
-            Expected::End,
-        ),
-        ("send message", 5, Expected::Message),
-    ] {
-        let seen = unreadable(call_of(&rt, line.as_bytes()));
-        same_in_row(&rt, line, seen, Some((column, expected)));
+fn what_is_no_line(rt: HostRuntime) {
+    let alloc = rt.alloc();
+    let fault = unreadable(exchange_of(alloc, b"allocate  nine # no right"));
+    same(&rt, fault, Some((10, Expected::Number)));
+    same(&rt, is_blank(alloc, b"  # names"), Some(true));
+    for (line, column, expected) in &NO_CALLS {
+        let fault = fault_of_call(alloc, line);
+        same_in_row(&rt, *line, fault, Some((*column, *expected)));
     }
-    Ok(())
 }
 
-// The calls and the replies of a script's lines, printed one behind the other.
-fn parts(rt: &HostRuntime, lines: &[Line]) -> Result<Vec<u8>, AllocError> {
-    let mut printed = Vec::new(rt.alloc());
+// Prints the calls and the replies of a script's lines, one behind the other.
+fn push_parts(printed: &mut Vec<u8>, lines: &[Line]) -> Result<(), AllocError> {
     for line in lines {
-        push_call(&mut printed, &line.exchange.call)?;
-        push_reply(&mut printed, &line.exchange.reply)?;
+        push_call(printed, &line.exchange.call)?;
+        push_reply(printed, &line.exchange.reply)?;
     }
-    Ok(printed)
+    Ok(())
 }
 
-fn lines_of(rt: &HostRuntime, text: &[u8]) -> Result<Vec<Line>, Fail> {
-    match read_script(rt.alloc(), text) {
-        Ok(lines) => Ok(lines),
-        Err(_) => Err(Fail::from("a script is read")),
-    }
+fn parts(alloc: Global, lines: &[Line]) -> Option<Vec<u8>> {
+    let mut printed = Vec::new(alloc);
+    push_parts(&mut printed, lines).ok()?;
+    Some(printed)
+}
+
+// The numbers of the first three lines.
+fn numbers(lines: &[Line]) -> [Option<usize>; 3] {
+    [0, 1, 2].map(|index| lines.get(index).map(|line| line.number))
+}
+
+// The numbers of a script's lines, and its parts.
+fn script_seen(alloc: Global, text: &[u8]) -> Option<([Option<usize>; 3], Option<Vec<u8>>)> {
+    let lines = read_script(alloc, text).ok()?;
+    let seen = (numbers(&lines), parts(alloc, &lines));
+    drop(lines);
+    Some(seen)
 }
 
 #[test]
-fn a_script_and_its_parts(rt: HostRuntime) -> Result<(), Fail> {
-    let lines = lines_of(&rt, b"# a task\n\nattach 2\ntype 256 = 196608\n")?;
-    let numbers = lines.iter().map(|line| line.number);
-    same(&rt, numbers.eq([3, 4]), true);
-    same_bytes(&rt, &parts(&rt, &lines)?, b"attach 2type 0x100 = 0x30000");
-    Ok(())
+fn a_script_and_its_parts(rt: HostRuntime) {
+    let text = b"# a task\n\nattach 2\ntype 256 = 196608\n";
+    let (numbers, parts) = script_seen(rt.alloc(), text).unwrap_or(([None; 3], None));
+    same(&rt, numbers, [Some(3), Some(4), None]);
+    same_bytes(&rt, parts, b"attach 2type 0x100 = 0x30000");
 }

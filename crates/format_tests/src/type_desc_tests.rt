@@ -1,6 +1,6 @@
 use crate::expect::{same, same_bytes, same_in_row};
 use codes::{Disposition, KernReturn};
-use std::test::Fail;
+use std::alloc::Global;
 use type_desc::{
     ItemFault, first_item, has_too_many_ports, items, push_filled_body, push_stored_items,
 };
@@ -64,83 +64,86 @@ static BODIES: [(&[u8], Result<usize, ItemFault>); 14] = [
     ),
 ];
 
-fn count_of(rt: &HostRuntime, body: &[u8]) -> Result<usize, ItemFault> {
-    Ok(items(rt.alloc(), body)?.len())
+fn count_of(alloc: Global, body: &[u8]) -> Result<usize, ItemFault> {
+    Ok(items(alloc, body)?.len())
 }
 
 #[test]
 fn bodies_are_items(rt: HostRuntime) {
     for (body, wanted) in &BODIES {
-        same_in_row(&rt, *body, count_of(&rt, body), *wanted);
+        same_in_row(&rt, *body, count_of(rt.alloc(), body), *wanted);
     }
 }
 
-/// What the item in front says of its ports.
-fn ports_of(body: &[u8]) -> Result<(Option<Disposition>, [u32; 3]), Fail> {
-    let Ok((item, _)) = first_item(body) else {
-        return Err(Fail::from("an item stands there"));
-    };
+/// What the item in front says of its ports, if it has three.
+fn ports_of(body: &[u8]) -> Option<(Option<Disposition>, [u32; 3])> {
+    let (item, _) = first_item(body).ok()?;
     if item.port_count() != 3 {
-        return Err(Fail::from("it has three ports"));
+        return None;
     }
-    Ok((
+    Some((
         item.disposition(),
         [item.name(0), item.name(1), item.name(2)],
     ))
 }
 
 #[test]
-fn ports_have_names(rt: HostRuntime) -> Result<(), Fail> {
+fn ports_have_names(rt: HostRuntime) {
     let wanted = (Some(Disposition::MakeSend), [0x101, 0, 0xffff_ffff]);
-    same(&rt, ports_of(PORTS)?, wanted);
-    Ok(())
+    same(&rt, ports_of(PORTS), Some(wanted));
 }
 
-fn stored(rt: &HostRuntime, body: &[u8]) -> Result<(bool, Vec<u8>), ItemFault> {
-    let items = items(rt.alloc(), body)?;
-    let mut out = Vec::new(rt.alloc());
-    push_stored_items(&items, &mut out)?;
-    Ok((has_too_many_ports(&items), out))
+/// Whether a body has too many ports.
+fn is_too_much(alloc: Global, body: &[u8]) -> Option<bool> {
+    let items = items(alloc, body).ok()?;
+    let too_many = has_too_many_ports(&items);
+    drop(items);
+    Some(too_many)
 }
 
-fn filled(rt: &HostRuntime, body: &[u8], names: &[u32]) -> Result<Vec<u8>, ItemFault> {
-    let mut out = Vec::new(rt.alloc());
-    push_filled_body(body, names, &mut out)?;
-    Ok(out)
-}
-
-#[test]
-fn ports_are_stored(rt: HostRuntime) -> Result<(), Fail> {
-    let Ok((too_many, text)) = stored(&rt, PORTS) else {
-        return Err(Fail::from("there is memory"));
-    };
-    same(&rt, too_many, false);
-    same_bytes(&rt, &text, STORED_PORTS);
-    Ok(())
+fn stored(alloc: Global, body: &[u8]) -> Option<Vec<u8>> {
+    let items = items(alloc, body).ok()?;
+    let mut out = Vec::new(alloc);
+    push_stored_items(&items, &mut out).ok()?;
+    Some(out)
 }
 
 #[test]
-fn places_are_filled(rt: HostRuntime) -> Result<(), Fail> {
-    let Ok(text) = filled(&rt, STORED_PORTS, &[1, 2, 3]) else {
-        return Err(Fail::from("there is memory"));
-    };
+fn ports_are_stored(rt: HostRuntime) {
+    same(&rt, is_too_much(rt.alloc(), PORTS), Some(false));
+    same_bytes(&rt, stored(rt.alloc(), PORTS), STORED_PORTS);
+}
+
+fn filled(alloc: Global, body: &[u8], names: &[u32]) -> Option<Vec<u8>> {
+    let mut out = Vec::new(alloc);
+    push_filled_body(body, names, &mut out).ok()?;
+    Some(out)
+}
+
+#[test]
+fn places_are_filled(rt: HostRuntime) {
     same_bytes(
         &rt,
-        &text,
+        filled(rt.alloc(), STORED_PORTS, &[1, 2, 3]),
         b"\x11\x20\x03\x10\x01\x00\x00\x00\x02\x00\x00\x00\x03\x00\x00\x00",
     );
-    Ok(())
 }
 
-/// Whether so many ports in one item are too many.
-fn are_too_many(rt: &HostRuntime, ports: [u8; 2]) -> Result<bool, ItemFault> {
-    let mut body = Vec::new(rt.alloc());
-    body.extend_from_slice(&[0x11, 0x20, ports[0], ports[1] | 0x10])?;
-    body.resize(4 + 4 * 257, 0)?;
-    Ok(has_too_many_ports(&items(rt.alloc(), &body)?))
+/// A body of one item with 257 ports.
+fn many_ports(alloc: Global) -> Option<Vec<u8>> {
+    let mut body = Vec::from_slice(alloc, &[0x11, 0x20, 1, 0x11]).ok()?;
+    body.resize(4 + 4 * 257, 0).ok()?;
+    Some(body)
+}
+
+fn are_too_many(alloc: Global) -> Option<bool> {
+    let body = many_ports(alloc)?;
+    let too_many = is_too_much(alloc, &body);
+    drop(body);
+    too_many
 }
 
 #[test]
 fn ports_are_counted(rt: HostRuntime) {
-    same(&rt, are_too_many(&rt, [1, 1]), Ok(true));
+    same(&rt, are_too_many(rt.alloc()), Some(true));
 }

@@ -2,7 +2,6 @@ use crate::expect::{same, same_bytes, same_in_row};
 use std::alloc::Global;
 use std::io;
 use std::io::{Read, Write};
-use std::test::Fail;
 use wire::{Frame, WireFault, read_frame, write_frame};
 
 // The frame of the number 5 and the argument 1.
@@ -71,32 +70,61 @@ fn faults_by_the_bytes(rt: HostRuntime) {
     }
 }
 
-fn frame_from(alloc: Global, input: &mut impl Read) -> Result<Frame, Fail> {
-    Ok(read_frame(alloc, input)?.ok_or("a frame stands there")?)
+fn frame_from(alloc: Global, input: &mut impl Read) -> Option<Frame> {
+    read_frame(alloc, input).ok()?
+}
+
+/// A frame's number and its arguments.
+fn parts_of(frame: &Option<Frame>) -> Option<(u32, &[u8])> {
+    let frame = frame.as_ref()?;
+    Some((frame.number(), frame.arguments()))
+}
+
+fn content_of(frame: &Option<Frame>) -> Option<&[u8]> {
+    Some(frame.as_ref()?.content())
+}
+
+fn written(alloc: Global, frame: &Option<Frame>) -> Option<Vec<u8>> {
+    let frame = frame.as_ref()?;
+    let mut output = Vec::new(alloc);
+    write_frame(&mut output, frame).ok()?;
+    Some(output)
+}
+
+/// Whether there is no frame where there are no bytes.
+fn is_at_end(alloc: Global) -> Option<bool> {
+    let frame = read_frame(alloc, &mut &[][..]).ok()?;
+    let none = frame.is_none();
+    drop(frame);
+    Some(none)
 }
 
 #[test]
-fn reads_and_writes(rt: HostRuntime) -> Result<(), Fail> {
+fn reads_and_writes(rt: HostRuntime) {
     let alloc = rt.alloc();
     let mut input: &[u8] = b"\x08\0\0\0\x05\0\0\0\x01\0\0\0\x04";
-    let frame = frame_from(alloc, &mut input)?;
+    let frame = frame_from(alloc, &mut input);
     let arguments: &[u8] = &[1, 0, 0, 0];
     same(
         &rt,
-        (frame.number(), frame.arguments(), input),
-        (5, arguments, &[4][..]),
+        (parts_of(&frame), input),
+        (Some((5, arguments)), &[4][..]),
     );
-    let mut output = Vec::new(alloc);
-    write_frame(&mut output, &frame)?;
-    same_bytes(&rt, &output, &FRAME);
-    same(&rt, read_frame(alloc, &mut &[][..])?.is_none(), true);
-    Ok(())
+    same_bytes(&rt, written(alloc, &frame), &FRAME);
+    same(&rt, is_at_end(alloc), Some(true));
+}
+
+/// Whether a copy of a frame has this content.
+fn is_copied_as(alloc: Global, frame: &Frame, content: &[u8]) -> Option<bool> {
+    let copy = Frame::from_content(alloc, frame.content()).ok()?;
+    Some(copy.content() == content)
 }
 
 #[test]
-fn makes_frames(rt: HostRuntime) -> Result<(), Fail> {
-    let alloc = rt.alloc();
-    let mut frame = Frame::with_room(alloc, 100)?;
+fn makes_frames(rt: HostRuntime) {
+    let Ok(mut frame) = Frame::with_room(rt.alloc(), 100) else {
+        return same(&rt, "no memory", "a frame");
+    };
     same(&rt, frame.content(), &[0, 0, 0, 0][..]);
     same(&rt, frame.room() >= 100, true);
     frame.start(5);
@@ -106,43 +134,50 @@ fn makes_frames(rt: HostRuntime) -> Result<(), Fail> {
     same(&rt, frame.arguments(), b"\x01\0\0\0ab".as_slice());
     frame.start(0x0102_0304);
     same(&rt, frame.number(), 0x0102_0304);
-    let copy = Frame::from_content(alloc, frame.content())?;
-    same(&rt, copy.content(), &[4, 3, 2, 1][..]);
-    Ok(())
+    let copied = is_copied_as(rt.alloc(), &frame, &[4, 3, 2, 1]);
+    same(&rt, copied, Some(true));
 }
 
 #[test]
-fn readers_that_give_little(rt: HostRuntime) -> Result<(), Fail> {
+fn readers_that_give_little(rt: HostRuntime) {
     let bytes: &'static [u8] = b"\x08\0\0\0\x05\0\0\0\x01\0\0\0";
     let mut reader = OneByte { bytes, before: 12 };
-    let frame = frame_from(rt.alloc(), &mut reader)?;
-    same(&rt, frame.content(), &FRAME[4..]);
+    let frame = frame_from(rt.alloc(), &mut reader);
+    same(&rt, content_of(&frame), Some(&FRAME[4..]));
     for before in [0, 3, 4, 11] {
         let mut reader = OneByte { bytes, before };
         let fault = read_frame(rt.alloc(), &mut reader).err();
         same_in_row(&rt, before, fault, Some(WireFault::Device));
     }
-    Ok(())
+}
+
+/// The fault of writing a frame where there is so much room, if there is one, and how much room is left.
+type Writing = (Option<WireFault>, usize);
+
+fn writing(frame: &Option<Frame>, room: usize, stuck: bool) -> Option<Writing> {
+    let mut small = Small { room, stuck };
+    let fault = write_frame(&mut small, frame.as_ref()?).err();
+    Some((fault, small.room))
 }
 
 #[test]
-fn writers_that_take_little(rt: HostRuntime) -> Result<(), Fail> {
-    let frame = Frame::from_content(rt.alloc(), &FRAME[4..])?;
+fn writers_that_take_little(rt: HostRuntime) {
+    let frame = Frame::from_content(rt.alloc(), &FRAME[4..]).ok();
     for (room, stuck) in [(0, false), (3, false), (4, false), (11, false), (11, true)] {
-        let fault = write_frame(&mut Small { room, stuck }, &frame).err();
-        same_in_row(&rt, room, fault, Some(WireFault::Device));
+        let seen = writing(&frame, room, stuck);
+        same_in_row(&rt, room, seen, Some((Some(WireFault::Device), 0)));
     }
-    let mut enough = Small {
-        room: 12,
-        stuck: false,
-    };
-    write_frame(&mut enough, &frame)?;
-    same(&rt, enough.room, 0);
-    Ok(())
+    same(&rt, writing(&frame, 12, false), Some((None, 0)));
+}
+
+/// Whether a fault has this name.
+fn is_named(alloc: Global, fault: WireFault, text: &str) -> Option<bool> {
+    let name = format!(in alloc; "{fault}").ok()?;
+    Some(name.as_str() == text)
 }
 
 #[test]
-fn names_of_faults(rt: HostRuntime) -> Result<(), Fail> {
+fn names_of_faults(rt: HostRuntime) {
     let faults = [
         (WireFault::Short, 1, "short"),
         (WireFault::TooLong, 2, "too long"),
@@ -150,8 +185,7 @@ fn names_of_faults(rt: HostRuntime) -> Result<(), Fail> {
         (WireFault::NoMemory, 4, "no memory"),
     ];
     for (fault, number, text) in faults {
-        same(&rt, fault.number(), number);
-        same(&rt, format!(in rt.alloc(); "{fault}")?.as_str(), text);
+        let named = is_named(rt.alloc(), fault, text);
+        same_in_row(&rt, text, (fault.number(), named), (number, Some(true)));
     }
-    Ok(())
 }
