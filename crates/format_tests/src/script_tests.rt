@@ -165,23 +165,34 @@ fn parts(alloc: Global, lines: &[Line]) -> Option<Vec<u8>> {
     Some(printed)
 }
 
-// The numbers of the first three lines.
-fn numbers(lines: &[Line]) -> [Option<usize>; 3] {
-    [0, 1, 2].map(|index| lines.get(index).map(|line| line.number))
+fn parts_of_script(alloc: Global, text: &[u8]) -> Option<Vec<u8>> {
+    let lines = read_script(alloc, text).ok()?;
+    let parts = parts(alloc, &lines);
+    drop(lines);
+    parts
 }
 
-// The numbers of a script's lines, and its parts.
-fn script_seen(alloc: Global, text: &[u8]) -> Option<([Option<usize>; 3], Option<Vec<u8>>)> {
+fn number_at(lines: &[Line], index: usize) -> Option<usize> {
+    Some(lines.get(index)?.number)
+}
+
+// The numbers of a script's first three lines.
+fn numbers_of_script(alloc: Global, text: &[u8]) -> Option<[Option<usize>; 3]> {
     let lines = read_script(alloc, text).ok()?;
-    let seen = (numbers(&lines), parts(alloc, &lines));
+    let numbers = [
+        number_at(&lines, 0),
+        number_at(&lines, 1),
+        number_at(&lines, 2),
+    ];
     drop(lines);
-    Some(seen)
+    Some(numbers)
 }
 
 #[test]
 fn a_script_and_its_parts(rt: HostRuntime) {
     let text = b"# a task\n\nattach 2\ntype 256 = 196608\n";
-    let (numbers, parts) = script_seen(rt.alloc(), text).unwrap_or(([None; 3], None));
-    same(&rt, numbers, [Some(3), Some(4), None]);
+    let numbers = numbers_of_script(rt.alloc(), text);
+    same(&rt, numbers, Some([Some(3), Some(4), None]));
+    let parts = parts_of_script(rt.alloc(), text);
     same_bytes(&rt, parts, b"attach 2type 0x100 = 0x30000");
 }

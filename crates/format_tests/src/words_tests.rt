@@ -2,7 +2,7 @@ use crate::expect::{same, same_bytes};
 use std::alloc::Global;
 use words::{push_long_word, push_word, take_long_word, take_word};
 
-const WORDS: &[u8; 12] = b"\x01\x02\x03\x04\x05\x06\x07\x08\x09\x0a\x0b\x0c";
+const WORDS: [u8; 12] = [1, 2, 3, 4, 5, 6, 7, 8, 9, 10, 11, 12];
 
 fn pushed(alloc: Global) -> Option<Vec<u8>> {
     let mut out = Vec::new(alloc);
@@ -13,9 +13,9 @@ fn pushed(alloc: Global) -> Option<Vec<u8>> {
 
 #[test]
 fn pushes_and_takes(rt: HostRuntime) {
-    same_bytes(&rt, pushed(rt.alloc()), WORDS);
-    let (front, rest) = (&WORDS[..], &WORDS[4..]);
-    same(&rt, take_word(front), Some((0x0403_0201, rest)));
+    same_bytes(&rt, pushed(rt.alloc()), &WORDS);
+    let rest = &WORDS[4..];
+    same(&rt, take_word(&WORDS), Some((0x0403_0201, rest)));
     let long = 0x0c0b_0a09_0807_0605;
     same(&rt, take_long_word(rest), Some((long, &[][..])));
 }
