@@ -3,59 +3,62 @@ use crate::names::{add_space, hold};
 use codes::MAX_NAMES;
 use spaces::Spaces;
 use std::alloc::Global;
-use std::test::Fail;
 
 /// How many spaces are filled.
 const SPACES: u32 = 16;
 
 /// Hands out the least unused name of a space, for a send right to port 7, and keeps it: names that were taken out of use
 /// and aren't kept or given up yet are passed over one by one.
-fn hand_out(spaces: &mut Spaces, space: u32) -> Result<u32, Fail> {
+fn hand_out(spaces: &mut Spaces, space: u32) -> Option<u32> {
     let name = spaces.free_name(space);
     hold(spaces, space, name, 7, None)?;
     spaces.keep();
-    Ok(name)
+    Some(name)
 }
 
 /// Hands out as many names as a space may have.
-fn fill(spaces: &mut Spaces, space: u32) -> Result<(), Fail> {
+fn fill(spaces: &mut Spaces, space: u32) -> Option<()> {
     for _name in 0..MAX_NAMES {
         hand_out(spaces, space)?;
     }
-    Ok(())
+    Some(())
 }
 
-/// Makes a full space, takes two names of it out of use, and gives how many it had and the names that are handed out then.
-fn handed_out_again(spaces: &mut Spaces, space: u32) -> Result<(usize, [u32; 2]), Fail> {
+/// Takes two names of a full space out of use, and gives those that are handed out then.
+fn handed_out_again(spaces: &mut Spaces, space: u32) -> Option<[u32; 2]> {
+    spaces.remove_name(space, 0x1000).ok()?;
+    spaces.remove_name(space, 0x800).ok()?;
+    let first = hand_out(spaces, space)?;
+    Some([first, hand_out(spaces, space)?])
+}
+
+/// Makes a full space, and gives how many names it has and those that are handed out again.
+fn filled_once(spaces: &mut Spaces, space: u32) -> Option<(usize, [u32; 2])> {
     add_space(spaces, space)?;
     fill(spaces, space)?;
     let most = spaces.name_count(space);
-    spaces.remove_name(space, 0x1000)?;
-    spaces.remove_name(space, 0x800)?;
-    let first = hand_out(spaces, space)?;
-    Ok((most, [first, hand_out(spaces, space)?]))
+    Some((most, handed_out_again(spaces, space)?))
 }
 
 /// In how many spaces the least unused names were handed out again, and how many send rights to port 7 there are then.
-fn filled(spaces: &mut Spaces) -> Result<(u32, u64), Fail> {
+fn filled(spaces: &mut Spaces) -> Option<(u32, u64)> {
     let mut right: u32 = 0;
     for space in 1..=SPACES {
-        if handed_out_again(spaces, space)? == (MAX_NAMES, [0x800, 0x1000]) {
+        if filled_once(spaces, space)? == (MAX_NAMES, [0x800, 0x1000]) {
             right = right.saturating_add(1);
         }
     }
-    Ok((right, spaces.sends(7)))
+    Some((right, spaces.sends(7)))
 }
 
-fn filled_from_none(alloc: Global) -> Result<(u32, u64), Fail> {
+fn filled_from_none(alloc: Global) -> Option<(u32, u64)> {
     let mut spaces = Spaces::new(alloc);
     let seen = filled(&mut spaces);
+    drop(spaces);
     seen
 }
 
 #[test]
-fn spaces_are_filled_and_names_handed_out_again(rt: HostRuntime) -> Result<(), Fail> {
-    let seen = filled_from_none(rt.alloc())?;
-    same(&rt, seen, (SPACES, 65536));
-    Ok(())
+fn spaces_are_filled_and_names_handed_out_again(rt: HostRuntime) {
+    same(&rt, filled_from_none(rt.alloc()), Some((SPACES, 65536)));
 }

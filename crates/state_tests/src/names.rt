@@ -1,29 +1,26 @@
-//! Spaces and names for tests, made where there is room.
+//! Spaces and names for tests, made where there is room and memory.
 ghost use Rattle.port_space.specs.References.{AreFewReferences};
 
 use codes::{MAX_NAMES, MAX_SPACES};
 use ipc_model::{Entry, PortRights};
 use spaces::Spaces;
-use std::test::Fail;
 
 /// Makes a space.
-pub(crate) fn add_space(spaces: &mut Spaces, space: u32) -> Result<(), Fail> {
+pub(crate) fn add_space(spaces: &mut Spaces, space: u32) -> Option<()> {
     if spaces.contains(space) || spaces.len() >= MAX_SPACES {
-        return Err(Fail::new("there is room for a space"));
+        return None;
     }
-    spaces.add(space)?;
-    Ok(())
+    spaces.add(space).ok()
 }
 
 /// Has a name of a space stand for this.
-fn put(spaces: &mut Spaces, space: u32, name: u32, entry: Entry) -> Result<(), Fail>
+fn put(spaces: &mut Spaces, space: u32, name: u32, entry: Entry) -> Option<()>
     requires { AreFewReferences entry }
 {
     if spaces.name_count(space) >= MAX_NAMES {
-        return Err(Fail::new("there is room for a name"));
+        return None;
     }
-    spaces.put_name(space, name, entry)?;
-    Ok(())
+    spaces.put_name(space, name, entry).ok()
 }
 
 /// Has a name stand for a send right, with the target of a dead-name request.
@@ -33,7 +30,7 @@ pub(crate) fn hold(
     name: u32,
     port: u64,
     dead_name_target: Option<u64>,
-) -> Result<(), Fail> {
+) -> Option<()> {
     let rights = PortRights {
         port,
         receive: false,
@@ -50,7 +47,7 @@ pub(crate) fn hold_once(
     name: u32,
     port: u64,
     dead_name_target: Option<u64>,
-) -> Result<(), Fail> {
+) -> Option<()> {
     let once = Entry::SendOnce {
         port,
         dead_name_target,
@@ -59,10 +56,9 @@ pub(crate) fn hold_once(
 }
 
 /// Has what stands under one name stand under another.
-pub(crate) fn rename(spaces: &mut Spaces, space: u32, from: u32, to: u32) -> Result<(), Fail> {
+pub(crate) fn rename(spaces: &mut Spaces, space: u32, from: u32, to: u32) -> Option<()> {
     if spaces.entry(space, to).is_some() {
-        return Err(Fail::new("the other name is unused"));
+        return None;
     }
-    spaces.rename(space, from, to)?;
-    Ok(())
+    spaces.rename(space, from, to).ok()
 }

@@ -2,30 +2,42 @@ use crate::expect::same;
 use effects::Notice;
 use ipc_model::{CarriedRight, Message, PortInMessage, RightKind};
 use notify::{message, port_destroyed};
-use std::alloc::{AllocError, Global};
-use std::test::Fail;
+use std::alloc::Global;
 
-/// What is compared of a message without rights: its id, and its body's length, kind word and first number.
-fn said(alloc: Global, notice: Notice) -> Result<(u32, usize, [u8; 8]), AllocError> {
-    let message = message(alloc, notice)?;
-    Ok((
-        message.id,
-        message.body.as_slice().len(),
-        eight(message.body.as_slice()),
-    ))
+/// A notice's message without rights: its id, and whether this is its body.
+fn said(alloc: Global, notice: Notice, body: &[u8]) -> Option<(u32, bool)> {
+    let message = message(alloc, notice).ok()?;
+    let seen = (message.id, message.body.as_slice() == body);
+    drop(message);
+    Some(seen)
 }
 
-/// The first eight bytes, 0 where there are fewer.
-fn eight(bytes: &[u8]) -> [u8; 8] {
-    let mut first = [0; 8];
-    for (to, from) in first.iter_mut().zip(bytes) {
-        *to = *from;
-    }
-    first
+#[test]
+fn notices_say_whom_they_tell_of(rt: HostRuntime) {
+    let alloc = rt.alloc();
+    let name = 0x0102_0304;
+    // One word, by its kind word and its number.
+    let named = &[0x0f, 0x20, 0x01, 0x10, 4, 3, 2, 1];
+    let count = &[0x02, 0x20, 0x01, 0x10, 3, 0, 0, 0];
+    let seen = [
+        said(alloc, Notice::PortDeleted { name }, named),
+        said(alloc, Notice::DeadName { name }, named),
+        said(alloc, Notice::NoSenders { count: 3 }, count),
+        said(alloc, Notice::SendOnce, &[]),
+    ];
+    let wanted = [
+        Some((65, true)),
+        Some((72, true)),
+        Some((70, true)),
+        Some((71, true)),
+    ];
+    same(&rt, seen, wanted);
 }
 
-/// The right that a message carries, if it is one, and what else is compared of it.
-fn carried(message: &Message) -> (u32, bool, usize, Option<CarriedRight>) {
+/// What is compared of a message with a right: its id, whether it is complex, how many rights it has, and the first.
+type Carried = (u32, bool, usize, Option<CarriedRight>);
+
+fn carried(message: &Message) -> Carried {
     (
         message.id,
         message.complex,
@@ -34,38 +46,20 @@ fn carried(message: &Message) -> (u32, bool, usize, Option<CarriedRight>) {
     )
 }
 
-#[test]
-fn notices_say_whom_they_tell_of(rt: HostRuntime) -> Result<(), Fail> {
-    let alloc = rt.alloc();
-    let name = 0x0102_0304;
-    let named = [0x0f, 0x20, 0x01, 0x10, 4, 3, 2, 1];
-    let seen = [
-        said(alloc, Notice::PortDeleted { name })?,
-        said(alloc, Notice::DeadName { name })?,
-        said(alloc, Notice::NoSenders { count: 3 })?,
-        said(alloc, Notice::SendOnce)?,
-    ];
-    let count = [0x02, 0x20, 0x01, 0x10, 3, 0, 0, 0];
-    same(
-        &rt,
-        seen,
-        [
-            (65, 8, named),
-            (72, 8, named),
-            (70, 8, count),
-            (71, 0, [0; 8]),
-        ],
-    );
-    Ok(())
+/// What the notice of a port's destruction carries.
+fn carried_by_notice(alloc: Global, serial: u64) -> Option<Carried> {
+    let message = port_destroyed(alloc, serial).ok()?;
+    let seen = carried(&message);
+    drop(message);
+    Some(seen)
 }
 
 #[test]
-fn a_port_destroyed_notice_brings_the_right(rt: HostRuntime) -> Result<(), Fail> {
-    let message = port_destroyed(rt.alloc(), 7)?;
+fn a_port_destroyed_notice_brings_the_right(rt: HostRuntime) {
     let right = CarriedRight {
         kind: RightKind::Receive,
         port: PortInMessage::Live(7),
     };
-    same(&rt, carried(&message), (69, true, 1, Some(right)));
-    Ok(())
+    let seen = carried_by_notice(rt.alloc(), 7);
+    same(&rt, seen, Some((69, true, 1, Some(right))));
 }

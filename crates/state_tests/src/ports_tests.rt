@@ -7,7 +7,6 @@ use crate::making::add_port;
 use ipc_model::{CarriedRight, Message, PortInMessage, RightKind, Sequence};
 use ports::{PortNumbers, Ports};
 use std::alloc::{AllocError, Global};
-use std::test::Fail;
 
 /// A message by a send right, with a right to reply by and a right in its body, both to one port.
 fn message(alloc: Global, kind: RightKind, port: u64) -> Result<Message, AllocError>
@@ -30,36 +29,40 @@ fn message(alloc: Global, kind: RightKind, port: u64) -> Result<Message, AllocEr
     })
 }
 
-/// Queues a message with rights to a port.
-fn send(alloc: Global, ports: &mut Ports, to: u64, kind: RightKind, port: u64) -> Result<(), Fail> {
+/// Queues a message with rights to a port. That the port doesn't live is told as a want of memory: no test wants either.
+fn send(
+    alloc: Global,
+    ports: &mut Ports,
+    to: u64,
+    kind: RightKind,
+    port: u64,
+) -> Result<(), AllocError> {
     if !ports.contains(port) {
-        return Err(Fail::new("the port lives"));
+        return Err(AllocError);
     }
-    ports.push(to, message(alloc, kind, port)?)?;
-    Ok(())
+    ports.push(to, message(alloc, kind, port)?)
 }
 
 /// Asks that port 1 be told when port 3 has no senders.
-fn request(ports: &mut Ports) -> Result<(), Fail> {
-    let numbers = ports.numbers(3).ok_or("port 3 lives")?;
+fn request(ports: &mut Ports) -> Option<()> {
+    let numbers = ports.numbers(3)?;
     let asked = PortNumbers {
         no_senders_target: Some(1),
         ..numbers
     };
-    ports.set_numbers(3, asked)?;
-    Ok(())
+    ports.set_numbers(3, asked).ok()
 }
 
 /// Makes ports 1 to 3, and keeps them. In the queue of port 2 travel rights to port 1, and the receive right of port 3.
-fn fill(alloc: Global, ports: &mut Ports) -> Result<(), Fail> {
+fn fill(alloc: Global, ports: &mut Ports) -> Option<()> {
     for _port in 0..3 {
         add_port(ports)?;
     }
-    send(alloc, ports, 2, RightKind::Send, 1)?;
-    send(alloc, ports, 2, RightKind::Receive, 3)?;
+    send(alloc, ports, 2, RightKind::Send, 1).ok()?;
+    send(alloc, ports, 2, RightKind::Receive, 3).ok()?;
     request(ports)?;
     ports.keep();
-    Ok(())
+    Some(())
 }
 
 /// What stands in the place of the reply right's port in a port's oldest message.
@@ -77,7 +80,7 @@ fn body_port(ports: &Ports) -> Option<PortInMessage> {
 }
 
 /// What is seen of the ports.
-#[derive(Clone, Copy, Debug, PartialEq)]
+#[derive(Debug, Drop, PartialEq)]
 struct Picture {
     /// The send and send-once rights to port 1, the send rights to port 2 and the send-once rights to port 3.
     counts: [u64; 4],
@@ -88,6 +91,10 @@ struct Picture {
     oldest: [Option<PortInMessage>; 2],
     /// The target of the request of port 3.
     target: Option<u64>,
+}
+
+fn target(ports: &Ports) -> Option<u64> {
+    ports.numbers(3)?.no_senders_target
 }
 
 fn seen(ports: &Ports) -> Picture {
@@ -101,36 +108,37 @@ fn seen(ports: &Ports) -> Picture {
         carrier: ports.carrier(3),
         messages: ports.message_count(2),
         oldest: [reply_port(ports), body_port(ports)],
-        target: ports
-            .numbers(3)
-            .and_then(|numbers| numbers.no_senders_target),
+        target: target(ports),
     }
 }
 
 /// What is seen of a copy that keeps its changes.
-fn kept(ports: &Ports) -> Result<Picture, AllocError> {
-    let mut copy = ports.copy()?;
+fn kept(ports: &Ports) -> Option<Picture> {
+    let mut copy = ports.copy().ok()?;
     copy.keep();
-    Ok(seen(&copy))
+    let seen = seen(&copy);
+    drop(copy);
+    Some(seen)
 }
 
 /// What is seen: at first, once port 1 has died, of a copy that keeps this, once port 2 has died too, and once all is
 /// given up.
-fn buried(alloc: Global, ports: &mut Ports) -> Result<[Picture; 5], Fail> {
+fn buried(alloc: Global, ports: &mut Ports) -> Option<[Picture; 5]> {
     fill(alloc, ports)?;
     let first = seen(ports);
-    ports.bury(1)?;
+    ports.bury(1).ok()?;
     let without_1 = seen(ports);
     let kept = kept(ports)?;
-    ports.bury(2)?;
+    ports.bury(2).ok()?;
     let without_2 = seen(ports);
     ports.give_up();
-    Ok([first, without_1, kept, without_2, seen(ports)])
+    Some([first, without_1, kept, without_2, seen(ports)])
 }
 
-fn buried_from_none(alloc: Global) -> Result<[Picture; 5], Fail> {
+fn buried_from_none(alloc: Global) -> Option<[Picture; 5]> {
     let mut ports = Ports::new(alloc);
     let seen = buried(alloc, &mut ports);
+    drop(ports);
     seen
 }
 
@@ -165,8 +173,7 @@ fn without_2() -> Picture {
 }
 
 #[test]
-fn ports_die_and_live_again(rt: HostRuntime) -> Result<(), Fail> {
-    let seen = buried_from_none(rt.alloc())?;
+fn ports_die_and_live_again(rt: HostRuntime) {
     let wanted = [
         at_first(),
         without_1(),
@@ -174,26 +181,26 @@ fn ports_die_and_live_again(rt: HostRuntime) -> Result<(), Fail> {
         without_2(),
         at_first(),
     ];
-    same(&rt, seen, wanted);
-    Ok(())
+    same(&rt, buried_from_none(rt.alloc()), Some(wanted));
 }
 
 /// What is seen: once the oldest message of port 2 is taken, of a copy that keeps this, once the other one is taken too,
 /// and once all is given up.
-fn taken(alloc: Global, ports: &mut Ports) -> Result<[Picture; 4], Fail> {
+fn taken(alloc: Global, ports: &mut Ports) -> Option<[Picture; 4]> {
     fill(alloc, ports)?;
-    ports.take(2)?;
+    ports.take(2).ok()?;
     let without_first = seen(ports);
     let kept = kept(ports)?;
-    ports.take(2)?;
+    ports.take(2).ok()?;
     let without_both = seen(ports);
     ports.give_up();
-    Ok([without_first, kept, without_both, seen(ports)])
+    Some([without_first, kept, without_both, seen(ports)])
 }
 
-fn taken_from_none(alloc: Global) -> Result<[Picture; 4], Fail> {
+fn taken_from_none(alloc: Global) -> Option<[Picture; 4]> {
     let mut ports = Ports::new(alloc);
     let seen = taken(alloc, &mut ports);
+    drop(ports);
     seen
 }
 
@@ -218,9 +225,7 @@ fn without_both() -> Picture {
 }
 
 #[test]
-fn messages_are_taken_and_put_back(rt: HostRuntime) -> Result<(), Fail> {
-    let seen = taken_from_none(rt.alloc())?;
+fn messages_are_taken_and_put_back(rt: HostRuntime) {
     let wanted = [without_first(), without_first(), without_both(), at_first()];
-    same(&rt, seen, wanted);
-    Ok(())
+    same(&rt, taken_from_none(rt.alloc()), Some(wanted));
 }

@@ -1,16 +1,15 @@
 use crate::expect::same;
 use crate::making::empty;
 use queue::{PushFault, Queue};
-use std::alloc::{AllocError, Global};
-use std::test::Fail;
+use std::alloc::Global;
 
 /// Queues empty messages with these ids, and keeps them.
-fn fill(alloc: Global, queue: &mut Queue, ids: &[u32]) -> Result<(), AllocError> {
+fn fill(alloc: Global, queue: &mut Queue, ids: &[u32]) -> Option<()> {
     for id in ids {
-        queue.push_forced(empty(alloc, *id))?;
+        queue.push_forced(empty(alloc, *id)).ok()?;
     }
     queue.keep();
-    Ok(())
+    Some(())
 }
 
 /// The id of the message of an index, if there is one.
@@ -23,63 +22,66 @@ fn id_at(queue: &Queue, index: u32) -> Option<u32> {
 }
 
 /// The ids of the three oldest messages.
-fn ids(queue: &Queue) -> [Option<u32>; 3] {
-    [0, 1, 2].map(|index| id_at(queue, index))
+type Ids = [Option<u32>; 3];
+
+fn ids(queue: &Queue) -> Ids {
+    [id_at(queue, 0), id_at(queue, 1), id_at(queue, 2)]
 }
 
 /// What becomes of two pushes under a limit, and of one whatever the limit; and how many messages there are then.
-fn pushed(
-    alloc: Global,
-    queue: &mut Queue,
-) -> Result<([Result<(), PushFault>; 2], u32), AllocError> {
+type Pushed = ([Result<(), PushFault>; 2], u32);
+
+fn pushed(alloc: Global, queue: &mut Queue) -> Option<Pushed> {
     fill(alloc, queue, &[1])?;
     let first = queue.push(2, empty(alloc, 2));
     let second = queue.push(2, empty(alloc, 3));
-    queue.push_forced(empty(alloc, 4))?;
-    Ok(([first, second], queue.len()))
+    queue.push_forced(empty(alloc, 4)).ok()?;
+    Some(([first, second], queue.len()))
 }
 
-fn pushed_to_new(alloc: Global) -> Result<([Result<(), PushFault>; 2], u32), AllocError> {
+fn pushed_to_new(alloc: Global) -> Option<Pushed> {
     let mut queue = Queue::new(alloc);
     let seen = pushed(alloc, &mut queue);
+    drop(queue);
     seen
 }
 
 #[test]
-fn a_queue_is_full_at_its_limit(rt: HostRuntime) -> Result<(), Fail> {
-    let seen = pushed_to_new(rt.alloc())?;
-    same(&rt, seen, ([Ok(()), Err(PushFault::Full)], 3));
-    Ok(())
+fn a_queue_is_full_at_its_limit(rt: HostRuntime) {
+    let seen = pushed_to_new(rt.alloc());
+    same(&rt, seen, Some(([Ok(()), Err(PushFault::Full)], 3)));
 }
 
 /// The ids of a copy that keeps its changes.
-fn kept(queue: &Queue) -> Result<[Option<u32>; 3], AllocError> {
-    let mut copy = queue.copy()?;
+fn kept(queue: &Queue) -> Option<Ids> {
+    let mut copy = queue.copy().ok()?;
     copy.keep();
-    Ok(ids(&copy))
+    let seen = ids(&copy);
+    drop(copy);
+    Some(seen)
 }
 
 /// The ids of messages of which one was taken and one pushed: so far, of a copy that keeps it, and once it is given up.
-fn changed(alloc: Global, queue: &mut Queue) -> Result<[[Option<u32>; 3]; 3], AllocError> {
+fn changed(alloc: Global, queue: &mut Queue) -> Option<[Ids; 3]> {
     fill(alloc, queue, &[1, 2])?;
     queue.take();
-    queue.push_forced(empty(alloc, 3))?;
+    queue.push_forced(empty(alloc, 3)).ok()?;
     let now = ids(queue);
     let kept = kept(queue)?;
     queue.give_up();
-    Ok([now, kept, ids(queue)])
+    Some([now, kept, ids(queue)])
 }
 
-fn changed_from_new(alloc: Global) -> Result<[[Option<u32>; 3]; 3], AllocError> {
+fn changed_from_new(alloc: Global) -> Option<[Ids; 3]> {
     let mut queue = Queue::new(alloc);
     let seen = changed(alloc, &mut queue);
+    drop(queue);
     seen
 }
 
 #[test]
-fn changes_are_kept_or_given_up(rt: HostRuntime) -> Result<(), Fail> {
-    let seen = changed_from_new(rt.alloc())?;
+fn changes_are_kept_or_given_up(rt: HostRuntime) {
+    let seen = changed_from_new(rt.alloc());
     let now = [Some(2), Some(3), None];
-    same(&rt, seen, [now, now, [Some(1), Some(2), None]]);
-    Ok(())
+    same(&rt, seen, Some([now, now, [Some(1), Some(2), None]]));
 }

@@ -3,70 +3,84 @@ use crate::names::{add_space, hold, hold_once, rename};
 use effects::{Effect, Effects, Notice};
 use ipc_model::{Entry, PortRights};
 use spaces::Spaces;
-use std::alloc::{AllocError, Global};
-use std::test::Fail;
+use std::alloc::Global;
 
 /// Makes spaces 2 and 1, and keeps them. The names 0x102 and 0x105 of space 2 and 0x103 of space 1 stand for rights to
 /// port 7, each with a request.
-fn fill(spaces: &mut Spaces) -> Result<(), Fail> {
+fn fill(spaces: &mut Spaces) -> Option<()> {
     add_space(spaces, 2)?;
     add_space(spaces, 1)?;
     hold(spaces, 2, 0x105, 7, Some(9))?;
     hold_once(spaces, 2, 0x102, 7, Some(9))?;
     hold(spaces, 1, 0x103, 7, Some(8))?;
     spaces.keep();
-    Ok(())
+    Some(())
+}
+
+fn name_at(entries: &[(u32, Entry)], index: usize) -> Option<u32> {
+    Some(entries.get(index)?.0)
 }
 
 /// The least three names of space 2.
-fn names(alloc: Global, spaces: &Spaces) -> Result<[Option<u32>; 3], AllocError> {
-    let entries = spaces.entries(alloc, 2)?;
-    Ok([0, 1, 2].map(|index| entries.get(index).map(|entry| entry.0)))
+type Names = [Option<u32>; 3];
+
+fn names(alloc: Global, spaces: &Spaces) -> Option<Names> {
+    let entries = spaces.entries(alloc, 2).ok()?;
+    let names = [
+        name_at(&entries, 0),
+        name_at(&entries, 1),
+        name_at(&entries, 2),
+    ];
+    drop(entries);
+    Some(names)
 }
 
 /// The names of space 2 in a copy that keeps its changes.
-fn kept(alloc: Global, spaces: &Spaces) -> Result<[Option<u32>; 3], AllocError> {
-    let mut copy = spaces.copy()?;
+fn kept(alloc: Global, spaces: &Spaces) -> Option<Names> {
+    let mut copy = spaces.copy().ok()?;
     copy.keep();
     let seen = names(alloc, &copy);
+    drop(copy);
     seen
 }
 
 /// One name of space 2 is renamed, one removed, and one put.
-fn rename_and_remove(spaces: &mut Spaces) -> Result<(), Fail> {
+fn rename_and_remove(spaces: &mut Spaces) -> Option<()> {
     rename(spaces, 2, 0x105, 0x101)?;
-    spaces.remove_name(2, 0x102)?;
+    spaces.remove_name(2, 0x102).ok()?;
     hold(spaces, 2, 0x100, 9, None)
 }
 
 /// The names of space 2: at first, once they are changed, in a copy that keeps this, and once it is given up.
-fn renamed(alloc: Global, spaces: &mut Spaces) -> Result<[[Option<u32>; 3]; 4], Fail> {
+fn renamed(alloc: Global, spaces: &mut Spaces) -> Option<[Option<Names>; 4]> {
     fill(spaces)?;
-    let first = names(alloc, spaces)?;
+    let first = names(alloc, spaces);
     rename_and_remove(spaces)?;
-    let now = names(alloc, spaces)?;
-    let kept = kept(alloc, spaces)?;
+    let now = names(alloc, spaces);
+    let kept = kept(alloc, spaces);
     spaces.give_up();
-    Ok([first, now, kept, names(alloc, spaces)?])
+    Some([first, now, kept, names(alloc, spaces)])
 }
 
-fn renamed_in_new(alloc: Global) -> Result<[[Option<u32>; 3]; 4], Fail> {
+fn renamed_in_new(alloc: Global) -> Option<[Option<Names>; 4]> {
     let mut spaces = Spaces::new(alloc);
     let seen = renamed(alloc, &mut spaces);
+    drop(spaces);
     seen
 }
 
 #[test]
-fn names_are_put_renamed_and_removed(rt: HostRuntime) -> Result<(), Fail> {
-    let seen = renamed_in_new(rt.alloc())?;
-    let first = [Some(0x102), Some(0x105), None];
-    let now = [Some(0x100), Some(0x101), None];
-    same(&rt, seen, [first, now, now, first]);
-    Ok(())
+fn names_are_put_renamed_and_removed(rt: HostRuntime) {
+    let first = Some([Some(0x102), Some(0x105), None]);
+    let now = Some([Some(0x100), Some(0x101), None]);
+    let wanted = [first, now, now, first];
+    same(&rt, renamed_in_new(rt.alloc()), Some(wanted));
 }
 
 /// The name and the target of the next dead-name notice.
-fn next_notice(effects: &mut Effects) -> Option<(u32, u64)> {
+type NoticeSeen = Option<(u32, u64)>;
+
+fn next_notice(effects: &mut Effects) -> NoticeSeen {
     match effects.take() {
         Some(
             Effect::Notify {
@@ -78,53 +92,68 @@ fn next_notice(effects: &mut Effects) -> Option<(u32, u64)> {
     }
 }
 
-/// The dead-name notices of port 7.
-fn notices(alloc: Global, spaces: &mut Spaces) -> Result<[Option<(u32, u64)>; 4], Fail> {
-    fill(spaces)?;
-    let mut effects = Effects::new(alloc);
-    spaces.dead_names(7, &mut effects)?;
-    Ok([0, 1, 2, 3].map(|_| next_notice(&mut effects)))
+/// The dead-name notices of port 7, as they are handed out.
+fn told(spaces: &Spaces, effects: &mut Effects) -> Option<[NoticeSeen; 4]> {
+    spaces.dead_names(7, effects).ok()?;
+    Some([
+        next_notice(effects),
+        next_notice(effects),
+        next_notice(effects),
+        next_notice(effects),
+    ])
 }
 
-fn notices_of_new(alloc: Global) -> Result<[Option<(u32, u64)>; 4], Fail> {
+fn notices(alloc: Global, spaces: &mut Spaces) -> Option<[NoticeSeen; 4]> {
+    fill(spaces)?;
+    let mut effects = Effects::new(alloc);
+    let seen = told(spaces, &mut effects);
+    drop(effects);
+    seen
+}
+
+fn notices_of_new(alloc: Global) -> Option<[NoticeSeen; 4]> {
     let mut spaces = Spaces::new(alloc);
     let seen = notices(alloc, &mut spaces);
+    drop(spaces);
     seen
 }
 
 #[test]
-fn dead_names_come_by_space_and_name(rt: HostRuntime) -> Result<(), Fail> {
-    let seen = notices_of_new(rt.alloc())?;
+fn dead_names_come_by_space_and_name(rt: HostRuntime) {
     let wanted = [Some((0x103, 8)), Some((0x102, 9)), Some((0x105, 9)), None];
-    same(&rt, seen, wanted);
-    Ok(())
+    same(&rt, notices_of_new(rt.alloc()), Some(wanted));
 }
 
 /// What the names stand for; how many send and send-once rights they hold to port 7, and send-once rights to port 9.
-fn held(spaces: &Spaces) -> ([Option<Entry>; 3], [u64; 3]) {
-    let entries = [(2, 0x105), (2, 0x102), (1, 0x103)].map(|(space, name)| spaces.entry(
-        space, name,
-    ));
+type Held = ([Option<Entry>; 3], [u64; 3]);
+
+fn held(spaces: &Spaces) -> Held {
+    let entries = [
+        spaces.entry(2, 0x105),
+        spaces.entry(2, 0x102),
+        spaces.entry(1, 0x103),
+    ];
     let counts = [spaces.sends(7), spaces.send_onces(7), spaces.send_onces(9)];
     (entries, counts)
 }
 
 /// What is held: once port 9 has died, once port 7 has died too, once space 2 is gone, and once all is given up.
-fn buried(spaces: &mut Spaces) -> Result<[([Option<Entry>; 3], [u64; 3]); 4], Fail> {
+fn buried(spaces: &mut Spaces) -> Option<[Held; 4]> {
     fill(spaces)?;
-    spaces.bury(9)?;
+    spaces.bury(9).ok()?;
     let without_9 = held(spaces);
-    spaces.bury(7)?;
+    spaces.bury(7).ok()?;
     let without_7 = held(spaces);
-    spaces.remove(2)?;
+    spaces.remove(2).ok()?;
     let without_space = held(spaces);
     spaces.give_up();
-    Ok([without_9, without_7, without_space, held(spaces)])
+    Some([without_9, without_7, without_space, held(spaces)])
 }
 
-fn buried_in_new(alloc: Global) -> Result<[([Option<Entry>; 3], [u64; 3]); 4], Fail> {
+fn buried_in_new(alloc: Global) -> Option<[Held; 4]> {
     let mut spaces = Spaces::new(alloc);
     let seen = buried(&mut spaces);
+    drop(spaces);
     seen
 }
 
@@ -152,14 +181,12 @@ fn dead(references: u32) -> Option<Entry> {
 }
 
 #[test]
-fn names_die_and_a_space_goes(rt: HostRuntime) -> Result<(), Fail> {
-    let seen = buried_in_new(rt.alloc())?;
+fn names_die_and_a_space_goes(rt: HostRuntime) {
     let wanted = [
         ([send(None), once(None), send(Some(8))], [2, 1, 0]),
         ([dead(1), dead(1), dead(2)], [0, 0, 0]),
         ([None, None, dead(2)], [0, 0, 0]),
         ([send(Some(9)), once(Some(9)), send(Some(8))], [2, 1, 2]),
     ];
-    same(&rt, seen, wanted);
-    Ok(())
+    same(&rt, buried_in_new(rt.alloc()), Some(wanted));
 }

@@ -2,30 +2,27 @@ use crate::expect::same;
 use ipc_state::IpcState;
 use notify::port_destroyed;
 use std::alloc::Global;
-use std::test::Fail;
 use transit::would_circle;
 
-/// Makes a port.
-fn add_port(state: &mut IpcState) -> Result<(), Fail> {
+/// Makes a port, where a further one may be made.
+fn add_port(state: &mut IpcState) -> Option<()> {
     if state.is_out_of_ports() || state.has_port(state.next_serial()) {
-        return Err(Fail::new("a further port may be made"));
+        return None;
     }
-    state.add_port()?;
-    Ok(())
+    state.add_port().ok()
 }
 
 /// The receive right of a port travels in the queue of another.
-fn carry(alloc: Global, state: &mut IpcState, port: u64, queue: u64) -> Result<(), Fail> {
+fn carry(alloc: Global, state: &mut IpcState, port: u64, queue: u64) -> Option<()> {
     if !state.has_port(port) {
-        return Err(Fail::new("the port lives"));
+        return None;
     }
-    let message = port_destroyed(alloc, port)?;
-    state.queue_message(queue, message)?;
-    Ok(())
+    let message = port_destroyed(alloc, port).ok()?;
+    state.queue_message(queue, message).ok()
 }
 
 /// Ports 1 to 3; the receive right of port 1 travels in the queue of port 2, and that of port 2 in the queue of port 3.
-fn make_two_hops(alloc: Global, state: &mut IpcState) -> Result<(), Fail> {
+fn make_two_hops(alloc: Global, state: &mut IpcState) -> Option<()> {
     for _ in 0..3 {
         add_port(state)?;
     }
@@ -33,26 +30,27 @@ fn make_two_hops(alloc: Global, state: &mut IpcState) -> Result<(), Fail> {
     carry(alloc, state, 2, 3)
 }
 
-fn circles(alloc: Global, state: &mut IpcState) -> Result<[bool; 6], Fail> {
+fn circles(alloc: Global, state: &mut IpcState) -> Option<[bool; 6]> {
     make_two_hops(alloc, state)?;
-    Ok([(1, 1), (2, 1), (3, 1), (1, 2), (1, 3), (4, 1)].map(|(port, queue)| would_circle(
-        state, port, queue,
-    )))
+    Some([
+        would_circle(state, 1, 1),
+        would_circle(state, 2, 1),
+        would_circle(state, 3, 1),
+        would_circle(state, 1, 2),
+        would_circle(state, 1, 3),
+        would_circle(state, 4, 1),
+    ])
 }
 
-fn circles_anew(alloc: Global) -> Result<[bool; 6], Fail> {
-    let mut state = IpcState::opening(alloc)?;
+fn circles_anew(alloc: Global) -> Option<[bool; 6]> {
+    let mut state = IpcState::opening(alloc).ok()?;
     let found = circles(alloc, &mut state);
     drop(state);
     found
 }
 
 #[test]
-fn finds_a_circle_over_two_hops(rt: HostRuntime) -> Result<(), Fail> {
-    same(
-        &rt,
-        circles_anew(rt.alloc())?,
-        [true, true, true, false, false, false],
-    );
-    Ok(())
+fn finds_a_circle_over_two_hops(rt: HostRuntime) {
+    let wanted = [true, true, true, false, false, false];
+    same(&rt, circles_anew(rt.alloc()), Some(wanted));
 }
