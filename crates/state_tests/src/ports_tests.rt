@@ -80,7 +80,7 @@ fn body_port(ports: &Ports) -> Option<PortInMessage> {
 }
 
 /// What is seen of the ports.
-#[derive(Debug, Drop, PartialEq)]
+#[derive(Clone, Copy, Debug, PartialEq)]
 struct Picture {
     /// The send and send-once rights to port 1, the send rights to port 2 and the send-once rights to port 3.
     counts: [u64; 4],
