@@ -1,8 +1,8 @@
 //! Calls and what they answer.
 use crate::asked::Asked;
 use crate::expect::same;
-use crate::machine::{Machine, Words, after, ask, ask_all};
-use crate::replayed::{PORTS_IN_A_SET, allocated};
+use crate::machine::{Machine, Words, after_allocated, ask, ask_all};
+use crate::replayed::PORTS_IN_A_SET;
 use kernel::Kernel;
 use std::alloc::Global;
 
@@ -18,8 +18,10 @@ pub(crate) fn read<M: Machine>(machine: &M) -> [Words; 4] {
 
 /// What they answer beside one port.
 fn read_one_port<M: Machine + Drop>(alloc: Global) -> Option<[Words; 4]> {
-    let machine: M = after(alloc, &allocated(1, 0x100))?;
-    Some(read(&machine))
+    let machine: M = after_allocated(alloc, 1, 0x100)?;
+    let words = read(&machine);
+    drop(machine);
+    Some(words)
 }
 
 #[test]
@@ -43,37 +45,43 @@ static UNRECORDED: [Row; 3] = [
     (2, Asked::Type(0x100), [2, 16, 0, 0]),
 ];
 
-/// Whether each of these calls is answered so, and one that has a record isn't.
-fn answers_so<M: Machine>(machine: &M) -> bool {
+/// The answer to a call, and the same in place.
+fn both_answers<M: Machine>(
+    machine: &mut M,
+    space: u32,
+    asked: Asked,
+) -> [Option<Option<Words>>; 2] {
+    let call = asked.call();
+    let answers = [
+        machine.answered(space, &call),
+        machine.answered_in_place(space, &call),
+    ];
+    drop(call);
+    answers
+}
+
+/// Whether each of these calls is answered so, in place too, and one that has a record isn't.
+fn answers_so<M: Machine>(machine: &mut M) -> bool {
     for (space, asked, words) in &UNRECORDED {
-        if machine.answered(*space, &asked.call()) != Some(Some(*words)) {
+        if both_answers(machine, *space, *asked) != [Some(Some(*words)); 2] {
             return false;
         }
     }
-    machine.answered(1, &Asked::Allocate(1).call()) == Some(None)
+    both_answers(machine, 1, Asked::Allocate(1)) == [Some(None); 2]
 }
 
-/// The same in place.
-fn answers_so_in_place<M: Machine>(machine: &mut M) -> bool {
-    for (space, asked, words) in &UNRECORDED {
-        if machine.answered_in_place(*space, &asked.call()) != Some(Some(*words)) {
-            return false;
-        }
-    }
-    machine.answered_in_place(1, &Asked::Allocate(1).call()) == Some(None)
-}
-
-/// Whether they are answered so beside one port, and in place.
-fn answers_beside_one_port<M: Machine + Drop>(alloc: Global) -> Option<[bool; 2]> {
-    let mut machine: M = after(alloc, &allocated(1, 0x100))?;
-    let answers = answers_so(&machine);
-    Some([answers, answers_so_in_place(&mut machine)])
+/// Whether they are answered so beside one port.
+fn answers_beside_one_port<M: Machine + Drop>(alloc: Global) -> Option<bool> {
+    let mut machine: M = after_allocated(alloc, 1, 0x100)?;
+    let answers = answers_so(&mut machine);
+    drop(machine);
+    Some(answers)
 }
 
 #[test]
 fn answers_what_has_no_record(rt: HostRuntime) {
     let answered = answers_beside_one_port::<Kernel>(rt.alloc());
-    same(&rt, answered, Some([true; 2]));
+    same(&rt, answered, Some(true));
 }
 
 /// Allocates ports under the names from 0x101 to 0x10ff.
@@ -83,6 +91,15 @@ fn nearly_fill<M: Machine>(machine: &mut M, space: u32) -> Option<()> {
     }
     Some(())
 }
+
+/// Spaces 2 to 5 are made, each with a port under 0x100 as space 1 has.
+static SPACES_MADE: [Row; 5] = [
+    (1, Asked::Allocate(1), [5, 0, 0x100, 0]),
+    (1, Asked::SpaceCreate, [20, 0, 2, 0x100]),
+    (1, Asked::SpaceCreate, [20, 0, 3, 0x100]),
+    (1, Asked::SpaceCreate, [20, 0, 4, 0x100]),
+    (1, Asked::SpaceCreate, [20, 0, 5, 0x100]),
+];
 
 static FULL_OF_PORTS: [Row; 10] = [
     (5, Asked::Allocate(1), [5, 0, 0x101, 0]),
@@ -97,22 +114,9 @@ static FULL_OF_PORTS: [Row; 10] = [
     (5, Asked::AllocateName, [4, 0, 0, 0]),
 ];
 
-/// Makes spaces 2 to 5, each with a port under 0x100 as space 1 has; whether they are made so.
-fn makes_spaces<M: Machine>(machine: &mut M) -> bool {
-    if ask(machine, 1, Asked::Allocate(1)).is_none() {
-        return false;
-    }
-    for space in [2, 3, 4, 5] {
-        if ask(machine, 1, Asked::SpaceCreate) != Some([20, 0, space, 0x100]) {
-            return false;
-        }
-    }
-    true
-}
-
-/// Whether each of these calls is answered so.
-fn is_full_of_ports<M: Machine>(machine: &mut M) -> bool {
-    for (space, asked, words) in &FULL_OF_PORTS {
+/// Makes calls, and tells whether each is answered so.
+fn is_answered_so<M: Machine>(machine: &mut M, rows: &[Row]) -> bool {
+    for (space, asked, words) in rows {
         if ask(machine, *space, *asked) != Some(*words) {
             return false;
         }
@@ -123,11 +127,13 @@ fn is_full_of_ports<M: Machine>(machine: &mut M) -> bool {
 /// Four spaces hold 16,381 ports, and then there are three more and no other: whether the spaces are made, and it is so.
 fn fills_up<M: Machine + Drop>(alloc: Global) -> Option<[bool; 2]> {
     let mut machine = M::opened(alloc)?;
-    let made = makes_spaces(&mut machine);
+    let made = is_answered_so(&mut machine, &SPACES_MADE);
     for space in 1..5 {
         nearly_fill(&mut machine, space)?;
     }
-    Some([made, is_full_of_ports(&mut machine)])
+    let full = is_answered_so(&mut machine, &FULL_OF_PORTS);
+    drop(machine);
+    Some([made, full])
 }
 
 // They are made of a kernel alone: a disk in memory copies a slot at each write.
@@ -158,6 +164,11 @@ fn receipts_without_a_port<M: Machine + Drop>(alloc: Global) -> Option<[Option<u
 fn a_wait_changes_the_code(rt: HostRuntime) {
     let codes = receipts_without_a_port::<Kernel>(rt.alloc());
     // IN_SET and PORT_CHANGED, INVALID_NAME and PORT_DIED.
-    let wanted = [0x1000_400a, 0x1000_4006, 0x1000_4002, 0x1000_4009].map(Some);
+    let wanted = [
+        Some(0x1000_400a),
+        Some(0x1000_4006),
+        Some(0x1000_4002),
+        Some(0x1000_4009),
+    ];
     same(&rt, codes, Some(wanted));
 }

@@ -1,9 +1,9 @@
 use crate::asked::Asked;
 use crate::expect::same;
-use crate::machine::{Machine, ask, ask_all};
+use crate::machine::{Machine, Words, ask, ask_all, make};
 use ipc_model::{Call, CarriedRight, Entry, PortInMessage, PortRights, RightKind, Sequence};
 use kernel::Kernel;
-use snapshot::Snapshot;
+use snapshot::{NamedEntry, Snapshot};
 use std::alloc::Global;
 use std::process::Abort;
 
@@ -38,12 +38,10 @@ fn message(alloc: Global) -> Option<Call> {
     })
 }
 
-fn make_calls<M: Machine>(alloc: Global, machine: &mut M) -> Option<()> {
-    let message = message(alloc)?;
+fn make_calls<M: Machine>(alloc: Global, machine: &mut M) -> Option<Words> {
     ask_all(machine, &BEFORE)?;
-    machine.make(1, &message)?;
-    ask(machine, 1, DEATH)?;
-    Some(())
+    make(machine, 1, message(alloc)?)?;
+    ask(machine, 1, DEATH)
 }
 
 /// A copy of the state after these calls.
@@ -56,13 +54,25 @@ fn copy_after_calls<M: Machine + Drop>(alloc: Global) -> Option<Snapshot> {
 /// A name and what it stands for.
 type NameSeen = Option<(u32, Entry)>;
 
+fn name_at(names: &[NamedEntry], index: usize) -> NameSeen {
+    let named = names.get(index)?;
+    Some((named.name, named.entry))
+}
+
 /// The names of the only space, as far as the sixth.
 fn names_of(copy: &Snapshot) -> [NameSeen; 6] {
     let [space] = copy.spaces.as_slice() else {
         return [None; 6];
     };
     let names = space.names.as_slice();
-    [0, 1, 2, 3, 4, 5].map(|index| names.get(index).map(|named| (named.name, named.entry)))
+    [
+        name_at(names, 0),
+        name_at(names, 1),
+        name_at(names, 2),
+        name_at(names, 3),
+        name_at(names, 4),
+        name_at(names, 5),
+    ]
 }
 
 /// A live port's serial, its set, the target of its port-destroyed request, and how many messages it has.
@@ -98,21 +108,17 @@ fn seen_of(copy: &Snapshot) -> Seen {
     Seen {
         next_serial: copy.next_serial,
         names: names_of(copy),
-        ports: [0, 1, 2].map(|index| port_of(copy, index)),
+        ports: [port_of(copy, 0), port_of(copy, 1), port_of(copy, 2)],
         rights: rights_of(copy),
     }
 }
 
-fn seen_after_calls<M: Machine + Drop>(alloc: Global) -> Option<Seen> {
-    let copy = copy_after_calls::<M>(alloc)?;
-    Some(seen_of(&copy))
-}
-
-/// What is seen of a copy of the machine that is made of a copy of the state after these calls.
-fn seen_again<M: Machine + Drop>(alloc: Global) -> Option<Seen> {
-    let copy = copy_after_calls::<M>(alloc)?;
-    let copy = M::of_copy(alloc, copy)?.copied(alloc)?;
-    Some(seen_of(&copy))
+/// A copy of the machine that is made of that copy.
+fn copied_again<M: Machine + Drop>(alloc: Global) -> Option<Snapshot> {
+    let machine = M::of_copy(alloc, copy_after_calls::<M>(alloc)?)?;
+    let copy = machine.copied(alloc);
+    drop(machine);
+    copy
 }
 
 fn receive_right(port: u64) -> Entry {
@@ -154,12 +160,12 @@ const EXPECTED_RIGHTS: [Option<CarriedRight>; 2] = [
 
 #[test]
 fn a_copy_has_all_that_the_state_has(rt: HostRuntime) {
-    expect_all(&rt, seen_after_calls::<Kernel>(rt.alloc()));
+    expect_all(&rt, copy_after_calls::<Kernel>(rt.alloc()));
 }
 
 #[test]
 fn a_kernel_made_of_a_copy_has_all_of_it(rt: HostRuntime) {
-    expect_all(&rt, seen_again::<Kernel>(rt.alloc()));
+    expect_all(&rt, copied_again::<Kernel>(rt.alloc()));
 }
 
 static EXPECTED_PORTS: [PortSeen; 3] = [
@@ -168,14 +174,17 @@ static EXPECTED_PORTS: [PortSeen; 3] = [
     None,
 ];
 
-fn expect_all(rt: &impl Abort, seen: Option<Seen>) {
-    let Some(seen) = seen else {
+fn expect_seen(rt: &impl Abort, seen: &Seen) {
+    same(rt, seen.names, expected_names());
+    same(rt, (seen.next_serial, seen.ports), (4, EXPECTED_PORTS));
+    same(rt, seen.rights, Some(EXPECTED_RIGHTS));
+}
+
+fn expect_all(rt: &impl Abort, copy: Option<Snapshot>) {
+    let Some(copy) = copy else {
         return same(rt, false, true);
     };
-    let names = seen.names;
-    let ports = seen.ports;
-    let rights = seen.rights;
-    same(rt, names, expected_names());
-    same(rt, (seen.next_serial, ports), (4, EXPECTED_PORTS));
-    same(rt, rights, Some(EXPECTED_RIGHTS));
+    let seen = seen_of(&copy);
+    drop(copy);
+    expect_seen(rt, &seen);
 }

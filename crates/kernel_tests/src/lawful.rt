@@ -118,7 +118,9 @@ fn is_lawful(alloc: Global, snapshot: &Snapshot) -> Option<bool> {
 /// Whether these rows are those of a lawful state.
 fn verdict(alloc: Global, third: Option<Entry>, ports: &[PortRow]) -> Option<bool> {
     let snapshot = snapshot(alloc, third, ports).ok()?;
-    is_lawful(alloc, &snapshot)
+    let verdict = is_lawful(alloc, &snapshot);
+    drop(snapshot);
+    verdict
 }
 
 /// Port 1 is in the set, and the receive right of port 2 is in its queue.

@@ -68,12 +68,16 @@ fn words_of(reply: &Reply) -> Words {
     }
 }
 
+/// The words of a reply that isn't wanted behind them.
+fn words(reply: Reply) -> Words {
+    let words = words_of(&reply);
+    drop(reply);
+    words
+}
+
 /// The words of an answer, if there is one.
-fn words_of_answer(answer: &Option<Reply>) -> Option<Words> {
-    match answer {
-        Some(reply) => Some(words_of(reply)),
-        None => None,
-    }
+fn words_of_answer(answer: Option<Reply>) -> Option<Words> {
+    Some(words(answer?))
 }
 
 impl Machine for Kernel {
@@ -94,49 +98,44 @@ impl Machine for Kernel {
     }
 
     fn make(&mut self, space: u32, call: &Call) -> Option<Words> {
-        match self.apply(space, call) {
-            Ok(reply) => Some(words_of(&reply)),
-            Err(_) => None,
-        }
+        Some(words(self.apply(space, call).ok()?))
     }
 
     fn make_recorded(&mut self, call: &Call, counter: &mut Counter) -> Option<Words> {
-        match self.apply_recorded(1, call, counter) {
-            Ok(reply) => Some(words_of(&reply)),
-            Err(_) => None,
-        }
+        Some(words(self.apply_recorded(1, call, counter).ok()?))
     }
 
     fn answered(&self, space: u32, call: &Call) -> Option<Option<Words>> {
-        match self.answer(space, call) {
-            Ok(answer) => Some(words_of_answer(&answer)),
-            Err(_) => None,
-        }
+        Some(words_of_answer(self.answer(space, call).ok()?))
     }
 
     fn answered_in_place(&mut self, space: u32, call: &Call) -> Option<Option<Words>> {
-        match self.answer_in_place(space, call) {
-            Ok(answer) => Some(words_of_answer(&answer)),
-            Err(_) => None,
-        }
+        Some(words_of_answer(self.answer_in_place(space, call).ok()?))
     }
 
     fn type_of(&self, space: u32, name: u32) -> Words {
-        words_of(&self.port_type(space, name))
+        words(self.port_type(space, name))
     }
 
     fn references(&self) -> Words {
-        words_of(&self.get_refs(1, 0x100, 1))
+        words(self.get_refs(1, 0x100, 1))
     }
 
     fn status(&self) -> Words {
-        words_of(&self.receive_status(1, 0x100))
+        words(self.receive_status(1, 0x100))
     }
+}
+
+/// Makes a call that isn't wanted behind it.
+pub(crate) fn make<M: Machine>(machine: &mut M, space: u32, call: Call) -> Option<Words> {
+    let words = machine.make(space, &call);
+    drop(call);
+    words
 }
 
 /// Makes a call of numbers.
 pub(crate) fn ask<M: Machine>(machine: &mut M, space: u32, asked: Asked) -> Option<Words> {
-    machine.make(space, &asked.call())
+    make(machine, space, asked.call())
 }
 
 /// Makes calls of space 1, whatever they answer.
@@ -148,6 +147,23 @@ pub(crate) fn ask_all<M: Machine>(machine: &mut M, calls: &[Asked]) -> Option<()
 }
 
 /// In the state after a record.
-pub(crate) fn after<M: Machine>(alloc: Global, record: &Record) -> Option<M> {
+fn after<M: Machine>(alloc: Global, record: &Record) -> Option<M> {
     M::opened(alloc)?.replayed(record).ok()
+}
+
+/// The record of an allocation in space 1.
+pub(crate) fn allocated(right: u32, name: u32) -> Record {
+    Record {
+        space: 1,
+        call: Call::Allocate { right },
+        reply: Reply::Allocate { name },
+    }
+}
+
+/// In the state after an allocation.
+pub(crate) fn after_allocated<M: Machine>(alloc: Global, right: u32, name: u32) -> Option<M> {
+    let record = allocated(right, name);
+    let machine = after(alloc, &record);
+    drop(record);
+    machine
 }

@@ -1,8 +1,7 @@
 use crate::asked::Asked;
 use crate::calls_made::read;
 use crate::expect::same_in_row;
-use crate::machine::{Machine, Words, after};
-use crate::replayed::allocated;
+use crate::machine::{Machine, Words, after_allocated};
 use ipc_model::{Call, Reply};
 use kernel::{Kernel, Recorder};
 use std::alloc::{AllocError, Global};
@@ -54,8 +53,12 @@ fn tried_beside_one_port<M: Machine + Drop>(
     alloc: Global,
     asked: Asked,
 ) -> Option<(bool, Option<Words>, u32)> {
-    let mut machine: M = after(alloc, &allocated(1, 0x100))?;
-    Some(tried(&mut machine, &asked.call()))
+    let mut machine: M = after_allocated(alloc, 1, 0x100)?;
+    let call = asked.call();
+    let seen = tried(&mut machine, &call);
+    drop(call);
+    drop(machine);
+    Some(seen)
 }
 
 #[test]

@@ -1,7 +1,7 @@
 //! Records and what their replay says.
 use crate::asked::Asked;
 use crate::expect::{same, same_in_row};
-use crate::machine::{Machine, after, ask_all};
+use crate::machine::{Machine, Words, after_allocated, allocated, ask_all, make};
 use codes::KernReturn;
 use ipc_model::{Call, Record, Reply, RightKind, Sequence};
 use kernel::{Kernel, ReplayFault};
@@ -14,34 +14,27 @@ const DONE: Found = Some(None);
 
 const MISMATCH: Found = Some(Some(ReplayFault::Mismatch));
 
-pub(crate) fn allocated(right: u32, name: u32) -> Record {
-    Record {
-        space: 1,
-        call: Call::Allocate { right },
-        reply: Reply::Allocate { name },
-    }
-}
-
 /// The fault of a record's replay, if there is one.
-fn fault_of<M: Machine + Drop>(machine: M, record: &Record) -> Option<ReplayFault> {
-    machine.replayed(record).err()
+fn fault_of<M: Machine + Drop>(machine: Option<M>, record: &Record) -> Found {
+    Some(machine?.replayed(record).err())
 }
 
-/// The fault where one record follows another in a new store.
-fn fault_after<M: Machine + Drop>(alloc: Global, first: &Record, then: &Record) -> Found {
-    let machine: M = after(alloc, first)?;
-    Some(fault_of(machine, then))
+/// The fault where the record of an allocation is replayed.
+fn fault_of_allocated<M: Machine + Drop>(machine: Option<M>, right: u32, name: u32) -> Found {
+    let record = allocated(right, name);
+    let found = fault_of(machine, &record);
+    drop(record);
+    found
 }
 
-/// The fault where the record of an allocation is the first of a new store.
+/// The fault where such a record is the first of a new store.
 fn fault_at_first<M: Machine + Drop>(alloc: Global, right: u32, name: u32) -> Found {
-    let machine = M::opened(alloc)?;
-    Some(fault_of(machine, &allocated(right, name)))
+    fault_of_allocated(M::opened(alloc), right, name)
 }
 
 /// The fault where such a record is replayed twice.
 fn fault_of_second<M: Machine + Drop>(alloc: Global, right: u32, name: u32) -> Found {
-    fault_after::<M>(alloc, &allocated(right, name), &allocated(right, name))
+    fault_of_allocated(after_allocated::<M>(alloc, right, name), right, name)
 }
 
 #[test]
@@ -61,7 +54,9 @@ fn fault_after_a_port<M: Machine + Drop>(alloc: Global, call: Call, reply: Reply
         call,
         reply,
     };
-    fault_after::<M>(alloc, &allocated(1, 0x1ff), &record)
+    let found = fault_of(after_allocated::<M>(alloc, 1, 0x1ff), &record);
+    drop(record);
+    found
 }
 
 /// The fault where a right of that port is extracted under a name.
@@ -159,29 +154,38 @@ fn received(alloc: Global, port: u8) -> Option<Record> {
 }
 
 /// Sends a port of the set its message.
-fn send_to<M: Machine>(alloc: Global, machine: &mut M, port: u8) -> Option<()> {
-    let call = send(alloc, port)?;
-    machine.make(1, &call)?;
-    Some(())
+fn send_to<M: Machine>(alloc: Global, machine: &mut M, port: u8) -> Option<Words> {
+    make(machine, 1, send(alloc, port)?)
 }
 
 /// Makes the set, and sends each of its ports a message.
-fn fill_set<M: Machine>(alloc: Global, machine: &mut M) -> Option<()> {
+fn fill_set<M: Machine>(alloc: Global, machine: &mut M) -> Option<Words> {
     ask_all(machine, &PORTS_IN_A_SET)?;
     send_to(alloc, machine, 0)?;
     send_to(alloc, machine, 1)
 }
 
+/// In the state with that set and its messages.
+fn with_set<M: Machine + Drop>(alloc: Global) -> Option<M> {
+    let mut machine = M::opened(alloc)?;
+    fill_set(alloc, &mut machine)?;
+    Some(machine)
+}
+
 /// The fault where the record of a receipt from that port is replayed.
 fn fault_of_receipt<M: Machine + Drop>(alloc: Global, port: u8) -> Found {
     let record = received(alloc, port)?;
-    let mut machine = M::opened(alloc)?;
-    fill_set(alloc, &mut machine)?;
-    Some(fault_of(machine, &record))
+    let found = fault_of(with_set::<M>(alloc), &record);
+    drop(record);
+    found
 }
 
 #[test]
 fn a_receipt_is_replayed_from_its_member(rt: HostRuntime) {
-    let found = [0, 1, 2].map(|port| fault_of_receipt::<Kernel>(rt.alloc(), port));
+    let found = [
+        fault_of_receipt::<Kernel>(rt.alloc(), 0),
+        fault_of_receipt::<Kernel>(rt.alloc(), 1),
+        fault_of_receipt::<Kernel>(rt.alloc(), 2),
+    ];
     same(&rt, found, [DONE, DONE, MISMATCH]);
 }
