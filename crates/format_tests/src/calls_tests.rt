@@ -1,7 +1,7 @@
 ghost use Rattle.std.specs.Prelude.{◌≤◌, length};
 ghost use Rattle.ipc_model.specs.texts.Texts.{reply_text};
 
-use crate::expect::{same, same_in_row};
+use crate::expect::{is_there, same, same_in_row};
 use calls::{
     CallFault, MessageRequest, Request, push_call, push_kept_call, push_reply, read_call,
     read_recorded_reply, read_request, reply_frame,
@@ -13,8 +13,8 @@ use std::alloc::Global;
 use std::process::Abort;
 use wire::Frame;
 
-// The functions here have no clause, so that a test's proof carries nothing of the library's. What owns a call or a text
-// hands on what it saw with its `None`s, which no test wants: each exit would have to drop them all.
+// No function here says what the library gives back, so that a test's proof carries nothing of it. What owns a call or a
+// text has one exit, which drops it, and hands on what was seen with its `None`s, which no test wants.
 
 // Numbers of four bytes, lowest byte first.
 fn text_of(alloc: Global, numbers: &[u32]) -> Option<Vec<u8>> {
@@ -99,8 +99,7 @@ fn is_no_request(alloc: Global, content: &[u8]) -> Option<bool> {
 }
 
 fn is_no_call_of_record(alloc: Global, text: &[u8]) -> Option<bool> {
-    let call = call_of_record(alloc, text)?;
-    Some(call.is_none())
+    Some(!is_there(call_of_record(alloc, text)?))
 }
 
 // Whether a text with a byte more is no call, neither in a frame nor in a record.
@@ -230,10 +229,10 @@ fn kept_call_bytes(alloc: Global, call: &Call) -> Option<Vec<u8>> {
     Some(text)
 }
 
-// Whether what a request sends is kept as this message.
+// Whether what a request sends is kept as this text.
 fn is_kept_as(alloc: Global, request: &MessageRequest, kept: &[u8]) -> Option<bool> {
     let text = kept_call_bytes(alloc, request.send.as_ref()?)?;
-    Some(text.as_slice().strip_prefix(&SEND[..20]) == Some(kept))
+    Some(text.as_slice() == kept)
 }
 
 // How long a request's send may wait, and its receipt.
@@ -241,7 +240,7 @@ fn timeouts(request: &MessageRequest) -> [Option<u32>; 2] {
     [request.send_timeout, request.receive_timeout]
 }
 
-// Whether a request's send is kept as this message, whether it receives nothing, and its timeouts.
+// Whether a request's send is kept as this text, whether it receives nothing, and its timeouts.
 type SendSeen = (Option<bool>, bool, [Option<u32>; 2]);
 
 fn send_seen(alloc: Global, request: &Request, kept: &[u8]) -> Option<SendSeen> {
@@ -269,10 +268,11 @@ fn a_send_is_kept_without_what_it_ignores(rt: HostRuntime) {
     let message =
         b"\xff\xff\xff\xff\xff\xff\xff\xff\xff\xff\xff\xff\xff\xff\xff\xff\xff\xff\xff\xff\
         \x07\0\0\0\x44\x33\x22\x11";
-    let kept = b"\xff\xff\0\x80\0\0\0\0\xff\xff\xff\xff\xff\xff\xff\xff\0\0\0\0\
+    let kept = b"\x13\0\0\0\x01\0\0\0\0\0\0\0\0\0\0\0\0\0\0\0\
+        \xff\xff\0\x80\0\0\0\0\xff\xff\xff\xff\xff\xff\xff\xff\0\0\0\0\
         \x07\0\0\0\x44\x33\x22\x11";
     for length in [28, 6] {
-        let seen = send_asked(rt.alloc(), &message[..length], &kept[..length]);
+        let seen = send_asked(rt.alloc(), &message[..length], &kept[..length + 20]);
         same(&rt, seen, Some((Some(true), true, [Some(7), None])));
     }
 }
@@ -490,13 +490,19 @@ fn spells_names(alloc: Global) -> Spelled {
     };
     let names = Sequence::new(Vec::from_slice(alloc, &[first, second]).ok()?);
     let text = &[1, 0, 2, 8, 0x20000, 9, 0x10000];
-    is_spelled_in_words(alloc, &Reply::Names { names }, text)
+    let told = Reply::Names { names };
+    let spelled = is_spelled_in_words(alloc, &told, text);
+    drop(told);
+    spelled
 }
 
 #[tactic(auto, unfolding(ipc_model::specs::texts::Texts::reply_text))]
 fn spells_members(alloc: Global) -> Spelled {
     let members = Sequence::new(Vec::from_slice(alloc, &[8_u32, 9]).ok()?);
-    is_spelled_in_words(alloc, &Reply::SetStatus { members }, &[14, 0, 2, 8, 9])
+    let told = Reply::SetStatus { members };
+    let spelled = is_spelled_in_words(alloc, &told, &[14, 0, 2, 8, 9]);
+    drop(told);
+    spelled
 }
 
 #[tactic(auto, unfolding(ipc_model::specs::texts::Texts::reply_text))]
@@ -509,7 +515,9 @@ fn spells_message(alloc: Global) -> Spelled {
         message,
     };
     let text = b"\x13\0\0\0\0\0\0\0\x03\0\0\0\0\x01\0\0abc";
-    is_spelled(alloc, &received, text)
+    let spelled = is_spelled(alloc, &received, text);
+    drop(received);
+    spelled
 }
 
 #[test]
@@ -555,7 +563,7 @@ fn is_recorded(alloc: Global, line: &str, text: &[u8]) -> Option<bool> {
     let call = call_of_line(alloc, line)?;
     let reply = reply_of_record(alloc, &call, text);
     drop(call);
-    Some(reply?.is_some())
+    Some(is_there(reply?))
 }
 
 // The same of a text of these numbers.

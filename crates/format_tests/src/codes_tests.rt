@@ -1,29 +1,31 @@
 use crate::expect::{same, same_in_row};
 use codes::{KernReturn, Right};
 
+static CODES: [(KernReturn, u32); 6] = [
+    (KernReturn::NoSpace, 3),
+    (KernReturn::InvalidArgument, 4),
+    (KernReturn::ResourceShortage, 6),
+    (KernReturn::InvalidName, 15),
+    (KernReturn::InvalidTask, 16),
+    (KernReturn::InvalidValue, 18),
+];
+
+static RIGHTS: [(Right, u32); 5] = [
+    (Right::Send, 0x1_0000),
+    (Right::Receive, 0x2_0000),
+    (Right::SendOnce, 0x4_0000),
+    (Right::PortSet, 0x8_0000),
+    (Right::DeadName, 0x10_0000),
+];
+
 // Numbers that are on the wire, against the definitions that the clauses cite.
 #[test]
 fn numbers_on_the_wire(rt: HostRuntime) {
-    let codes = [
-        (KernReturn::NoSpace, 3),
-        (KernReturn::InvalidArgument, 4),
-        (KernReturn::ResourceShortage, 6),
-        (KernReturn::InvalidName, 15),
-        (KernReturn::InvalidTask, 16),
-        (KernReturn::InvalidValue, 18),
-    ];
-    for (code, number) in codes {
-        same_in_row(&rt, code, code.number(), number);
+    for (code, number) in &CODES {
+        same_in_row(&rt, *code, code.number(), *number);
     }
-    let rights = [
-        (Right::Send, 0x1_0000),
-        (Right::Receive, 0x2_0000),
-        (Right::SendOnce, 0x4_0000),
-        (Right::PortSet, 0x8_0000),
-        (Right::DeadName, 0x10_0000),
-    ];
-    for (right, bit) in rights {
-        same_in_row(&rt, right, right.type_bit(), bit);
-        same(&rt, Right::from_number(right.number()), Some(right));
+    for (right, bit) in &RIGHTS {
+        same_in_row(&rt, *right, right.type_bit(), *bit);
+        same(&rt, Right::from_number(right.number()), Some(*right));
     }
 }

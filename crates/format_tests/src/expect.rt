@@ -19,6 +19,11 @@ pub(crate) fn same_in_row<T: PartialEq + Debug + Drop>(
     assert_eq!(rt; seen, wanted, "{row:?}");
 }
 
+/// Whether there is a value, which isn't wanted behind this.
+pub(crate) fn is_there<T: Drop>(value: Option<T>) -> bool {
+    value.is_some()
+}
+
 /// Compares bytes, which have to be there.
 pub(crate) fn same_bytes(rt: &impl Abort, seen: Option<Vec<u8>>, wanted: &[u8]) {
     assert_eq!(rt; seen.as_deref(), Some(wanted));

@@ -1,7 +1,7 @@
 ghost use Rattle.std.specs.Prelude.{◌<◌, ◌^◌, length};
 ghost use Rattle.ipc_model.specs.texts.Texts.{call_text, reply_text};
 
-use crate::expect::{same, same_bytes, same_in_row};
+use crate::expect::{is_there, same, same_bytes, same_in_row};
 use codes::KernReturn;
 use ipc_model::{Call, Record, Reply, Sequence};
 use record::{in_range, push_record, take_frame, take_record};
@@ -57,10 +57,7 @@ fn read_and_written(alloc: Global, text: &[u8]) -> Option<Vec<u8>> {
 }
 
 fn is_record(alloc: Global, text: &[u8]) -> Option<bool> {
-    let taken = take_record(alloc, text).ok()?;
-    let found = taken.is_some();
-    drop(taken);
-    Some(found)
+    Some(is_there(take_record(alloc, text).ok()?))
 }
 
 #[test]

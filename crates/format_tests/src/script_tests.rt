@@ -1,4 +1,4 @@
-use crate::expect::{same, same_bytes, same_in_row};
+use crate::expect::{is_there, same, same_bytes, same_in_row};
 use codes::KernReturn;
 use ipc_model::{Call, ReceiveStatus, Reply, Sequence};
 use script::{
@@ -122,10 +122,7 @@ fn fault_of_call(alloc: Global, line: &str) -> Option<(usize, Expected)> {
 
 // Whether a line has no exchange.
 fn is_blank(alloc: Global, line: &[u8]) -> Option<bool> {
-    let read = exchange_of(alloc, line).ok()?;
-    let none = read.is_none();
-    drop(read);
-    Some(none)
+    Some(!is_there(exchange_of(alloc, line).ok()?))
 }
 
 static NO_CALLS: [(&'static str, usize, Expected); 3] = [

@@ -1,4 +1,4 @@
-use crate::expect::{same, same_bytes, same_in_row};
+use crate::expect::{is_there, same, same_bytes, same_in_row};
 use std::alloc::Global;
 use std::io;
 use std::io::{Read, Write};
@@ -93,10 +93,7 @@ fn written(alloc: Global, frame: &Option<Frame>) -> Option<Vec<u8>> {
 
 /// Whether there is no frame where there are no bytes.
 fn is_at_end(alloc: Global) -> Option<bool> {
-    let frame = read_frame(alloc, &mut &[][..]).ok()?;
-    let none = frame.is_none();
-    drop(frame);
-    Some(none)
+    Some(!is_there(read_frame(alloc, &mut &[][..]).ok()?))
 }
 
 #[test]
@@ -111,6 +108,7 @@ fn reads_and_writes(rt: HostRuntime) {
         (Some((5, arguments)), &[4][..]),
     );
     same_bytes(&rt, written(alloc, &frame), &FRAME);
+    drop(frame);
     same(&rt, is_at_end(alloc), Some(true));
 }
 
@@ -135,18 +133,23 @@ fn makes_frames(rt: HostRuntime) {
     frame.start(0x0102_0304);
     same(&rt, frame.number(), 0x0102_0304);
     let copied = is_copied_as(rt.alloc(), &frame, &[4, 3, 2, 1]);
+    drop(frame);
     same(&rt, copied, Some(true));
+}
+
+/// Gives that frame, and fails once so many reads are over.
+fn reader(before: usize) -> OneByte {
+    let bytes: &'static [u8] = b"\x08\0\0\0\x05\0\0\0\x01\0\0\0";
+    OneByte { bytes, before }
 }
 
 #[test]
 fn readers_that_give_little(rt: HostRuntime) {
-    let bytes: &'static [u8] = b"\x08\0\0\0\x05\0\0\0\x01\0\0\0";
-    let mut reader = OneByte { bytes, before: 12 };
-    let frame = frame_from(rt.alloc(), &mut reader);
+    let frame = frame_from(rt.alloc(), &mut reader(12));
     same(&rt, content_of(&frame), Some(&FRAME[4..]));
+    drop(frame);
     for before in [0, 3, 4, 11] {
-        let mut reader = OneByte { bytes, before };
-        let fault = read_frame(rt.alloc(), &mut reader).err();
+        let fault = read_frame(rt.alloc(), &mut reader(before)).err();
         same_in_row(&rt, before, fault, Some(WireFault::Device));
     }
 }
@@ -168,6 +171,7 @@ fn writers_that_take_little(rt: HostRuntime) {
         same_in_row(&rt, room, seen, Some((Some(WireFault::Device), 0)));
     }
     same(&rt, writing(&frame, 12, false), Some((None, 0)));
+    drop(frame);
 }
 
 /// Whether a fault has this name.
@@ -176,16 +180,17 @@ fn is_named(alloc: Global, fault: WireFault, text: &str) -> Option<bool> {
     Some(name.as_str() == text)
 }
 
+static FAULTS: [(WireFault, u32, &'static str); 4] = [
+    (WireFault::Short, 1, "short"),
+    (WireFault::TooLong, 2, "too long"),
+    (WireFault::Device, 3, "device"),
+    (WireFault::NoMemory, 4, "no memory"),
+];
+
 #[test]
 fn names_of_faults(rt: HostRuntime) {
-    let faults = [
-        (WireFault::Short, 1, "short"),
-        (WireFault::TooLong, 2, "too long"),
-        (WireFault::Device, 3, "device"),
-        (WireFault::NoMemory, 4, "no memory"),
-    ];
-    for (fault, number, text) in faults {
-        let named = is_named(rt.alloc(), fault, text);
-        same_in_row(&rt, text, (fault.number(), named), (number, Some(true)));
+    for (fault, number, text) in &FAULTS {
+        let named = is_named(rt.alloc(), *fault, text);
+        same_in_row(&rt, *text, (fault.number(), named), (*number, Some(true)));
     }
 }
