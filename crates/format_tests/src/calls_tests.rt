@@ -330,15 +330,18 @@ fn answer_at_once(alloc: Global, option: u32) -> Option<KernReturn> {
     answer
 }
 
+static ANSWERS: [(u32, KernReturn); 4] = [
+    (0, KernReturn::Success),
+    (0x910, KernReturn::Success),
+    (4, KernReturn::InvalidArgument),
+    (0x8000_0003, KernReturn::InvalidArgument),
+];
+
 #[test]
 fn a_mach_msg_that_asks_for_nothing(rt: HostRuntime) {
-    for (option, code) in [
-        (0, KernReturn::Success),
-        (0x910, KernReturn::Success),
-        (4, KernReturn::InvalidArgument),
-        (0x8000_0003, KernReturn::InvalidArgument),
-    ] {
-        same_in_row(&rt, option, answer_at_once(rt.alloc(), option), Some(code));
+    for (option, code) in &ANSWERS {
+        let answer = answer_at_once(rt.alloc(), *option);
+        same_in_row(&rt, *option, answer, Some(*code));
     }
     let short = b"\x13\0\0\0\x02\0\0\0\x1c\0\0\0\0\x01\0\0";
     same(&rt, is_no_request(rt.alloc(), short), Some(true));

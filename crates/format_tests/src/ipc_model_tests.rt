@@ -1,24 +1,37 @@
 use crate::expect::{same, same_in_row};
 use codes::{KernReturn, MACH_MSG};
-use ipc_model::{Call, Message, Reply, RightKind, Sequence};
-use std::test::Fail;
+use ipc_model::{Call, Reply, RightKind, Sequence};
+use std::alloc::Global;
 
-#[test]
-fn a_sequence_gives_its_items_back(rt: HostRuntime) -> Result<(), Fail> {
-    let names = Sequence::new(vec![in rt.alloc(); 0x100_u32, 0x101]?);
-    same(&rt, names.as_slice(), &[0x100, 0x101][..]);
-    same(&rt, names.into_vec().as_slice(), &[0x100, 0x101][..]);
-    Ok(())
+/// Whether a sequence of these items lends them, and gives them back.
+fn given_back(alloc: Global, items: &[u32]) -> Option<[bool; 2]> {
+    let sequence = Sequence::new(Vec::from_slice(alloc, items).ok()?);
+    let lends = sequence.as_slice() == items;
+    let back = sequence.into_vec();
+    let gives = back.as_slice() == items;
+    drop(back);
+    Some([lends, gives])
 }
 
 #[test]
+fn a_sequence_gives_its_items_back(rt: HostRuntime) {
+    same(
+        &rt,
+        given_back(rt.alloc(), &[0x100, 0x101]),
+        Some([true; 2]),
+    );
+}
+
+static KINDS: [(RightKind, u32); 3] = [
+    (RightKind::Receive, 16),
+    (RightKind::Send, 17),
+    (RightKind::SendOnce, 18),
+];
+
+#[test]
 fn kinds_have_their_numbers(rt: HostRuntime) {
-    for (kind, number) in [
-        (RightKind::Receive, 16),
-        (RightKind::Send, 17),
-        (RightKind::SendOnce, 18),
-    ] {
-        same_in_row(&rt, kind, kind as u32, number);
+    for (kind, number) in &KINDS {
+        same_in_row(&rt, *kind, *kind as u32, *number);
     }
 }
 
@@ -34,25 +47,28 @@ fn what_changed_the_state_has_a_record(rt: HostRuntime) {
     same(&rt, call.has_record(&full), false);
 }
 
-#[test]
-fn mach_msg_is_refused_with_its_results(rt: HostRuntime) {
-    let full = Reply::refused(rt.alloc(), 5, KernReturn::NoSpace);
-    same(
-        &rt,
-        matches!(full, Reply::Refused { .. }) && !full.is_success(),
-        true,
-    );
-    let unsent = Reply::refused(rt.alloc(), MACH_MSG, KernReturn::SendTimedOut);
-    same(
-        &rt,
+/// Whether a reply is a refusal, whether it is the results of a message of size 0 by no port, and whether it is a success.
+fn seen_of(reply: Reply) -> [bool; 3] {
+    let seen = [
+        matches!(&reply, Reply::Refused { .. }),
         matches!(
-            unsent,
+            &reply,
             Reply::Message {
                 size: 0,
                 member: 0,
                 ..
             }
-        ) && !unsent.is_success(),
-        true,
-    );
+        ),
+        reply.is_success(),
+    ];
+    drop(reply);
+    seen
+}
+
+#[test]
+fn mach_msg_is_refused_with_its_results(rt: HostRuntime) {
+    let full = Reply::refused(rt.alloc(), 5, KernReturn::NoSpace);
+    same(&rt, seen_of(full), [true, false, false]);
+    let unsent = Reply::refused(rt.alloc(), MACH_MSG, KernReturn::SendTimedOut);
+    same(&rt, seen_of(unsent), [false, true, false]);
 }

@@ -8,13 +8,3 @@ use std::process::Abort;
 pub(crate) fn same<T: PartialEq + Debug + Drop>(rt: &impl Abort, seen: T, wanted: T) {
     assert_eq!(rt; seen, wanted);
 }
-
-/// Compares what was seen in a row of a table with what is wanted.
-pub(crate) fn same_in_row<T: PartialEq + Debug + Drop>(
-    rt: &impl Abort,
-    row: impl Debug + Drop,
-    seen: T,
-    wanted: T,
-) {
-    assert_eq!(rt; seen, wanted, "{row:?}");
-}

@@ -1,6 +1,6 @@
 use crate::asked::Asked;
 use crate::calls_made::read;
-use crate::expect::same_in_row;
+use crate::expect::same;
 use crate::machine::{Machine, Words, after_allocated};
 use ipc_model::{Call, Reply};
 use kernel::{Kernel, Recorder};
@@ -68,6 +68,6 @@ fn a_step_without_its_record_is_given_up(rt: HostRuntime) {
         (Asked::Destroy(0x100), [6, 0, 0, 0]),
     ] {
         let found = tried_beside_one_port::<Kernel>(rt.alloc(), asked);
-        same_in_row(&rt, words, found, Some((true, Some(words), 1)));
+        same(&rt, found, Some((true, Some(words), 1)));
     }
 }

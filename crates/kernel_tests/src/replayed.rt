@@ -1,6 +1,6 @@
 //! Records and what their replay says.
 use crate::asked::Asked;
-use crate::expect::{same, same_in_row};
+use crate::expect::same;
 use crate::machine::{Machine, Words, after_allocated, allocated, ask_all, make};
 use codes::KernReturn;
 use ipc_model::{Call, Record, Reply, RightKind, Sequence};
@@ -72,7 +72,7 @@ fn fault_of_extracted<M: Machine + Drop>(alloc: Global, name: u32) -> Found {
 fn replays_the_name_of_an_extracted_right(rt: HostRuntime) {
     for (name, fault) in [(0x555, DONE), (0x1ff, MISMATCH), (0, MISMATCH)] {
         let found = fault_of_extracted::<Kernel>(rt.alloc(), name);
-        same_in_row(&rt, name, found, fault);
+        same(&rt, (name, found), (name, fault));
     }
 }
 
@@ -94,7 +94,7 @@ fn replays_the_number_of_a_new_space(rt: HostRuntime) {
         (2, 0, MISMATCH),
     ] {
         let found = fault_of_space::<Kernel>(rt.alloc(), space, name);
-        same_in_row(&rt, (space, name), found, fault);
+        same(&rt, (space, name, found), (space, name, fault));
     }
 }
 
