@@ -28,9 +28,7 @@ fn message(alloc: Global, carried: u64, odd: usize) -> Result<Message, AllocErro
         port: PortInMessage::Live(carried),
     };
     let mut body = Vec::from_slice(alloc, &BODY)?;
-    for _ in 0..odd {
-        body.push(0)?;
-    }
+    body.resize(BODY.len().saturating_add(odd), 0)?;
     Ok(Message {
         destination: RightKind::Send,
         reply: None,

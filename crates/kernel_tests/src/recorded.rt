@@ -61,13 +61,16 @@ fn tried_beside_one_port<M: Machine + Drop>(
     Some(seen)
 }
 
+/// A call, and its reply's words.
+static RECORDED: [(Asked, Words); 2] = [
+    (Asked::Allocate(1), [5, 0, 0x101, 0]),
+    (Asked::Destroy(0x100), [6, 0, 0, 0]),
+];
+
 #[test]
 fn a_step_without_its_record_is_given_up(rt: HostRuntime) {
-    for (asked, words) in [
-        (Asked::Allocate(1), [5, 0, 0x101, 0]),
-        (Asked::Destroy(0x100), [6, 0, 0, 0]),
-    ] {
-        let found = tried_beside_one_port::<Kernel>(rt.alloc(), asked);
-        same(&rt, found, Some((true, Some(words), 1)));
+    for (asked, words) in &RECORDED {
+        let found = tried_beside_one_port::<Kernel>(rt.alloc(), *asked);
+        same(&rt, found, Some((true, Some(*words), 1)));
     }
 }

@@ -68,11 +68,14 @@ fn fault_of_extracted<M: Machine + Drop>(alloc: Global, name: u32) -> Found {
     fault_after_a_port::<M>(alloc, Asked::ExtractRight(0x1ff).call(), reply)
 }
 
+/// A name for the extracted right, and the fault.
+static EXTRACTED: [(u32, Found); 3] = [(0x555, DONE), (0x1ff, MISMATCH), (0, MISMATCH)];
+
 #[test]
 fn replays_the_name_of_an_extracted_right(rt: HostRuntime) {
-    for (name, fault) in [(0x555, DONE), (0x1ff, MISMATCH), (0, MISMATCH)] {
-        let found = fault_of_extracted::<Kernel>(rt.alloc(), name);
-        same(&rt, (name, found), (name, fault));
+    for (name, fault) in &EXTRACTED {
+        let found = fault_of_extracted::<Kernel>(rt.alloc(), *name);
+        same(&rt, (*name, found), (*name, *fault));
     }
 }
 
@@ -85,16 +88,20 @@ fn fault_of_space<M: Machine + Drop>(alloc: Global, space: u32, name: u32) -> Fo
     fault_after_a_port::<M>(alloc, create, Reply::SpaceCreated { space, name })
 }
 
+/// A space's number, its name for the right, and the fault.
+static SPACES: [(u32, u32, Found); 4] = [
+    (256, 0x999, DONE),
+    (1, 0x100, MISMATCH),
+    (257, 0x100, MISMATCH),
+    (2, 0, MISMATCH),
+];
+
 #[test]
 fn replays_the_number_of_a_new_space(rt: HostRuntime) {
-    for (space, name, fault) in [
-        (256, 0x999, DONE),
-        (1, 0x100, MISMATCH),
-        (257, 0x100, MISMATCH),
-        (2, 0, MISMATCH),
-    ] {
-        let found = fault_of_space::<Kernel>(rt.alloc(), space, name);
-        same(&rt, (space, name, found), (space, name, fault));
+    for (space, name, fault) in &SPACES {
+        let found = fault_of_space::<Kernel>(rt.alloc(), *space, *name);
+        let wanted = (*space, *name, *fault);
+        same(&rt, (*space, *name, found), wanted);
     }
 }
 
