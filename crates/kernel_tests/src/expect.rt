@@ -1,4 +1,4 @@
-//! What a test compares. The assertions stand here alone, and what is compared is made by functions without clauses: a
+//! What a test compares. The assertion stands here alone, and what is compared is made by functions without clauses: a
 //! test's proof then carries neither the branch of an assertion nor what a call of the library says.
 
 use std::fmt::Debug;
