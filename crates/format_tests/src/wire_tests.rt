@@ -137,7 +137,7 @@ fn makes_frames(rt: HostRuntime) {
     same(&rt, copied, Some(true));
 }
 
-/// Gives that frame, and fails once so many reads are over.
+/// Gives the frame of the number 5 and the argument 1, and fails once so many reads are over.
 fn reader(before: usize) -> OneByte {
     let bytes: &'static [u8] = b"\x08\0\0\0\x05\0\0\0\x01\0\0\0";
     OneByte { bytes, before }
