@@ -4,7 +4,7 @@
 use crate::Fault;
 use crate::context::{Context, hundredths, per_second};
 use crate::lines::{Line, Maker, Step, make_steps, steps_of};
-use crate::makers::{Core, STORE, open_core, work_all};
+use crate::makers::{Core, STORE, make_checkpoint, open_core, work_all};
 use crate::messages::send_line;
 use crate::plain::{PAIR, Plain};
 use crate::watched::{Watch, Watched};
@@ -52,11 +52,13 @@ static NEW_PORT: [Line<'static>; 2] = [
     (HERE, "allocate receive", 0, 1),
 ];
 
-/// The nanoseconds that batches take with their calls and replies, and to be stored alone; plain writes, and pairs.
+/// The nanoseconds that batches take with their calls and replies, and to be stored alone; plain writes, each where a batch
+/// would be stored and then back to back; and pairs.
 #[derive(Clone, Copy)]
 struct Times {
     whole: u64,
     stored: u64,
+    instead: u64,
     plain: u64,
     pairs: u64,
 }
@@ -64,6 +66,7 @@ struct Times {
 const LONGEST: Times = Times {
     whole: u64::MAX,
     stored: u64::MAX,
+    instead: u64::MAX,
     plain: u64::MAX,
     pairs: u64::MAX,
 };
@@ -140,25 +143,54 @@ fn time_batches<C: Core>(
     Ok((whole, stored))
 }
 
-/// One turn, whose times count where they are shorter: batches, plain writes of so many bytes, and pairs of syncs.
-fn time_turn<C: Core>(
+/// Makes as many calls as such batches have, and a plain write where each of them would be stored, which it is behind that. How
+/// long the writes take: what stands before a write counts too, so a batch's storing and these stand behind the same.
+fn time_instead<C: Core>(
     context: &Context<'_>,
     core: &mut C,
     steps: &[Step],
     size: (u64, u64),
     plain: &mut Plain,
     bytes: u64,
+) -> Result<u64, Fault> {
+    let mut written = 0u64;
+    for _ in 0..size.1 {
+        let last = submit_all(core, steps, size.0)?;
+        written = written.saturating_add(plain.time(context, bytes, 1)?);
+        work_all(core, &STORE)?;
+        answer_all(core, last, size.0)?;
+    }
+    Ok(written)
+}
+
+/// One turn, whose times count where they are shorter: batches, plain writes of so many bytes, and pairs of syncs.
+fn time_turn<C: Core + Maker>(
+    context: &Context<'_>,
+    core: &mut C,
+    kind: &Kind,
+    size: (u64, u64),
+    plain: &mut Plain,
+    bytes: u64,
     least: Times,
 ) -> Result<Times, Fault> {
-    let (whole, stored) = time_batches(context, core, steps, size)?;
+    let (whole, stored) = time_batches(context, core, &kind.steps, size)?;
     let written = plain.time(context, bytes, size.1)?;
     let pairs = plain.time(context, PAIR, size.1)?;
+    make_steps(core, &kind.behind)?;
+    let instead = time_instead(context, core, &kind.steps, size, plain, bytes)?;
     Ok(Times {
         whole: whole.min(least.whole),
         stored: stored.min(least.stored),
+        instead: instead.min(least.instead),
         plain: written.min(least.plain),
         pairs: pairs.min(least.pairs),
     })
+}
+
+/// Lets go of what a turn made, and of its records, of which a journal holds 65,536 at most.
+fn end_turn<C: Core + Maker>(core: &mut C, kind: &Kind) -> Result<(), Fault> {
+    make_steps(core, &kind.behind)?;
+    make_checkpoint(core)
 }
 
 /// The shortest times of all turns.
@@ -172,8 +204,8 @@ fn time_turns<C: Core + Maker>(
 ) -> Result<Times, Fault> {
     let mut least = LONGEST;
     for _ in 0..TURNS {
-        least = time_turn(context, core, &kind.steps, size, plain, bytes, least)?;
-        make_steps(core, &kind.behind)?;
+        least = time_turn(context, core, kind, size, plain, bytes, least)?;
+        end_turn(core, kind)?;
     }
     Ok(least)
 }
@@ -208,7 +240,7 @@ fn print_times(context: &Context<'_>, label: &str, size: (u64, u64), bytes: u64,
     ];
     let ratios = [
         hundredths(times.plain, times.whole),
-        hundredths(times.plain, times.stored),
+        hundredths(times.instead, times.stored),
         hundredths(times.pairs, times.whole),
     ];
     context.print_row(label, &figures, &ratios);
@@ -276,7 +308,7 @@ fn messages(alloc: Global) -> Result<Kind, Fault> {
 /// Prints what batches of both kinds and of each size cost.
 pub(crate) fn print_batches(context: &Context<'_>, plain: &mut Plain) -> Result<(), Fault> {
     context.print_row(
-        "batches: records; a second records, kB, kB of plain writes, batches, pairs of syncs; batches for a plain write, with their calls and replies and only stored, and for a pair",
+        "batches: records; a second records, kB, kB of plain writes, batches, pairs of syncs; batches for a plain write, with their calls and replies; batches stored for a plain write in their place; batches for a pair",
         &[],
         &[],
     );

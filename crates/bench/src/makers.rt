@@ -116,7 +116,7 @@ pub(crate) fn work_all<C: Core>(core: &mut C, works: &[Work]) -> Result<(), Faul
 }
 
 /// Makes a whole checkpoint.
-fn make_checkpoint<C: Core>(core: &mut C) -> Result<(), Fault> {
+pub(crate) fn make_checkpoint<C: Core>(core: &mut C) -> Result<(), Fault> {
     work_all(core, &BEGIN)?;
     for _ in 0..u64::MAX {
         if !core.work(Work::Piece) {
