@@ -8,7 +8,7 @@ use crate::messages::{BY_SEND, send_line};
 use crate::watched::{Watch, Watched};
 use crate::ways::HERE;
 use disk::{Disk, Slot};
-use server::open;
+use server::{System, open};
 use std::alloc::Global;
 
 /// A small call, and the one that takes back what it made.
@@ -62,10 +62,12 @@ pub(crate) fn time_opening<D: Disk + Drop>(
     disk: D,
 ) -> Result<(u64, D), Fault> {
     let start = context.nanos();
-    let Ok(opened) = open(context.alloc, disk) else {
-        return Err(Fault::Store);
-    };
-    Ok((context.since(start), opened.disk))
+    let opened = open(context.alloc, disk);
+    let nanos = context.since(start);
+    match opened {
+        Ok(opened) => Ok((nanos, System::new(context.alloc, opened).into_disk())),
+        Err(_) => Err(Fault::Store),
+    }
 }
 
 /// The shortest time of three in which a store is opened, and its disk again.

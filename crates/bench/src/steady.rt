@@ -156,9 +156,14 @@ fn serve_long<C: Caller>(
     Ok((early, late))
 }
 
-/// Prints two figures, and how many times the first the second is.
-fn print_two(context: &Context<'_>, label: &str, early: u64, late: u64) {
-    context.print_row(label, &[early, late], &[hundredths(late, early)]);
+/// Prints the most of two looks, and how many times the first the second is.
+fn print_looks(context: &Context<'_>, early: Most, late: Most) {
+    for (label, first, second) in [
+        ("resident memory, kB", early.memory, late.memory),
+        ("bytes of the four slots", early.bytes, late.bytes),
+    ] {
+        context.print_row(label, &[first, second], &[hundredths(second, first)]);
+    }
 }
 
 /// Prints what a store on a disk takes after two counts of thousands of calls.
@@ -177,8 +182,7 @@ fn print_on<D: Disk + Drop>(
     let served = serve_long(context, &mut alone, &watch, frames, thousands);
     let _ = alone.into_disk();
     let (early, late) = served?;
-    print_two(context, "resident memory, kB", early.memory, late.memory);
-    print_two(context, "bytes of the four slots", early.bytes, late.bytes);
+    print_looks(context, early, late);
     Ok(())
 }
 
