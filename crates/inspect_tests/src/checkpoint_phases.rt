@@ -8,10 +8,10 @@ use std::alloc::{AllocError, Global};
 use std::fmt::Debug;
 use std::process::Abort;
 use std::test::Fail;
-use system::{Event, Outcome, System, open};
+use system::{Event, Opened, Outcome, System, open};
 
 /// An event of the core, which a table can hold.
-#[derive(Clone, Copy, Debug)]
+#[derive(Clone, Copy)]
 enum Step {
     /// A receive right is allocated in space 1.
     Allocate,
@@ -198,11 +198,8 @@ fn are_done(core: &mut System<MemDisk>, phases: &[Phase]) -> bool {
     true
 }
 
-/// The disk of a new store behind the steps of these phases, as a read gives it.
-fn disk_after(alloc: Global, phases: &[Phase]) -> Result<MemDisk, Fail> {
-    let Ok(opened) = open(alloc, MemDisk::new(alloc)) else {
-        return Err(Fail::from("the store can't be opened"));
-    };
+/// The disk of an opened store behind the steps of these phases, as a read gives it.
+fn disk_behind(alloc: Global, opened: Opened<MemDisk>, phases: &[Phase]) -> Result<MemDisk, Fail> {
     let mut core = System::new(alloc, opened);
     let are_done = are_done(&mut core, phases);
     let disk = core.into_disk();
@@ -213,13 +210,20 @@ fn disk_after(alloc: Global, phases: &[Phase]) -> Result<MemDisk, Fail> {
     }
 }
 
-fn slots_of(alloc: Global, disk: &MemDisk) -> Result<[Vec<u8>; 4], AllocError> {
-    Ok([
-        disk.content(Slot::Image0).to_vec(alloc)?,
-        disk.content(Slot::Image1).to_vec(alloc)?,
-        disk.content(Slot::Segment0).to_vec(alloc)?,
-        disk.content(Slot::Segment1).to_vec(alloc)?,
-    ])
+/// The same of a new store.
+fn disk_after(alloc: Global, phases: &[Phase]) -> Result<MemDisk, Fail> {
+    match open(alloc, MemDisk::new(alloc)) {
+        Ok(opened) => disk_behind(alloc, opened, phases),
+        Err(_) => Err(Fail::from("the store can't be opened")),
+    }
+}
+
+fn slots_of(alloc: Global, disk: &MemDisk) -> Result<Vec<Vec<u8>>, AllocError> {
+    let mut slots = Vec::new(alloc);
+    for slot in [Slot::Image0, Slot::Image1, Slot::Segment0, Slot::Segment1] {
+        slots.push(disk.content(slot).to_vec(alloc)?)?;
+    }
+    Ok(slots)
 }
 
 fn lines_of(alloc: Global, disk: &mut MemDisk) -> Result<String, Fail> {
@@ -238,51 +242,48 @@ fn drawing_of(alloc: Global, disk: &mut MemDisk) -> Result<String, Fail> {
     }
 }
 
-/// The lines and the drawing of a store, and whether its slots stay as they were.
-fn inspected(alloc: Global, disk: &mut MemDisk) -> Result<(String, String, bool), Fail> {
-    let before = slots_of(alloc, disk)?;
+/// The lines and the drawing of a store.
+fn printed(alloc: Global, disk: &mut MemDisk) -> Result<(String, String), Fail> {
     let lines = lines_of(alloc, disk)?;
     let drawing = drawing_of(alloc, disk)?;
-    let after = slots_of(alloc, disk)?;
-    Ok((lines, drawing, before == after))
+    Ok((lines, drawing))
 }
 
-/// What is seen behind the last one of these phases, and what is wanted.
-fn seen_and_wanted(
-    alloc: Global,
-    phases: &[Phase],
-) -> Result<((String, String, bool), (String, String, bool)), Fail> {
-    let Some((_, (lines, drawing))) = phases.last() else {
-        return Err(Fail::from("there is a phase"));
-    };
+/// What is printed of a store, and whether its slots stay as they were.
+fn inspected(alloc: Global, disk: &mut MemDisk) -> Result<((String, String), bool), Fail> {
+    let before = slots_of(alloc, disk)?;
+    let printed = printed(alloc, disk)?;
+    let after = slots_of(alloc, disk)?;
+    Ok((printed, before == after))
+}
+
+/// The same of a new store behind the steps of these phases.
+fn inspected_after(alloc: Global, phases: &[Phase]) -> Result<((String, String), bool), Fail> {
     let mut disk = disk_after(alloc, phases)?;
-    let seen = inspected(alloc, &mut disk)?;
-    let wanted = (
-        String::from_str(alloc, lines)?,
-        String::from_str(alloc, drawing)?,
-        true,
-    );
-    Ok((seen, wanted))
+    inspected(alloc, &mut disk)
 }
 
 fn same_in_row<T: PartialEq + Debug + Drop>(rt: &impl Abort, row: usize, seen: T, wanted: T) {
     assert_eq!(rt; seen, wanted, "{row}");
 }
 
-#[test]
-fn a_checkpoint_shows_one_state_in_each_phase(rt: HostRuntime) -> Result<(), Fail> {
-    for row in 0..CHECKPOINT.len() {
-        let (seen, wanted) = seen_and_wanted(rt.alloc(), &CHECKPOINT[..=row])?;
-        same_in_row(&rt, row, seen, wanted);
+/// Compares what is seen behind each of these phases with what is wanted.
+fn check_phases(rt: &impl Abort, alloc: Global, phases: &[Phase]) -> Result<(), Fail> {
+    for row in 0..phases.len() {
+        let ((lines, drawing), is_same) = inspected_after(alloc, &phases[..=row])?;
+        let (_, (wanted_lines, wanted_drawing)) = phases[row];
+        let seen = (lines.as_str(), drawing.as_str(), is_same);
+        same_in_row(rt, row, seen, (wanted_lines, wanted_drawing, true));
     }
     Ok(())
 }
 
 #[test]
+fn a_checkpoint_shows_one_state_in_each_phase(rt: HostRuntime) -> Result<(), Fail> {
+    check_phases(&rt, rt.alloc(), &CHECKPOINT)
+}
+
+#[test]
 fn a_call_beside_an_image_is_shown_from_its_append_on(rt: HostRuntime) -> Result<(), Fail> {
-    for row in 0..BESIDE.len() {
-        let (seen, wanted) = seen_and_wanted(rt.alloc(), &BESIDE[..=row])?;
-        same_in_row(&rt, row, seen, wanted);
-    }
-    Ok(())
+    check_phases(&rt, rt.alloc(), &BESIDE)
 }

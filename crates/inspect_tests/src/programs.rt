@@ -15,10 +15,15 @@ struct Ended {
     errors: String,
 }
 
-fn run(rt: &HostRuntime, words: Option<&[String]>) -> Result<Ended, Fail> {
+/// Runs the program that lists a store, or the one that draws it.
+fn run(rt: &HostRuntime, words: Option<&[String]>, is_drawing: bool) -> Result<Ended, Fail> {
     let mut output = Vec::new(rt.alloc());
     let mut errors = Vec::new(rt.alloc());
-    let status = show(rt.alloc(), rt, words, &mut output, &mut errors);
+    let status = if is_drawing {
+        show_drawing(rt.alloc(), rt, words, &mut output, &mut errors)
+    } else {
+        show(rt.alloc(), rt, words, &mut output, &mut errors)
+    };
     Ok(Ended {
         status,
         output: String::from_utf8(output)?,
@@ -26,16 +31,19 @@ fn run(rt: &HostRuntime, words: Option<&[String]>) -> Result<Ended, Fail> {
     })
 }
 
-/// A new folder, as a program's words.
-fn folder(rt: &HostRuntime, name: &str) -> Result<Vec<String>, Fail> {
+/// The path of a folder for a test.
+fn path_of(rt: &HostRuntime, name: &str) -> Result<String, Fail> {
     let mut folder = env::temp_dir(rt)?;
     folder.push(name)?;
-    let path = String::from_str(rt.alloc(), folder.as_path().as_str())?;
+    Ok(String::from_str(rt.alloc(), folder.as_path().as_str())?)
+}
+
+/// A new folder, as a program's word.
+fn folder(rt: &HostRuntime, name: &str) -> Result<[String; 1], Fail> {
+    let path = path_of(rt, name)?;
     let _ = fs::remove_dir_all(rt, path.as_str());
     fs::create_dir(rt, path.as_str())?;
-    let mut words = Vec::new(rt.alloc());
-    words.push(path)?;
-    Ok(words)
+    Ok([path])
 }
 
 /// A path that is no folder, so often.
@@ -52,15 +60,28 @@ fn is_told(ended: &Ended, status: u8, line: &str) -> bool {
     ended.status == status && ended.output.is_empty() && ended.errors.as_str() == line
 }
 
+/// Whether a run wrote nothing but the lines of an empty store, and ended well.
+fn is_listed(ended: &Ended) -> bool {
+    ended.status == 0
+        && ended.errors.is_empty()
+        && ended.output.as_str() == "epoch 0 records 0\nspace 1\n"
+}
+
+/// Whether a program tells by this line that its words can't be read, or are none, or two, or three.
+fn refuses_words(rt: &HostRuntime, is_drawing: bool, line: &str) -> Result<bool, Fail> {
+    let unreadable = run(rt, None, is_drawing)?;
+    let mut is_refused = is_told(&unreadable, 2, line);
+    for count in [0, 2, 3] {
+        let ended = run(rt, Some(&paths(rt, count)?), is_drawing)?;
+        is_refused = is_refused && is_told(&ended, 2, line);
+    }
+    Ok(is_refused)
+}
+
 #[test]
 fn words_have_a_status_and_a_line(rt: HostRuntime) -> Result<(), Fail> {
-    for count in [0, 2, 3] {
-        let ended = run(&rt, Some(&paths(&rt, count)?))?;
-        assert!(rt; is_told(&ended, 2, "machls: command line\n"));
-    }
-    let unreadable = run(&rt, None)?;
-    assert!(rt; is_told(&unreadable, 2, "machls: command line\n"));
-    let nowhere = run(&rt, Some(&paths(&rt, 1)?))?;
+    assert!(rt; refuses_words(&rt, false, "machls: command line\n")?);
+    let nowhere = run(&rt, Some(&paths(&rt, 1)?), false)?;
     assert!(rt; is_told(&nowhere, 1, "machls: store fault 1: device\n"));
     Ok(())
 }
@@ -68,25 +89,23 @@ fn words_have_a_status_and_a_line(rt: HostRuntime) -> Result<(), Fail> {
 #[test]
 fn an_empty_folder_stays_empty(rt: HostRuntime) -> Result<(), Fail> {
     let words = folder(&rt, "machls_empty_folder")?;
-    let ended = run(&rt, Some(&words))?;
-    assert!(rt;
-        ended.status == 0
-            && ended.errors.is_empty()
-            && ended.output.as_str() == "epoch 0 records 0\nspace 1\n"
-    );
+    let ended = run(&rt, Some(&words), false)?;
+    assert!(rt; is_listed(&ended));
     // A folder with something in it isn't removed so.
-    for path in &words {
-        fs::remove_dir(&rt, path.as_str())?;
-    }
+    fs::remove_dir(&rt, words[0].as_str())?;
     Ok(())
 }
 
 /// Makes a store in a folder.
 fn make_store(rt: &HostRuntime, folder: &str) -> Result<(), Fail> {
-    if open(rt.alloc(), FileDisk::at(rt.alloc(), rt, folder)?).is_err() {
-        return Err(Fail::from("the store is made"));
+    let opened = open(rt.alloc(), FileDisk::at(rt.alloc(), rt, folder)?);
+    let is_made = opened.is_ok();
+    drop(opened);
+    if is_made {
+        Ok(())
+    } else {
+        Err(Fail::from("the store is made"))
     }
-    Ok(())
 }
 
 /// Gives the two files of a store one mode, and its folder another.
@@ -98,12 +117,10 @@ fn set_modes(rt: &HostRuntime, folder: &str, files: u32, mode: u32) -> Result<()
     Ok(fs::set_permissions(rt, folder, Permissions::from_mode(mode))?)
 }
 
-/// The bytes of a file of a folder, and when it and the folder were changed last.
-fn seen(
-    rt: &HostRuntime,
-    folder: &str,
-    name: &str,
-) -> Result<(Vec<u8>, SystemTime, SystemTime), Fail> {
+/// The bytes of a file, and when it and its folder were changed last.
+type Seen = (Vec<u8>, SystemTime, SystemTime);
+
+fn seen(rt: &HostRuntime, folder: &str, name: &str) -> Result<Seen, Fail> {
     let path = format!(in rt.alloc(); "{folder}/{name}")?;
     let bytes = fs::read(rt, path.as_str())?;
     let file = fs::metadata(rt, path.as_str())?.modified()?;
@@ -111,51 +128,36 @@ fn seen(
     Ok((bytes, file, parent))
 }
 
-/// Lists a store that can only be read, and tells whether its files and its folder are as before.
-fn list_read_only(rt: &HostRuntime, words: &[String], folder: &str) -> Result<(Ended, bool), Fail> {
-    make_store(rt, folder)?;
-    set_modes(rt, folder, 0o444, 0o555)?;
-    let before = (seen(rt, folder, "image0")?, seen(rt, folder, "segment0")?);
-    let ended = run(rt, Some(words))?;
-    let after = (seen(rt, folder, "image0")?, seen(rt, folder, "segment0")?);
-    set_modes(rt, folder, 0o644, 0o755)?;
+/// The same of both files of a new store.
+fn seen_both(rt: &HostRuntime, folder: &str) -> Result<(Seen, Seen), Fail> {
+    let image = seen(rt, folder, "image0")?;
+    let segment = seen(rt, folder, "segment0")?;
+    Ok((image, segment))
+}
+
+/// Lists a store, and tells whether its files and its folder are as before.
+fn list_unchanged(rt: &HostRuntime, words: &[String; 1]) -> Result<(Ended, bool), Fail> {
+    let before = seen_both(rt, words[0].as_str())?;
+    let ended = run(rt, Some(words), false)?;
+    let after = seen_both(rt, words[0].as_str())?;
     Ok((ended, before == after))
 }
 
 #[test]
 fn a_folder_that_can_only_be_read_is_listed(rt: HostRuntime) -> Result<(), Fail> {
     let words = folder(&rt, "machls_read_only")?;
-    for path in &words {
-        let (ended, is_same) = list_read_only(&rt, &words, path.as_str())?;
-        assert!(rt;
-            is_same
-                && ended.status == 0
-                && ended.errors.is_empty()
-                && ended.output.as_str() == "epoch 0 records 0\nspace 1\n"
-        );
-        fs::remove_dir_all(&rt, path.as_str())?;
-    }
+    let path = words[0].as_str();
+    make_store(&rt, path)?;
+    set_modes(&rt, path, 0o444, 0o555)?;
+    let (ended, is_same) = list_unchanged(&rt, &words)?;
+    set_modes(&rt, path, 0o644, 0o755)?;
+    assert!(rt; is_same && is_listed(&ended));
+    fs::remove_dir_all(&rt, path)?;
     Ok(())
-}
-
-/// The status and the line of errors of the drawing program.
-fn told_by_drawing(rt: &HostRuntime, words: Option<&[String]>) -> Result<(u8, String), Fail> {
-    let mut output = Vec::new(rt.alloc());
-    let mut errors = Vec::new(rt.alloc());
-    let status = show_drawing(rt.alloc(), rt, words, &mut output, &mut errors);
-    if !output.is_empty() {
-        return Err(Fail::from("something was written"));
-    }
-    Ok((status, String::from_utf8(errors)?))
 }
 
 #[test]
 fn the_drawing_has_a_name_of_its_own(rt: HostRuntime) -> Result<(), Fail> {
-    for count in [0, 2, 3] {
-        let told = told_by_drawing(&rt, Some(&paths(&rt, count)?))?;
-        assert!(rt; told.0 == 2 && told.1.as_str() == "machmap: command line\n");
-    }
-    let told = told_by_drawing(&rt, None)?;
-    assert!(rt; told.0 == 2 && told.1.as_str() == "machmap: command line\n");
+    assert!(rt; refuses_words(&rt, true, "machmap: command line\n")?);
     Ok(())
 }

@@ -73,11 +73,22 @@ fn listed(alloc: Global, disk: &mut MemDisk, room: usize) -> (Vec<u8>, Result<()
     (writer.output, end)
 }
 
+/// Whether a writer with so much room has these lines of a store, and the listing ends so.
+fn is_listed(
+    alloc: Global,
+    disk: &mut MemDisk,
+    room: usize,
+    lines: Option<&[u8]>,
+    end: Result<(), ListFault>,
+) -> bool {
+    let (seen, seen_end) = listed(alloc, disk, room);
+    seen_end == end && Some(seen.as_slice()) == lines
+}
+
 #[test]
 fn a_store_is_listed(rt: HostRuntime) -> Result<(), Fail> {
     let mut disk = used(rt.alloc())?;
-    let (lines, end) = listed(rt.alloc(), &mut disk, 1000);
-    assert!(rt; end == Ok(()) && lines.as_slice() == LINES.as_bytes());
+    assert!(rt; is_listed(rt.alloc(), &mut disk, 1000, Some(LINES.as_bytes()), Ok(())));
     Ok(())
 }
 
@@ -85,10 +96,8 @@ fn a_store_is_listed(rt: HostRuntime) -> Result<(), Fail> {
 fn a_writer_that_fails_has_a_part(rt: HostRuntime) -> Result<(), Fail> {
     let mut disk = used(rt.alloc())?;
     for room in [0, 1, 40, 129] {
-        let (lines, end) = listed(rt.alloc(), &mut disk, room);
-        assert!(rt;
-            end == Err(ListFault::Write) && Some(lines.as_slice()) == LINES.as_bytes().get(..room)
-        );
+        let part = LINES.as_bytes().get(..room);
+        assert!(rt; is_listed(rt.alloc(), &mut disk, room, part, Err(ListFault::Write)));
     }
     Ok(())
 }
