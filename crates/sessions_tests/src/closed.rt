@@ -4,7 +4,7 @@ ghost use Rattle.std.specs.Arc.{arc_value};
 
 use crate::asking::allocates_many;
 use crate::expect::same;
-use crate::service::Service;
+use crate::service::{Service, run_both_loops};
 use crate::shares::{Start, shared_from, start_on};
 use disk::{Disk, MemDisk};
 use sessions::{Founding, OpenGate, Shared};
@@ -38,10 +38,10 @@ fn call_beside_both_loops<S: Service + Sync, R: Threads + Wait + Clock + Sync>(
     rt: &R,
     service: &S,
 ) -> Option<(S::Session, S::Session)> {
-    let (_, (_, called)) = join(
+    let (_, called) = join(
         rt,
-        || service.make_images(rt, u64::from(RECORDS)),
-        || { join(rt, || service.store_calls(rt), || call_and_end(rt, service)) },
+        || run_both_loops(rt, service, RECORDS),
+        || call_and_end(rt, service),
     );
     called
 }
@@ -83,18 +83,28 @@ fn closed_on<L: Founding + Send + Sync, D: Disk + Drop + Send, R: Threads + Wait
     closed(rt, alloc, shared, is_turned)
 }
 
+/// What is left of a service on a new store.
+fn closed_on_new<R: Threads + Wait + Clock + Sync>(
+    rt: &R,
+    alloc: Global,
+    is_turned: bool,
+) -> Result<Option<[u64; 3]>, Fail> {
+    let start = start_on(alloc, MemDisk::new(alloc)).ok_or("no store")?;
+    Ok(closed_on::<Brand, MemDisk, R>(rt, alloc, start, is_turned))
+}
+
 #[test]
 fn sessions_of_several_epochs_are_of_one_history(rt: HostRuntime) -> Result<(), Fail> {
-    let start = start_on(rt.alloc(), MemDisk::new(rt.alloc())).ok_or("no store")?;
-    let counts = closed_on::<Brand, MemDisk, _>(&rt, rt.alloc(), start, false);
-    same(&rt, counts, Some([2, 42, 42]));
+    same(
+        &rt,
+        closed_on_new(&rt, rt.alloc(), false)?,
+        Some([2, 42, 42]),
+    );
     Ok(())
 }
 
 #[test]
 fn sessions_are_handed_in_by_their_numbers(rt: HostRuntime) -> Result<(), Fail> {
-    let start = start_on(rt.alloc(), MemDisk::new(rt.alloc())).ok_or("no store")?;
-    let counts = closed_on::<Brand, MemDisk, _>(&rt, rt.alloc(), start, true);
-    same(&rt, counts, None);
+    same(&rt, closed_on_new(&rt, rt.alloc(), true)?, None);
     Ok(())
 }

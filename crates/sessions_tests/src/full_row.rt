@@ -5,7 +5,7 @@ ghost use Rattle.std.specs.Arc.{arc_value};
 use crate::asking::{allocates_many, asked, name_in, told};
 use crate::expect::same;
 use crate::flag::Flag;
-use crate::service::Service;
+use crate::service::{Service, run_both_loops};
 use crate::shares::{Start, shared_from, start_on};
 use crate::stop::Stay;
 use codes::MAX_RECORDS;
@@ -26,9 +26,6 @@ const RECORDS: u32 = 4;
 
 /// For how many turns of a millisecond a loop is held up at most: the row fills slowly where a run is watched.
 const MOST_TURNS: u32 = 60_000;
-
-/// For how many turns of a millisecond a reply mustn't come.
-const TURNS: u32 = 100;
 
 #[derive(Debug, Drop, PartialEq)]
 struct Seen {
@@ -90,14 +87,6 @@ fn make_many<S: Service, R: Wait>(
     (session, last, done)
 }
 
-/// Watches for a reply while the checkpoint is held up, and lets it go. Whether it was held up, and the reply came nevertheless.
-fn watch<R: Clock>(rt: &R, stay: &Stay, has_answered: &Flag) -> (bool, bool) {
-    let came_early = has_answered.comes_within(rt, TURNS);
-    let was_held = stay.has_come.is_set() && !stay.was_late.is_set();
-    stay.may_go.set();
-    (was_held, came_early)
-}
-
 /// Asks for a right, and tells when the reply has come.
 fn asked_and_noted<S: Service, R: Wait>(
     rt: &R,
@@ -121,7 +110,7 @@ fn watched<S: Service + Sync, R: Threads + Wait + Clock + Sync>(
     let flag = &has_answered;
     join(
         rt,
-        || watch(rt, stay, flag),
+        || stay.watch(rt, flag),
         move || asked_and_noted(rt, service, session, flag),
     )
 }
@@ -164,20 +153,6 @@ fn fill_and_end<S: Service + Sync, R: Threads + Wait + Clock + Sync>(
     seen
 }
 
-fn fill_beside_the_loop<S: Service + Sync, R: Threads + Wait + Clock + Sync>(
-    rt: &R,
-    service: &S,
-    stay: &Stay,
-    may_store: &Flag,
-) -> Option<Seen> {
-    let (_, seen) = join(
-        rt,
-        || service.store_calls(rt),
-        || fill_and_end(rt, service, stay, may_store),
-    );
-    seen
-}
-
 fn fill_beside_both_loops<S: Service + Sync, R: Threads + Wait + Clock + Sync>(
     rt: &R,
     service: &S,
@@ -186,8 +161,8 @@ fn fill_beside_both_loops<S: Service + Sync, R: Threads + Wait + Clock + Sync>(
 ) -> Option<Seen> {
     let (_, seen) = join(
         rt,
-        || service.make_images(rt, u64::from(RECORDS)),
-        || fill_beside_the_loop(rt, service, stay, may_store),
+        || run_both_loops(rt, service, RECORDS),
+        || fill_and_end(rt, service, stay, may_store),
     );
     seen
 }

@@ -4,7 +4,7 @@ ghost use Rattle.std.specs.Arc.{arc_value};
 
 use crate::asking::{allocates_many, asked, name_in};
 use crate::expect::same;
-use crate::service::Service;
+use crate::service::{Service, run_both_loops};
 use crate::shares::{Start, shared_from, start_on};
 use crate::stop::{Stay, Stop};
 use disk::{Disk, MemDisk};
@@ -64,19 +64,6 @@ fn call_and_end<S: Service, R: Wait + Clock>(rt: &R, service: &S, stay: &Stay) -
     seen
 }
 
-fn call_beside_the_loop<S: Service + Sync, R: Threads + Wait + Clock + Sync>(
-    rt: &R,
-    service: &S,
-    stay: &Stay,
-) -> Option<Seen> {
-    let (_, seen) = join(
-        rt,
-        || service.store_calls(rt),
-        || call_and_end(rt, service, stay),
-    );
-    seen
-}
-
 fn call_beside_both_loops<S: Service + Sync, R: Threads + Wait + Clock + Sync>(
     rt: &R,
     service: &S,
@@ -84,8 +71,8 @@ fn call_beside_both_loops<S: Service + Sync, R: Threads + Wait + Clock + Sync>(
 ) -> Option<Seen> {
     let (_, seen) = join(
         rt,
-        || service.make_images(rt, u64::from(RECORDS)),
-        || call_beside_the_loop(rt, service, stay),
+        || run_both_loops(rt, service, RECORDS),
+        || call_and_end(rt, service, stay),
     );
     seen
 }

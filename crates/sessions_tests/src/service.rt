@@ -5,6 +5,7 @@ use disk::Disk;
 use ipc_model::{Call, Reply};
 use sessions::{Founding, Gate, Session, Shared, close, meet};
 use std::sync::Wait;
+use std::thread::{Threads, join};
 use std::time::Clock;
 use system::Ticket;
 
@@ -99,4 +100,17 @@ impl<L: Founding + Send + Sync, D: Disk + Drop, G: Gate> Service for Shared<L, D
             Err(_) => None,
         }
     }
+}
+
+/// Runs both loops, each until it is told to end.
+pub(crate) fn run_both_loops<S: Service + Sync, R: Threads + Wait + Clock + Sync>(
+    rt: &R,
+    service: &S,
+    records: u32,
+) {
+    join(
+        rt,
+        || service.make_images(rt, u64::from(records)),
+        || service.store_calls(rt),
+    );
 }

@@ -7,6 +7,7 @@ use crate::expect::same;
 use crate::flag::Flag;
 use crate::service::Service;
 use crate::shares::{Start, shared_from, start_on};
+use crate::stop::Stay;
 use disk::{Disk, DiskFault, MemDisk, Slot};
 use ipc_model::Call;
 use sessions::{Founding, OpenGate, Shared};
@@ -17,46 +18,13 @@ use std::test::Fail;
 use std::thread::{Threads, join};
 use std::time::Clock;
 
-/// What becomes of the sync that is held.
-#[derive(Drop)]
-struct Hold {
-    /// From now on the next sync is held.
-    is_wanted: Flag,
-    has_begun: Flag,
-    may_end: Flag,
-    /// It wasn't told to end in time.
-    was_late: Flag,
-}
-
-impl Hold {
-    fn new() -> Hold {
-        Hold {
-            is_wanted: Flag::new(),
-            has_begun: Flag::new(),
-            may_end: Flag::new(),
-            was_late: Flag::new(),
-        }
-    }
-}
-
-/// A disk whose sync is held.
+/// A disk whose sync is held, once that is wanted.
 #[derive(Drop)]
 struct SlowDisk<'a, D, R> {
     disk: D,
-    hold: &'a Hold,
+    is_wanted: &'a Flag,
+    stay: &'a Stay,
     rt: &'a R,
-}
-
-impl<'a, D: Disk, R: Clock> SlowDisk<'a, D, R> {
-    fn wait(&self) {
-        if !self.hold.is_wanted.is_set() {
-            return;
-        }
-        self.hold.has_begun.set();
-        if !self.hold.may_end.comes(self.rt) {
-            self.hold.was_late.set();
-        }
-    }
 }
 
 impl<'a, D: Disk, R: Clock> Disk for SlowDisk<'a, D, R> {
@@ -87,7 +55,9 @@ impl<'a, D: Disk, R: Clock> Disk for SlowDisk<'a, D, R> {
     }
 
     fn sync(&mut self, slot: Slot) -> Result<(), DiskFault> {
-        self.wait();
+        if self.is_wanted.is_set() {
+            self.stay.hold(self.rt);
+        }
         self.disk.sync(slot)
     }
 }
@@ -106,27 +76,33 @@ fn call_twice<S: Service, R: Wait + Clock>(
     rt: &R,
     service: &S,
     session: S::Session,
-    hold: &Hold,
+    is_wanted: &Flag,
+    stay: &Stay,
 ) -> Seen {
     let call = Call::Allocate { right: 1 };
-    hold.is_wanted.set();
+    is_wanted.set();
     let (session, first) = service.make(rt, session, &call);
-    let has_begun = hold.has_begun.comes(rt);
+    let has_begun = stay.has_come.comes(rt);
     let (session, second) = service.make(rt, session, &call);
-    hold.may_end.set();
+    stay.may_go.set();
     let (session, first) = told(rt, service, session, first);
     let (_, second) = told(rt, service, session, second);
     Seen {
         has_begun,
-        was_late: hold.was_late.is_set(),
+        was_late: stay.was_late.is_set(),
         names: [name_in(first), name_in(second)],
     }
 }
 
 /// The same in a session of its own, behind which the loops are told to end.
-fn call_and_end<S: Service, R: Wait + Clock>(rt: &R, service: &S, hold: &Hold) -> Option<Seen> {
+fn call_and_end<S: Service, R: Wait + Clock>(
+    rt: &R,
+    service: &S,
+    is_wanted: &Flag,
+    stay: &Stay,
+) -> Option<Seen> {
     let seen = match service.begin(rt) {
-        Some(session) => Some(call_twice(rt, service, session, hold)),
+        Some(session) => Some(call_twice(rt, service, session, is_wanted, stay)),
         None => None,
     };
     service.end(rt);
@@ -136,12 +112,13 @@ fn call_and_end<S: Service, R: Wait + Clock>(rt: &R, service: &S, hold: &Hold) -
 fn call_beside_the_loop<S: Service + Sync, R: Threads + Wait + Clock + Sync>(
     rt: &R,
     service: &S,
-    hold: &Hold,
+    is_wanted: &Flag,
+    stay: &Stay,
 ) -> Option<Seen> {
     let (_, seen) = join(
         rt,
         || service.store_calls(rt),
-        || call_and_end(rt, service, hold),
+        || call_and_end(rt, service, is_wanted, stay),
     );
     seen
 }
@@ -151,26 +128,29 @@ fn seen_on<L: Founding + Send + Sync, D: Disk + Drop + Send, R: Threads + Wait +
     rt: &R,
     alloc: Global,
     start: Start<D>,
-    hold: &Hold,
+    is_wanted: &Flag,
+    stay: &Stay,
 ) -> Option<Seen>
     requires base { start.opened.kernel ≡ L.base }
     requires row { arc_value start.row ≡ L.first }
     requires blank { (start.blank.name ≡ L.name) × (start.blank.parts ≡ L.parts) }
 {
     let shared: Shared<L, D, OpenGate> = shared_from(alloc, start, OpenGate)?;
-    call_beside_the_loop(rt, &shared, hold)
+    call_beside_the_loop(rt, &shared, is_wanted, stay)
 }
 
 #[test]
 fn a_call_is_made_while_a_sync_is_held(rt: HostRuntime) -> Result<(), Fail> {
-    let hold = Hold::new();
+    let is_wanted = Flag::new();
+    let stay = Stay::new();
     let disk = SlowDisk {
         disk: MemDisk::new(rt.alloc()),
-        hold: &hold,
+        is_wanted: &is_wanted,
+        stay: &stay,
         rt: &rt,
     };
     let start = start_on(rt.alloc(), disk).ok_or("no store")?;
-    let seen = seen_on::<Brand, _, _>(&rt, rt.alloc(), start, &hold);
+    let seen = seen_on::<Brand, _, _>(&rt, rt.alloc(), start, &is_wanted, &stay);
     let wanted = Seen {
         has_begun: true,
         was_late: false,

@@ -5,6 +5,9 @@ use sessions::{Gate, Step};
 use std::sync::Wait;
 use std::time::Clock;
 
+/// For how many turns of a millisecond a reply mustn't come.
+const TURNS: u32 = 100;
+
 /// What becomes of the loop that is held up.
 #[derive(Drop)]
 pub(crate) struct Stay {
@@ -25,6 +28,23 @@ impl Stay {
             has_finished: Flag::new(),
         }
     }
+
+    /// Holds the loop up until it may go.
+    pub(crate) fn hold<R: Clock>(&self, rt: &R) {
+        self.has_come.set();
+        if !self.may_go.comes(rt) {
+            self.was_late.set();
+        }
+    }
+
+    /// Watches for a reply while the loop is held up, and lets it go. Whether it was held up, and the reply came nevertheless.
+    pub(crate) fn watch<R: Clock>(&self, rt: &R, has_answered: &Flag) -> (bool, bool) {
+        let has_come = self.has_come.comes(rt);
+        let came_early = has_answered.comes_within(rt, TURNS);
+        let was_held = has_come && !self.was_late.is_set();
+        self.may_go.set();
+        (was_held, came_early)
+    }
 }
 
 /// A gate that holds up whoever comes to a step, until it may go.
@@ -38,10 +58,7 @@ pub(crate) struct Stop<'a, R> {
 impl<'a, C: Clock> Gate for Stop<'a, C> {
     fn pass<R: Wait>(&self, _rt: &R, step: Step) {
         if step == self.at {
-            self.stay.has_come.set();
-            if !self.stay.may_go.comes(self.rt) {
-                self.stay.was_late.set();
-            }
+            self.stay.hold(self.rt);
         }
         if step == Step::Finished {
             self.stay.has_finished.set();

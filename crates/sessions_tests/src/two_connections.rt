@@ -80,14 +80,15 @@ struct Answered {
     next: Option<[u8; 16]>,
 }
 
-/// Five frames, one behind the other.
+/// Frames that are written at once.
+static AT_ONCE: [&[u8]; 5] = [&ALLOCATE, &RECEIVE_WITHIN, &SEND, &RECEIVE, &ALLOCATE];
+
+/// These frames, one behind the other.
 fn frames(alloc: Global) -> Option<Vec<u8>> {
     let mut bytes = Vec::new(alloc);
-    bytes.extend_from_slice(&ALLOCATE).ok()?;
-    bytes.extend_from_slice(&RECEIVE_WITHIN).ok()?;
-    bytes.extend_from_slice(&SEND).ok()?;
-    bytes.extend_from_slice(&RECEIVE).ok()?;
-    bytes.extend_from_slice(&ALLOCATE).ok()?;
+    for frame in &AT_ONCE {
+        bytes.extend_from_slice(frame).ok()?;
+    }
     Some(bytes)
 }
 

@@ -19,9 +19,6 @@ use std::thread::{Threads, join};
 use std::time::Clock;
 use system::Ticket;
 
-/// For how many turns of a millisecond a reply mustn't come.
-const TURNS: u32 = 100;
-
 #[derive(Debug, Drop, PartialEq)]
 struct Seen {
     /// Whether the loop was about to store the first call, and wasn't let go too late.
@@ -33,15 +30,6 @@ struct Seen {
     bits: Option<u32>,
     /// How many records both have seen once they met.
     together: Option<[usize; 2]>,
-}
-
-/// Watches for a reply while the loop is held up, and lets it go. Whether it was held up, and the reply came nevertheless.
-fn watch<R: Clock>(rt: &R, stay: &Stay, has_answered: &Flag) -> (bool, bool) {
-    let has_come = stay.has_come.comes(rt);
-    let came_early = has_answered.comes_within(rt, TURNS);
-    let was_held = has_come && !stay.was_late.is_set();
-    stay.may_go.set();
-    (was_held, came_early)
 }
 
 /// Waits for a reply, and tells when it has come.
@@ -69,7 +57,7 @@ fn watched<S: Service + Sync, R: Threads + Wait + Clock + Sync>(
     let flag = &has_answered;
     join(
         rt,
-        || watch(rt, stay, flag),
+        || stay.watch(rt, flag),
         move || told_and_noted(rt, service, session, ticket, flag),
     )
 }

@@ -1,5 +1,5 @@
 use Rattle.std.specs.Arc.{arc_value}
-use Rattle.sessions_tests.proofs.closed.sessions_are_handed_in_by_their_numbers.Given as goal
+use Rattle.sessions_tests.proofs.closed.closed_on_new.Given as goal
 
 -- the state that was opened
 abbrev pub ghosts-closed_on-L-Founding : goal.ghosts-closed_on-L-Founding
