@@ -34,7 +34,10 @@ fn open_folder(rt: HostRuntime, store: &str) -> Result<Opened<FileDisk<HostRunti
     };
     match open(rt.alloc(), disk) {
         Ok(opened) => Ok(opened),
-        Err((fault, _)) => Err(fault),
+        Err((fault, disk)) => {
+            drop(disk);
+            Err(fault)
+        }
     }
 }
 

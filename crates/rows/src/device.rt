@@ -59,7 +59,10 @@ impl Device for MemDisk {
                 let records = opened.segment.records;
                 Ok((Alone::new(alloc, opened), records))
             }
-            Err((fault, _)) => Err(fault),
+            Err((fault, disk)) => {
+                drop(disk);
+                Err(fault)
+            }
         }
     }
 
