@@ -1,7 +1,7 @@
 -- What is kept under the lock of the kernel, as it changes.
 use Rattle.std.proofs.Common.{◌≡◌, ◌⊎◌, ℕ, ◌≤◌, Bool, true, false, List, [], ◌∷◌, length, Option, None, Some, refl, sym, ap, subst, ◌∙◌, inl, inr, arith}
-use Rattle.std.specs.Prelude.{Result, Ok, Err, IfOk, OnOk, OnErr, MatchOption, max, option_map, ◌++◌}
-use Rattle.std.proofs.lemmas.List.{length-map}
+use Rattle.std.specs.Prelude.{Result, Ok, Err, IfOk, OnOk, OnErr, MatchOption, max, option_map, ◌++◌, if◌then◌else◌}
+use Rattle.std.proofs.lemmas.List.{append-nil, length-map}
 use Rattle.history.proofs.Beginnings.{begins_itself, begins_more, begins_trans}
 use Rattle.history.specs.Entries.{Begins}
 use Rattle.history.specs.Pasts.{PastValue}
@@ -75,6 +75,14 @@ module _ (old new : BesideValue) (space : ℕ) (c : Call) where
     | inr is ↦ subst (λ (v : BesideValue). Begins seen v.mine.entries) (sym is) begins
   ]
   both_begin P (Err fault) seen begins learned unlearned err = subst (λ (v : BesideValue). Begins seen v.mine.entries) (sym err.1) begins
+
+  kept_by : (answer : Reply) (kept : PastValue) (b : Bool) → has_record c answer ≡ b → old.kept ≡ kept → (has_record c answer ≡ true → new ≡ both_learned old space c answer) → (has_record c answer ≡ false → new ≡ old) → new.kept.entries ≡ kept.entries ++ (if b then entry_by old.number space c answer ∷ [] else [])
+  kept_by answer kept true is same learned unlearned = ap (λ (v : BesideValue). v.kept.entries) (learned is) ∙ ap (λ (p : PastValue). p.entries ++ entry_by old.number space c answer ∷ []) same
+  kept_by answer kept false is same learned unlearned = ap (λ (v : BesideValue). v.kept.entries) (unlearned is) ∙ ap (λ (p : PastValue). p.entries) same ∙ sym (append-nil kept.entries)
+
+  pub both_kept : {E : Type 0} (r : Result TicketValue E) (kept : PastValue) → old.kept ≡ kept → IfOk r (λ ticket. has_record c ticket.answer ≡ true → new ≡ both_learned old space c ticket.answer) → IfOk r (λ ticket. has_record c ticket.answer ≡ false → new ≡ old) → IfOk r (λ ticket. new.kept.entries ≡ kept.entries ++ entries_of_call old.number space c ticket)
+  both_kept (Ok ticket) kept same learned unlearned = kept_by ticket.answer kept (has_record c ticket.answer) refl same learned unlearned
+  both_kept (Err fault) kept same learned unlearned = tt
 
   pub both_back : {E : Type 0} (P : Type 0) (r : Result TicketValue E) (kept : PastValue) (seen : List Entry) → old.kept ≡ kept → old.mine.entries ≡ kept.entries → OnErr r (P × (new ≡ old)) → OnErr r (P × (new.kept ≡ kept) × ((new.mine.entries ≡ seen) ⊎ (new.mine.entries ≡ kept.entries)))
   both_back P (Ok ticket) kept seen same level err = tt
