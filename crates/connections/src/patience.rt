@@ -6,7 +6,7 @@ use std::time::{Clock, Duration, Instant};
 const LOOK_SECONDS: u64 = 5;
 
 /// How long a call still waits.
-#[derive(Clone, Copy, Debug)]
+#[derive(Clone, Copy)]
 pub enum Patience {
     /// For ever.
     Endless,

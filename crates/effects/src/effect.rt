@@ -2,7 +2,7 @@ use crate::Notice;
 use ipc_model::RightKind;
 
 /// What a call has set off, and what waits for its turn.
-#[derive(Clone, Copy, Debug, PartialEq, Eq)]
+#[derive(Clone, Copy)]
 pub enum Effect {
     /// A right of the port of this serial was released: it stands in no place any more.
     Release { kind: RightKind, port: u64 },

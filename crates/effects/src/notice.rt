@@ -1,6 +1,6 @@
 /// What the kernel tells the holder of a request, or of a send-once right, by a message without rights.
 /// (`MACH_NOTIFY_PORT_DESTROYED`, which brings a receive right, doesn't wait for its turn.)
-#[derive(Clone, Copy, Debug, PartialEq, Eq)]
+#[derive(Clone, Copy)]
 pub enum Notice {
     /// A name with a dead-name request ceased to be (`MACH_NOTIFY_PORT_DELETED`).
     PortDeleted { name: u32 },

@@ -201,14 +201,14 @@ impl Call {
 }
 
 /// A name with its type bits.
-#[derive(Clone, Copy, Debug, PartialEq, Eq)]
+#[derive(Clone, Copy, PartialEq, Eq)]
 pub struct NamedType {
     pub name: u32,
     pub bits: u32,
 }
 
 /// What number 13 tells of a port (`mach_port_status_t`).
-#[derive(Clone, Copy, Debug, PartialEq, Eq)]
+#[derive(Clone, Copy, PartialEq, Eq)]
 pub struct ReceiveStatus {
     /// The name of the set that it is a member of, 0 for none.
     pub set: u32,

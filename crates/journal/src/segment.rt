@@ -13,7 +13,7 @@ use disk::{Disk, DiskFault, Slot};
 use slot_steps::{OPEN_GATE, segment_slot};
 
 /// The segment in use: its epoch, and how many records it holds. Behind them stands a closed gate.
-#[derive(Clone, Copy, Debug, PartialEq, Eq)]
+#[derive(Clone, Copy, PartialEq, Eq)]
 pub struct Segment {
     pub epoch: u64,
     pub records: u64,

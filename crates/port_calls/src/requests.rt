@@ -26,7 +26,7 @@ use rights::{IpcState, request_of, take_right};
 use std::alloc::AllocError;
 
 /// What `mach_port_request_notification` asks for.
-#[derive(Clone, Copy, Debug, PartialEq, Eq)]
+#[derive(Clone, Copy)]
 pub struct NoticeRequest {
     /// The name that the notice is to be about.
     pub name: u32,

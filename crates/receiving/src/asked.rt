@@ -1,5 +1,5 @@
 /// What a receipt asks for (`mach_msg`: `rcv_size`, `rcv_name`, `MACH_RCV_LARGE`).
-#[derive(Clone, Copy, Debug, PartialEq, Eq)]
+#[derive(Clone, Copy)]
 pub struct Asked {
     /// The greatest size of a message that is taken, in bytes.
     pub limit: u32,
@@ -12,7 +12,7 @@ pub struct Asked {
 }
 
 /// Which message a receipt from a set is to take, where several ports have one.
-#[derive(Clone, Copy, Debug, PartialEq, Eq)]
+#[derive(Clone, Copy)]
 pub enum Preference {
     /// That of the member with the least name.
     Least,

@@ -10,7 +10,7 @@ use slot_steps::{IMAGE_HEADER, OPEN_GATE, SEGMENT_HEADER};
 use words::take_long_word;
 
 /// What the header of a slot says.
-#[derive(Clone, Copy, Debug, PartialEq, Eq)]
+#[derive(Clone, Copy, PartialEq, Eq)]
 pub(crate) enum Header {
     /// The slot isn't open.
     Closed,
@@ -23,7 +23,7 @@ pub(crate) enum Header {
 }
 
 /// The headers of the four slots.
-#[derive(Clone, Copy, Debug)]
+#[derive(Clone, Copy)]
 pub(crate) struct Headers {
     pub(crate) image0: Header,
     pub(crate) image1: Header,

@@ -12,7 +12,7 @@ use crate::headers::{Header, Headers};
 use journal::StoreFault;
 
 /// What a store is, by the headers of its slots.
-#[derive(Clone, Copy, Debug, PartialEq, Eq)]
+#[derive(Clone, Copy)]
 pub(crate) enum Survey {
     /// It has no image, and no segment but one of epoch 0.
     New,
@@ -56,7 +56,7 @@ fn follows(epoch: u64, own: Option<u64>, other: Option<u64>) -> Result<bool, Sto
 }
 
 /// Which image is the latest, of the slots of both numbers.
-#[derive(Clone, Copy, Debug, PartialEq, Eq)]
+#[derive(Clone, Copy)]
 pub(crate) enum Latest {
     /// None is open.
     None,

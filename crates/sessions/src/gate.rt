@@ -1,7 +1,7 @@
 use std::sync::Wait;
 
 /// The steps of the loops, before each of which a gate is passed.
-#[derive(Clone, Copy, Debug, PartialEq, Eq)]
+#[derive(Clone, Copy, PartialEq, Eq)]
 pub enum Step {
     /// Records are taken.
     Take,
@@ -34,7 +34,7 @@ pub trait Gate: Drop {
 }
 
 /// A gate that holds nobody up.
-#[derive(Clone, Copy, Debug)]
+#[derive(Clone, Copy)]
 pub struct OpenGate;
 
 impl Gate for OpenGate {

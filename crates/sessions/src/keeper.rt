@@ -29,7 +29,7 @@ use system::{Kernel, SubmitFault, Ticket};
 pub const MOST_SESSIONS: u32 = u32::MAX;
 
 /// How a wait for a change of the state ended.
-#[derive(Clone, Copy, Debug, PartialEq, Eq)]
+#[derive(Clone, Copy)]
 pub enum Waited {
     /// More was recorded.
     Changed,

@@ -1,7 +1,7 @@
 ghost use Rattle.type_desc.specs.Whole.{IsWhole};
 
 /// An item of a body: what its descriptor says, and its data.
-#[derive(Clone, Copy, Debug)]
+#[derive(Clone, Copy)]
 pub struct Item<'a> {
     /// `msgt_name`: the type of the elements; 16 to 21 (MACH_MSG_TYPE_MOVE_RECEIVE to MACH_MSG_TYPE_MAKE_SEND_ONCE)
     /// for ports.
