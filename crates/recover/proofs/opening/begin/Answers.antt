@@ -5,6 +5,7 @@ use Rattle.ipc_model.specs.store.Recovery.{Recovered}
 use Rattle.recover.specs.Kept.{IsKept}
 use Rattle.recover.specs.Stopping.{HaveLastGates}
 use Rattle.standing.specs.Standing.{as_written}
+use Rattle.recover.proofs.Faults.{device_no_damage, memory_no_damage, memory_no_device, none_at_error, none_in_error, of_device, of_memory, right_err}
 use Rattle.recover.proofs.Joined.{device_err, still_then_same}
 use Rattle.recover.proofs.Stages.{fresh_recovered, unused_fresh}
 use Rattle.recover.proofs.Ways.{still_same}
@@ -49,3 +50,108 @@ returns-clause-any_moment g c = λ honest gates.
     let same = c.in_ok-have_no_batch.ensures.seen honest in
     still_then_same (g.D.Disk.view c.args.disk.now) (g.D.Disk.view c.have_no_batch.new.disk) (g.D.Disk.view c.write_first.new.disk) (c.requires.rest honest) gates (c.have_no_batch.ensures.time honest) same
     (c.write_first.ensures.any_moment honest (subst HaveLastGates (sym same) gates))
+
+pub returns-in_err-kernel-clause-unchanged : goal.returns-in_err-kernel-clause-unchanged
+returns-in_err-kernel-clause-unchanged g c = λ honest. right_err _ _ c.from_residual-in_err-kernel.result (c.in_ok-have_no_batch.ensures.seen honest)
+
+pub returns-in_err-kernel-clause-untouched : goal.returns-in_err-kernel-clause-untouched
+returns-in_err-kernel-clause-untouched g c = λ honest. right_err _ _ c.from_residual-in_err-kernel.result (c.have_no_batch.ensures.time honest)
+
+pub returns-in_err-kernel-clause-still : goal.returns-in_err-kernel-clause-still
+returns-in_err-kernel-clause-still g c = right_err _ _ c.from_residual-in_err-kernel.result c.in_ok-have_no_batch.ensures.quiet
+
+pub returns-in_err-kernel-clause-damaged : goal.returns-in_err-kernel-clause-damaged
+returns-in_err-kernel-clause-damaged g c = λ honest told.
+    let p = err_from_is_err_and c.from_residual-in_err-kernel.result c.from_residual-in_err-kernel.ensures.1 in
+    absurd (memory_no_damage c.from_residual-in_err-kernel.result (p.1 ∙ ap Err p.2) told)
+
+pub returns-in_err-kernel-clause-device : goal.returns-in_err-kernel-clause-device
+returns-in_err-kernel-clause-device g c = λ told.
+    let p = err_from_is_err_and c.from_residual-in_err-kernel.result c.from_residual-in_err-kernel.ensures.1 in
+    absurd (memory_no_device c.from_residual-in_err-kernel.result (p.1 ∙ ap Err p.2) told)
+
+pub returns-in_err-kernel-clause-faults : goal.returns-in_err-kernel-clause-faults
+returns-in_err-kernel-clause-faults g c =
+    let p = err_from_is_err_and c.from_residual-in_err-kernel.result c.from_residual-in_err-kernel.ensures.1 in
+    of_memory c.from_residual-in_err-kernel.result (p.1 ∙ ap Err p.2)
+
+pub returns-in_err-kernel-2-clause-unchanged : goal.returns-in_err-kernel-2-clause-unchanged
+returns-in_err-kernel-2-clause-unchanged g c = λ honest. right_err _ _ c.from_residual-in_err-kernel-2.result (c.in_ok-have_no_batch.ensures.seen honest)
+
+pub returns-in_err-kernel-2-clause-untouched : goal.returns-in_err-kernel-2-clause-untouched
+returns-in_err-kernel-2-clause-untouched g c = λ honest. right_err _ _ c.from_residual-in_err-kernel-2.result (c.have_no_batch.ensures.time honest)
+
+pub returns-in_err-kernel-2-clause-still : goal.returns-in_err-kernel-2-clause-still
+returns-in_err-kernel-2-clause-still g c = right_err _ _ c.from_residual-in_err-kernel-2.result c.in_ok-have_no_batch.ensures.quiet
+
+pub returns-in_err-kernel-2-clause-damaged : goal.returns-in_err-kernel-2-clause-damaged
+returns-in_err-kernel-2-clause-damaged g c = λ honest told.
+    let p = err_from_is_err_and c.from_residual-in_err-kernel-2.result c.from_residual-in_err-kernel-2.ensures.1 in
+    absurd (memory_no_damage c.from_residual-in_err-kernel-2.result (p.1 ∙ ap Err p.2) told)
+
+pub returns-in_err-kernel-2-clause-device : goal.returns-in_err-kernel-2-clause-device
+returns-in_err-kernel-2-clause-device g c = λ told.
+    let p = err_from_is_err_and c.from_residual-in_err-kernel-2.result c.from_residual-in_err-kernel-2.ensures.1 in
+    absurd (memory_no_device c.from_residual-in_err-kernel-2.result (p.1 ∙ ap Err p.2) told)
+
+pub returns-in_err-kernel-2-clause-faults : goal.returns-in_err-kernel-2-clause-faults
+returns-in_err-kernel-2-clause-faults g c =
+    let p = err_from_is_err_and c.from_residual-in_err-kernel-2.result c.from_residual-in_err-kernel-2.ensures.1 in
+    of_memory c.from_residual-in_err-kernel-2.result (p.1 ∙ ap Err p.2)
+
+pub returns-in_err-kernel-3-clause-damaged : goal.returns-in_err-kernel-3-clause-damaged
+returns-in_err-kernel-3-clause-damaged g c = λ honest told.
+    let p = err_from_is_err_and c.from_residual-in_err-kernel-3.result c.from_residual-in_err-kernel-3.ensures.1 in
+    absurd (device_no_damage c.from_residual-in_err-kernel-3.result (p.1 ∙ ap Err p.2) told)
+
+pub returns-in_err-kernel-3-clause-still : goal.returns-in_err-kernel-3-clause-still
+returns-in_err-kernel-3-clause-still g c =
+    let p = err_from_is_err_and c.from_residual-in_err-kernel-3.result c.from_residual-in_err-kernel-3.ensures.1 in
+    device_err _ c.from_residual-in_err-kernel-3.result _ (p.1 ∙ ap Err p.2)
+
+pub returns-in_err-kernel-3-clause-faults : goal.returns-in_err-kernel-3-clause-faults
+returns-in_err-kernel-3-clause-faults g c =
+    let p = err_from_is_err_and c.from_residual-in_err-kernel-3.result c.from_residual-in_err-kernel-3.ensures.1 in
+    of_device c.from_residual-in_err-kernel-3.result (p.1 ∙ ap Err p.2)
+
+pub returns-in_err-have_no_batch-clause-state : goal.returns-in_err-have_no_batch-clause-state
+returns-in_err-have_no_batch-clause-state g c = λ honest. let p = err_from_is_err_and c.from_residual.result c.from_residual.ensures.1 in none_in_error _ c.from_residual.result _ p.1
+
+pub returns-in_err-have_no_batch-clause-kept : goal.returns-in_err-have_no_batch-clause-kept
+returns-in_err-have_no_batch-clause-kept g c = λ honest. let p = err_from_is_err_and c.from_residual.result c.from_residual.ensures.1 in none_in_error _ c.from_residual.result _ p.1
+
+pub returns-in_err-have_no_batch-clause-quiet : goal.returns-in_err-have_no_batch-clause-quiet
+returns-in_err-have_no_batch-clause-quiet g c = let p = err_from_is_err_and c.from_residual.result c.from_residual.ensures.1 in none_at_error _ c.from_residual.result _ p.1
+
+pub returns-in_err-kernel-clause-state : goal.returns-in_err-kernel-clause-state
+returns-in_err-kernel-clause-state g c = λ honest. let p = err_from_is_err_and c.from_residual-in_err-kernel.result c.from_residual-in_err-kernel.ensures.1 in none_in_error _ c.from_residual-in_err-kernel.result _ p.1
+
+pub returns-in_err-kernel-clause-kept : goal.returns-in_err-kernel-clause-kept
+returns-in_err-kernel-clause-kept g c = λ honest. let p = err_from_is_err_and c.from_residual-in_err-kernel.result c.from_residual-in_err-kernel.ensures.1 in none_in_error _ c.from_residual-in_err-kernel.result _ p.1
+
+pub returns-in_err-kernel-clause-quiet : goal.returns-in_err-kernel-clause-quiet
+returns-in_err-kernel-clause-quiet g c = let p = err_from_is_err_and c.from_residual-in_err-kernel.result c.from_residual-in_err-kernel.ensures.1 in none_at_error _ c.from_residual-in_err-kernel.result _ p.1
+
+pub returns-in_err-kernel-2-clause-state : goal.returns-in_err-kernel-2-clause-state
+returns-in_err-kernel-2-clause-state g c = λ honest. let p = err_from_is_err_and c.from_residual-in_err-kernel-2.result c.from_residual-in_err-kernel-2.ensures.1 in none_in_error _ c.from_residual-in_err-kernel-2.result _ p.1
+
+pub returns-in_err-kernel-2-clause-kept : goal.returns-in_err-kernel-2-clause-kept
+returns-in_err-kernel-2-clause-kept g c = λ honest. let p = err_from_is_err_and c.from_residual-in_err-kernel-2.result c.from_residual-in_err-kernel-2.ensures.1 in none_in_error _ c.from_residual-in_err-kernel-2.result _ p.1
+
+pub returns-in_err-kernel-2-clause-quiet : goal.returns-in_err-kernel-2-clause-quiet
+returns-in_err-kernel-2-clause-quiet g c = let p = err_from_is_err_and c.from_residual-in_err-kernel-2.result c.from_residual-in_err-kernel-2.ensures.1 in none_at_error _ c.from_residual-in_err-kernel-2.result _ p.1
+
+pub returns-in_err-kernel-3-clause-state : goal.returns-in_err-kernel-3-clause-state
+returns-in_err-kernel-3-clause-state g c = λ honest. let p = err_from_is_err_and c.from_residual-in_err-kernel-3.result c.from_residual-in_err-kernel-3.ensures.1 in none_in_error _ c.from_residual-in_err-kernel-3.result _ p.1
+
+pub returns-in_err-kernel-3-clause-kept : goal.returns-in_err-kernel-3-clause-kept
+returns-in_err-kernel-3-clause-kept g c = λ honest. let p = err_from_is_err_and c.from_residual-in_err-kernel-3.result c.from_residual-in_err-kernel-3.ensures.1 in none_in_error _ c.from_residual-in_err-kernel-3.result _ p.1
+
+pub returns-in_err-kernel-3-clause-quiet : goal.returns-in_err-kernel-3-clause-quiet
+returns-in_err-kernel-3-clause-quiet g c = let p = err_from_is_err_and c.from_residual-in_err-kernel-3.result c.from_residual-in_err-kernel-3.ensures.1 in none_at_error _ c.from_residual-in_err-kernel-3.result _ p.1
+
+pub returns-in_err-have_no_batch-clause-unchanged : goal.returns-in_err-have_no_batch-clause-unchanged
+returns-in_err-have_no_batch-clause-unchanged g c = λ honest. right_err _ _ c.from_residual.result (c.have_no_batch.ensures.seen honest)
+
+pub returns-in_err-have_no_batch-clause-untouched : goal.returns-in_err-have_no_batch-clause-untouched
+returns-in_err-have_no_batch-clause-untouched g c = λ honest. right_err _ _ c.from_residual.result (c.have_no_batch.ensures.time honest)

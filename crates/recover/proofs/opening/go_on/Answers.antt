@@ -4,6 +4,7 @@ use Rattle.ipc_model.specs.state.State.{State}
 use Rattle.ipc_model.specs.store.Recovery.{Recovered}
 use Rattle.recover.specs.Kept.{IsKept}
 use Rattle.standing.specs.Standing.{as_written}
+use Rattle.recover.proofs.Faults.{device_no_damage, none_at_error, none_in_error, of_device, right_err}
 use Rattle.recover.proofs.Joined.{device_err, go_on_kept, go_on_same}
 use Rattle.recover.proofs.Rest.{rest_kept}
 use Rattle.recover.proofs.Ways.{one_found, one_parts, read_damaged, still_same}
@@ -56,3 +57,42 @@ returns-clause-any_moment g c = λ honest gates.
     let read = c.in_ok-kernel in
     go_on_same old (g.D.Disk.view c.read_epoch.new.disk) (g.D.Disk.view c.end_behind.new.disk) c.args.epoch c.segment_slot.result read.kernel read.records read.end c.segment_slot.ensures (c.requires.rest honest) gates
     (c.read_epoch.ensures.time honest) (read.ensures.seen honest) (one_parts old.seen c.args.epoch read.kernel read.records read.end (c.requires.used honest) (read.ensures.read honest)) (c.end_behind.ensures.any_moment honest)
+
+pub returns-in_err-kernel-clause-unchanged : goal.returns-in_err-kernel-clause-unchanged
+returns-in_err-kernel-clause-unchanged g c = λ honest. right_err _ _ c.from_residual.result (c.read_epoch.ensures.seen honest)
+
+pub returns-in_err-kernel-clause-untouched : goal.returns-in_err-kernel-clause-untouched
+returns-in_err-kernel-clause-untouched g c = λ honest. right_err _ _ c.from_residual.result (c.read_epoch.ensures.time honest)
+
+pub returns-in_err-kernel-2-clause-damaged : goal.returns-in_err-kernel-2-clause-damaged
+returns-in_err-kernel-2-clause-damaged g c = λ honest told.
+    let p = err_from_is_err_and c.from_residual-in_err-kernel-2.result c.from_residual-in_err-kernel-2.ensures.1 in
+    absurd (device_no_damage c.from_residual-in_err-kernel-2.result (p.1 ∙ ap Err p.2) told)
+
+pub returns-in_err-kernel-2-clause-still : goal.returns-in_err-kernel-2-clause-still
+returns-in_err-kernel-2-clause-still g c =
+    let p = err_from_is_err_and c.from_residual-in_err-kernel-2.result c.from_residual-in_err-kernel-2.ensures.1 in
+    device_err _ c.from_residual-in_err-kernel-2.result _ (p.1 ∙ ap Err p.2)
+
+pub returns-in_err-kernel-2-clause-faults : goal.returns-in_err-kernel-2-clause-faults
+returns-in_err-kernel-2-clause-faults g c =
+    let p = err_from_is_err_and c.from_residual-in_err-kernel-2.result c.from_residual-in_err-kernel-2.ensures.1 in
+    of_device c.from_residual-in_err-kernel-2.result (p.1 ∙ ap Err p.2)
+
+pub returns-in_err-kernel-clause-state : goal.returns-in_err-kernel-clause-state
+returns-in_err-kernel-clause-state g c = λ honest. let p = err_from_is_err_and c.from_residual.result c.from_residual.ensures.1 in none_in_error _ c.from_residual.result _ p.1
+
+pub returns-in_err-kernel-clause-kept : goal.returns-in_err-kernel-clause-kept
+returns-in_err-kernel-clause-kept g c = λ honest. let p = err_from_is_err_and c.from_residual.result c.from_residual.ensures.1 in none_in_error _ c.from_residual.result _ p.1
+
+pub returns-in_err-kernel-clause-quiet : goal.returns-in_err-kernel-clause-quiet
+returns-in_err-kernel-clause-quiet g c = let p = err_from_is_err_and c.from_residual.result c.from_residual.ensures.1 in none_at_error _ c.from_residual.result _ p.1
+
+pub returns-in_err-kernel-2-clause-state : goal.returns-in_err-kernel-2-clause-state
+returns-in_err-kernel-2-clause-state g c = λ honest. let p = err_from_is_err_and c.from_residual-in_err-kernel-2.result c.from_residual-in_err-kernel-2.ensures.1 in none_in_error _ c.from_residual-in_err-kernel-2.result _ p.1
+
+pub returns-in_err-kernel-2-clause-kept : goal.returns-in_err-kernel-2-clause-kept
+returns-in_err-kernel-2-clause-kept g c = λ honest. let p = err_from_is_err_and c.from_residual-in_err-kernel-2.result c.from_residual-in_err-kernel-2.ensures.1 in none_in_error _ c.from_residual-in_err-kernel-2.result _ p.1
+
+pub returns-in_err-kernel-2-clause-quiet : goal.returns-in_err-kernel-2-clause-quiet
+returns-in_err-kernel-2-clause-quiet g c = let p = err_from_is_err_and c.from_residual-in_err-kernel-2.result c.from_residual-in_err-kernel-2.ensures.1 in none_at_error _ c.from_residual-in_err-kernel-2.result _ p.1

@@ -12,6 +12,7 @@ use Rattle.standing.specs.Standing.{as_written}
 use Rattle.slot_steps.proofs.Moments.{unchanged_then}
 use Rattle.slot_steps.specs.Steps.{segment_slot}
 use Rattle.recover.proofs.Apart.{stays_inside}
+use Rattle.recover.proofs.Faults.{device_no_damage, memory_no_damage, memory_no_device, none_at_error, none_in_error, of_device, of_memory, right_err}
 use Rattle.recover.proofs.Joined.{device_err, next_end_same, next_image_same, next_kept, rested_after_image}
 use Rattle.recover.proofs.Ways.{next_damaged, next_found, next_parts, read_damaged, still_same}
 use Rattle.recover.proofs.opening.go_on_next.Goals as goal
@@ -163,3 +164,114 @@ end_behind-requires g c = λ honest.
     stays_inside _ (c.args.epoch + 1) c.in_ok-kernel.end c.segment_slot-2.result (g.D.Disk.view c.read_epoch.new.disk).seen (g.D.Disk.view c.replay_segment.new.disk).seen (g.D.Disk.view c.write_behind.new.disk).seen _ c.segment_slot-2.ensures
     (subst (λ s. c.in_ok-kernel.end ≤ length (slot_of (g.D.Disk.view c.read_epoch.new.disk).seen s)) (c.segment_slot.ensures ∙ sym c.segment_slot-2.ensures) (c.in_ok-kernel.ensures.state honest).inside)
     (c.in_ok-kernel.ensures.seen honest) (c.in_ok-kernel-2.ensures.made honest)
+
+pub returns-in_err-base-2-clause-unchanged : goal.returns-in_err-base-2-clause-unchanged
+returns-in_err-base-2-clause-unchanged g c = λ honest. right_err _ _ c.from_residual-in_err-base-2.result (c.in_ok-base.ensures.seen honest)
+
+pub returns-in_err-base-2-clause-untouched : goal.returns-in_err-base-2-clause-untouched
+returns-in_err-base-2-clause-untouched g c = λ honest. right_err _ _ c.from_residual-in_err-base-2.result (c.read_epoch.ensures.time honest)
+
+pub returns-in_err-base-2-clause-still : goal.returns-in_err-base-2-clause-still
+returns-in_err-base-2-clause-still g c = right_err _ _ c.from_residual-in_err-base-2.result c.in_ok-base.ensures.quiet
+
+pub returns-in_err-base-2-clause-damaged : goal.returns-in_err-base-2-clause-damaged
+returns-in_err-base-2-clause-damaged g c = λ honest told.
+    let p = err_from_is_err_and c.from_residual-in_err-base-2.result c.from_residual-in_err-base-2.ensures.1 in
+    absurd (memory_no_damage c.from_residual-in_err-base-2.result (p.1 ∙ ap Err p.2) told)
+
+pub returns-in_err-base-2-clause-device : goal.returns-in_err-base-2-clause-device
+returns-in_err-base-2-clause-device g c = λ told.
+    let p = err_from_is_err_and c.from_residual-in_err-base-2.result c.from_residual-in_err-base-2.ensures.1 in
+    absurd (memory_no_device c.from_residual-in_err-base-2.result (p.1 ∙ ap Err p.2) told)
+
+pub returns-in_err-base-2-clause-faults : goal.returns-in_err-base-2-clause-faults
+returns-in_err-base-2-clause-faults g c =
+    let p = err_from_is_err_and c.from_residual-in_err-base-2.result c.from_residual-in_err-base-2.ensures.1 in
+    of_memory c.from_residual-in_err-base-2.result (p.1 ∙ ap Err p.2)
+
+pub returns-in_err-base-clause-unchanged : goal.returns-in_err-base-clause-unchanged
+returns-in_err-base-clause-unchanged g c = λ honest. right_err _ _ c.from_residual.result (c.read_epoch.ensures.seen honest)
+
+pub returns-in_err-base-clause-untouched : goal.returns-in_err-base-clause-untouched
+returns-in_err-base-clause-untouched g c = λ honest. right_err _ _ c.from_residual.result (c.read_epoch.ensures.time honest)
+
+pub returns-in_err-kernel-clause-unchanged : goal.returns-in_err-kernel-clause-unchanged
+returns-in_err-kernel-clause-unchanged g c = λ honest. right_err _ _ c.from_residual-in_err-kernel.result (c.replay_segment.ensures.seen honest ∙ c.in_ok-base.ensures.seen honest)
+
+pub returns-in_err-kernel-clause-untouched : goal.returns-in_err-kernel-clause-untouched
+returns-in_err-kernel-clause-untouched g c = λ honest. right_err _ _ c.from_residual-in_err-kernel.result (unchanged_then (g.D.Disk.view c.args.disk.now) (g.D.Disk.view c.read_epoch.new.disk) (g.D.Disk.view c.replay_segment.new.disk) (c.read_epoch.ensures.time honest) (c.replay_segment.ensures.time honest))
+
+pub returns-in_err-kernel-2-clause-damaged : goal.returns-in_err-kernel-2-clause-damaged
+returns-in_err-kernel-2-clause-damaged g c = λ honest told.
+    let p = err_from_is_err_and c.from_residual-in_err-kernel-2.result c.from_residual-in_err-kernel-2.ensures.1 in
+    absurd (device_no_damage c.from_residual-in_err-kernel-2.result (p.1 ∙ ap Err p.2) told)
+
+pub returns-in_err-kernel-2-clause-still : goal.returns-in_err-kernel-2-clause-still
+returns-in_err-kernel-2-clause-still g c =
+    let p = err_from_is_err_and c.from_residual-in_err-kernel-2.result c.from_residual-in_err-kernel-2.ensures.1 in
+    device_err _ c.from_residual-in_err-kernel-2.result _ (p.1 ∙ ap Err p.2)
+
+pub returns-in_err-kernel-2-clause-faults : goal.returns-in_err-kernel-2-clause-faults
+returns-in_err-kernel-2-clause-faults g c =
+    let p = err_from_is_err_and c.from_residual-in_err-kernel-2.result c.from_residual-in_err-kernel-2.ensures.1 in
+    of_device c.from_residual-in_err-kernel-2.result (p.1 ∙ ap Err p.2)
+
+pub returns-in_err-kernel-3-clause-damaged : goal.returns-in_err-kernel-3-clause-damaged
+returns-in_err-kernel-3-clause-damaged g c = λ honest told.
+    let p = err_from_is_err_and c.from_residual-in_err-kernel-3.result c.from_residual-in_err-kernel-3.ensures.1 in
+    absurd (device_no_damage c.from_residual-in_err-kernel-3.result (p.1 ∙ ap Err p.2) told)
+
+pub returns-in_err-kernel-3-clause-still : goal.returns-in_err-kernel-3-clause-still
+returns-in_err-kernel-3-clause-still g c =
+    let p = err_from_is_err_and c.from_residual-in_err-kernel-3.result c.from_residual-in_err-kernel-3.ensures.1 in
+    device_err _ c.from_residual-in_err-kernel-3.result _ (p.1 ∙ ap Err p.2)
+
+pub returns-in_err-kernel-3-clause-faults : goal.returns-in_err-kernel-3-clause-faults
+returns-in_err-kernel-3-clause-faults g c =
+    let p = err_from_is_err_and c.from_residual-in_err-kernel-3.result c.from_residual-in_err-kernel-3.ensures.1 in
+    of_device c.from_residual-in_err-kernel-3.result (p.1 ∙ ap Err p.2)
+
+pub returns-in_err-base-clause-state : goal.returns-in_err-base-clause-state
+returns-in_err-base-clause-state g c = λ honest. let p = err_from_is_err_and c.from_residual.result c.from_residual.ensures.1 in none_in_error _ c.from_residual.result _ p.1
+
+pub returns-in_err-base-clause-kept : goal.returns-in_err-base-clause-kept
+returns-in_err-base-clause-kept g c = λ honest. let p = err_from_is_err_and c.from_residual.result c.from_residual.ensures.1 in none_in_error _ c.from_residual.result _ p.1
+
+pub returns-in_err-base-clause-quiet : goal.returns-in_err-base-clause-quiet
+returns-in_err-base-clause-quiet g c = let p = err_from_is_err_and c.from_residual.result c.from_residual.ensures.1 in none_at_error _ c.from_residual.result _ p.1
+
+pub returns-in_err-base-2-clause-state : goal.returns-in_err-base-2-clause-state
+returns-in_err-base-2-clause-state g c = λ honest. let p = err_from_is_err_and c.from_residual-in_err-base-2.result c.from_residual-in_err-base-2.ensures.1 in none_in_error _ c.from_residual-in_err-base-2.result _ p.1
+
+pub returns-in_err-base-2-clause-kept : goal.returns-in_err-base-2-clause-kept
+returns-in_err-base-2-clause-kept g c = λ honest. let p = err_from_is_err_and c.from_residual-in_err-base-2.result c.from_residual-in_err-base-2.ensures.1 in none_in_error _ c.from_residual-in_err-base-2.result _ p.1
+
+pub returns-in_err-base-2-clause-quiet : goal.returns-in_err-base-2-clause-quiet
+returns-in_err-base-2-clause-quiet g c = let p = err_from_is_err_and c.from_residual-in_err-base-2.result c.from_residual-in_err-base-2.ensures.1 in none_at_error _ c.from_residual-in_err-base-2.result _ p.1
+
+pub returns-in_err-kernel-clause-state : goal.returns-in_err-kernel-clause-state
+returns-in_err-kernel-clause-state g c = λ honest. let p = err_from_is_err_and c.from_residual-in_err-kernel.result c.from_residual-in_err-kernel.ensures.1 in none_in_error _ c.from_residual-in_err-kernel.result _ p.1
+
+pub returns-in_err-kernel-clause-kept : goal.returns-in_err-kernel-clause-kept
+returns-in_err-kernel-clause-kept g c = λ honest. let p = err_from_is_err_and c.from_residual-in_err-kernel.result c.from_residual-in_err-kernel.ensures.1 in none_in_error _ c.from_residual-in_err-kernel.result _ p.1
+
+pub returns-in_err-kernel-clause-quiet : goal.returns-in_err-kernel-clause-quiet
+returns-in_err-kernel-clause-quiet g c = let p = err_from_is_err_and c.from_residual-in_err-kernel.result c.from_residual-in_err-kernel.ensures.1 in none_at_error _ c.from_residual-in_err-kernel.result _ p.1
+
+pub returns-in_err-kernel-2-clause-state : goal.returns-in_err-kernel-2-clause-state
+returns-in_err-kernel-2-clause-state g c = λ honest. let p = err_from_is_err_and c.from_residual-in_err-kernel-2.result c.from_residual-in_err-kernel-2.ensures.1 in none_in_error _ c.from_residual-in_err-kernel-2.result _ p.1
+
+pub returns-in_err-kernel-2-clause-kept : goal.returns-in_err-kernel-2-clause-kept
+returns-in_err-kernel-2-clause-kept g c = λ honest. let p = err_from_is_err_and c.from_residual-in_err-kernel-2.result c.from_residual-in_err-kernel-2.ensures.1 in none_in_error _ c.from_residual-in_err-kernel-2.result _ p.1
+
+pub returns-in_err-kernel-2-clause-quiet : goal.returns-in_err-kernel-2-clause-quiet
+returns-in_err-kernel-2-clause-quiet g c = let p = err_from_is_err_and c.from_residual-in_err-kernel-2.result c.from_residual-in_err-kernel-2.ensures.1 in none_at_error _ c.from_residual-in_err-kernel-2.result _ p.1
+
+pub returns-in_err-kernel-3-clause-state : goal.returns-in_err-kernel-3-clause-state
+returns-in_err-kernel-3-clause-state g c = λ honest. let p = err_from_is_err_and c.from_residual-in_err-kernel-3.result c.from_residual-in_err-kernel-3.ensures.1 in none_in_error _ c.from_residual-in_err-kernel-3.result _ p.1
+
+pub returns-in_err-kernel-3-clause-kept : goal.returns-in_err-kernel-3-clause-kept
+returns-in_err-kernel-3-clause-kept g c = λ honest. let p = err_from_is_err_and c.from_residual-in_err-kernel-3.result c.from_residual-in_err-kernel-3.ensures.1 in none_in_error _ c.from_residual-in_err-kernel-3.result _ p.1
+
+pub returns-in_err-kernel-3-clause-quiet : goal.returns-in_err-kernel-3-clause-quiet
+returns-in_err-kernel-3-clause-quiet g c = let p = err_from_is_err_and c.from_residual-in_err-kernel-3.result c.from_residual-in_err-kernel-3.ensures.1 in none_at_error _ c.from_residual-in_err-kernel-3.result _ p.1

@@ -1,6 +1,7 @@
 use Rattle.std.proofs.Common.{Err, ap}
 use Rattle.ipc_laws.specs.RecoveryLaws.{recovers_once, recovers_version_one}
 use Rattle.standing.specs.Standing.{as_written}
+use Rattle.recover.proofs.Faults.{other_fault}
 use Rattle.recover.proofs.Joined.{kept_recovered}
 use Rattle.recover.proofs.opening.open.Goals as goal
 
@@ -18,3 +19,18 @@ returns-in-Err-clause-opens g c = λ honest state found. (
   λ is. (c.in-Err.ensures.damaged honest (ap Err is)).1 state found,
   λ is. recovers_version_one (as_written (g.D.Disk.view c.args.disk).seen) state found (c.in-Err.ensures.version honest (ap Err is)),
 )
+
+pub returns-in-Err-clause-version : goal.returns-in-Err-clause-version
+returns-in-Err-clause-version g c = λ honest is. c.in-Err.ensures.version honest (ap Err is)
+
+pub returns-in-Err-clause-device : goal.returns-in-Err-clause-device
+returns-in-Err-clause-device g c = λ is. c.in-Err.ensures.device (ap Err is)
+
+pub returns-in-Err-clause-still : goal.returns-in-Err-clause-still
+returns-in-Err-clause-still g c = λ no. other_fault c.load.result c.in-Err.fault c.in-Err.is c.load.ensures.still no
+
+pub returns-in-Err-clause-unchanged : goal.returns-in-Err-clause-unchanged
+returns-in-Err-clause-unchanged g c = λ honest no. other_fault c.load.result c.in-Err.fault c.in-Err.is (c.load.ensures.unchanged honest) no
+
+pub returns-in-Err-clause-untouched : goal.returns-in-Err-clause-untouched
+returns-in-Err-clause-untouched g c = λ honest no. other_fault c.load.result c.in-Err.fault c.in-Err.is (c.load.ensures.untouched honest) no
