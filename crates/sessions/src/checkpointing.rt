@@ -22,16 +22,8 @@ impl<L: Founding, D: Disk, G: Gate> Shared<L, D, G> {
             let Some(end) = self.next_end(rt, records) else {
                 return;
             };
-            match self.checkpoint(rt, end) {
-                Ok(finished) => {
-                    self.gate.pass(rt, Step::Finished);
-                    self.keeper.lock(rt).finished(finished);
-                    self.calls.notify_all();
-                }
-                Err(fault) => {
-                    self.fail(rt, fault);
-                    return;
-                }
+            if !self.checkpoint(rt, end) {
+                return;
             }
         }
     }
@@ -39,14 +31,7 @@ impl<L: Founding, D: Disk, G: Gate> Shared<L, D, G> {
     /// The end of an epoch, once its row is long enough. None where the loop is to end.
     fn next_end<R: Wait + Clock>(&self, rt: &R, records: u64) -> Option<End<L>> {
         for _ in rt.forever() {
-            let keeper = self.calls.wait_while(
-                rt,
-                self.keeper.lock(rt),
-                |keeper| keeper.is_short(records),
-            );
-            let is_over = keeper.is_ending();
-            drop(keeper);
-            if is_over {
+            if !self.await_records(rt, records) {
                 return None;
             }
             self.gate.pass(rt, Step::Cut);
@@ -58,6 +43,16 @@ impl<L: Founding, D: Disk, G: Gate> Shared<L, D, G> {
         None
     }
 
+    /// Waits until the row has so many records. Answers whether the loop is to go on.
+    fn await_records<R: Wait>(&self, rt: &R, records: u64) -> bool {
+        let keeper = self.calls.wait_while(
+            rt,
+            self.keeper.lock(rt),
+            |keeper| keeper.is_short(records),
+        );
+        !keeper.is_ending()
+    }
+
     /// Ends the epoch, where memory is there for it.
     fn cut<R: Wait>(&self, rt: &R) -> Option<End<L>> {
         let row = Row::new(self.alloc, MAX_RECORDS as usize).ok()?;
@@ -67,8 +62,24 @@ impl<L: Founding, D: Disk, G: Gate> Shared<L, D, G> {
         cut.ok()?
     }
 
+    /// Makes a checkpoint, and tells the calls of it. Answers whether it was made.
+    fn checkpoint<R: Wait + Clock>(&self, rt: &R, end: End<L>) -> bool {
+        match self.do_steps(rt, end) {
+            Ok(finished) => {
+                self.gate.pass(rt, Step::Finished);
+                self.keeper.lock(rt).finished(finished);
+                self.calls.notify_all();
+                true
+            }
+            Err(fault) => {
+                self.fail(rt, fault);
+                false
+            }
+        }
+    }
+
     /// Does all steps of a checkpoint.
-    fn checkpoint<R: Wait + Clock>(&self, rt: &R, end: End<L>) -> Result<Finished, StoreFault> {
+    fn do_steps<R: Wait + Clock>(&self, rt: &R, end: End<L>) -> Result<Finished, StoreFault> {
         self.begin(rt, end)?;
         self.roll(rt)?;
         self.image(rt)
@@ -78,17 +89,25 @@ impl<L: Founding, D: Disk, G: Gate> Shared<L, D, G> {
     fn begin<R: Wait + Clock>(&self, rt: &R, end: End<L>) -> Result<(), StoreFault> {
         let mut end = end;
         for _ in rt.forever() {
-            let begun = self.storer.lock(rt).begin(end);
-            match begun {
-                Ok(()) => return Ok(()),
-                Err((NotBegun::NotNow, _)) => return Err(StoreFault::Failed),
-                Err((NotBegun::NoMemory, back)) => {
-                    end = back;
-                    self.pause(rt);
-                }
+            match self.try_to_begin(rt, end)? {
+                None => return Ok(()),
+                Some(back) => end = back,
             }
+            self.pause(rt);
         }
         Err(StoreFault::Failed)
+    }
+
+    /// Brings the state to the store, unless memory is short: the end comes back then.
+    fn try_to_begin<R: Wait>(&self, rt: &R, end: End<L>) -> Result<Option<End<L>>, StoreFault> {
+        match self.storer.lock(rt).begin(end) {
+            Ok(()) => Ok(None),
+            Err((NotBegun::NoMemory, back)) => Ok(Some(back)),
+            Err((NotBegun::NotNow, back)) => {
+                drop(back);
+                Err(StoreFault::Failed)
+            }
+        }
     }
 
     /// Makes the next segment, which is opened once the one before holds all of its records.
@@ -98,19 +117,23 @@ impl<L: Founding, D: Disk, G: Gate> Shared<L, D, G> {
         self.gate.pass(rt, Step::RollHead);
         self.storer.lock(rt).roll_head()?;
         for _ in rt.forever() {
-            let storer = self
-                .stored
-                .wait_while(rt, self.storer.lock(rt), |storer| storer.is_behind());
-            drop(storer);
+            self.await_stored(rt);
             self.gate.pass(rt, Step::RollOpen);
-            let opened = self.storer.lock(rt).roll_open()?;
-            if opened {
+            if self.storer.lock(rt).roll_open()? {
                 self.stored.notify_all();
                 return Ok(());
             }
             self.pause(rt);
         }
         Err(StoreFault::Failed)
+    }
+
+    /// Waits until the segment in use holds all of its records.
+    fn await_stored<R: Wait>(&self, rt: &R) {
+        let storer = self
+            .stored
+            .wait_while(rt, self.storer.lock(rt), |storer| storer.is_behind());
+        drop(storer);
     }
 
     /// Makes the image, piece by piece.
