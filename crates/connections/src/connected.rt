@@ -57,6 +57,22 @@ impl<'a, L: Founding, D: Disk, G, R, P> Connected<'a, L, D, G, R, P> {
     }
 }
 
+impl<'a, L: Founding, D: Disk, G: Drop, R: Wait + Clock, P: Peer> Connected<'a, L, D, G, R, P> {
+    /// Waits as long as one wait may take: whether more was recorded, or None where the peer waits on.
+    fn wait_once(&self, session: &Session<L>, patience: &Patience) -> Option<bool> {
+        let most = match patience.left(self.rt) {
+            Some(most) => most,
+            None => return Some(false),
+        };
+        match self.shared.wait_for_more(self.rt, session, most) {
+            Waited::Changed => Some(true),
+            Waited::Ended => Some(false),
+            Waited::Unchanged if self.peer.is_gone() => Some(false),
+            Waited::Unchanged => None,
+        }
+    }
+}
+
 impl<'a, L: Founding, D: Disk, G: Drop, R: Wait + Clock, P: Peer> Asker
     for Connected<'a, L, D, G, R, P> {
     type Ticket = Ticket;
@@ -126,17 +142,8 @@ impl<'a, L: Founding, D: Disk, G: Drop, R: Wait + Clock, P: Peer> Asker
             return false;
         };
         for _ in self.rt.forever() {
-            let Some(most) = patience.left(self.rt) else {
-                return false;
-            };
-            match self.shared.wait_for_more(self.rt, session, most) {
-                Waited::Changed => return true,
-                Waited::Ended => return false,
-                Waited::Unchanged => {
-                    if self.peer.is_gone() {
-                        return false;
-                    }
-                }
+            if let Some(is_more) = self.wait_once(session, patience) {
+                return is_more;
             }
         }
         false
