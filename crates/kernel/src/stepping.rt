@@ -1,8 +1,9 @@
-ghost use Rattle.std.specs.Prelude.{◌≡◌, ◌≤◌, [], true, false, length, None, IfOk, IfSome, IfNone, IsSome};
+ghost use Rattle.std.specs.Prelude.{◌≡◌, ◌≤◌, [], true, false, length, None, IfOk, IfSome, IfNone, IsSome, OnOk};
 ghost use Rattle.std.specs.FinMap as map;
 ghost use Rattle.ipc_laws.specs.PortCallLaws.{is_port_call};
 ghost use Rattle.codes.specs.declared.limits.TheConstants.{MAX_FRAME_CONTENT};
 ghost use Rattle.ipc_model.specs.calls.Step.{Step, has_record};
+ghost use Rattle.ipc_model.specs.effects.Effects.{Settles};
 ghost use Rattle.ipc_model.specs.state.Circular.{Grounded};
 ghost use Rattle.ipc_model.specs.state.Lawful.{Lawful};
 ghost use Rattle.ipc_model.specs.state.State.{State};
@@ -97,7 +98,7 @@ fn step_by_effects(
 {
     let mut effects = Effects::new(alloc);
     if let Some(reply) = exchange(alloc, state, space, call, shown, &mut effects)? {
-        settle(alloc, state, &mut effects)?;
+        let reply = settle_behind(alloc, state, effects, reply)?;
         return Ok(reply);
     }
     let reply = try_call(alloc, state, space, call, shown, &mut effects)?;
@@ -105,6 +106,22 @@ fn step_by_effects(
         state.give_up();
         return Ok(reply);
     }
+    let reply = settle_behind(alloc, state, effects, reply)?;
+    Ok(reply)
+}
+
+/// Works off what a call set off, and gives its reply back behind that.
+fn settle_behind(
+    alloc: Global,
+    state: &mut IpcState,
+    effects: Effects,
+    reply: Reply,
+) -> Result<Reply, AllocError>
+    ensures reply { IfOk result (λ r. r ≡ reply) }
+    ensures settled { OnOk result (Settles state.old.current effects state.new.current) }
+    ensures before { state.new.before ≡ state.old.before }
+{
+    let mut effects = effects;
     settle(alloc, state, &mut effects)?;
     Ok(reply)
 }
