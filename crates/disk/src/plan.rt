@@ -16,7 +16,7 @@ pub enum Torn {
     Fill(u8),
 }
 
-#[derive(Clone, Copy, Debug)]
+#[derive(Clone, Copy)]
 pub struct Plan {
     pub stop_at: Option<u64>,
     pub fail_at: Option<u64>,
