@@ -3,3 +3,4 @@ mod Lengths
 mod Masks
 mod Messages
 mod Replies
+mod Spelled

@@ -1,4 +1,5 @@
 ghost use Rattle.std.specs.Prelude.{◌≡◌, ◌++◌, ◌<◌, ◌^◌, OnOk, flat_map, length};
+ghost use Rattle.ipc_model.specs.declared.call.Call.TheVariants as call;
 ghost use Rattle.ipc_model.specs.rights.Dispositions.{number_of_kind};
 ghost use Rattle.ipc_model.specs.texts.Texts.{call_text, kept_call, reply_text, done_text, status_text, receive_option, number_of_bool};
 ghost use Rattle.words.specs.Words.{word};
@@ -17,41 +18,75 @@ use codes::{
 use ipc_model::{Call, NamedType, ReceiveStatus, Reply, RightKind};
 use std::alloc::{AllocError, Global};
 
+/// Adds two numbers, as `push_words` does.
+fn push_two(out: &mut Vec<u8>, a: u32, b: u32) -> Result<(), AllocError>
+    ensures ok { OnOk result (out.new.items ≡ out.old.items ++ (word a ++ word b)) }
+{
+    push_words(out, &[a, b])
+}
+
+/// Adds three numbers, as `push_words` does.
+fn push_three(out: &mut Vec<u8>, a: u32, b: u32, c: u32) -> Result<(), AllocError>
+    ensures ok { OnOk result (out.new.items ≡ out.old.items ++ (word a ++ (word b ++ word c))) }
+{
+    push_words(out, &[a, b, c])
+}
+
+/// Adds four numbers, as `push_words` does.
+fn push_four(out: &mut Vec<u8>, a: u32, b: u32, c: u32, d: u32) -> Result<(), AllocError>
+    ensures ok { OnOk result (out.new.items ≡ out.old.items ++ (word a ++ (word b ++ (word c ++ word d)))) }
+{
+    push_words(out, &[a, b, c, d])
+}
+
+#[tactic(auto, unfolding(ipc_model::specs::texts::Texts::call_text))]
+/// Adds the number and the arguments of a send.
+fn push_send(out: &mut Vec<u8>, message: &[u8]) -> Result<(), AllocError>
+    ensures ok { OnOk result (out.new.items ≡ out.old.items ++ call_text (call.Send message.now)) }
+{
+    push_words(out, &[MACH_MSG, SEND_MSG, 0, 0, 0])?;
+    out.extend_from_slice(message)
+}
+
 #[tactic(auto, unfolding(ipc_model::specs::texts::Texts::call_text))]
 /// Adds the number and the arguments of a call. Where memory is wanted some of them may have been added.
 pub fn push_call(out: &mut Vec<u8>, call: &Call) -> Result<(), AllocError>
     ensures ok { OnOk result (out.new.items ≡ out.old.items ++ call_text call.now) }
 {
     match call {
-        Call::Attach { space } => push_words(out, &[ATTACH, *space]),
-        Call::Names => push_words(out, &[MACH_PORT_NAMES]),
-        Call::Type { name } => push_words(out, &[MACH_PORT_TYPE, *name]),
-        Call::Rename { from, to } => push_words(out, &[MACH_PORT_RENAME, *from, *to]),
-        Call::AllocateName { right, name } => push_words(
+        &Call::Attach { space } => push_two(out, ATTACH, space),
+        &Call::Names => push_words(out, &[MACH_PORT_NAMES]),
+        &Call::Type { name } => push_two(out, MACH_PORT_TYPE, name),
+        &Call::Rename { from, to } => push_three(out, MACH_PORT_RENAME, from, to),
+        &Call::AllocateName { right, name } => push_three(
             out,
-            &[MACH_PORT_ALLOCATE_NAME, *right, *name],
+            MACH_PORT_ALLOCATE_NAME,
+            right,
+            name,
         ),
-        Call::Allocate { right } => push_words(out, &[MACH_PORT_ALLOCATE, *right]),
-        Call::Destroy { name } => push_words(out, &[MACH_PORT_DESTROY, *name]),
-        Call::Deallocate { name } => push_words(out, &[MACH_PORT_DEALLOCATE, *name]),
-        Call::GetRefs { name, right } => push_words(out, &[MACH_PORT_GET_REFS, *name, *right]),
-        Call::ModRefs { name, right, delta } => push_words(
+        &Call::Allocate { right } => push_two(out, MACH_PORT_ALLOCATE, right),
+        &Call::Destroy { name } => push_two(out, MACH_PORT_DESTROY, name),
+        &Call::Deallocate { name } => push_two(out, MACH_PORT_DEALLOCATE, name),
+        &Call::GetRefs { name, right } => push_three(out, MACH_PORT_GET_REFS, name, right),
+        &Call::ModRefs { name, right, delta } => push_four(
             out,
-            &[MACH_PORT_MOD_REFS, *name, *right, *delta],
+            MACH_PORT_MOD_REFS,
+            name,
+            right,
+            delta,
         ),
-        Call::SetQlimit { name, limit } => push_words(out, &[MACH_PORT_SET_QLIMIT, *name, *limit]),
-        Call::SetMscount { name, count } => push_words(
+        &Call::SetQlimit { name, limit } => push_three(out, MACH_PORT_SET_QLIMIT, name, limit),
+        &Call::SetMscount { name, count } => push_three(out, MACH_PORT_SET_MSCOUNT, name, count),
+        &Call::SetSeqno { name, seqno } => push_three(out, MACH_PORT_SET_SEQNO, name, seqno),
+        &Call::GetReceiveStatus { name } => push_two(out, MACH_PORT_GET_RECEIVE_STATUS, name),
+        &Call::GetSetStatus { name } => push_two(out, MACH_PORT_GET_SET_STATUS, name),
+        &Call::MoveMember { member, after } => push_three(
             out,
-            &[MACH_PORT_SET_MSCOUNT, *name, *count],
+            MACH_PORT_MOVE_MEMBER,
+            member,
+            after,
         ),
-        Call::SetSeqno { name, seqno } => push_words(out, &[MACH_PORT_SET_SEQNO, *name, *seqno]),
-        Call::GetReceiveStatus { name } => push_words(out, &[MACH_PORT_GET_RECEIVE_STATUS, *name]),
-        Call::GetSetStatus { name } => push_words(out, &[MACH_PORT_GET_SET_STATUS, *name]),
-        Call::MoveMember { member, after } => push_words(
-            out,
-            &[MACH_PORT_MOVE_MEMBER, *member, *after],
-        ),
-        Call::RequestNotification {
+        &Call::RequestNotification {
             name,
             variant,
             sync,
@@ -62,33 +97,27 @@ pub fn push_call(out: &mut Vec<u8>, call: &Call) -> Result<(), AllocError>
                 out,
                 &[
                     MACH_PORT_REQUEST_NOTIFICATION,
-                    *name,
-                    *variant,
-                    *sync,
-                    *notify,
-                    *disposition,
+                    name,
+                    variant,
+                    sync,
+                    notify,
+                    disposition,
                 ],
             )
         }
-        Call::InsertRight {
+        &Call::InsertRight {
             name,
             right_name,
             disposition,
-        } => {
-            push_words(
-                out,
-                &[MACH_PORT_INSERT_RIGHT, *name, *right_name, *disposition],
-            )
-        }
-        Call::ExtractRight { name, disposition } => push_words(
+        } => { push_four(out, MACH_PORT_INSERT_RIGHT, name, right_name, disposition) }
+        &Call::ExtractRight { name, disposition } => push_three(
             out,
-            &[MACH_PORT_EXTRACT_RIGHT, *name, *disposition],
+            MACH_PORT_EXTRACT_RIGHT,
+            name,
+            disposition,
         ),
-        Call::Send { message } => {
-            push_words(out, &[MACH_MSG, SEND_MSG, 0, 0, 0])?;
-            out.extend_from_slice(message.as_slice())
-        }
-        Call::Receive {
+        Call::Send { message } => { push_send(out, message.as_slice()) }
+        &Call::Receive {
             limit,
             large,
             name,
@@ -98,18 +127,20 @@ pub fn push_call(out: &mut Vec<u8>, call: &Call) -> Result<(), AllocError>
                 out,
                 &[
                     MACH_MSG,
-                    option_to_receive(*large),
-                    *limit,
-                    *name,
-                    bool_number(*waited),
+                    option_to_receive(large),
+                    limit,
+                    name,
+                    bool_number(waited),
                 ],
             )
         }
-        Call::SpaceCreate { name, disposition } => push_words(
+        &Call::SpaceCreate { name, disposition } => push_three(
             out,
-            &[SPACE_CREATE, *name, *disposition],
+            SPACE_CREATE,
+            name,
+            disposition,
         ),
-        Call::SpaceDestroy => push_words(out, &[SPACE_DESTROY]),
+        &Call::SpaceDestroy => push_words(out, &[SPACE_DESTROY]),
     }
 }
 
@@ -123,8 +154,7 @@ pub fn push_kept_call(alloc: Global, out: &mut Vec<u8>, call: &Call) -> Result<(
         return push_call(out, call);
     };
     let kept = keep_message(alloc, message.as_slice())?;
-    push_words(out, &[MACH_MSG, SEND_MSG, 0, 0, 0])?;
-    out.extend_from_slice(&kept)
+    push_send(out, &kept)
 }
 
 /// `MACH_RCV_MSG`, with `MACH_RCV_LARGE` where a message that is too large stays queued.
@@ -193,28 +223,28 @@ pub fn push_reply(out: &mut Vec<u8>, reply: &Reply) -> Result<(), AllocError>
     ensures ok { OnOk result (out.new.items ≡ out.old.items ++ reply_text reply.now) }
 {
     match reply {
-        Reply::Refused { number, code } => push_words(out, &[*number, code.number()]),
+        Reply::Refused { number, code } => push_two(out, *number, code.number()),
         Reply::Done { number } => push_words(out, &[*number, 0]),
         Reply::Names { names } => {
-            push_words(out, &[MACH_PORT_NAMES, 0])?;
+            push_two(out, MACH_PORT_NAMES, 0)?;
             push_names(out, names.as_slice())
         }
-        Reply::Type { bits } => push_words(out, &[MACH_PORT_TYPE, 0, *bits]),
-        Reply::Allocate { name } => push_words(out, &[MACH_PORT_ALLOCATE, 0, *name]),
-        Reply::References { count } => push_words(out, &[MACH_PORT_GET_REFS, 0, *count]),
+        Reply::Type { bits } => push_three(out, MACH_PORT_TYPE, 0, *bits),
+        Reply::Allocate { name } => push_three(out, MACH_PORT_ALLOCATE, 0, *name),
+        Reply::References { count } => push_three(out, MACH_PORT_GET_REFS, 0, *count),
         Reply::ReceiveStatus { status } => push_status(out, status),
         Reply::SetStatus { members } => {
             let members = members.as_slice();
-            push_words(out, &[MACH_PORT_GET_SET_STATUS, 0, members.len() as u32])?;
+            push_three(out, MACH_PORT_GET_SET_STATUS, 0, members.len() as u32)?;
             push_words(out, members)
         }
-        Reply::PreviousTarget { name } => push_words(
+        Reply::PreviousTarget { name } => push_three(out, MACH_PORT_REQUEST_NOTIFICATION, 0, *name),
+        Reply::Extracted { name, kind } => push_four(
             out,
-            &[MACH_PORT_REQUEST_NOTIFICATION, 0, *name],
-        ),
-        Reply::Extracted { name, kind } => push_words(
-            out,
-            &[MACH_PORT_EXTRACT_RIGHT, 0, *name, kind_number(*kind)],
+            MACH_PORT_EXTRACT_RIGHT,
+            0,
+            *name,
+            kind_number(*kind),
         ),
         Reply::Message {
             code,
@@ -222,9 +252,9 @@ pub fn push_reply(out: &mut Vec<u8>, reply: &Reply) -> Result<(), AllocError>
             member,
             message,
         } => {
-            push_words(out, &[MACH_MSG, code.number(), *size, *member])?;
+            push_four(out, MACH_MSG, code.number(), *size, *member)?;
             out.extend_from_slice(message.as_slice())
         }
-        Reply::SpaceCreated { space, name } => push_words(out, &[SPACE_CREATE, 0, *space, *name]),
+        Reply::SpaceCreated { space, name } => push_four(out, SPACE_CREATE, 0, *space, *name),
     }
 }

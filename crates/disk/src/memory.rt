@@ -142,12 +142,23 @@ impl MemDisk {
         ensures left { IfOk result (λ disk. MayLeave (memory_view self) (memory_view disk).seen) }
         ensures at_rest { IfOk result (λ disk. IsAtRest disk (memory_view disk).seen) }
     {
+        let alloc = self.alloc;
+        let left = self.left_by_stop();
+        drop(self);
+        let left = left?;
+        MemDisk::holding(alloc, left)
+    }
+
+    // What a stop now leaves in the slots, as the plan says.
+    fn left_by_stop(&self) -> Result<Contents, AllocError>
+        ensures { IfOk result (λ left. MayLeave (memory_view self.now) (slots_of left)) }
+    {
         let mut seen = copy_of(self.alloc, &self.first)?;
         let mut left = copy_of(self.alloc, &self.first)?;
         for call in &self.log {
             redo(self.alloc, self.plan.torn, call, &mut seen, &mut left)?;
         }
-        MemDisk::holding(self.alloc, left)
+        Ok(left)
     }
 
     // Notes a write as begun, and does it where that is wanted. At `Err` it has changed nothing.

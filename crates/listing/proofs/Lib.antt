@@ -3,3 +3,4 @@ mod Drawn
 mod Listed
 mod Told
 mod Walked
+mod Lines

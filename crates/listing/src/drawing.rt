@@ -4,6 +4,7 @@ ghost use Rattle.snapshot.specs.Snapshots.{snapshot_of};
 ghost use Rattle.listing.specs.Drawing.{drawing};
 ghost use Rattle.listing.specs.Strokes.{names_drawn, space_drawn, spaces_drawn, ports_drawn, edges_drawn, drawn};
 
+use crate::line::push_text;
 use crate::standing::StandingRight;
 use crate::stroke::{cluster_head, edge_line, name_node_line, port_node_line};
 use crate::tally::{Tallies, gather};
@@ -25,7 +26,7 @@ fn push_names(
 {
     for named in names {
         let line = name_node_line(alloc, space, named.name, &named.entry)?;
-        out.extend_from_slice(line.as_bytes())?;
+        push_text(out, line)?;
     }
     Ok(())
 }
@@ -34,7 +35,7 @@ fn push_space(alloc: Global, out: &mut Vec<u8>, space: &Space) -> Result<(), All
     ensures { OnOk result (out.new.items ≡ out.old.items ++ space_drawn space.now) }
 {
     let head = cluster_head(alloc, space.number)?;
-    out.extend_from_slice(head.as_bytes())?;
+    push_text(out, head)?;
     push_names(alloc, out, space.number, space.names.as_slice())?;
     out.extend_from_slice(b"  }\n")
 }
@@ -59,7 +60,7 @@ fn push_ports(
     for port in ports {
         let tally = tallies.tally(port.serial);
         let line = port_node_line(alloc, port.serial, tally, &port.state)?;
-        out.extend_from_slice(line.as_bytes())?;
+        push_text(out, line)?;
     }
     Ok(())
 }
@@ -83,7 +84,7 @@ impl Visitor for Edges {
 
     fn see(&mut self, right: StandingRight) -> Result<(), AllocError> {
         let line = edge_line(self.alloc, right)?;
-        self.text.extend_from_slice(line.as_bytes())
+        push_text(&mut self.text, line)
     }
 }
 
@@ -101,10 +102,12 @@ fn push_edges(alloc: Global, out: &mut Vec<u8>, snapshot: &Snapshot) -> Result<(
 fn push_drawing(alloc: Global, snapshot: &Snapshot, out: &mut Vec<u8>) -> Result<(), AllocError>
     ensures { OnOk result (out.new.items ≡ drawn snapshot.now out.old.items) }
 {
-    let tallies = gather(alloc, snapshot)?;
     out.extend_from_slice(HEAD)?;
     push_spaces(alloc, out, snapshot.spaces.as_slice())?;
-    push_ports(alloc, out, &tallies, snapshot.ports.as_slice())?;
+    let tallies = gather(alloc, snapshot)?;
+    let pushed = push_ports(alloc, out, &tallies, snapshot.ports.as_slice());
+    drop(tallies);
+    pushed?;
     push_edges(alloc, out, snapshot)?;
     out.extend_from_slice(b"}\n")
 }

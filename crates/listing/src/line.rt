@@ -1,4 +1,4 @@
-ghost use Rattle.std.specs.Prelude.{◌≡◌, IfOk, string_bytes};
+ghost use Rattle.std.specs.Prelude.{◌≡◌, ◌++◌, IfOk, OnOk, string_bytes};
 ghost use Rattle.ipc_model.specs.state.State as model;
 ghost use Rattle.listing.specs.Listing.{hexadecimal, port_of, references_of, name_line, space_line, queue_text, port_text, store_line};
 ghost use Rattle.listing.specs.Rows.{standing_text};
@@ -68,6 +68,15 @@ pub(crate) fn references_of(entry: &Entry) -> u32
     }
 }
 
+/// Adds a text and lets it go, so that a `?` behind the call has none to drop.
+pub(crate) fn push_text(out: &mut Vec<u8>, text: String) -> Result<(), AllocError>
+    ensures { OnOk result (out.new.items ≡ out.old.items ++ string_bytes text) }
+{
+    let pushed = out.extend_from_slice(text.as_bytes());
+    drop(text);
+    pushed
+}
+
 #[tactic(auto, unfolding(crate::specs::Listing::hexadecimal))]
 pub(crate) fn hexadecimal(alloc: Global, number: u32) -> Result<String, AllocError>
     ensures { IfOk result (λ text. string_bytes text ≡ hexadecimal number) }
@@ -84,7 +93,10 @@ pub(crate) fn name_line(alloc: Global, name: u32, entry: &Entry) -> Result<Strin
     let bits = hexadecimal(alloc, type_of(entry))?;
     let port = port_of(entry);
     let references = references_of(entry);
-    format!(in alloc; "name {name} {bits} port {port} refs {references}\n")
+    let line = format!(in alloc; "name {name} {bits} port {port} refs {references}\n");
+    drop(name);
+    drop(bits);
+    line
 }
 
 #[tactic(auto, unfolding(crate::specs::Listing::space_line))]
@@ -135,7 +147,10 @@ pub(crate) fn port_line(
     let queue = queue_text(alloc, port)?;
     let send = tally.send;
     let once = tally.send_once;
-    format!(in alloc; "port {serial}{receive} send {send} once {once}{queue}")
+    let line = format!(in alloc; "port {serial}{receive} send {send} once {once}{queue}");
+    drop(receive);
+    drop(queue);
+    line
 }
 
 #[tactic(auto, unfolding(crate::specs::Listing::store_line))]

@@ -73,9 +73,12 @@ pub(crate) fn port_node_line(
     let queue = queue_label(alloc, port)?;
     let send = tally.send;
     let once = tally.send_once;
-    format!(in alloc;
+    let line = format!(in alloc;
         "  {node} [shape=ellipse, label=\"port {serial}\\nsend {send} once {once}\\n{queue}\"];\n"
-    )
+    );
+    drop(node);
+    drop(queue);
+    line
 }
 
 fn kind_word(kind: RightKind) -> &'static str
@@ -140,5 +143,9 @@ pub(crate) fn edge_line(alloc: Global, right: StandingRight) -> Result<String, A
     let from = source(alloc, right.standing)?;
     let to = port_node(alloc, right.port)?;
     let called = label(alloc, right.references, right.kind, right.standing)?;
-    format!(in alloc; "  {from} -> {to} [label=\"{called}\"];\n")
+    let line = format!(in alloc; "  {from} -> {to} [label=\"{called}\"];\n");
+    drop(from);
+    drop(to);
+    drop(called);
+    line
 }

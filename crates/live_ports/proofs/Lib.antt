@@ -2,3 +2,4 @@ pub mod Recency
 pub mod Slabbed
 pub mod Slotted
 pub mod Standing
+mod Written

@@ -14,6 +14,7 @@ use ipc_model::Message;
 use slab::Slab;
 use std::alloc::{AllocError, Global};
 use std::marker::Model;
+use std::mem;
 
 /// Ports by their serials. They stand in a slab, whose keys are used again as serials never are; an ordered map has the
 /// key of each serial. Contracts see the finite map from serials to ports.
@@ -157,16 +158,30 @@ impl PortSlots {
         ensures { IfOk result (λ copy. copy ≡ self.now) }
     {
         let mut copy = PortSlots::new(self.alloc);
+        match self.copy_into(&mut copy) {
+            Ok(()) => Ok(copy),
+            Err(error) => {
+                drop(copy);
+                Err(error)
+            }
+        }
+    }
+
+    /// All ports come into slots that have none.
+    fn copy_into(&self, copy: &mut PortSlots) -> Result<(), AllocError>
+        requires { copy.old ≡ map.empty }
+        ensures { OnOk result (copy.new ≡ self.now) }
+    {
         let mut at: u128 = 0;
         while let Some((serial, _)) = self.keys.next_from(at) {
-            self.copy_port(serial, &mut copy)?;
+            self.copy_port(serial, copy)?;
             // No serial is the last number that there may be.
             let Some(next) = serial.checked_add(1) else {
                 return Err(AllocError);
             };
             at = next;
         }
-        Ok(copy)
+        Ok(())
     }
 
     /// A port comes into a copy, if it is there.
@@ -202,14 +217,15 @@ fn add_to_both(
 fn remove_at(ports: &mut Slab<Port>, key: usize)
     ensures { Updates ports.old ports.new key None }
 {
-    ports.try_remove(key);
+    drop(ports.try_remove(key));
 }
 
 fn replace_at(ports: &mut Slab<Port>, key: usize, new: Port)
     ensures { IsChangedAt (λ (old : PortSlot). new) ports.old ports.new key }
 {
-    if let Some(port) = ports.get_mut(key) {
-        *port = new;
+    match ports.get_mut(key) {
+        Some(port) => drop(mem::replace(port, new)),
+        None => drop(new),
     }
 }
 
@@ -227,6 +243,7 @@ fn push_at(ports: &mut Slab<Port>, key: usize, message: Message) -> Result<(), A
     ensures err { OnErr result (IsChangedAt (λ (port : PortSlot). port) ports.old ports.new key) }
 {
     let Some(port) = ports.get_mut(key) else {
+        drop(message);
         return Ok(());
     };
     port.push_forced(message)?;

@@ -163,8 +163,8 @@ impl Tables {
     pub(crate) fn copy(&self) -> Result<Tables, AllocError>
         ensures { IfOk result (λ copy. AreSame self.now copy) }
     {
-        let slots = self.slots.copy()?;
         let touched = Vec::from_slice(self.alloc, self.touched.as_slice())?;
+        let slots = self.slots.copy()?;
         Ok(Tables {
             alloc: self.alloc,
             slots,

@@ -93,6 +93,6 @@ told (Ok true) outcome L first second is isnt = (λ _. is (first refl), λ _. re
 told (Ok false) outcome L first second is isnt = (λ e. absurd (cc e), λ lawful. absurd (isnt (second refl) lawful))
 told (Err e) outcome L first second is isnt = tt
 
-pub all_told : (outcome : Result (Unit {0}) SnapshotFault) (snapshot : Snapshot) (state : State) → OnOk outcome (snapshot ≡ snapshot_of state) → OnOk outcome (Lawful state × Grounded state) → OnOk outcome (ShortQueues state) → IsOk outcome → IsLawfulSnapshot snapshot
-all_told (Ok done) snapshot state same lawful short is = record { state = state; same = same; lawful = lawful.0; grounded = lawful.1; short = short }
-all_told (Err e) snapshot state same lawful short is = absurd (cc is)
+pub all_told : (outcome : Result (Unit {0}) SnapshotFault) (snapshot : Snapshot) (state : State) → OnOk outcome ((snapshot ≡ snapshot_of state) × Lawful state × Grounded state × ShortQueues state) → IsOk outcome → IsLawfulSnapshot snapshot
+all_told (Ok done) snapshot state filled is = record { state = state; same = filled.0; lawful = filled.1; grounded = filled.2; short = filled.3 }
+all_told (Err e) snapshot state filled is = absurd (cc is)

@@ -1,8 +1,9 @@
-ghost use Rattle.std.specs.Prelude.{◌≡◌, ◌↔◌, ◌<◌, ◌^◌, false, IfOk, IsErrOf, IsOk, IsTrue, OnOk};
+ghost use Rattle.std.specs.Prelude.{◌≡◌, ◌↔◌, ◌<◌, ◌^◌, false, true, IfOk, IsErrOf, IsOk, IsTrue, OnOk};
 ghost use Rattle.ipc_model.specs.state.Circular.{Grounded};
 ghost use Rattle.ipc_model.specs.state.Lawful.{Lawful, ShortQueues};
 ghost use Rattle.ipc_state.specs.Running.{at_rest};
 ghost use Rattle.restoring.specs.FillLaws.{nothing, skeleton};
+ghost use Rattle.restoring.specs.Linked.{is_linked, looks_of};
 ghost use Rattle.restoring.specs.Shaped.{IsShaped};
 ghost use Rattle.snapshot.specs.LawfulSnapshot.{IsLawfulSnapshot};
 ghost use Rattle.snapshot.specs.Snapshots.{snapshot_of};
@@ -82,12 +83,9 @@ pub fn restore(alloc: Global, snapshot: &Snapshot) -> Result<IpcState, SnapshotF
 /// Fills a state of nothing with the rows of a snapshot. With a fault it is to be given up.
 fn fill(alloc: Global, state: &mut IpcState, snapshot: &Snapshot) -> Result<(), SnapshotFault>
     requires { state.old.current ≡ nothing }
-    ensures same { OnOk result (snapshot.now ≡ snapshot_of state.new.current) }
-    ensures lawful { OnOk result (Lawful state.new.current × Grounded state.new.current) }
-    ensures short { OnOk result (ShortQueues state.new.current) }
+    ensures filled { OnOk result ((snapshot.now ≡ snapshot_of state.new.current) × Lawful state.new.current × Grounded state.new.current × ShortQueues state.new.current) }
     ensures unlawful { IsErrOf result SnapshotFault.NotLawful → IsLawfulSnapshot snapshot.now → ⊥ }
 {
-    serial_fits(snapshot);
     if !is_shaped(alloc, snapshot)? {
         return Err(SnapshotFault::NotLawful);
     }
@@ -95,6 +93,22 @@ fn fill(alloc: Global, state: &mut IpcState, snapshot: &Snapshot) -> Result<(), 
     if !is_linked(state, snapshot) {
         return Err(SnapshotFault::NotLawful);
     }
+    fill_messages(alloc, state, snapshot)
+}
+
+/// Fills a state of ports and spaces with the messages of their rows, which are linked. With a fault it is to be given up.
+fn fill_messages(
+    alloc: Global,
+    state: &mut IpcState,
+    snapshot: &Snapshot,
+) -> Result<(), SnapshotFault>
+    requires shaped { IsShaped snapshot.now }
+    requires opened { state.old.current ≡ skeleton snapshot.now }
+    requires linked { is_linked (looks_of state.old.current) snapshot.now ≡ true }
+    ensures filled { OnOk result ((snapshot.now ≡ snapshot_of state.new.current) × Lawful state.new.current × Grounded state.new.current × ShortQueues state.new.current) }
+    ensures unlawful { IsErrOf result SnapshotFault.NotLawful → IsLawfulSnapshot snapshot.now → ⊥ }
+{
+    serial_fits(snapshot);
     if !are_received_once(alloc, snapshot)? {
         return Err(SnapshotFault::NotLawful);
     }

@@ -143,9 +143,13 @@ fn tell_one<W: Write, A: Asker>(
     ensures told { IfSome (W.contents writer.old) (λ before.
         EndsOne A.answer A.makes A.lacks A.tells A.fails asker.old hand asker.new before (W.contents writer.new) result) }
 {
-    flush_before(writer, &hand)?;
+    if let Err(fault) = flush_before(writer, &hand) {
+        drop(hand);
+        return Err(fault);
+    }
     let answer = tell(alloc, asker, hand)?;
     reply_frame(&answer, reply);
+    drop(answer);
     write_frame(writer, reply)?;
     Ok(())
 }

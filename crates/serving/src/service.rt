@@ -64,6 +64,7 @@ pub fn serve<R: Read, W: Write, C: Caller>(
             return Ok(());
         };
         answer(alloc, caller, &request, &mut reply)?;
+        drop(request);
         write_frame(writer, &reply)?;
         if writer.flush().is_err() {
             return Err(ServeFault::Wire(WireFault::Device));
@@ -89,6 +90,7 @@ fn answer<C: Caller>(
 {
     let answer = answer_of(alloc, caller, request)?;
     reply_frame(&answer, reply);
+    drop(answer);
     Ok(())
 }
 
@@ -152,8 +154,10 @@ fn send_and_receive<C: Caller>(
 {
     let sent = caller.call(send)?;
     if !sent.is_success() {
+        drop(receive);
         return Ok(sent);
     }
+    drop(sent);
     caller.call(receive)
 }
 

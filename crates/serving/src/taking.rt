@@ -170,8 +170,17 @@ pub(crate) fn make_last<A: Asker>(
 {
     match (message.send, message.receive) {
         (None, None) => known_code(alloc, KernReturn::Success),
-        (Some(call), None) | (None, Some(call)) => ask_one(alloc, asker, &call),
-        (Some(send), Some(receive)) => make_both(alloc, asker, &send, &receive),
+        (Some(call), None) | (None, Some(call)) => {
+            let ready = ask_one(alloc, asker, &call);
+            drop(call);
+            ready
+        }
+        (Some(send), Some(receive)) => {
+            let ready = make_both(alloc, asker, &send, &receive);
+            drop(send);
+            drop(receive);
+            ready
+        }
     }
 }
 
@@ -190,6 +199,7 @@ fn make_both<A: Asker>(
     if !is_sent(asker, &ready) {
         return ready;
     }
+    drop(ready);
     ask_one(alloc, asker, receive)
 }
 

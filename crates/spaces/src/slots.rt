@@ -29,7 +29,7 @@ pub(crate) fn open_at(
     }
     let mut slot = Space::new(alloc);
     slot.open();
-    slots.insert(u128::from(space), slot)?;
+    drop(slots.insert(u128::from(space), slot)?);
     Ok(())
 }
 
@@ -99,7 +99,7 @@ fn keep_slot(slots: &mut NumberMap<Space>, key: u128)
         slot.keep();
         return;
     }
-    slots.remove(key);
+    drop(slots.remove(key));
 }
 
 /// Gives the changes of the slots of these keys up.
@@ -125,5 +125,5 @@ fn give_slot_up(slots: &mut NumberMap<Space>, key: u128)
         slot.give_up();
         return;
     }
-    slots.remove(key);
+    drop(slots.remove(key));
 }

@@ -204,8 +204,8 @@ impl SpaceTable {
     pub fn copy(&self) -> Result<SpaceTable, AllocError>
         ensures { IfOk result (λ copy. copy ≡ self.now) }
     {
-        let slots = self.slots.copy(&SpaceCopier)?;
         let touched = Vec::from_slice(self.alloc, self.touched.as_slice())?;
+        let slots = self.slots.copy(&SpaceCopier)?;
         Ok(SpaceTable {
             alloc: self.alloc,
             slots,

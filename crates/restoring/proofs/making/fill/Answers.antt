@@ -1,15 +1,7 @@
-use Rattle.std.proofs.Common.{◌≡◌, List, true, sym, ◌∙◌, ap, subst}
-use Rattle.ipc_model.specs.state.Lawful.{Lawful, ShortQueues}
+use Rattle.std.proofs.Common.{sym, ◌∙◌, ap}
 use Rattle.ipc_model.specs.state.State.{State}
-use Rattle.snapshot.specs.Snapshots.{snapshot_of}
-use Rattle.snapshot.specs.declared.rows.LivePort.{LivePort}
-use Rattle.restoring.specs.Climbing.{doubled, up_of}
-use Rattle.restoring.specs.ClimbLaws.{hops_ground}
-use Rattle.restoring.specs.Filling.{filled_all}
-use Rattle.restoring.specs.FillLaws.{skeleton}
 use Rattle.restoring.specs.Linked.{is_linked, looks_of}
-use Rattle.restoring.specs.Restored.{grounded_lawful, lawful_rows, linked_lawful, received_lawful, same_rows, shaped_lawful, short_rows, whole_rows}
-use Rattle.snapshot.specs.Rows.{state_of_rows}
+use Rattle.restoring.specs.Restored.{linked_lawful, shaped_lawful}
 use Rattle.restoring.proofs.making.fill.Goals as goal
 
 pub returns-then-not-branch-clause-unlawful : goal.returns-then-not-branch-clause-unlawful
@@ -20,41 +12,3 @@ returns-then-not-is_linked-clause-unlawful c = λ _ lawful.
     let snapshot = c.args.snapshot.now in
     let shape = c.in_ok-is_shaped.ensures.0 c.if-not-branch.false in
     cc (sym c.if-not-is_linked.true ∙ c.is_linked.ensures ∙ ap (λ (s : State). is_linked (looks_of s) snapshot) c.in_ok-open_rows.ensures ∙ linked_lawful snapshot shape lawful)
-
-pub returns-then-not-branch-2-clause-unlawful : goal.returns-then-not-branch-2-clause-unlawful
-returns-then-not-branch-2-clause-unlawful c = λ _ lawful. received_lawful c.args.snapshot.now (c.in_ok-is_shaped.ensures.0 c.if-not-branch.false) lawful (c.in_ok-are_received_once.ensures.others c.if-not-branch-2.true)
-
-pub returns-then-not-branch-3-clause-unlawful : goal.returns-then-not-branch-3-clause-unlawful
-returns-then-not-branch-3-clause-unlawful c = λ _ lawful.
-    let snapshot = c.args.snapshot.now in
-    let shape = c.in_ok-is_shaped.ensures.0 c.if-not-branch.false in
-    let now : c.fill_queues.new.state.current ≡ state_of_rows snapshot =
-    c.in_ok-fill_queues.ensures ∙ ap (λ (rows : List LivePort). filled_all rows c.open_rows.new.state.current) c.as_slice.ensures ∙ ap (filled_all snapshot.ports) c.in_ok-open_rows.ensures ∙ whole_rows snapshot shape in
-    c.in_ok-is_grounded.ensures.circles c.if-not-branch-3.true (λ q. ap (λ (s : State). doubled 15 (up_of s) q) now ∙ grounded_lawful snapshot shape lawful q)
-
-pub returns-clause-same : goal.returns-clause-same
-returns-clause-same c =
-    let snapshot = c.args.snapshot.now in
-    let shape = c.in_ok-is_shaped.ensures.0 c.if-not-branch.false in
-    let now : c.fill_queues.new.state.current ≡ state_of_rows snapshot =
-    c.in_ok-fill_queues.ensures ∙ ap (λ (rows : List LivePort). filled_all rows c.open_rows.new.state.current) c.as_slice.ensures ∙ ap (filled_all snapshot.ports) c.in_ok-open_rows.ensures ∙ whole_rows snapshot shape in
-    same_rows snapshot shape ∙ ap snapshot_of (sym now)
-
-pub returns-clause-lawful : goal.returns-clause-lawful
-returns-clause-lawful c =
-    let snapshot = c.args.snapshot.now in
-    let shape = c.in_ok-is_shaped.ensures.0 c.if-not-branch.false in
-    let now : c.fill_queues.new.state.current ≡ state_of_rows snapshot =
-    c.in_ok-fill_queues.ensures ∙ ap (λ (rows : List LivePort). filled_all rows c.open_rows.new.state.current) c.as_slice.ensures ∙ ap (filled_all snapshot.ports) c.in_ok-open_rows.ensures ∙ whole_rows snapshot shape in
-    let links : is_linked (looks_of (skeleton snapshot)) snapshot ≡ true = sym (ap (λ (s : State). is_linked (looks_of s) snapshot) c.in_ok-open_rows.ensures) ∙ sym c.is_linked.ensures ∙ c.if-not-is_linked.false in
-    let lawful : Lawful c.fill_queues.new.state.current = subst Lawful (sym now) (lawful_rows snapshot shape c.serial_fits.ensures links (c.in_ok-are_received_once.ensures.once c.if-not-branch-2.false)) in
-    let ends = c.in_ok-is_grounded.ensures.ends c.if-not-branch-3.false in
-    (lawful, hops_ground c.fill_queues.new.state.current lawful ends.0 ends.1)
-
-pub returns-clause-short : goal.returns-clause-short
-returns-clause-short c =
-    let snapshot = c.args.snapshot.now in
-    let shape = c.in_ok-is_shaped.ensures.0 c.if-not-branch.false in
-    let now : c.fill_queues.new.state.current ≡ state_of_rows snapshot =
-    c.in_ok-fill_queues.ensures ∙ ap (λ (rows : List LivePort). filled_all rows c.open_rows.new.state.current) c.as_slice.ensures ∙ ap (filled_all snapshot.ports) c.in_ok-open_rows.ensures ∙ whole_rows snapshot shape in
-    subst ShortQueues (sym now) (short_rows snapshot shape)

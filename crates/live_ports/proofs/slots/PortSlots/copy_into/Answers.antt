@@ -1,9 +1,9 @@
 use Rattle.std.proofs.Common.{ℕ, arith, subst}
 use Rattle.live_ports.proofs.Slabbed.{AreCopied, all_copied, none_copied, port_copied}
-use Rattle.live_ports.proofs.slots.PortSlots.copy.Goals as goal
+use Rattle.live_ports.proofs.slots.PortSlots.copy_into.Goals as goal
 
 pub loop-serial-init : goal.loop-serial-init
-loop-serial-init c = none_copied c.args.self.now c.new-copy.result c.new-copy.ensures
+loop-serial-init c = none_copied c.args.self.now c.args.copy.now c.requires
 
 pub loop-serial-preserved : goal.loop-serial-preserved
 loop-serial-preserved c =

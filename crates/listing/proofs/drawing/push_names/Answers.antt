@@ -1,0 +1,9 @@
+use Rattle.std.proofs.Common.{arith}
+use Rattle.snapshot.specs.declared.rows.NamedEntry.{NamedEntry}
+use Rattle.listing.specs.Drawing.{name_node_line}
+use Rattle.listing.proofs.Lines.{one_added}
+use Rattle.listing.proofs.drawing.push_names.Goals as goal
+
+pub loop-named-preserved : goal.loop-named-preserved
+loop-named-preserved c =
+    one_added (λ (named : NamedEntry). name_node_line c.args.space named.name named.entry) _ c.args.names.now c.loop-named.named-index _ c.loop-named.out.items _ c.push_text.new.out.items (omega arith) c.loop-named.invariant c.in_ok-line.ensures c.in_ok-push_text.ensures
