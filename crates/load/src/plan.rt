@@ -1,5 +1,5 @@
 /// Which calls are made.
-#[derive(Clone, Copy, Debug, PartialEq, Eq)]
+#[derive(Clone, Copy)]
 pub(crate) enum Kind {
     Allocate,
     Message,
@@ -8,7 +8,7 @@ pub(crate) enum Kind {
 }
 
 /// What is asked for.
-#[derive(Clone, Copy, Debug)]
+#[derive(Clone, Copy)]
 pub(crate) struct Plan<'a> {
     pub(crate) path: &'a str,
     pub(crate) connections: u32,
