@@ -1,8 +1,6 @@
 use crate::expect::{same, same_in_row};
-use disk::{Disk, FileDisk};
 use inspect::{show, show_drawing};
-use server::open;
-use std::alloc::Global;
+use server::lone;
 use std::fs::Permissions;
 use std::os::unix::fs::PermissionsExt;
 use std::time::SystemTime;
@@ -117,25 +115,14 @@ fn an_empty_folder_stays_empty(rt: HostRuntime) {
     same(&rt, lists_empty(&rt, "machls_empty_folder"), Some(true));
 }
 
-/// Whether a store is made on a disk.
-fn is_made<D: Disk + Drop>(alloc: Global, disk: D) -> bool {
-    match open(alloc, disk) {
-        Ok(opened) => {
-            drop(opened);
-            true
-        }
-        Err(_) => false,
-    }
-}
-
-/// Makes a store in a folder.
-fn make_store(rt: &HostRuntime, folder: &str) -> Option<()> {
-    let files = FileDisk::at(rt.alloc(), rt, folder).ok()?;
-    if is_made(rt.alloc(), files) {
-        Some(())
-    } else {
-        None
-    }
+/// Makes a store in the folder that is the only word: a server's run without a call.
+fn make_store(rt: &HostRuntime, words: &[String]) -> Option<()> {
+    let mut input: &[u8] = &[];
+    let mut output = Vec::new(rt.alloc());
+    let mut errors = Vec::new(rt.alloc());
+    let words = Some(words);
+    let status = lone(rt.alloc(), rt, words, &mut input, &mut output, &mut errors);
+    if status == 0 { Some(()) } else { None }
 }
 
 /// Gives a file a mode.
@@ -143,12 +130,16 @@ fn set_mode(rt: &HostRuntime, path: &str, mode: u32) -> Option<()> {
     fs::set_permissions(rt, path, Permissions::from_mode(mode)).ok()
 }
 
+/// The same of a file of a folder.
+fn set_mode_in(rt: &HostRuntime, folder: &str, name: &str, mode: u32) -> Option<()> {
+    let path = format!(in rt.alloc(); "{folder}/{name}").ok()?;
+    set_mode(rt, path.as_str(), mode)
+}
+
 /// Gives the two files of a store one mode, and its folder another.
 fn set_modes(rt: &HostRuntime, folder: &str, files: u32, mode: u32) -> Option<()> {
-    for name in ["image0", "segment0"] {
-        let path = format!(in rt.alloc(); "{folder}/{name}").ok()?;
-        set_mode(rt, path.as_str(), files)?;
-    }
+    set_mode_in(rt, folder, "image0", files)?;
+    set_mode_in(rt, folder, "segment0", files)?;
     set_mode(rt, folder, mode)
 }
 
@@ -185,7 +176,7 @@ fn lists_unchanged(rt: &HostRuntime, words: &[String], path: &str) -> Option<[bo
 
 /// The same of a new store whose files and folder can only be read.
 fn lists_what_can_be_read(rt: &HostRuntime, words: &[String], path: &str) -> Option<[bool; 2]> {
-    make_store(rt, path)?;
+    make_store(rt, words)?;
     set_modes(rt, path, 0o444, 0o555)?;
     let seen = lists_unchanged(rt, words, path);
     set_modes(rt, path, 0o644, 0o755)?;
