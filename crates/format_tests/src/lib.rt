@@ -1,18 +1,29 @@
-//! Tests of the formats: words, codes, frames, calls, messages and records.
+//! Tests of the formats: words, codes, frames, calls, messages and records; images and their texts, new segments and images
+//! in their slots, and what an inspector prints.
 #![tactic(auto)]
 
 #[cfg(test)]
 mod calls_tests;
 #[cfg(test)]
+mod checkpoint_tests;
+#[cfg(test)]
 mod codes_tests;
+#[cfg(test)]
+mod drawing_tests;
 #[cfg(test)]
 mod expect;
 #[cfg(test)]
+mod image_tests;
+#[cfg(test)]
 mod ipc_model_tests;
+#[cfg(test)]
+mod listing_tests;
 #[cfg(test)]
 mod msg_header_tests;
 #[cfg(test)]
 mod record_tests;
+#[cfg(test)]
+mod sample;
 #[cfg(test)]
 mod script_tests;
 #[cfg(test)]

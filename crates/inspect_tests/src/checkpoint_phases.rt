@@ -1,13 +1,12 @@
 //! What the inspector prints in each phase of a checkpoint. What is wanted follows from docs/FORMATS.md: the state is that of the
 //! newest open image, of its epoch's segment, and of the next segment from its opening on; the epoch is that image's, and the
 //! records are those of these segments.
-use disk::{MemDisk, Slot};
-use inspect::{list, sketch};
+use crate::expect::same_in_row;
+use crate::store::{Store, are_alike, drawing_of, lines_of};
+use disk::{Disk, MemDisk};
 use ipc_model::{Call, Reply};
-use std::alloc::{AllocError, Global};
-use std::fmt::Debug;
+use std::alloc::Global;
 use std::process::Abort;
-use std::test::Fail;
 use system::{Event, Opened, Outcome, System, open};
 
 /// An event of the core, which a table can hold.
@@ -188,102 +187,79 @@ fn is_done(outcome: &Outcome) -> bool {
     )
 }
 
+/// Whether a step is done by a core.
+fn is_step_done<D: Disk>(core: &mut System<D>, step: Step) -> bool {
+    let event = event_of(step);
+    let outcome = core.step(&event);
+    drop(event);
+    let is_done = is_done(&outcome);
+    drop(outcome);
+    is_done
+}
+
 /// Whether all steps of these phases are done by a core.
-fn are_done(core: &mut System<MemDisk>, phases: &[Phase]) -> bool {
+fn are_done<D: Disk>(core: &mut System<D>, phases: &[Phase]) -> bool {
     for (step, _) in phases {
-        if !is_done(&core.step(&event_of(*step))) {
+        if !is_step_done(core, *step) {
             return false;
         }
     }
     true
 }
 
-/// The disk of an opened store behind the steps of these phases, as a read gives it.
-fn disk_behind(alloc: Global, opened: Opened<MemDisk>, phases: &[Phase]) -> Result<MemDisk, Fail> {
+/// The disk of an opened store behind the steps of these phases, as a read gives it, where all are done.
+fn disk_behind<D: Disk + Drop>(alloc: Global, opened: Opened<D>, phases: &[Phase]) -> Option<D> {
     let mut core = System::new(alloc, opened);
     let are_done = are_done(&mut core, phases);
     let disk = core.into_disk();
-    if are_done {
-        Ok(disk)
-    } else {
-        Err(Fail::from("a step isn't done"))
-    }
+    if are_done { Some(disk) } else { None }
 }
 
 /// The same of a new store.
-fn disk_after(alloc: Global, phases: &[Phase]) -> Result<MemDisk, Fail> {
-    match open(alloc, MemDisk::new(alloc)) {
+fn disk_after<S: Store + Drop>(alloc: Global, phases: &[Phase]) -> Option<S> {
+    match open(alloc, S::empty(alloc)) {
         Ok(opened) => disk_behind(alloc, opened, phases),
-        Err(_) => Err(Fail::from("the store can't be opened")),
+        Err(_) => None,
     }
 }
 
-fn slots_of(alloc: Global, disk: &MemDisk) -> Result<Vec<Vec<u8>>, AllocError> {
-    let mut slots = Vec::new(alloc);
-    for slot in [Slot::Image0, Slot::Image1, Slot::Segment0, Slot::Segment1] {
-        slots.push(disk.content(slot).to_vec(alloc)?)?;
-    }
-    Ok(slots)
-}
+/// The lines and the drawing of a store, and whether its slots stay as they were.
+type Inspected = (Vec<u8>, Vec<u8>, bool);
 
-fn lines_of(alloc: Global, disk: &mut MemDisk) -> Result<String, Fail> {
-    let mut lines = Vec::new(alloc);
-    match list(alloc, disk, &mut lines) {
-        Ok(()) => Ok(String::from_utf8(lines)?),
-        Err(_) => Err(Fail::from("the store can't be listed")),
-    }
-}
-
-fn drawing_of(alloc: Global, disk: &mut MemDisk) -> Result<String, Fail> {
-    let mut drawing = Vec::new(alloc);
-    match sketch(alloc, disk, &mut drawing) {
-        Ok(()) => Ok(String::from_utf8(drawing)?),
-        Err(_) => Err(Fail::from("the store can't be drawn")),
-    }
-}
-
-/// The lines and the drawing of a store.
-fn printed(alloc: Global, disk: &mut MemDisk) -> Result<(String, String), Fail> {
+fn inspected<S: Store + Drop>(alloc: Global, disk: &mut S) -> Option<Inspected> {
+    let before = disk.copied(alloc)?;
     let lines = lines_of(alloc, disk)?;
     let drawing = drawing_of(alloc, disk)?;
-    Ok((lines, drawing))
-}
-
-/// What is printed of a store, and whether its slots stay as they were.
-fn inspected(alloc: Global, disk: &mut MemDisk) -> Result<((String, String), bool), Fail> {
-    let before = slots_of(alloc, disk)?;
-    let printed = printed(alloc, disk)?;
-    let after = slots_of(alloc, disk)?;
-    Ok((printed, before == after))
+    Some((lines, drawing, are_alike(&before, disk)))
 }
 
 /// The same of a new store behind the steps of these phases.
-fn inspected_after(alloc: Global, phases: &[Phase]) -> Result<((String, String), bool), Fail> {
-    let mut disk = disk_after(alloc, phases)?;
+fn inspected_after<S: Store + Drop>(alloc: Global, phases: &[Phase]) -> Option<Inspected> {
+    let mut disk: S = disk_after(alloc, phases)?;
     inspected(alloc, &mut disk)
 }
 
-fn same_in_row<T: PartialEq + Debug + Drop>(rt: &impl Abort, row: usize, seen: T, wanted: T) {
-    assert_eq!(rt; seen, wanted, "{row}");
+/// What is seen as texts. Nothing where a part isn't one.
+fn texts(seen: &Option<Inspected>) -> Option<(&str, &str, bool)> {
+    let (lines, drawing, is_same) = seen.as_ref()?;
+    let lines = str::from_utf8(lines).ok()?;
+    Some((lines, str::from_utf8(drawing).ok()?, *is_same))
 }
 
 /// Compares what is seen behind each of these phases with what is wanted.
-fn check_phases(rt: &impl Abort, alloc: Global, phases: &[Phase]) -> Result<(), Fail> {
-    for row in 0..phases.len() {
-        let ((lines, drawing), is_same) = inspected_after(alloc, &phases[..=row])?;
-        let (_, (wanted_lines, wanted_drawing)) = phases[row];
-        let seen = (lines.as_str(), drawing.as_str(), is_same);
-        same_in_row(rt, row, seen, (wanted_lines, wanted_drawing, true));
+fn check_phases<S: Store + Drop, A: Abort>(rt: &A, alloc: Global, phases: &[Phase]) {
+    for (row, (_, (lines, drawing))) in phases.iter().enumerate() {
+        let seen = inspected_after::<S>(alloc, phases.get(..=row).unwrap_or(&[]));
+        same_in_row(rt, row, texts(&seen), Some((*lines, *drawing, true)));
     }
-    Ok(())
 }
 
 #[test]
-fn a_checkpoint_shows_one_state_in_each_phase(rt: HostRuntime) -> Result<(), Fail> {
-    check_phases(&rt, rt.alloc(), &CHECKPOINT)
+fn a_checkpoint_shows_one_state_in_each_phase(rt: HostRuntime) {
+    check_phases::<MemDisk, HostRuntime>(&rt, rt.alloc(), &CHECKPOINT);
 }
 
 #[test]
-fn a_call_beside_an_image_is_shown_from_its_append_on(rt: HostRuntime) -> Result<(), Fail> {
-    check_phases(&rt, rt.alloc(), &BESIDE)
+fn a_call_beside_an_image_is_shown_from_its_append_on(rt: HostRuntime) {
+    check_phases::<MemDisk, HostRuntime>(&rt, rt.alloc(), &BESIDE);
 }

@@ -4,6 +4,10 @@
 #[cfg(test)]
 mod checkpoint_phases;
 #[cfg(test)]
+mod expect;
+#[cfg(test)]
 mod programs;
+#[cfg(test)]
+mod store;
 #[cfg(test)]
 mod stores;

@@ -1,9 +1,8 @@
-use disk::FileDisk;
+use crate::expect::{same, same_in_row};
 use inspect::{show, show_drawing};
-use server::open;
+use server::lone;
 use std::fs::Permissions;
 use std::os::unix::fs::PermissionsExt;
-use std::test::Fail;
 use std::time::SystemTime;
 use std::{env, fs};
 
@@ -11,12 +10,12 @@ use std::{env, fs};
 #[derive(Drop)]
 struct Ended {
     status: u8,
-    output: String,
-    errors: String,
+    output: Vec<u8>,
+    errors: Vec<u8>,
 }
 
-/// Runs the program that lists a store, or the one that draws it.
-fn run(rt: &HostRuntime, words: Option<&[String]>, is_drawing: bool) -> Result<Ended, Fail> {
+/// Runs the program that lists a store, or the one that draws it. It has no clause, so that a test's proof carries nothing of it.
+fn run(rt: &HostRuntime, words: Option<&[String]>, is_drawing: bool) -> Ended {
     let mut output = Vec::new(rt.alloc());
     let mut errors = Vec::new(rt.alloc());
     let status = if is_drawing {
@@ -24,140 +23,175 @@ fn run(rt: &HostRuntime, words: Option<&[String]>, is_drawing: bool) -> Result<E
     } else {
         show(rt.alloc(), rt, words, &mut output, &mut errors)
     };
-    Ok(Ended {
+    Ended {
         status,
-        output: String::from_utf8(output)?,
-        errors: String::from_utf8(errors)?,
-    })
+        output,
+        errors,
+    }
+}
+
+/// A status, and what is written to the output and to the errors.
+type End = (u8, &'static str, &'static str);
+
+/// Whether a run ended so.
+fn has_ended(ended: &Ended, end: End) -> bool {
+    let (status, output, errors) = end;
+    ended.status == status
+        && ended.output.as_slice() == output.as_bytes()
+        && ended.errors.as_slice() == errors.as_bytes()
+}
+
+/// Whether a run ends so.
+fn ends(rt: &HostRuntime, words: Option<&[String]>, is_drawing: bool, end: End) -> bool {
+    has_ended(&run(rt, words, is_drawing), end)
+}
+
+/// The lines of an empty store.
+const LISTED: End = (0, "epoch 0 records 0\nspace 1\n", "");
+
+/// A path that is no folder, so often.
+fn paths(rt: &HostRuntime, count: u32) -> Option<Vec<String>> {
+    let mut words = Vec::new(rt.alloc());
+    for _ in 0..count {
+        let path = String::from_str(rt.alloc(), "/nowhere/at/all").ok()?;
+        words.push(path).ok()?;
+    }
+    Some(words)
+}
+
+/// Whether a run with so many words that are no folders ends so.
+fn ends_with(rt: &HostRuntime, count: u32, is_drawing: bool, end: End) -> Option<bool> {
+    let words = paths(rt, count)?;
+    Some(ends(rt, Some(&words), is_drawing, end))
+}
+
+/// How each program ends whose words can't be read, or are none, or two, or three.
+static NO_WORDS: [(bool, End); 2] = [
+    (false, (2, "", "machls: command line\n")),
+    (true, (2, "", "machmap: command line\n")),
+];
+
+/// How the lister ends where its only word is no folder.
+const NOWHERE: End = (1, "", "machls: store fault 1: device\n");
+
+#[test]
+fn words_have_a_status_and_a_line(rt: HostRuntime) {
+    for (is_drawing, end) in &NO_WORDS {
+        same_in_row(&rt, *end, ends(&rt, None, *is_drawing, *end), true);
+        for count in [0, 2, 3] {
+            let seen = ends_with(&rt, count, *is_drawing, *end);
+            same_in_row(&rt, (*end, count), seen, Some(true));
+        }
+    }
+    same(&rt, ends_with(&rt, 1, false, NOWHERE), Some(true));
 }
 
 /// The path of a folder for a test.
-fn path_of(rt: &HostRuntime, name: &str) -> Result<String, Fail> {
-    let mut folder = env::temp_dir(rt)?;
-    folder.push(name)?;
-    Ok(String::from_str(rt.alloc(), folder.as_path().as_str())?)
+fn path_of(rt: &HostRuntime, name: &str) -> Option<String> {
+    let mut folder = env::temp_dir(rt).ok()?;
+    folder.push(name).ok()?;
+    String::from_str(rt.alloc(), folder.as_path().as_str()).ok()
 }
 
 /// A new folder, as a program's word.
-fn folder(rt: &HostRuntime, name: &str) -> Result<[String; 1], Fail> {
+fn folder(rt: &HostRuntime, name: &str) -> Option<[String; 1]> {
     let path = path_of(rt, name)?;
     let _ = fs::remove_dir_all(rt, path.as_str());
-    fs::create_dir(rt, path.as_str())?;
-    Ok([path])
+    fs::create_dir(rt, path.as_str()).ok()?;
+    Some([path])
 }
 
-/// A path that is no folder, so often.
-fn paths(rt: &HostRuntime, count: u32) -> Result<Vec<String>, Fail> {
-    let mut words = Vec::new(rt.alloc());
-    for _ in 0..count {
-        words.push(String::from_str(rt.alloc(), "/nowhere/at/all")?)?;
-    }
-    Ok(words)
-}
-
-/// Whether a run wrote nothing but this line of errors, and ended with this status.
-fn is_told(ended: &Ended, status: u8, line: &str) -> bool {
-    ended.status == status && ended.output.is_empty() && ended.errors.as_str() == line
-}
-
-/// Whether a run wrote nothing but the lines of an empty store, and ended well.
-fn is_listed(ended: &Ended) -> bool {
-    ended.status == 0
-        && ended.errors.is_empty()
-        && ended.output.as_str() == "epoch 0 records 0\nspace 1\n"
-}
-
-/// Whether a program tells by this line that its words can't be read, or are none, or two, or three.
-fn refuses_words(rt: &HostRuntime, is_drawing: bool, line: &str) -> Result<bool, Fail> {
-    let unreadable = run(rt, None, is_drawing)?;
-    let mut is_refused = is_told(&unreadable, 2, line);
-    for count in [0, 2, 3] {
-        let ended = run(rt, Some(&paths(rt, count)?), is_drawing)?;
-        is_refused = is_refused && is_told(&ended, 2, line);
-    }
-    Ok(is_refused)
+/// Whether an empty folder is listed, which can be removed as one then.
+fn lists_empty(rt: &HostRuntime, name: &str) -> Option<bool> {
+    let words = folder(rt, name)?;
+    let is_listed = ends(rt, Some(&words), false, LISTED);
+    let [path] = &words;
+    fs::remove_dir(rt, path.as_str()).ok()?;
+    Some(is_listed)
 }
 
 #[test]
-fn words_have_a_status_and_a_line(rt: HostRuntime) -> Result<(), Fail> {
-    assert!(rt; refuses_words(&rt, false, "machls: command line\n")?);
-    let nowhere = run(&rt, Some(&paths(&rt, 1)?), false)?;
-    assert!(rt; is_told(&nowhere, 1, "machls: store fault 1: device\n"));
-    Ok(())
+fn an_empty_folder_stays_empty(rt: HostRuntime) {
+    same(&rt, lists_empty(&rt, "machls_empty_folder"), Some(true));
 }
 
-#[test]
-fn an_empty_folder_stays_empty(rt: HostRuntime) -> Result<(), Fail> {
-    let words = folder(&rt, "machls_empty_folder")?;
-    let ended = run(&rt, Some(&words), false)?;
-    assert!(rt; is_listed(&ended));
-    // A folder with something in it isn't removed so.
-    fs::remove_dir(&rt, words[0].as_str())?;
-    Ok(())
+/// Makes a store in the folder that is the only word: a server's run without a call.
+fn make_store(rt: &HostRuntime, words: &[String]) -> Option<()> {
+    let mut input: &[u8] = &[];
+    let mut output = Vec::new(rt.alloc());
+    let mut errors = Vec::new(rt.alloc());
+    let words = Some(words);
+    let status = lone(rt.alloc(), rt, words, &mut input, &mut output, &mut errors);
+    if status == 0 { Some(()) } else { None }
 }
 
-/// Makes a store in a folder.
-fn make_store(rt: &HostRuntime, folder: &str) -> Result<(), Fail> {
-    let opened = open(rt.alloc(), FileDisk::at(rt.alloc(), rt, folder)?);
-    let is_made = opened.is_ok();
-    drop(opened);
-    if is_made {
-        Ok(())
-    } else {
-        Err(Fail::from("the store is made"))
-    }
+/// Gives a file a mode.
+fn set_mode(rt: &HostRuntime, path: &str, mode: u32) -> Option<()> {
+    fs::set_permissions(rt, path, Permissions::from_mode(mode)).ok()
+}
+
+/// The same of a file of a folder.
+fn set_mode_in(rt: &HostRuntime, folder: &str, name: &str, mode: u32) -> Option<()> {
+    let path = format!(in rt.alloc(); "{folder}/{name}").ok()?;
+    set_mode(rt, path.as_str(), mode)
 }
 
 /// Gives the two files of a store one mode, and its folder another.
-fn set_modes(rt: &HostRuntime, folder: &str, files: u32, mode: u32) -> Result<(), Fail> {
-    for name in ["image0", "segment0"] {
-        let path = format!(in rt.alloc(); "{folder}/{name}")?;
-        fs::set_permissions(rt, path.as_str(), Permissions::from_mode(files))?;
-    }
-    Ok(fs::set_permissions(rt, folder, Permissions::from_mode(mode))?)
+fn set_modes(rt: &HostRuntime, folder: &str, files: u32, mode: u32) -> Option<()> {
+    set_mode_in(rt, folder, "image0", files)?;
+    set_mode_in(rt, folder, "segment0", files)?;
+    set_mode(rt, folder, mode)
+}
+
+/// When a file was changed last.
+fn changed(rt: &HostRuntime, path: &str) -> Option<SystemTime> {
+    fs::metadata(rt, path).ok()?.modified().ok()
 }
 
 /// The bytes of a file, and when it and its folder were changed last.
 type Seen = (Vec<u8>, SystemTime, SystemTime);
 
-fn seen(rt: &HostRuntime, folder: &str, name: &str) -> Result<Seen, Fail> {
-    let path = format!(in rt.alloc(); "{folder}/{name}")?;
-    let bytes = fs::read(rt, path.as_str())?;
-    let file = fs::metadata(rt, path.as_str())?.modified()?;
-    let parent = fs::metadata(rt, folder)?.modified()?;
-    Ok((bytes, file, parent))
+fn seen(rt: &HostRuntime, folder: &str, name: &str) -> Option<Seen> {
+    let path = format!(in rt.alloc(); "{folder}/{name}").ok()?;
+    let file = changed(rt, path.as_str())?;
+    let parent = changed(rt, folder)?;
+    let bytes = fs::read(rt, path.as_str()).ok()?;
+    Some((bytes, file, parent))
 }
 
 /// The same of both files of a new store.
-fn seen_both(rt: &HostRuntime, folder: &str) -> Result<(Seen, Seen), Fail> {
+fn seen_both(rt: &HostRuntime, folder: &str) -> Option<(Seen, Seen)> {
     let image = seen(rt, folder, "image0")?;
     let segment = seen(rt, folder, "segment0")?;
-    Ok((image, segment))
+    Some((image, segment))
 }
 
-/// Lists a store, and tells whether its files and its folder are as before.
-fn list_unchanged(rt: &HostRuntime, words: &[String; 1]) -> Result<(Ended, bool), Fail> {
-    let before = seen_both(rt, words[0].as_str())?;
-    let ended = run(rt, Some(words), false)?;
-    let after = seen_both(rt, words[0].as_str())?;
-    Ok((ended, before == after))
+/// Whether a store is listed, and whether its files and its folder are then as before.
+fn lists_unchanged(rt: &HostRuntime, words: &[String], path: &str) -> Option<[bool; 2]> {
+    let before = seen_both(rt, path)?;
+    let is_listed = ends(rt, Some(words), false, LISTED);
+    let after = seen_both(rt, path)?;
+    Some([is_listed, before == after])
+}
+
+/// The same of a new store whose files and folder can only be read.
+fn lists_what_can_be_read(rt: &HostRuntime, words: &[String], path: &str) -> Option<[bool; 2]> {
+    make_store(rt, words)?;
+    set_modes(rt, path, 0o444, 0o555)?;
+    let seen = lists_unchanged(rt, words, path);
+    set_modes(rt, path, 0o644, 0o755)?;
+    fs::remove_dir_all(rt, path).ok()?;
+    seen
+}
+
+fn lists_read_only(rt: &HostRuntime, name: &str) -> Option<[bool; 2]> {
+    let words = folder(rt, name)?;
+    let [path] = &words;
+    lists_what_can_be_read(rt, &words, path.as_str())
 }
 
 #[test]
-fn a_folder_that_can_only_be_read_is_listed(rt: HostRuntime) -> Result<(), Fail> {
-    let words = folder(&rt, "machls_read_only")?;
-    let path = words[0].as_str();
-    make_store(&rt, path)?;
-    set_modes(&rt, path, 0o444, 0o555)?;
-    let (ended, is_same) = list_unchanged(&rt, &words)?;
-    set_modes(&rt, path, 0o644, 0o755)?;
-    assert!(rt; is_same && is_listed(&ended));
-    fs::remove_dir_all(&rt, path)?;
-    Ok(())
-}
-
-#[test]
-fn the_drawing_has_a_name_of_its_own(rt: HostRuntime) -> Result<(), Fail> {
-    assert!(rt; refuses_words(&rt, true, "machmap: command line\n")?);
-    Ok(())
+fn a_folder_that_can_only_be_read_is_listed(rt: HostRuntime) {
+    let seen = lists_read_only(&rt, "machls_read_only");
+    same(&rt, seen, Some([true; 2]));
 }

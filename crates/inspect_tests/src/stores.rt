@@ -1,10 +1,11 @@
-use disk::MemDisk;
-use inspect::{ListFault, list, sketch};
+use crate::expect::{same, same_in_row};
+use crate::store::{Store, drawing_of};
+use disk::{Disk, MemDisk};
+use inspect::{ListFault, list};
 use server::{Alone, Opened, open, serve};
 use std::alloc::Global;
 use std::io;
 use std::io::{ErrorKind, Write};
-use std::test::Fail;
 
 /// A receive right is allocated, a send right made of it, a message of 28 bytes sent by a copy of that, and received.
 const FRAMES: [u8; 108] = [
@@ -23,7 +24,7 @@ port 1 held 1 00000100 send 1 once 0 queue 0 of 5 seqno 1 mscount 1
 ";
 
 /// The disk of an opened store after these frames.
-fn after_frames(alloc: Global, opened: Opened<MemDisk>) -> MemDisk {
+fn after_frames<D: Disk + Drop>(alloc: Global, opened: Opened<D>) -> D {
     let mut caller = Alone::new(alloc, opened);
     let mut rest = FRAMES.as_slice();
     let mut output = Vec::new(alloc);
@@ -32,10 +33,10 @@ fn after_frames(alloc: Global, opened: Opened<MemDisk>) -> MemDisk {
 }
 
 /// The disk of a new store after the frames.
-fn used(alloc: Global) -> Result<MemDisk, Fail> {
-    match open(alloc, MemDisk::new(alloc)) {
-        Ok(opened) => Ok(after_frames(alloc, opened)),
-        Err(_) => Err(Fail::from("the store can't be opened")),
+fn used<S: Store + Drop>(alloc: Global) -> Option<S> {
+    match open(alloc, S::empty(alloc)) {
+        Ok(opened) => Some(after_frames(alloc, opened)),
+        Err(_) => None,
     }
 }
 
@@ -63,63 +64,62 @@ impl Write for Narrow {
     }
 }
 
-/// The lines of a store as a writer with so much room has them, and how that ended.
-fn listed(alloc: Global, disk: &mut MemDisk, room: usize) -> (Vec<u8>, Result<(), ListFault>) {
+/// How the listing of a store ends to a writer with so much room, and whether that has these bytes then.
+fn listed<D: Disk>(
+    alloc: Global,
+    disk: &mut D,
+    room: usize,
+    wanted: &[u8],
+) -> (Result<(), ListFault>, bool) {
     let mut writer = Narrow {
         output: Vec::new(alloc),
         room,
     };
     let end = list(alloc, disk, &mut writer);
-    (writer.output, end)
+    (end, writer.output.as_slice() == wanted)
 }
 
-/// Whether a writer with so much room has these lines of a store, and the listing ends so.
-fn is_listed(
+/// The same of the store behind the frames.
+fn listed_when_used<S: Store + Drop>(
     alloc: Global,
-    disk: &mut MemDisk,
     room: usize,
-    lines: Option<&[u8]>,
-    end: Result<(), ListFault>,
-) -> bool {
-    let (seen, seen_end) = listed(alloc, disk, room);
-    seen_end == end && Some(seen.as_slice()) == lines
+    wanted: &[u8],
+) -> Option<(Result<(), ListFault>, bool)> {
+    let mut disk: S = used(alloc)?;
+    Some(listed(alloc, &mut disk, room, wanted))
 }
 
 #[test]
-fn a_store_is_listed(rt: HostRuntime) -> Result<(), Fail> {
-    let mut disk = used(rt.alloc())?;
-    assert!(rt; is_listed(rt.alloc(), &mut disk, 1000, Some(LINES.as_bytes()), Ok(())));
-    Ok(())
+fn a_store_is_listed(rt: HostRuntime) {
+    let seen = listed_when_used::<MemDisk>(rt.alloc(), 1000, LINES.as_bytes());
+    same(&rt, seen, Some((Ok(()), true)));
 }
 
 #[test]
-fn a_writer_that_fails_has_a_part(rt: HostRuntime) -> Result<(), Fail> {
-    let mut disk = used(rt.alloc())?;
+fn a_writer_that_fails_has_a_part(rt: HostRuntime) {
     for room in [0, 1, 40, 129] {
-        let part = LINES.as_bytes().get(..room);
-        assert!(rt; is_listed(rt.alloc(), &mut disk, room, part, Err(ListFault::Write)));
+        let part = LINES.as_bytes().get(..room).unwrap_or(b"no part");
+        let seen = listed_when_used::<MemDisk>(rt.alloc(), room, part);
+        same_in_row(&rt, room, seen, Some((Err(ListFault::Write), true)));
     }
-    Ok(())
 }
 
 /// How many edges a drawing has.
-fn edges(alloc: Global, disk: &mut MemDisk) -> Result<usize, Fail> {
-    let mut drawing = Vec::new(alloc);
-    match sketch(alloc, disk, &mut drawing) {
-        Ok(()) => Ok(
-            drawing
-                .windows(4)
-                .filter(|bytes| *bytes == b" -> ".as_slice())
-                .count(),
-        ),
-        Err(_) => Err(Fail::from("the store can't be drawn")),
-    }
+fn edges(drawing: &[u8]) -> usize {
+    drawing
+        .windows(4)
+        .filter(|bytes| *bytes == b" -> ".as_slice())
+        .count()
+}
+
+/// How many the drawing of the store has.
+fn edges_when_used<S: Store + Drop>(alloc: Global) -> Option<usize> {
+    let mut disk: S = used(alloc)?;
+    let drawing = drawing_of(alloc, &mut disk)?;
+    Some(edges(&drawing))
 }
 
 #[test]
-fn a_store_is_drawn(rt: HostRuntime) -> Result<(), Fail> {
-    let mut disk = used(rt.alloc())?;
-    let count = edges(rt.alloc(), &mut disk)?;
-    assert_eq!(rt; count, 2);
-    Ok(())
+fn a_store_is_drawn(rt: HostRuntime) {
+    same(&rt, edges_when_used::<MemDisk>(rt.alloc()), Some(2));
 }

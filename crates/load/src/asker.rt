@@ -44,8 +44,7 @@ impl<'a> Asker<'a> {
 
     /// The name of a new receive right.
     pub(crate) fn port(&mut self) -> Option<u32> {
-        self.write(&[5, 1])?;
-        self.writer.flush().ok()?;
+        self.write_each(&[5, 1], 1)?;
         self.read()
     }
 
@@ -57,10 +56,7 @@ impl<'a> Asker<'a> {
 
     fn take_names<R: Clock>(&mut self, rt: &R, frames: u32, spread: &mut Spread) -> Option<()> {
         let start = Instant::now(rt).ok()?;
-        for _ in 0..frames {
-            self.write(&[5, 1])?;
-        }
-        self.writer.flush().ok()?;
+        self.write_each(&[5, 1], frames)?;
         self.names.clear();
         for _ in 0..frames {
             let name = self.read()?;
@@ -77,11 +73,7 @@ impl<'a> Asker<'a> {
             self.write(&[6, name])?;
         }
         self.writer.flush().ok()?;
-        for _ in 0..frames {
-            let _ = self.read()?;
-            note(rt, &start, spread)?;
-        }
-        Some(())
+        self.read_each(rt, &start, frames, spread)
     }
 
     /// Sends a message of 28 bytes to a port, and receives it, so many times.
@@ -122,10 +114,7 @@ impl<'a> Asker<'a> {
             7,
             0x4433_2211,
         ];
-        for _ in 0..frames {
-            self.write(&question)?;
-        }
-        self.writer.flush().ok()?;
+        self.write_each(&question, frames)?;
         for _ in 0..frames {
             other.answer(port)?;
             let _ = self.read()?;
@@ -136,11 +125,9 @@ impl<'a> Asker<'a> {
 
     /// Waits for a message, and answers it.
     fn answer(&mut self, port: u32) -> Option<()> {
-        self.write(&[19, 2, 28, port, 0])?;
-        self.writer.flush().ok()?;
+        self.write_each(&[19, 2, 28, port, 0], 1)?;
         let name = self.read_at(6)?;
-        self.write(&[19, 1, 0, 0, 0, 0x12, 28, name, 0, 0, 8, 0])?;
-        self.writer.flush().ok()?;
+        self.write_each(&[19, 1, 0, 0, 0, 0x12, 28, name, 0, 0, 8, 0], 1)?;
         let _ = self.read()?;
         Some(())
     }
@@ -154,13 +141,29 @@ impl<'a> Asker<'a> {
         spread: &mut Spread,
     ) -> Option<()> {
         let start = Instant::now(rt).ok()?;
+        self.write_each(words, frames)?;
+        self.read_each(rt, &start, frames, spread)
+    }
+
+    /// Writes a frame of these words so many times.
+    fn write_each(&mut self, words: &[u32], frames: u32) -> Option<()> {
         for _ in 0..frames {
             self.write(words)?;
         }
-        self.writer.flush().ok()?;
+        self.writer.flush().ok()
+    }
+
+    /// Reads so many replies of calls that began then.
+    fn read_each<R: Clock>(
+        &mut self,
+        rt: &R,
+        start: &Instant,
+        frames: u32,
+        spread: &mut Spread,
+    ) -> Option<()> {
         for _ in 0..frames {
             let _ = self.read()?;
-            note(rt, &start, spread)?;
+            note(rt, start, spread)?;
         }
         Some(())
     }

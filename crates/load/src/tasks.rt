@@ -54,13 +54,13 @@ fn ask<R: Net<Listener = TcpListener, Stream = TcpStream> + Wait + Clock + Alloc
     kind: Kind,
     frames: u32,
 ) -> Option<Spread> {
-    if kind == Kind::Pair {
-        return ask_pairs(rt, path, seconds, frames);
-    }
     let stream = UnixStream::connect(rt, path).ok()?;
     let mut spread = Spread::new(rt.alloc()).ok()?;
     let mut asker = Asker::new(rt.alloc(), &stream)?;
-    let asked = ask_all(rt, &mut asker, seconds, kind, frames, &mut spread);
+    let asked = match kind {
+        Kind::Pair => ask_partner(rt, &mut asker, path, seconds, frames, &mut spread),
+        _ => ask_all(rt, &mut asker, seconds, kind, frames, &mut spread),
+    };
     drop(asker);
     asked?;
     Some(spread)
@@ -78,7 +78,7 @@ fn ask_all<R: Wait + Clock>(
     let start = Instant::now(rt).ok()?;
     for _ in rt.forever() {
         asker.round(rt, kind, port, frames, spread)?;
-        if start.elapsed(rt).ok()? >= Duration::from_secs(seconds) {
+        if is_over(rt, &start, seconds)? {
             break;
         }
     }
@@ -86,21 +86,6 @@ fn ask_all<R: Wait + Clock>(
 }
 
 /// Has a connection ask another one for so many seconds.
-fn ask_pairs<R: Net<Listener = TcpListener, Stream = TcpStream> + Wait + Clock + AllocGlobal>(
-    rt: &R,
-    path: &str,
-    seconds: u64,
-    frames: u32,
-) -> Option<Spread> {
-    let stream = UnixStream::connect(rt, path).ok()?;
-    let mut spread = Spread::new(rt.alloc()).ok()?;
-    let mut asker = Asker::new(rt.alloc(), &stream)?;
-    let asked = ask_partner(rt, &mut asker, path, seconds, frames, &mut spread);
-    drop(asker);
-    asked?;
-    Some(spread)
-}
-
 fn ask_partner<R: Net<Listener = TcpListener, Stream = TcpStream> + Wait + Clock + AllocGlobal>(
     rt: &R,
     asker: &mut Asker<'_>,
@@ -128,9 +113,14 @@ fn ask_each<R: Wait + Clock>(
     let start = Instant::now(rt).ok()?;
     for _ in rt.forever() {
         asker.pair(rt, partner, ports, frames, spread)?;
-        if start.elapsed(rt).ok()? >= Duration::from_secs(seconds) {
+        if is_over(rt, &start, seconds)? {
             break;
         }
     }
     Some(())
+}
+
+/// Whether so many seconds have passed since then.
+fn is_over<R: Clock>(rt: &R, start: &Instant, seconds: u64) -> Option<bool> {
+    Some(start.elapsed(rt).ok()? >= Duration::from_secs(seconds))
 }

@@ -30,7 +30,9 @@ fn run_read(rt: &HostRuntime, name: &str, text: &[u8], script: &Script) -> io::R
             Ok(true)
         }
         Err(failure) => {
-            tell_failure(rt, name, text, script, &failure)?;
+            let told = tell_failure(rt, name, text, script, &failure);
+            drop(failure);
+            told?;
             Ok(false)
         }
     }
@@ -39,7 +41,11 @@ fn run_read(rt: &HostRuntime, name: &str, text: &[u8], script: &Script) -> io::R
 /// Runs the script of a text, and tells how it went.
 fn run_text(rt: &HostRuntime, name: &str, text: &[u8]) -> io::Result<bool> {
     match read_script(rt.alloc(), text) {
-        Ok(script) => run_read(rt, name, text, &script),
+        Ok(script) => {
+            let is_answered = run_read(rt, name, text, &script);
+            drop(script);
+            is_answered
+        }
         Err(fault) => {
             tell_fault(rt, name, &fault)?;
             Ok(false)

@@ -127,18 +127,32 @@ fn code_of(reply: &Reply) -> u32 {
 
 /// A call that is made so many times, each with an answer that is wanted.
 fn asking(alloc: Global, call: Call, wanted: Wanted, times: u32) -> Result<Step, ReadFault> {
-    Ok(Step::Ask(Ask {
-        frame: call_frame(alloc, &call)?,
-        wanted,
-        times,
-        call: Some(call),
-    }))
+    match call_frame(alloc, &call) {
+        Ok(frame) => Ok(Step::Ask(Ask {
+            frame,
+            wanted,
+            times,
+            call: Some(call),
+        })),
+        Err(_) => {
+            drop(call);
+            Err(ReadFault::NoMemory)
+        }
+    }
 }
 
 /// A call and what it answers, as a step.
 fn call_step(alloc: Global, exchange: Exchange, line: u32) -> Result<Step, ReadFault> {
-    let wanted = reply_frame(alloc, &exchange.reply, line)?;
-    asking(alloc, exchange.call, Wanted::Frame(wanted), 1)
+    let Exchange { call, reply } = exchange;
+    let wanted = reply_frame(alloc, &reply, line);
+    drop(reply);
+    match wanted {
+        Ok(wanted) => asking(alloc, call, Wanted::Frame(wanted), 1),
+        Err(fault) => {
+            drop(call);
+            Err(fault)
+        }
+    }
 }
 
 /// A call that is made so many times, each with the return code that stands behind it.
@@ -152,6 +166,7 @@ fn refused_step(
         return Ok(None);
     };
     let wanted = Wanted::Code(code_of(&reply));
+    drop(reply);
     Ok(Some(asking(alloc, call, wanted, times)?))
 }
 
@@ -211,17 +226,28 @@ fn add_row(alloc: Global, rows: &mut Vec<Row>, text: &[u8], line: u32) -> Result
     Ok(())
 }
 
-/// The lines of a script.
-pub fn read_script(alloc: Global, text: &[u8]) -> Result<Script, ReadFault> {
+/// Adds the rows of a script's lines. Whether it is run straight alone.
+fn add_rows(alloc: Global, rows: &mut Vec<Row>, text: &[u8]) -> Result<bool, ReadFault> {
     let mut is_straight = false;
-    let mut rows = Vec::new(alloc);
     let mut line = 0_u32;
     for text in text.split(|byte| *byte == b'\n') {
         line = line.saturating_add(1);
         if matches!(directive_of(text), Directive::Straight) {
             is_straight = true;
         }
-        add_row(alloc, &mut rows, text, line)?;
+        add_row(alloc, rows, text, line)?;
     }
-    Ok(Script { is_straight, rows })
+    Ok(is_straight)
+}
+
+/// The lines of a script.
+pub fn read_script(alloc: Global, text: &[u8]) -> Result<Script, ReadFault> {
+    let mut rows = Vec::new(alloc);
+    match add_rows(alloc, &mut rows, text) {
+        Ok(is_straight) => Ok(Script { is_straight, rows }),
+        Err(fault) => {
+            drop(rows);
+            Err(fault)
+        }
+    }
 }

@@ -76,7 +76,9 @@ fn frame_text(alloc: Global, call: Option<&Call>, frame: &[u8]) -> Result<String
     if let Some(call) = call
         && let Some(reply) = reply_of(alloc, call, frame)?
     {
-        return exchange_text(alloc, call, &reply, frame);
+        let text = exchange_text(alloc, call, &reply, frame);
+        drop(reply);
+        return text;
     }
     hex::encode(alloc, frame)
 }

@@ -1,6 +1,6 @@
 //! Frames that the tests send, and what serves them. No function has a clause, and all are over any disk and any caller, so that
 //! a test's proof carries nothing of a disk or of a core.
-use disk::{Disk, MemDisk, Torn};
+use disk::Disk;
 use server::{Alone, Caller, ServeFault, open, serve};
 use std::alloc::Global;
 
@@ -21,32 +21,6 @@ pub(crate) const ALLOCATED: [u8; 16] = [12, 0, 0, 0, 5, 0, 0, 0, 0, 0, 0, 0, 0, 
 pub(crate) struct Run {
     pub(crate) output: Vec<u8>,
     pub(crate) end: Result<(), ServeFault>,
-}
-
-/// A disk that stops as it is planned to.
-pub(crate) trait Store: Disk {
-    /// A disk with nothing.
-    fn empty(alloc: Global) -> Self;
-
-    /// Plans failures of calls, as `MemDisk::plan` does.
-    fn plan_faults(&mut self, stop_at: Option<u64>, fail_at: Option<u64>, torn: Torn);
-
-    /// What a stop leaves.
-    fn stop(self) -> Option<Self>;
-}
-
-impl Store for MemDisk {
-    fn empty(alloc: Global) -> MemDisk {
-        MemDisk::new(alloc)
-    }
-
-    fn plan_faults(&mut self, stop_at: Option<u64>, fail_at: Option<u64>, torn: Torn) {
-        self.plan(stop_at, fail_at, torn);
-    }
-
-    fn stop(self) -> Option<MemDisk> {
-        self.after_stop().ok()
-    }
 }
 
 /// The caller of the store of a disk, or the disk where the store can't be opened.

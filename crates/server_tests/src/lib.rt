@@ -1,10 +1,23 @@
-//! Tests of the service over a store: streams, faults, and stops between and within its calls.
+//! Tests of the core and of the service over it: events one by one and in lists, streams, faults, a row that is full, and stops
+//! between and within calls.
 #![tactic(auto)]
 
 #[cfg(test)]
+mod asking;
+#[cfg(test)]
+mod batches;
+#[cfg(test)]
+mod checkpoints;
+#[cfg(test)]
 mod expect;
 #[cfg(test)]
+mod failures;
+#[cfg(test)]
 mod frames;
+#[cfg(test)]
+mod full_row;
+#[cfg(test)]
+mod lists;
 #[cfg(test)]
 mod many_calls;
 #[cfg(test)]
@@ -15,5 +28,7 @@ mod rests;
 mod served;
 #[cfg(test)]
 mod stops;
+#[cfg(test)]
+mod store;
 #[cfg(test)]
 mod streams;

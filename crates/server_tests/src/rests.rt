@@ -1,6 +1,7 @@
 //! A caller that is given time between frames, and breaks in it.
 use crate::expect::same;
-use crate::frames::{ALLOCATED, Run, Store, caller, serve_on, three_calls};
+use crate::frames::{ALLOCATED, Run, caller, serve_on, three_calls};
+use crate::store::Store;
 use disk::MemDisk;
 use ipc_model::{Call, Reply};
 use journal::StoreFault;

@@ -1,5 +1,6 @@
 use crate::expect::{same, same_in_row};
-use crate::frames::{ALLOCATE, ALLOCATED, Store, served};
+use crate::frames::{ALLOCATE, ALLOCATED, served};
+use crate::store::Store;
 use disk::{MemDisk, Slot, Torn};
 use journal::StoreFault;
 use server::ServeFault;

@@ -1,5 +1,6 @@
 use crate::expect::same_in_row;
-use crate::frames::{Store, served, three_calls};
+use crate::frames::{served, three_calls};
+use crate::store::Store;
 use disk::{Disk, MemDisk, Torn};
 use ipc_model::Reply;
 use server::{Opened, open};

@@ -1,6 +1,7 @@
 //! Readers and writers that show how a connection reads and writes.
 use crate::expect::same;
-use crate::frames::{Run, Store, caller, serve_on, three_calls};
+use crate::frames::{Run, caller, serve_on, three_calls};
+use crate::store::Store;
 use disk::MemDisk;
 use server::{Caller, ServeFault, serve};
 use std::alloc::Global;

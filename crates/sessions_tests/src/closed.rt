@@ -11,7 +11,6 @@ use sessions::{Founding, OpenGate, Shared};
 use std::alloc::{AllocError, Global};
 use std::marker::Brand;
 use std::sync::Wait;
-use std::test::Fail;
 use std::thread::{Threads, join};
 use std::time::Clock;
 
@@ -83,28 +82,25 @@ fn closed_on<L: Founding + Send + Sync, D: Disk + Drop + Send, R: Threads + Wait
     closed(rt, alloc, shared, is_turned)
 }
 
-/// What is left of a service on a new store.
-fn closed_on_new<R: Threads + Wait + Clock + Sync>(
+/// What is left of a service on a disk without a store, if it can be closed so. None where no store can be made.
+fn closed_on_new<D: Disk + Drop + Send, R: Threads + Wait + Clock + Sync>(
     rt: &R,
     alloc: Global,
+    disk: D,
     is_turned: bool,
-) -> Result<Option<[u64; 3]>, Fail> {
-    let start = start_on(alloc, MemDisk::new(alloc)).ok_or("no store")?;
-    Ok(closed_on::<Brand, MemDisk, R>(rt, alloc, start, is_turned))
+) -> Option<Option<[u64; 3]>> {
+    let start = start_on(alloc, disk)?;
+    Some(closed_on::<Brand, D, R>(rt, alloc, start, is_turned))
 }
 
 #[test]
-fn sessions_of_several_epochs_are_of_one_history(rt: HostRuntime) -> Result<(), Fail> {
-    same(
-        &rt,
-        closed_on_new(&rt, rt.alloc(), false)?,
-        Some([2, 42, 42]),
-    );
-    Ok(())
+fn sessions_of_several_epochs_are_of_one_history(rt: HostRuntime) {
+    let counts = closed_on_new(&rt, rt.alloc(), MemDisk::new(rt.alloc()), false);
+    same(&rt, counts, Some(Some([2, 42, 42])));
 }
 
 #[test]
-fn sessions_are_handed_in_by_their_numbers(rt: HostRuntime) -> Result<(), Fail> {
-    same(&rt, closed_on_new(&rt, rt.alloc(), true)?, None);
-    Ok(())
+fn sessions_are_handed_in_by_their_numbers(rt: HostRuntime) {
+    let counts = closed_on_new(&rt, rt.alloc(), MemDisk::new(rt.alloc()), true);
+    same(&rt, counts, Some(None));
 }

@@ -16,7 +16,6 @@ use sessions::{Founding, Gate, Shared, Step};
 use std::alloc::Global;
 use std::marker::Brand;
 use std::sync::Wait;
-use std::test::Fail;
 use std::thread::{Threads, join};
 use std::time::Clock;
 use system::Ticket;
@@ -182,8 +181,21 @@ fn seen_on<
     fill_beside_both_loops(rt, &shared, stay, may_store)
 }
 
+/// What is seen on a disk without a store. None where none can be made.
+fn seen_on_new<D: Disk + Drop + Send, G: Gate + Send + Sync, R: Threads + Wait + Clock + Sync>(
+    rt: &R,
+    alloc: Global,
+    disk: D,
+    gate: G,
+    stay: &Stay,
+    may_store: &Flag,
+) -> Option<Seen> {
+    let start = start_on(alloc, disk)?;
+    seen_on::<Brand, D, G, R>(rt, alloc, start, gate, stay, may_store)
+}
+
 #[test]
-fn a_call_waits_for_the_next_row(rt: HostRuntime) -> Result<(), Fail> {
+fn a_call_waits_for_the_next_row(rt: HostRuntime) {
     let stay = Stay::new();
     let may_store = Flag::new();
     let gate = Pause {
@@ -191,8 +203,8 @@ fn a_call_waits_for_the_next_row(rt: HostRuntime) -> Result<(), Fail> {
         stay: &stay,
         may_store: &may_store,
     };
-    let start = start_on(rt.alloc(), PlainDisk::new(rt.alloc())).ok_or("no store")?;
-    let seen = seen_on::<Brand, _, _, _>(&rt, rt.alloc(), start, gate, &stay, &may_store);
+    let disk = PlainDisk::new(rt.alloc());
+    let seen = seen_on_new(&rt, rt.alloc(), disk, gate, &stay, &may_store);
     let wanted = Seen {
         was_held: true,
         count: MAX_RECORDS,
@@ -201,5 +213,4 @@ fn a_call_waits_for_the_next_row(rt: HostRuntime) -> Result<(), Fail> {
         name: Some(0x104),
     };
     same(&rt, seen, Some(wanted));
-    Ok(())
 }

@@ -14,7 +14,6 @@ use sessions::{Founding, OpenGate, Shared};
 use std::alloc::Global;
 use std::marker::Brand;
 use std::sync::Wait;
-use std::test::Fail;
 use std::thread::{Threads, join};
 use std::time::Clock;
 
@@ -139,8 +138,20 @@ fn seen_on<L: Founding + Send + Sync, D: Disk + Drop + Send, R: Threads + Wait +
     call_beside_the_loop(rt, &shared, is_wanted, stay)
 }
 
+/// What is seen on such a disk without a store. None where none can be made.
+fn seen_on_new<D: Disk + Drop + Send, R: Threads + Wait + Clock + Sync>(
+    rt: &R,
+    alloc: Global,
+    disk: D,
+    is_wanted: &Flag,
+    stay: &Stay,
+) -> Option<Seen> {
+    let start = start_on(alloc, disk)?;
+    seen_on::<Brand, D, R>(rt, alloc, start, is_wanted, stay)
+}
+
 #[test]
-fn a_call_is_made_while_a_sync_is_held(rt: HostRuntime) -> Result<(), Fail> {
+fn a_call_is_made_while_a_sync_is_held(rt: HostRuntime) {
     let is_wanted = Flag::new();
     let stay = Stay::new();
     let disk = SlowDisk {
@@ -149,13 +160,11 @@ fn a_call_is_made_while_a_sync_is_held(rt: HostRuntime) -> Result<(), Fail> {
         stay: &stay,
         rt: &rt,
     };
-    let start = start_on(rt.alloc(), disk).ok_or("no store")?;
-    let seen = seen_on::<Brand, _, _>(&rt, rt.alloc(), start, &is_wanted, &stay);
+    let seen = seen_on_new(&rt, rt.alloc(), disk, &is_wanted, &stay);
     let wanted = Seen {
         has_begun: true,
         was_late: false,
         names: [Some(0x100), Some(0x101)],
     };
     same(&rt, seen, Some(wanted));
-    Ok(())
 }

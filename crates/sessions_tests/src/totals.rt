@@ -11,7 +11,6 @@ use sessions::{Founding, OpenGate, Shared};
 use std::alloc::Global;
 use std::marker::Brand;
 use std::sync::Wait;
-use std::test::Fail;
 use std::thread::{Threads, join};
 use std::time::Clock;
 
@@ -63,10 +62,18 @@ fn counts<L: Founding + Send + Sync, D: Disk + Drop + Send, R: Threads + Wait + 
     Some(count_beside_the_loop(rt, &shared))
 }
 
+/// The four counts on a disk without a store. None where none can be made.
+fn counts_on_new<D: Disk + Drop + Send, R: Threads + Wait + Clock + Sync>(
+    rt: &R,
+    alloc: Global,
+    disk: D,
+) -> Option<[u32; 4]> {
+    let start = start_on(alloc, disk)?;
+    counts::<Brand, D, R>(rt, alloc, start)
+}
+
 #[test]
-fn each_answer_is_as_wanted_in_four_threads(rt: HostRuntime) -> Result<(), Fail> {
-    let start = start_on(rt.alloc(), MemDisk::new(rt.alloc())).ok_or("no store")?;
-    let counts = counts::<Brand, MemDisk, _>(&rt, rt.alloc(), start);
+fn each_answer_is_as_wanted_in_four_threads(rt: HostRuntime) {
+    let counts = counts_on_new(&rt, rt.alloc(), MemDisk::new(rt.alloc()));
     same(&rt, counts, Some([COUNT; 4]));
-    Ok(())
 }

@@ -14,7 +14,6 @@ use sessions::{Founding, Gate, Shared, Step};
 use std::alloc::Global;
 use std::marker::Brand;
 use std::sync::Wait;
-use std::test::Fail;
 use std::thread::{Threads, join};
 use std::time::Clock;
 use system::Ticket;
@@ -134,16 +133,27 @@ fn seen_on<
     call_beside_the_loop(rt, &shared, stay)
 }
 
+/// What is seen on a disk without a store. None where none can be made.
+fn seen_on_new<D: Disk + Drop + Send, G: Gate + Send + Sync, R: Threads + Wait + Clock + Sync>(
+    rt: &R,
+    alloc: Global,
+    disk: D,
+    gate: G,
+    stay: &Stay,
+) -> Option<Seen> {
+    let start = start_on(alloc, disk)?;
+    seen_on::<Brand, D, G, R>(rt, alloc, start, gate, stay)
+}
+
 #[test]
-fn a_reply_waits_for_what_its_call_saw(rt: HostRuntime) -> Result<(), Fail> {
+fn a_reply_waits_for_what_its_call_saw(rt: HostRuntime) {
     let stay = Stay::new();
     let gate = Stop {
         rt: &rt,
         at: Step::Append,
         stay: &stay,
     };
-    let start = start_on(rt.alloc(), MemDisk::new(rt.alloc())).ok_or("no store")?;
-    let seen = seen_on::<Brand, _, _, _>(&rt, rt.alloc(), start, gate, &stay);
+    let seen = seen_on_new(&rt, rt.alloc(), MemDisk::new(rt.alloc()), gate, &stay);
     let wanted = Seen {
         was_held: true,
         came_early: false,
@@ -152,5 +162,4 @@ fn a_reply_waits_for_what_its_call_saw(rt: HostRuntime) -> Result<(), Fail> {
         together: Some([2, 2]),
     };
     same(&rt, seen, Some(wanted));
-    Ok(())
 }

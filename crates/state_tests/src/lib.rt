@@ -1,9 +1,19 @@
-//! Tests of the parts of the running state: that each call that takes memory is done where there is enough, and that
-//! changes are kept and given up. The rest is proved.
+//! Tests of the running state. Of its parts: that each call that takes memory is done where there is enough, and that changes
+//! are kept and given up. Of the kernel over them: calls and what they answer, and the bounds. The rest is proved.
 #![tactic(auto)]
 
 #[cfg(test)]
+mod asked;
+#[cfg(test)]
+mod calls_made;
+#[cfg(test)]
+mod copied;
+#[cfg(test)]
 mod expect;
+#[cfg(test)]
+mod lawful;
+#[cfg(test)]
+mod machine;
 #[cfg(test)]
 mod making;
 #[cfg(test)]
@@ -20,6 +30,10 @@ mod pair_counts_tests;
 mod ports_tests;
 #[cfg(test)]
 mod queue_tests;
+#[cfg(test)]
+mod recorded;
+#[cfg(test)]
+mod replayed;
 #[cfg(test)]
 mod spaces_tests;
 #[cfg(test)]

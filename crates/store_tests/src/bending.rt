@@ -27,7 +27,7 @@ pub(crate) const FOUR_TO_FIVE: Found = Ok((5, 1, [true, false, true, true]));
 pub(crate) const FIVE: Found = Ok((5, 1, [false, true, false, true]));
 
 /// How a slot is bent.
-#[derive(Clone, Copy, Debug)]
+#[derive(Clone, Copy)]
 pub(crate) enum Bend {
     /// The byte at this place is another one.
     Byte(usize, u8),
@@ -47,21 +47,27 @@ fn whole_slot(alloc: Global, slot: Slot, epoch: u64) -> Result<Vec<u8>, AllocErr
     }
 }
 
-// Bends a slot. A byte that is named is there, and was another one.
+// Sets a byte that is there, and was another one.
+fn set(bytes: &mut [u8], at: usize, byte: u8) -> Option<()> {
+    let place = bytes.get_mut(at)?;
+    if *place == byte {
+        return None;
+    }
+    *place = byte;
+    Some(())
+}
+
+// Bends a slot.
 fn change(bytes: &mut Vec<u8>, how: Bend) -> Option<()> {
     match how {
-        Bend::Byte(at, byte) => match bytes.get_mut(at) {
-            Some(place) if *place != byte => *place = byte,
-            _ => return None,
-        },
+        Bend::Byte(at, byte) => set(bytes, at, byte),
         Bend::Zero(from) => {
-            for place in bytes.iter_mut().skip(from) {
-                *place = 0;
-            }
+            let length = bytes.len();
+            bytes.truncate(from);
+            bytes.resize(length, 0).ok()
         }
-        Bend::Length(length) => return bytes.resize(length, 0xff).ok(),
+        Bend::Length(length) => bytes.resize(length, 0xff).ok(),
     }
-    Some(())
 }
 
 fn change_all(bytes: &mut Vec<u8>, slot: Slot, bends: &[(Slot, Bend)]) -> Option<()> {

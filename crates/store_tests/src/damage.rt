@@ -567,14 +567,11 @@ fn check(rt: &impl Abort, alloc: Global, rows: &[Row]) {
 
 #[test]
 fn what_is_bent_is_passed_over_or_told(rt: HostRuntime) {
-    for rows in [
-        PASSED_OVER.as_slice(),
-        UNFINISHED.as_slice(),
-        NEWEST_IMAGE.as_slice(),
-        SEGMENTS.as_slice(),
-        NO_IMAGE.as_slice(),
-        HEADERS.as_slice(),
-    ] {
-        check(&rt, rt.alloc(), rows);
-    }
+    let alloc = rt.alloc();
+    check(&rt, alloc, &PASSED_OVER);
+    check(&rt, alloc, &UNFINISHED);
+    check(&rt, alloc, &NEWEST_IMAGE);
+    check(&rt, alloc, &SEGMENTS);
+    check(&rt, alloc, &NO_IMAGE);
+    check(&rt, alloc, &HEADERS);
 }

@@ -3,23 +3,7 @@ use crate::expect::{same, same_in_row};
 use crate::store::{Slots, Store};
 use disk::{Disk, DiskFault, FileDisk, MemDisk, Slot, Torn};
 use std::alloc::Global;
-use std::io::{self, ErrorKind};
-use std::test::Fail;
 use std::{env, fs};
-
-// Makes a folder that no other test uses.
-fn fresh_folder(rt: &HostRuntime) -> io::Result<String> {
-    let parent = env::temp_dir(rt)?;
-    for number in 0..1_000_000u32 {
-        let path = format!(in rt.alloc(); "{}/disk_test_{number}", parent.as_str())?;
-        match fs::create_dir(rt, path.as_str()) {
-            Ok(()) => return Ok(path),
-            Err(error) if error.kind() == ErrorKind::AlreadyExists => {}
-            Err(error) => return Err(error),
-        }
-    }
-    Err(ErrorKind::AlreadyExists.into())
-}
 
 // The functions that make one call of a disk have no clause, so that a test's proof carries nothing of it.
 
@@ -270,15 +254,67 @@ fn a_plan_stops_all_later_calls(rt: HostRuntime) {
     same(&rt, seen, Some(([Some(DiskFault); 4], (2, 4), [true; 2])));
 }
 
-fn files_at(rt: HostRuntime, folder: &str) -> Result<FileDisk<HostRuntime>, DiskFault> {
-    FileDisk::at(rt.alloc(), rt, folder)
+// How many folders are tried at most until there is one that no other test uses.
+const FOLDERS: u32 = 10_000;
+
+// Makes a folder that no other test uses.
+fn fresh_folder(rt: &HostRuntime) -> Option<String> {
+    let parent = env::temp_dir(rt).ok()?;
+    for number in 0..FOLDERS {
+        let path = format!(in rt.alloc(); "{}/disk_test_{number}", parent.as_str()).ok()?;
+        if fs::create_dir(rt, path.as_str()).is_ok() {
+            return Some(path);
+        }
+    }
+    None
 }
 
-fn remove(rt: &HostRuntime, folder: &str) -> io::Result<()> {
-    fs::remove_dir_all(rt, folder)
+fn remove(rt: &HostRuntime, folder: &str) -> Option<()> {
+    fs::remove_dir_all(rt, folder).ok()
 }
 
-// What is done on files is written over any disk, so that a proof carries nothing of files.
+// Removes a folder that has to be empty.
+fn remove_empty(rt: &HostRuntime, folder: &str) -> Option<()> {
+    fs::remove_dir(rt, folder).ok()
+}
+
+// Removes a folder with all that is in it, and makes it anew.
+fn empty(rt: &HostRuntime, folder: &str) -> Option<()> {
+    remove(rt, folder)?;
+    fs::create_dir(rt, folder).ok()
+}
+
+// A folder with the files of a disk. What is done on files is written over any such folder, and called at each kind of them
+// once: a proof carries then nothing of files, and each such call is dear.
+trait Folder {
+    type Files: Disk + Drop;
+
+    fn files(&self) -> Result<Self::Files, DiskFault>;
+}
+
+// A folder of the system.
+#[derive(Drop)]
+struct Plain<'a> {
+    rt: HostRuntime,
+    path: &'a str,
+}
+
+impl<'a> Folder for Plain<'a> {
+    type Files = FileDisk<HostRuntime>;
+
+    fn files(&self) -> Result<FileDisk<HostRuntime>, DiskFault> {
+        FileDisk::at(self.rt.alloc(), self.rt, self.path)
+    }
+}
+
+impl<'a> Folder for CountedFiles<'a> {
+    type Files = FileDisk<CountedFiles<'a>>;
+
+    fn files(&self) -> Result<FileDisk<CountedFiles<'a>>, DiskFault> {
+        let counted = counted_at(self.files, self.folder, self.syncs);
+        FileDisk::at(self.files.alloc(), counted, self.folder)
+    }
+}
 
 static SEGMENT_STEPS: [Step; 5] = [
     Step::Write(Slot::Segment0, 0, b"abcdef"),
@@ -288,27 +324,27 @@ static SEGMENT_STEPS: [Step; 5] = [
     Step::Sync(Slot::Segment0),
 ];
 
-// Writes to a disk, and gives the counts of the segment 0.
-fn write_segment<D: Disk + Drop>(mut disk: D) -> Option<(u64, u64)> {
+// Writes to a folder's files, and gives the counts of the segment 0.
+fn write_segment<F: Folder>(folder: &F) -> Option<(u64, u64)> {
+    let mut disk = folder.files().ok()?;
     take(&mut disk, &SEGMENT_STEPS)?;
     Some(counts(&disk, Slot::Segment0))
 }
 
 // Whether the segment 0 holds what was written, and then its counts and those of the image 0.
-fn read_segment<D: Disk + Drop>(alloc: Global, mut disk: D) -> Option<(bool, [(u64, u64); 2])> {
+fn read_segment<F: Folder>(alloc: Global, folder: &F) -> Option<(bool, [(u64, u64); 2])> {
+    let mut disk = folder.files().ok()?;
     let bytes = content(alloc, &mut disk, Slot::Segment0)?;
     let seen = [counts(&disk, Slot::Segment0), counts(&disk, Slot::Image0)];
     Some((bytes.as_slice() == b"abCDe".as_slice(), seen))
 }
 
-#[test]
-fn files_hold_what_was_written(rt: HostRuntime) -> Result<(), Fail> {
-    let folder = fresh_folder(&rt)?;
-    let written = write_segment(files_at(rt, folder.as_str())?);
-    let read = read_segment(rt.alloc(), files_at(rt, folder.as_str())?);
-    same(&rt, written, Some((5, 0)));
-    same(&rt, read, Some((true, [(5, 0), (0, 0)])));
-    Ok(remove(&rt, folder.as_str())?)
+// What is seen of the segment as it is written, and of files that are opened behind that.
+type Held = ((u64, u64), (bool, [(u64, u64); 2]));
+
+fn write_and_read<F: Folder>(alloc: Global, folder: &F) -> Option<Held> {
+    let written = write_segment(folder)?;
+    Some((written, read_segment(alloc, folder)?))
 }
 
 // Reads and syncs a slot, and gives how many bytes it holds.
@@ -319,72 +355,104 @@ fn read_and_sync<D: Disk>(alloc: Global, disk: &mut D, slot: Slot) -> Option<usi
 }
 
 // Reads and syncs each slot, and gives how many bytes they hold.
-fn read_and_sync_all<D: Disk + Drop>(alloc: Global, mut disk: D) -> [Option<usize>; 4] {
-    [
+fn read_and_sync_all<F: Folder>(alloc: Global, folder: &F) -> Option<[Option<usize>; 4]> {
+    let mut disk = folder.files().ok()?;
+    Some([
         read_and_sync(alloc, &mut disk, Slot::Image0),
         read_and_sync(alloc, &mut disk, Slot::Image1),
         read_and_sync(alloc, &mut disk, Slot::Segment0),
         read_and_sync(alloc, &mut disk, Slot::Segment1),
-    ]
+    ])
+}
+
+// The fault of files at a path.
+fn fault_at(rt: HostRuntime, path: &str) -> Option<DiskFault> {
+    Plain { rt, path }.files().err()
+}
+
+// The faults of files in a folder that isn't there, and in a file.
+fn faults_in_file(rt: HostRuntime, path: &str) -> Option<[Option<DiskFault>; 2]> {
+    let absent = fault_at(rt, path);
+    fs::write(&rt, path, b"a".as_slice()).ok()?;
+    Some([absent, fault_at(rt, path)])
+}
+
+// The fault of files of which one is a folder.
+fn fault_of_slot(rt: HostRuntime, folder: &str, slot: &str) -> Option<Option<DiskFault>> {
+    fs::create_dir(&rt, slot).ok()?;
+    Some(fault_at(rt, folder))
+}
+
+// These faults, one behind the other.
+fn refused_in(rt: HostRuntime, folder: &str, slot: &str) -> Option<[Option<DiskFault>; 3]> {
+    let [absent, file] = faults_in_file(rt, slot)?;
+    empty(&rt, folder)?;
+    let inside = fault_of_slot(rt, folder, slot)?;
+    remove(&rt, folder)?;
+    Some([absent, file, inside])
+}
+
+fn refused(rt: HostRuntime) -> Option<[Option<DiskFault>; 3]> {
+    let folder = fresh_folder(&rt)?;
+    let slot = format!(in rt.alloc(); "{folder}/image0").ok()?;
+    refused_in(rt, folder.as_str(), slot.as_str())
 }
 
 #[test]
-fn reads_and_syncs_make_no_file(rt: HostRuntime) -> Result<(), Fail> {
-    let folder = fresh_folder(&rt)?;
-    let lengths = read_and_sync_all(rt.alloc(), files_at(rt, folder.as_str())?);
-    same(&rt, lengths, [Some(0); 4]);
-    // It is empty, or else this fails.
-    Ok(fs::remove_dir(&rt, folder.as_str())?)
-}
-
-#[test]
-fn what_is_no_folder_is_refused(rt: HostRuntime) -> Result<(), Fail> {
-    let folder = fresh_folder(&rt)?;
-    let inside = format!(in rt.alloc(); "{}/image0", folder.as_str())?;
-    let absent = files_at(rt, inside.as_str()).err();
-    fs::write(&rt, inside.as_str(), b"a".as_slice())?;
-    let file = files_at(rt, inside.as_str()).err();
-    same(&rt, [absent, file], [Some(DiskFault); 2]);
-    Ok(remove(&rt, folder.as_str())?)
-}
-
-#[test]
-fn a_folder_in_place_of_a_slot_is_refused(rt: HostRuntime) -> Result<(), Fail> {
-    let folder = fresh_folder(&rt)?;
-    let inside = format!(in rt.alloc(); "{}/image0", folder.as_str())?;
-    fs::create_dir(&rt, inside.as_str())?;
-    same(&rt, files_at(rt, folder.as_str()).err(), Some(DiskFault));
-    Ok(remove(&rt, folder.as_str())?)
+fn what_is_no_folder_or_no_file_is_refused(rt: HostRuntime) {
+    same(&rt, refused(rt), Some([Some(DiskFault); 3]));
 }
 
 // What a write and a cut answer, and how many calls have failed then.
-fn write_and_cut<D: Disk + Drop>(mut disk: D) -> Option<([Result<(), DiskFault>; 2], u64)> {
+type Failed = ([Result<(), DiskFault>; 2], u64);
+
+fn write_and_cut<D: Disk + Drop>(mut disk: D) -> Option<Failed> {
     let written = write(&mut disk, Slot::Image0, 0, b"a")?;
     let cut = cut(&mut disk, Slot::Image0, 0)?;
     Some(([written, cut], disk.failures()))
 }
 
+// The same on files whose folder is removed.
+fn write_in_removed<F: Folder>(rt: &HostRuntime, folder: &F, path: &str) -> Option<Failed> {
+    let disk = folder.files().ok()?;
+    remove_empty(rt, path)?;
+    write_and_cut(disk)
+}
+
+// What is read of a folder that is empty, and still is behind that, or else this gives nothing; what is read of files as they
+// were written; and how calls fail.
+type OnFiles = ([Option<usize>; 4], Held, Failed);
+
+fn seen_on<F: Folder>(rt: &HostRuntime, folder: &F, path: &str) -> Option<OnFiles> {
+    let lengths = read_and_sync_all(rt.alloc(), folder)?;
+    remove_empty(rt, path)?;
+    fs::create_dir(rt, path).ok()?;
+    let held = write_and_read(rt.alloc(), folder)?;
+    empty(rt, path)?;
+    Some((lengths, held, write_in_removed(rt, folder, path)?))
+}
+
+fn seen_on_files(rt: HostRuntime) -> Option<OnFiles> {
+    let path = fresh_folder(&rt)?;
+    let path = path.as_str();
+    seen_on(&rt, &Plain { rt, path }, path)
+}
+
+// Reads and syncs make no file, files hold what was written, and a failed call is counted.
 #[test]
-fn a_failed_call_is_counted(rt: HostRuntime) -> Result<(), Fail> {
-    let folder = fresh_folder(&rt)?;
-    let disk = files_at(rt, folder.as_str())?;
-    fs::remove_dir(&rt, folder.as_str())?;
-    same(&rt, write_and_cut(disk), Some(([Err(DiskFault); 2], 2)));
-    Ok(())
+fn files_are_read_written_and_synced(rt: HostRuntime) {
+    let held = ((5, 0), (true, [(5, 0), (0, 0)]));
+    let failed = ([Err(DiskFault); 2], 2);
+    same(&rt, seen_on_files(rt), Some(([Some(0); 4], held, failed)));
 }
 
 // The files of a folder, whose syncs are counted.
-fn counted_at<'a>(
-    files: &'a HostRuntime,
-    folder: &'a str,
-    syncs: &'a Syncs,
-) -> Result<FileDisk<CountedFiles<'a>>, DiskFault> {
-    let counted = CountedFiles {
+fn counted_at<'a>(files: &'a HostRuntime, folder: &'a str, syncs: &'a Syncs) -> CountedFiles<'a> {
+    CountedFiles {
         files,
         folder,
         syncs,
-    };
-    FileDisk::at(files.alloc(), counted, folder)
+    }
 }
 
 // How often files and their folder were synced behind a step, if there is one, and a sync.
@@ -401,43 +469,25 @@ fn syncs_behind<D: Disk>(
 
 // The same behind each sync of a slot: one without a file, a new one, one that was written again, one that wasn't, and another
 // new one.
-fn count_syncs<D: Disk + Drop>(mut disk: D, syncs: &Syncs) -> [Option<(u32, u32)>; 5] {
+fn count_syncs<F: Folder>(folder: &F, syncs: &Syncs) -> Option<[Option<(u32, u32)>; 5]> {
+    let mut disk = folder.files().ok()?;
     let (first, second) = (
         [Step::Write(Slot::Segment0, 0, b"ab")],
         [Step::Write(Slot::Segment0, 1, b"B")],
     );
-    [
+    let cut = [Step::Cut(Slot::Image0, 0)];
+    Some([
         syncs_behind(&mut disk, syncs, &[], Slot::Segment0),
         syncs_behind(&mut disk, syncs, &first, Slot::Segment0),
         syncs_behind(&mut disk, syncs, &second, Slot::Segment0),
         syncs_behind(&mut disk, syncs, &[], Slot::Segment0),
-        syncs_behind(
-            &mut disk,
-            syncs,
-            &[Step::Cut(Slot::Image0, 0)],
-            Slot::Image0,
-        ),
-    ]
-}
-
-#[test]
-fn a_sync_syncs_the_file_and_a_new_one_its_folder(rt: HostRuntime) -> Result<(), Fail> {
-    let folder = fresh_folder(&rt)?;
-    let syncs = Syncs::new();
-    let seen = count_syncs(counted_at(&rt, folder.as_str(), &syncs)?, &syncs);
-    same(
-        &rt,
-        seen,
-        [(0, 0), (1, 1), (2, 1), (3, 1), (4, 2)].map(Some),
-    );
-    Ok(remove(&rt, folder.as_str())?)
+        syncs_behind(&mut disk, syncs, &cut, Slot::Image0),
+    ])
 }
 
 // What syncs answer while they fail, and afterwards, and how many calls have failed then.
-fn fail_syncs<D: Disk + Drop>(
-    mut disk: D,
-    syncs: &Syncs,
-) -> Option<([Result<(), DiskFault>; 2], u64)> {
+fn fail_syncs<F: Folder>(folder: &F, syncs: &Syncs) -> Option<Failed> {
+    let mut disk = folder.files().ok()?;
     take(&mut disk, &[Step::Write(Slot::Segment0, 0, b"ab")])?;
     syncs.fails.set(true);
     let while_failing = sync(&mut disk, Slot::Segment0);
@@ -446,13 +496,31 @@ fn fail_syncs<D: Disk + Drop>(
     Some(([while_failing, afterwards], disk.failures()))
 }
 
-// What the system could not write it may have dropped, so a later sync would tell nothing.
-#[test]
-fn a_failed_sync_is_not_made_good(rt: HostRuntime) -> Result<(), Fail> {
-    let folder = fresh_folder(&rt)?;
+// What syncs answer that fail, and how often was synced then; and how often behind each of those that don't fail.
+type Synced = (Failed, (u32, u32), [Option<(u32, u32)>; 5]);
+
+fn synced<F: Folder>(rt: &HostRuntime, folder: &F, path: &str, syncs: &Syncs) -> Option<Synced> {
+    let failed = fail_syncs(folder, syncs)?;
+    let counts = syncs.counts();
+    empty(rt, path)?;
+    let counted = count_syncs(folder, syncs)?;
+    remove(rt, path)?;
+    Some((failed, counts, counted))
+}
+
+fn synced_files(rt: HostRuntime) -> Option<Synced> {
+    let path = fresh_folder(&rt)?;
+    let path = path.as_str();
     let syncs = Syncs::new();
-    let seen = fail_syncs(counted_at(&rt, folder.as_str(), &syncs)?, &syncs);
-    let wanted = Some(([Err(DiskFault); 2], 2));
-    same(&rt, (seen, syncs.counts()), (wanted, (0, 0)));
-    Ok(remove(&rt, folder.as_str())?)
+    synced(&rt, &counted_at(&rt, path, &syncs), path, &syncs)
+}
+
+// A failed sync isn't made good: what the system could not write it may have dropped, so a later one would tell nothing. A
+// sync syncs the file, and a new one its folder too.
+#[test]
+fn syncs_are_of_files_and_their_folder(rt: HostRuntime) {
+    let failed = ([Err(DiskFault); 2], 2);
+    let counted = [(0, 0), (1, 1), (2, 1), (3, 1), (4, 2)];
+    let wanted = (failed, (0, 0), counted.map(Some));
+    same(&rt, synced_files(rt), Some(wanted));
 }

@@ -15,99 +15,258 @@ const SIX: Found = Ok((6, 1, [true, false, true, false]));
 // The last epoch but one.
 const LAST_EVEN: u64 = u64::MAX - 1;
 
-static OPEN: [(Epochs, Found); 64] = [
+// Which images are open, the epochs of the slots, and what opening the store gives.
+type Row = (&'static str, Epochs, Found);
+
+static OPEN: [Row; 64] = [
     // No image is open.
-    ([None, None, None, None], NEW),
-    ([None, None, Some(0), None], DAMAGED),
-    ([None, None, Some(0), Some(1)], DAMAGED),
-    ([None, None, Some(4), None], DAMAGED),
-    ([None, None, None, Some(5)], DAMAGED),
-    ([None, None, Some(4), Some(5)], DAMAGED),
+    ("no image is open", [None, None, None, None], NEW),
+    ("no image is open", [None, None, Some(0), None], DAMAGED),
+    ("no image is open", [None, None, Some(0), Some(1)], DAMAGED),
+    ("no image is open", [None, None, Some(4), None], DAMAGED),
+    ("no image is open", [None, None, None, Some(5)], DAMAGED),
+    ("no image is open", [None, None, Some(4), Some(5)], DAMAGED),
     // Image 4 is alone. Segment 4 has to be open,
-    ([Some(4), None, None, None], DAMAGED),
-    ([Some(4), None, None, Some(3)], DAMAGED),
-    ([Some(4), None, None, Some(5)], DAMAGED),
-    ([Some(4), None, Some(2), Some(3)], DAMAGED),
-    ([Some(4), None, Some(6), None], DAMAGED),
-    ([Some(4), None, Some(6), Some(5)], DAMAGED),
-    // and the other one is closed, of epoch 3, or of epoch 5.
-    ([Some(4), None, Some(4), None], FOUR),
-    ([Some(4), None, Some(4), Some(3)], FOUR),
-    ([Some(4), None, Some(4), Some(5)], FOUR_TO_FIVE),
-    ([Some(4), None, Some(4), Some(1)], DAMAGED),
-    ([Some(4), None, Some(4), Some(7)], DAMAGED),
-    // Image 5 is alone.
-    ([None, Some(5), None, None], DAMAGED),
-    ([None, Some(5), Some(4), None], DAMAGED),
-    ([None, Some(5), Some(6), None], DAMAGED),
-    ([None, Some(5), Some(4), Some(3)], DAMAGED),
-    ([None, Some(5), Some(6), Some(7)], DAMAGED),
-    ([None, Some(5), None, Some(5)], FIVE),
-    ([None, Some(5), Some(4), Some(5)], FIVE),
-    ([None, Some(5), Some(6), Some(5)], FIVE_TO_SIX),
-    ([None, Some(5), Some(2), Some(5)], DAMAGED),
-    ([None, Some(5), Some(8), Some(5)], DAMAGED),
-    // Images 4 and 5 are open: 5 counts.
-    ([Some(4), Some(5), None, None], DAMAGED),
-    ([Some(4), Some(5), Some(4), None], DAMAGED),
-    ([Some(4), Some(5), Some(4), Some(3)], DAMAGED),
-    ([Some(4), Some(5), Some(4), Some(7)], DAMAGED),
-    ([Some(4), Some(5), None, Some(5)], FIVE),
-    ([Some(4), Some(5), Some(4), Some(5)], FIVE),
-    ([Some(4), Some(5), Some(6), Some(5)], FIVE_TO_SIX),
-    ([Some(4), Some(5), Some(2), Some(5)], DAMAGED),
-    ([Some(4), Some(5), Some(8), Some(5)], DAMAGED),
-    // Images 6 and 5 are open: 6 counts.
-    ([Some(6), Some(5), None, Some(5)], DAMAGED),
-    ([Some(6), Some(5), Some(4), Some(5)], DAMAGED),
-    ([Some(6), Some(5), Some(6), None], SIX),
-    ([Some(6), Some(5), Some(6), Some(5)], SIX),
+    ("image 4 is alone", [Some(4), None, None, None], DAMAGED),
+    ("image 4 is alone", [Some(4), None, None, Some(3)], DAMAGED),
+    ("image 4 is alone", [Some(4), None, None, Some(5)], DAMAGED),
     (
+        "image 4 is alone",
+        [Some(4), None, Some(2), Some(3)],
+        DAMAGED,
+    ),
+    ("image 4 is alone", [Some(4), None, Some(6), None], DAMAGED),
+    (
+        "image 4 is alone",
+        [Some(4), None, Some(6), Some(5)],
+        DAMAGED,
+    ),
+    // and the other one is closed, of epoch 3, or of epoch 5.
+    ("image 4 is alone", [Some(4), None, Some(4), None], FOUR),
+    ("image 4 is alone", [Some(4), None, Some(4), Some(3)], FOUR),
+    (
+        "image 4 is alone",
+        [Some(4), None, Some(4), Some(5)],
+        FOUR_TO_FIVE,
+    ),
+    (
+        "image 4 is alone",
+        [Some(4), None, Some(4), Some(1)],
+        DAMAGED,
+    ),
+    (
+        "image 4 is alone",
+        [Some(4), None, Some(4), Some(7)],
+        DAMAGED,
+    ),
+    // Image 5 is alone.
+    ("image 5 is alone", [None, Some(5), None, None], DAMAGED),
+    ("image 5 is alone", [None, Some(5), Some(4), None], DAMAGED),
+    ("image 5 is alone", [None, Some(5), Some(6), None], DAMAGED),
+    (
+        "image 5 is alone",
+        [None, Some(5), Some(4), Some(3)],
+        DAMAGED,
+    ),
+    (
+        "image 5 is alone",
+        [None, Some(5), Some(6), Some(7)],
+        DAMAGED,
+    ),
+    ("image 5 is alone", [None, Some(5), None, Some(5)], FIVE),
+    ("image 5 is alone", [None, Some(5), Some(4), Some(5)], FIVE),
+    (
+        "image 5 is alone",
+        [None, Some(5), Some(6), Some(5)],
+        FIVE_TO_SIX,
+    ),
+    (
+        "image 5 is alone",
+        [None, Some(5), Some(2), Some(5)],
+        DAMAGED,
+    ),
+    (
+        "image 5 is alone",
+        [None, Some(5), Some(8), Some(5)],
+        DAMAGED,
+    ),
+    // Images 4 and 5 are open: 5 counts.
+    (
+        "images 4 and 5 are open",
+        [Some(4), Some(5), None, None],
+        DAMAGED,
+    ),
+    (
+        "images 4 and 5 are open",
+        [Some(4), Some(5), Some(4), None],
+        DAMAGED,
+    ),
+    (
+        "images 4 and 5 are open",
+        [Some(4), Some(5), Some(4), Some(3)],
+        DAMAGED,
+    ),
+    (
+        "images 4 and 5 are open",
+        [Some(4), Some(5), Some(4), Some(7)],
+        DAMAGED,
+    ),
+    (
+        "images 4 and 5 are open",
+        [Some(4), Some(5), None, Some(5)],
+        FIVE,
+    ),
+    (
+        "images 4 and 5 are open",
+        [Some(4), Some(5), Some(4), Some(5)],
+        FIVE,
+    ),
+    (
+        "images 4 and 5 are open",
+        [Some(4), Some(5), Some(6), Some(5)],
+        FIVE_TO_SIX,
+    ),
+    (
+        "images 4 and 5 are open",
+        [Some(4), Some(5), Some(2), Some(5)],
+        DAMAGED,
+    ),
+    (
+        "images 4 and 5 are open",
+        [Some(4), Some(5), Some(8), Some(5)],
+        DAMAGED,
+    ),
+    // Images 6 and 5 are open: 6 counts.
+    (
+        "images 6 and 5 are open",
+        [Some(6), Some(5), None, Some(5)],
+        DAMAGED,
+    ),
+    (
+        "images 6 and 5 are open",
+        [Some(6), Some(5), Some(4), Some(5)],
+        DAMAGED,
+    ),
+    (
+        "images 6 and 5 are open",
+        [Some(6), Some(5), Some(6), None],
+        SIX,
+    ),
+    (
+        "images 6 and 5 are open",
+        [Some(6), Some(5), Some(6), Some(5)],
+        SIX,
+    ),
+    (
+        "images 6 and 5 are open",
         [Some(6), Some(5), Some(6), Some(7)],
         Ok((7, 1, [true, false, true, true])),
     ),
-    ([Some(6), Some(5), Some(6), Some(3)], DAMAGED),
-    ([Some(6), Some(5), Some(6), Some(9)], DAMAGED),
-    // How old the older image is isn't asked.
-    ([Some(4), Some(1), Some(4), Some(3)], FOUR),
-    ([Some(4), Some(1), Some(4), Some(1)], DAMAGED),
     (
+        "images 6 and 5 are open",
+        [Some(6), Some(5), Some(6), Some(3)],
+        DAMAGED,
+    ),
+    (
+        "images 6 and 5 are open",
+        [Some(6), Some(5), Some(6), Some(9)],
+        DAMAGED,
+    ),
+    // How old the older image is isn't asked.
+    (
+        "the older image is older",
+        [Some(4), Some(1), Some(4), Some(3)],
+        FOUR,
+    ),
+    (
+        "the older image is older",
+        [Some(4), Some(1), Some(4), Some(1)],
+        DAMAGED,
+    ),
+    (
+        "the older image is older",
         [Some(4), Some(7), Some(6), Some(7)],
         Ok((7, 1, [false, true, false, true])),
     ),
     (
+        "the older image is older",
         [Some(4), Some(7), Some(8), Some(7)],
         Ok((8, 1, [false, true, true, true])),
     ),
-    ([Some(4), Some(7), Some(4), Some(7)], DAMAGED),
+    (
+        "the older image is older",
+        [Some(4), Some(7), Some(4), Some(7)],
+        DAMAGED,
+    ),
     // An epoch is of the other number: that of both images, or one two further, or a segment's.
-    ([Some(4), Some(4), Some(4), Some(5)], DAMAGED),
-    ([Some(5), Some(5), Some(4), Some(5)], DAMAGED),
-    ([Some(4), Some(6), Some(4), Some(5)], DAMAGED),
-    ([Some(3), Some(5), Some(4), Some(5)], DAMAGED),
-    ([Some(4), Some(5), Some(5), Some(5)], DAMAGED),
-    ([Some(4), Some(5), Some(4), Some(4)], DAMAGED),
-    ([None, None, Some(1), None], DAMAGED),
-    ([None, None, None, Some(0)], DAMAGED),
+    (
+        "an epoch is of the other number",
+        [Some(4), Some(4), Some(4), Some(5)],
+        DAMAGED,
+    ),
+    (
+        "an epoch is of the other number",
+        [Some(5), Some(5), Some(4), Some(5)],
+        DAMAGED,
+    ),
+    (
+        "an epoch is of the other number",
+        [Some(4), Some(6), Some(4), Some(5)],
+        DAMAGED,
+    ),
+    (
+        "an epoch is of the other number",
+        [Some(3), Some(5), Some(4), Some(5)],
+        DAMAGED,
+    ),
+    (
+        "an epoch is of the other number",
+        [Some(4), Some(5), Some(5), Some(5)],
+        DAMAGED,
+    ),
+    (
+        "an epoch is of the other number",
+        [Some(4), Some(5), Some(4), Some(4)],
+        DAMAGED,
+    ),
+    (
+        "an epoch is of the other number",
+        [None, None, Some(1), None],
+        DAMAGED,
+    ),
+    (
+        "an epoch is of the other number",
+        [None, None, None, Some(0)],
+        DAMAGED,
+    ),
     // The first epoch, and the last one.
     (
+        "the first epoch, or the last one",
         [Some(0), None, Some(0), None],
         Ok((0, 1, [true, false, true, false])),
     ),
     (
+        "the first epoch, or the last one",
         [Some(0), None, Some(0), Some(1)],
         Ok((1, 1, [true, false, true, true])),
     ),
     (
+        "the first epoch, or the last one",
         [Some(0), Some(1), Some(0), Some(1)],
         Ok((1, 1, [false, true, false, true])),
     ),
-    ([Some(0), None, Some(0), Some(u64::MAX)], DAMAGED),
     (
+        "the first epoch, or the last one",
+        [Some(0), None, Some(0), Some(u64::MAX)],
+        DAMAGED,
+    ),
+    (
+        "the first epoch, or the last one",
         [Some(LAST_EVEN), None, Some(LAST_EVEN), Some(u64::MAX)],
         Ok((u64::MAX, 1, [true, false, true, true])),
     ),
     (
+        "the first epoch, or the last one",
         [
             Some(LAST_EVEN),
             Some(u64::MAX),
@@ -117,22 +276,25 @@ static OPEN: [(Epochs, Found); 64] = [
         Ok((u64::MAX, 1, [false, true, false, true])),
     ),
     (
+        "the first epoch, or the last one",
         [None, Some(u64::MAX), None, Some(u64::MAX)],
         Ok((u64::MAX, 1, [false, true, false, true])),
     ),
-    ([None, Some(u64::MAX), Some(0), Some(u64::MAX)], DAMAGED),
+    (
+        "the first epoch, or the last one",
+        [None, Some(u64::MAX), Some(0), Some(u64::MAX)],
+        DAMAGED,
+    ),
 ];
 
-fn check(rt: &impl Abort, alloc: Global, rows: &[(Epochs, Found)]) {
-    for (epochs, wanted) in rows {
+fn check(rt: &impl Abort, alloc: Global, rows: &[Row]) {
+    for (images, epochs, wanted) in rows {
         let seen = tried::<MemDisk>(alloc, *epochs, &[]);
-        same_in_row(rt, *epochs, seen, Some((*wanted, true, *wanted)));
+        same_in_row(rt, (*images, *epochs), seen, Some((*wanted, true, *wanted)));
     }
 }
 
 #[test]
 fn epochs_tell_which_slots_are_read(rt: HostRuntime) {
-    // A copy, since the borrow checker takes no loan of such a static.
-    let rows = OPEN;
-    check(&rt, rt.alloc(), &rows);
+    check(&rt, rt.alloc(), &OPEN);
 }

@@ -1,7 +1,6 @@
+use crate::expect::{same, same_in_row};
 use image::{ImageFault, read, write_into};
 use std::alloc::Global;
-use std::process::Abort;
-use std::test::Fail;
 
 /// The opening state: next serial 1, space 1 without names, no port.
 static OPENING: [u8; 24] = [
@@ -73,13 +72,20 @@ fn is_none(alloc: Global, text: &[u8]) -> bool {
     }
 }
 
-/// The last text with one byte as another.
-fn changed(alloc: Global, place: usize, byte: u8) -> Result<Vec<u8>, Fail> {
-    let mut text = Vec::from_slice(alloc, &EVERY_KIND)?;
+/// Whether the last text is no image with one byte as another.
+fn is_none_changed(alloc: Global, place: usize, byte: u8) -> Option<bool> {
+    let mut text = Vec::from_slice(alloc, &EVERY_KIND).ok()?;
     if let Some(at) = text.as_mut_slice().get_mut(place) {
         *at = byte;
     }
-    Ok(text)
+    Some(is_none(alloc, &text))
+}
+
+/// Whether it is none with one byte more.
+fn is_none_longer(alloc: Global) -> Option<bool> {
+    let mut text = Vec::from_slice(alloc, &EVERY_KIND).ok()?;
+    text.push(0).ok()?;
+    Some(is_none(alloc, &text))
 }
 
 /// How many of a text's beginnings are no images.
@@ -93,32 +99,24 @@ fn refused_beginnings(alloc: Global, text: &[u8]) -> usize {
     count
 }
 
-fn show(rt: &impl Abort, what: usize, is: bool) {
-    assert!(rt; is, "text {what}");
+/// Whether a text is an image, and how many of its beginnings are none.
+fn seen(alloc: Global, text: &[u8]) -> (bool, usize) {
+    (is_kept(alloc, text), refused_beginnings(alloc, text))
 }
 
 #[test]
-fn images_are_read_and_written(rt: HostRuntime) -> Result<(), Fail> {
+fn images_are_read_and_written(rt: HostRuntime) {
     let texts = [&OPENING[..], &ONE_PORT[..], &EVERY_KIND[..]];
     for (index, text) in texts.iter().enumerate() {
-        show(&rt, index, is_kept(rt.alloc(), text));
-        show(
-            &rt,
-            index,
-            refused_beginnings(rt.alloc(), text) == text.len(),
-        );
+        same_in_row(&rt, index, seen(rt.alloc(), text), (true, text.len()));
     }
-    Ok(())
 }
 
 #[test]
-fn other_texts_are_refused(rt: HostRuntime) -> Result<(), Fail> {
+fn other_texts_are_refused(rt: HostRuntime) {
     for (place, byte) in &OTHERWISE {
-        let text = changed(rt.alloc(), *place, *byte)?;
-        show(&rt, *place, is_none(rt.alloc(), &text));
+        let is_none = is_none_changed(rt.alloc(), *place, *byte);
+        same_in_row(&rt, *place, is_none, Some(true));
     }
-    let mut longer = Vec::from_slice(rt.alloc(), &EVERY_KIND)?;
-    longer.push(0)?;
-    show(&rt, longer.len(), is_none(rt.alloc(), &longer));
-    Ok(())
+    same(&rt, is_none_longer(rt.alloc()), Some(true));
 }

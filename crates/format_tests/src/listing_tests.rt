@@ -1,9 +1,9 @@
+use crate::expect::{same, same_bytes};
 use crate::sample::sample;
 use listing::{WriteFault, list, write_listing};
-use std::alloc::{AllocError, Global};
+use std::alloc::Global;
 use std::io;
 use std::io::Write;
-use std::test::Fail;
 
 const LINES: &str = "epoch 3 records 12
 space 1
@@ -14,17 +14,18 @@ port 1 held 1 00000100 send 3 once 1 queue 1 of 5 seqno 1 mscount 4
 port 2 carried 1 send 1 once 0 queue 0 of 16 seqno 0 mscount 0
 ";
 
-fn listed(alloc: Global) -> Result<Vec<u8>, AllocError> {
+fn listed(alloc: Global) -> Option<Vec<u8>> {
+    let state = sample(alloc)?;
     let mut text = Vec::new(alloc);
-    list(alloc, 3, 12, &sample(alloc)?, &mut text)?;
-    Ok(text)
+    let done = list(alloc, 3, 12, &state, &mut text);
+    drop(state);
+    done.ok()?;
+    Some(text)
 }
 
 #[test]
-fn lines_of_a_state(rt: HostRuntime) -> Result<(), Fail> {
-    let text = listed(rt.alloc())?;
-    assert_eq!(rt; text.as_slice(), LINES.as_bytes());
-    Ok(())
+fn lines_of_a_state(rt: HostRuntime) {
+    same_bytes(&rt, listed(rt.alloc()), LINES.as_bytes());
 }
 
 /// A writer that takes some bytes, seven at most at a time, and then fails.
@@ -49,28 +50,26 @@ impl Write for Narrow {
     }
 }
 
-fn written(alloc: Global, room: usize) -> Result<(Option<WriteFault>, Vec<u8>), AllocError> {
+/// How the listing ends that has room for so many bytes, and whether these were written.
+fn written(alloc: Global, room: usize, lines: &[u8]) -> Option<(Option<WriteFault>, bool)> {
+    let state = sample(alloc)?;
     let mut writer = Narrow {
         text: Vec::new(alloc),
         room,
     };
-    let fault = write_listing(alloc, 3, 12, &sample(alloc)?, &mut writer).err();
-    Ok((fault, writer.text))
+    let fault = write_listing(alloc, 3, 12, &state, &mut writer).err();
+    drop(state);
+    Some((fault, writer.text.as_slice() == lines))
 }
 
 #[test]
-fn written_whole(rt: HostRuntime) -> Result<(), Fail> {
-    let (fault, text) = written(rt.alloc(), 1000)?;
-    assert_eq!(rt; (fault, text.as_slice()), (None, LINES.as_bytes()));
-    Ok(())
+fn written_whole(rt: HostRuntime) {
+    let seen = written(rt.alloc(), 1000, LINES.as_bytes());
+    same(&rt, seen, Some((None, true)));
 }
 
 #[test]
-fn a_writer_that_fails(rt: HostRuntime) -> Result<(), Fail> {
-    let (fault, text) = written(rt.alloc(), 30)?;
-    assert_eq!(rt;
-        (fault, text.as_slice()),
-        (Some(WriteFault::Writer), &LINES.as_bytes()[..30])
-    );
-    Ok(())
+fn a_writer_that_fails(rt: HostRuntime) {
+    let seen = written(rt.alloc(), 30, &LINES.as_bytes()[..30]);
+    same(&rt, seen, Some((Some(WriteFault::Writer), true)));
 }

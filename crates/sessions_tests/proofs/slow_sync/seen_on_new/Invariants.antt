@@ -1,5 +1,5 @@
 use Rattle.std.specs.Arc.{arc_value}
-use Rattle.sessions_tests.proofs.full_row.a_call_waits_for_the_next_row.Given as goal
+use Rattle.sessions_tests.proofs.slow_sync.seen_on_new.Given as goal
 
 -- the state that was opened
 abbrev pub ghosts-seen_on-L-Founding : goal.ghosts-seen_on-L-Founding

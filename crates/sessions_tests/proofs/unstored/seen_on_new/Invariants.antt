@@ -1,5 +1,5 @@
 use Rattle.std.specs.Arc.{arc_value}
-use Rattle.sessions_tests.proofs.slow_sync.a_call_is_made_while_a_sync_is_held.Given as goal
+use Rattle.sessions_tests.proofs.unstored.seen_on_new.Given as goal
 
 -- the state that was opened
 abbrev pub ghosts-seen_on-L-Founding : goal.ghosts-seen_on-L-Founding

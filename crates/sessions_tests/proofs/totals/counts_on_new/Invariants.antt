@@ -1,5 +1,5 @@
 use Rattle.std.specs.Arc.{arc_value}
-use Rattle.sessions_tests.proofs.totals.each_answer_is_as_wanted_in_four_threads.Given as goal
+use Rattle.sessions_tests.proofs.totals.counts_on_new.Given as goal
 
 -- the state that was opened
 abbrev pub ghosts-counts-L-Founding : goal.ghosts-counts-L-Founding

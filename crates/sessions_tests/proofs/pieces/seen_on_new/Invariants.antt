@@ -1,5 +1,5 @@
 use Rattle.std.specs.Arc.{arc_value}
-use Rattle.sessions_tests.proofs.unstored.a_reply_waits_for_what_its_call_saw.Given as goal
+use Rattle.sessions_tests.proofs.pieces.seen_on_new.Given as goal
 
 -- the state that was opened
 abbrev pub ghosts-seen_on-L-Founding : goal.ghosts-seen_on-L-Founding

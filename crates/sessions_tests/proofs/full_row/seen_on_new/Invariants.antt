@@ -1,5 +1,5 @@
 use Rattle.std.specs.Arc.{arc_value}
-use Rattle.sessions_tests.proofs.pieces.a_call_is_stored_while_a_checkpoint_is_held_up.Given as goal
+use Rattle.sessions_tests.proofs.full_row.seen_on_new.Given as goal
 
 -- the state that was opened
 abbrev pub ghosts-seen_on-L-Founding : goal.ghosts-seen_on-L-Founding

@@ -1,7 +1,7 @@
+use crate::expect::same_bytes;
 use crate::sample::sample;
 use listing::{draw, write_drawing};
-use std::alloc::{AllocError, Global};
-use std::test::Fail;
+use std::alloc::Global;
 
 const TEXT: &str = r#"digraph ports {
   rankdir=LR;
@@ -24,28 +24,30 @@ const TEXT: &str = r#"digraph ports {
 }
 "#;
 
-fn drawn(alloc: Global) -> Result<Vec<u8>, AllocError> {
+fn drawn(alloc: Global) -> Option<Vec<u8>> {
+    let state = sample(alloc)?;
     let mut text = Vec::new(alloc);
-    draw(alloc, &sample(alloc)?, &mut text)?;
-    Ok(text)
+    let done = draw(alloc, &state, &mut text);
+    drop(state);
+    done.ok()?;
+    Some(text)
 }
 
-fn written(alloc: Global) -> Result<Option<Vec<u8>>, AllocError> {
+fn written(alloc: Global) -> Option<Vec<u8>> {
+    let state = sample(alloc)?;
     let mut text = Vec::new(alloc);
-    let done = write_drawing(alloc, &sample(alloc)?, &mut text).is_ok();
-    Ok(if done { Some(text) } else { None })
+    let done = write_drawing(alloc, &state, &mut text);
+    drop(state);
+    done.ok()?;
+    Some(text)
 }
 
 #[test]
-fn drawing_of_a_state(rt: HostRuntime) -> Result<(), Fail> {
-    let text = drawn(rt.alloc())?;
-    assert_eq!(rt; text.as_slice(), TEXT.as_bytes());
-    Ok(())
+fn drawing_of_a_state(rt: HostRuntime) {
+    same_bytes(&rt, drawn(rt.alloc()), TEXT.as_bytes());
 }
 
 #[test]
-fn drawing_written(rt: HostRuntime) -> Result<(), Fail> {
-    let text = written(rt.alloc())?.ok_or("it is written")?;
-    assert_eq!(rt; text.as_slice(), TEXT.as_bytes());
-    Ok(())
+fn drawing_written(rt: HostRuntime) {
+    same_bytes(&rt, written(rt.alloc()), TEXT.as_bytes());
 }
