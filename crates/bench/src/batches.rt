@@ -2,7 +2,7 @@
 //! pairs of syncs.
 
 use crate::Fault;
-use crate::context::{Context, hundredths, per_second};
+use crate::context::{Context, Folder, hundredths, per_second};
 use crate::lines::{Line, Maker, Step, make_steps, steps_of};
 use crate::makers::{Core, STORE, make_checkpoint, open_core, work_all};
 use crate::messages::send_line;
@@ -280,14 +280,15 @@ fn measure_on<D: Disk + Drop>(
 }
 
 /// Measures a kind of batch in each size, each on a new store, and prints them.
-fn print_kind(
+fn print_kind<F: Folder>(
     context: &Context<'_>,
+    folder: &F,
     label: &str,
     kind: &Kind,
     plain: &mut Plain,
 ) -> Result<(), Fault> {
     for size in &SIZES {
-        let (bytes, times) = measure_on(context, context.new_files(), kind, *size, plain)?;
+        let (bytes, times) = measure_on(context, folder.new_files(), kind, *size, plain)?;
         print_times(context, label, *size, bytes, &times);
     }
     Ok(())
@@ -306,12 +307,22 @@ fn messages(alloc: Global) -> Result<Kind, Fault> {
 }
 
 /// Prints what batches of both kinds and of each size cost.
-pub(crate) fn print_batches(context: &Context<'_>, plain: &mut Plain) -> Result<(), Fault> {
+pub(crate) fn print_batches<F: Folder>(
+    context: &Context<'_>,
+    folder: &F,
+    plain: &mut Plain,
+) -> Result<(), Fault> {
     context.print_row(
         "batches: records; a second records, kB, kB of plain writes, batches, pairs of syncs; batches for a plain write, with their calls and replies; batches stored for a plain write in their place; batches for a pair",
         &[],
         &[],
     );
-    print_kind(context, "allocate", &allocations(context.alloc)?, plain)?;
-    print_kind(context, "send", &messages(context.alloc)?, plain)
+    print_kind(
+        context,
+        folder,
+        "allocate",
+        &allocations(context.alloc)?,
+        plain,
+    )?;
+    print_kind(context, folder, "send", &messages(context.alloc)?, plain)
 }

@@ -1,7 +1,7 @@
 //! What each measure has at hand: the clock, the folder that is free for it, the memory of this process, and rows of figures.
 
 use crate::Fault;
-use disk::FileDisk;
+use disk::{Disk, FileDisk};
 use std::alloc::Global;
 use std::cell::Cell;
 use std::fs::{self, File};
@@ -58,16 +58,6 @@ impl<'a> Context<'a> {
         Ok(File::create(self.rt, path.as_str())?)
     }
 
-    /// The files of a new folder.
-    pub(crate) fn new_files(&self) -> Result<FileDisk<&'a HostRuntime>, Fault> {
-        let path = self.new_path()?;
-        fs::create_dir(self.rt, path.as_str())?;
-        match FileDisk::at(self.alloc, self.rt, path.as_str()) {
-            Ok(files) => Ok(files),
-            Err(_) => Err(Fault::Device),
-        }
-    }
-
     /// A figure of this process in kilobytes, as the system tells it behind a label; 0 where it doesn't.
     pub(crate) fn memory(&self, label: &str) -> u64 {
         match fs::read_to_string(self.rt, "/proc/self/status") {
@@ -87,6 +77,28 @@ impl<'a> Context<'a> {
             let _ = print!(self.rt; " {whole}.{part:02}");
         }
         let _ = println!(self.rt);
+    }
+}
+
+/// Where stores are made on files. What is measured on them is over any such folder, so that the proof of each measure carries
+/// nothing of files.
+pub(crate) trait Folder {
+    type Files: Disk + Drop;
+
+    /// The files of a new folder.
+    fn new_files(&self) -> Result<Self::Files, Fault>;
+}
+
+impl<'a> Folder for Context<'a> {
+    type Files = FileDisk<&'a HostRuntime>;
+
+    fn new_files(&self) -> Result<FileDisk<&'a HostRuntime>, Fault> {
+        let path = self.new_path()?;
+        fs::create_dir(self.rt, path.as_str())?;
+        match FileDisk::at(self.alloc, self.rt, path.as_str()) {
+            Ok(files) => Ok(files),
+            Err(_) => Err(Fault::Device),
+        }
     }
 }
 

@@ -22,7 +22,7 @@ mod watched;
 mod ways;
 
 use crate::batches::print_batches;
-use crate::context::Context;
+use crate::context::{Context, Folder};
 use crate::costs::print_costs;
 use crate::deaths::print_deaths;
 use crate::images::print_images;
@@ -67,10 +67,10 @@ impl Fault {
 }
 
 /// Measures calls and batches that are stored, beside plain writes.
-fn print_stored(context: &Context<'_>) -> Result<(), Fault> {
+fn print_stored<F: Folder>(context: &Context<'_>, folder: &F) -> Result<(), Fault> {
     let mut plain = Plain::create(context)?;
-    print_lone(context, context.new_files(), &mut plain)?;
-    print_batches(context, &mut plain)
+    print_lone(context, folder.new_files(), &mut plain)?;
+    print_batches(context, folder, &mut plain)
 }
 
 /// Measures calls, messages and deaths in memory.
@@ -88,14 +88,18 @@ fn print_in_memory<M: Machine + Drop>(context: &Context<'_>) -> Result<(), Fault
 }
 
 /// Measures and prints everything. What looks at this process's memory goes first.
+fn print_all<F: Folder, M: Machine + Drop>(context: &Context<'_>, folder: &F) -> Result<(), Fault> {
+    print_openings(context, folder)?;
+    print_steady(context, folder)?;
+    print_stored(context, folder)?;
+    print_in_memory::<M>(context)?;
+    print_images(context)?;
+    print_slowest(context, folder)
+}
+
 fn run(rt: &HostRuntime, folder: &str) -> Result<(), Fault> {
     let context = Context::new(rt, folder)?;
-    print_openings(&context)?;
-    print_steady(&context)?;
-    print_stored(&context)?;
-    print_in_memory::<Kernel>(&context)?;
-    print_images(&context)?;
-    print_slowest(&context)
+    print_all::<Context<'_>, Kernel>(&context, &context)
 }
 
 /// The word behind the program's name, where it is the only one.

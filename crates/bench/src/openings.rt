@@ -1,7 +1,7 @@
 //! How long opening a store takes, and how much memory, by its records.
 
 use crate::Fault;
-use crate::context::{Context, hundredths};
+use crate::context::{Context, Folder, hundredths};
 use crate::lines::{Maker, make_line};
 use crate::makers::open_core;
 use crate::messages::{BY_SEND, send_line};
@@ -117,10 +117,10 @@ fn print_memory<D: Disk + Drop>(
 }
 
 /// Prints how long opening stores of small records takes, and how much memory opening one of large ones.
-pub(crate) fn print_openings(context: &Context<'_>) -> Result<(), Fault> {
-    print_memory(context, context.new_files())?;
-    let half = micros_of_small(context, context.new_files(), HALF)?;
-    let all = micros_of_small(context, context.new_files(), ALL)?;
+pub(crate) fn print_openings<F: Folder>(context: &Context<'_>, folder: &F) -> Result<(), Fault> {
+    print_memory(context, folder.new_files())?;
+    let half = micros_of_small(context, folder.new_files(), HALF)?;
+    let all = micros_of_small(context, folder.new_files(), ALL)?;
     context.print_row(
         "microseconds for opening 32,768 small records, and 65,536; how many times as long",
         &[half, all],

@@ -1,7 +1,7 @@
 //! The slowest calls of a lone caller on files, while no checkpoint is under way and while one is.
 
 use crate::Fault;
-use crate::context::Context;
+use crate::context::{Context, Folder};
 use crate::lines::{Maker, make_line};
 use crate::makers::{open_alone, open_core};
 use crate::states::{LEAST, Shape, make_state};
@@ -200,7 +200,11 @@ fn print_times(context: &Context<'_>, label: &str, times: &Both) {
 }
 
 /// Measures the calls of a state in new stores, and prints them.
-fn print_state(context: &Context<'_>, state: (u32, u32, u32, u32)) -> Result<(), Fault> {
+fn print_state<F: Folder>(
+    context: &Context<'_>,
+    folder: &F,
+    state: (u32, u32, u32, u32),
+) -> Result<(), Fault> {
     let (ports, spaces, stores, calls_left) = state;
     let shape = Shape {
         spaces,
@@ -209,7 +213,7 @@ fn print_state(context: &Context<'_>, state: (u32, u32, u32, u32)) -> Result<(),
     };
     let (mut idle, mut under_way) = (NEITHER, NEITHER);
     for _ in 0..stores {
-        let files = context.new_files();
+        let files = folder.new_files();
         time_store(context, files, shape, calls_left, &mut idle, &mut under_way)?;
     }
     context.print_row("ports", &[u64::from(ports)], &[]);
@@ -219,14 +223,14 @@ fn print_state(context: &Context<'_>, state: (u32, u32, u32, u32)) -> Result<(),
 }
 
 /// Prints the slowest calls of each state.
-pub(crate) fn print_slowest(context: &Context<'_>) -> Result<(), Fault> {
+pub(crate) fn print_slowest<F: Folder>(context: &Context<'_>, folder: &F) -> Result<(), Fault> {
     context.print_row(
         "microseconds on files: calls, the longest, the mean; rests behind replies, the longest, the mean",
         &[],
         &[],
     );
     for state in &STATES {
-        print_state(context, *state)?;
+        print_state(context, folder, *state)?;
     }
     Ok(())
 }

@@ -1,7 +1,7 @@
 //! The memory and the bytes of a store whose lone connection goes on for long, by calls that leave the state as it was.
 
 use crate::Fault;
-use crate::context::{Context, hundredths};
+use crate::context::{Context, Folder, hundredths};
 use crate::makers::open_alone;
 use crate::watched::{Watch, Watched};
 use disk::Disk;
@@ -187,7 +187,7 @@ fn print_on<D: Disk + Drop>(
 }
 
 /// Prints what stores take that go on for long.
-pub(crate) fn print_steady(context: &Context<'_>) -> Result<(), Fault> {
+pub(crate) fn print_steady<F: Folder>(context: &Context<'_>, folder: &F) -> Result<(), Fault> {
     let frames = frames_at_once(context.alloc)?;
     context.print_row(
         "the most within an epoch of a store that goes on for long, in memory: after 100 thousand calls, after a million",
@@ -205,5 +205,5 @@ pub(crate) fn print_steady(context: &Context<'_>) -> Result<(), Fault> {
         &[],
         &[],
     );
-    print_on(context, context.new_files(), &frames, ON_FILES)
+    print_on(context, folder.new_files(), &frames, ON_FILES)
 }
