@@ -66,25 +66,6 @@ impl IpcState {
         }
     }
 
-    /// The same state again, at rest.
-    pub fn copy(&self) -> Result<Self, AllocError>
-        ensures { IfOk result (λ copy. copy ≡ at_rest self.now.current) }
-    {
-        let members = self.members.copy()?;
-        let spaces = self.spaces.copy()?;
-        let Ok(ports) = self.ports.copy() else {
-            drop(spaces);
-            return Err(AllocError);
-        };
-        let mut copy = IpcState {
-            spaces,
-            ports,
-            members,
-        };
-        copy.keep();
-        Ok(copy)
-    }
-
     /// Keeps the changes. It takes no memory.
     pub fn keep(&mut self)
         ensures { self.new ≡ at_rest self.old.current }

@@ -147,10 +147,22 @@ impl Kernel {
             × Step self.now space call.now reply new × (has_record call.now reply ≡ true))) }
         ensures fits { IfOk result (λ answer. IfSome answer (λ reply. length (reply_text reply) ≤ MAX_FRAME_CONTENT)) }
     {
-        let mut state = self.state.copy()?;
-        let answer = try_answer(self.alloc, &mut state, space, call);
-        drop(state);
+        let mut other = self.again()?;
+        let answer = other.answer_in_place(space, call);
+        drop(other);
         answer
+    }
+
+    /// Another kernel of the same state, made of its plain rows.
+    fn again(&self) -> Result<Kernel, AllocError>
+        ensures { IfOk result (λ other. other ≡ self.now) }
+    {
+        let rows = self.copy(self.alloc)?;
+        match Kernel::from_snapshot(self.alloc, rows) {
+            Ok(kernel) => Ok(kernel),
+            // The rows of a lawful state are lawful, so memory was wanted.
+            Err(_) => Err(AllocError),
+        }
     }
 
     /// What `answer` answers, without a copy of the state: the call is made and given up.

@@ -192,49 +192,6 @@ fewer_keyed ports keys serial none keyed = record {
 pub same_values : (old new : Slab PortSlot) (keys : Keys) → new.slots ≡ old.slots → AreKeyed old keys → AreKeyed new keys
 same_values old new keys is keyed = record { there = λ serial key at. ap (λ (l : List (Option PortSlot)). is_some (slice_index_or l key None)) is ∙ keyed.there serial key at; apart = keyed.apart; found = λ key some. keyed.found key (ap (λ (l : List (Option PortSlot)). is_some (slice_index_or l key None)) (sym is) ∙ some) }
 
--- the same ports by each serial, once those below are gone through
-pub record AreCopied (slots copy : Slots) (at : ℕ) : Type 0 where
-  pub below : (q : ℕ) → q < at → get copy q ≡ get slots q
-  pub left : (q : ℕ) → at ≤ q → get copy q ≡ None
-
-pub none_copied : (slots copy : Slots) → copy ≡ empty → AreCopied slots copy 0
-none_copied slots copy is = record { below = λ q less. absurd (omega (arith, less)); left = λ q _. ap (λ (m : Slots). get m q) is ∙ get-empty nat_cmp q }
-
--- those behind the last one have no port
-pub all_copied : (ports : Slab PortSlot) (keys : Keys) (slots copy : Slots) (at : ℕ) → by_serial ports keys ≡ slots → AreCopied slots copy at → ((q : ℕ) → at ≤ q → get keys q ≡ None) → copy ≡ slots
-all_copied ports keys slots copy at view copied none = same _ _ (λ q. elim (nat_lt q at) as (λ (b : Bool). nat_lt q at ≡ b → get copy q ≡ get slots q) [
-  | true ↦ λ (e : _). copied.below q (ltb-true q at e)
-  | false ↦ λ (e : _). copied.left q (ltb-false q at e) ∙ sym (stands ports keys q None (none q (ltb-false q at e))) ∙ ap (λ (m : Slots). get m q) view
-] refl)
-
--- one port more
-pub one_copied : (ports : Slab PortSlot) (keys : Keys) (slots copy next : Slots) (at serial : ℕ) (port : PortSlot) → by_serial ports keys ≡ slots → AreCopied slots copy at → at ≤ serial → ((q : ℕ) → at ≤ q → q < serial → get keys q ≡ None) → get slots serial ≡ Some port
-    → next ≡ insert copy serial port → AreCopied slots next (serial + 1)
-one_copied ports keys slots copy next at serial port view copied from none there put = record {
-  below = λ q less. shown q ∙ under q less (eq_by_cmp nat_cmp q serial) refl;
-  left = λ q more. shown q ∙ over q more (eq_by_cmp nat_cmp q serial) refl;
-}
-  where
-    shown : (q : ℕ) → get next q ≡ cond (eq_by_cmp nat_cmp q serial) (Some port) (get copy q)
-    shown q = ap (λ (m : Slots). get m q) put ∙ get-insert nat_cmp_total copy serial port q
-
-    before : (q : ℕ) → q < serial → get copy q ≡ get slots q
-    before q less = elim (nat_lt q at) as (λ (b : Bool). nat_lt q at ≡ b → get copy q ≡ get slots q) [
-      | true ↦ λ (e : _). copied.below q (ltb-true q at e)
-      | false ↦ λ (e : _). copied.left q (ltb-false q at e) ∙ sym (stands ports keys q None (none q (ltb-false q at e) less)) ∙ ap (λ (m : Slots). get m q) view
-    ] refl
-
-    under : (q : ℕ) → q < serial + 1 → (b : Bool) → eq_by_cmp nat_cmp q serial ≡ b → cond b (Some port) (get copy q) ≡ get slots q
-    under q less true is = sym there ∙ ap (get slots) (sym (key_is q serial is))
-    under q less false is = elim (nat_lt q serial) as (λ (b : Bool). nat_lt q serial ≡ b → get copy q ≡ get slots q) [
-      | true ↦ λ (e : _). before q (ltb-true q serial e)
-      | false ↦ λ (e : _). absurd (cc (sym is ∙ ap (λ (n : ℕ). eq_by_cmp nat_cmp n serial) (omega (arith, less, ltb-false q serial e)) ∙ same_key serial))
-    ] refl
-
-    over : (q : ℕ) → serial + 1 ≤ q → (b : Bool) → eq_by_cmp nat_cmp q serial ≡ b → cond b (Some port) (get copy q) ≡ None
-    over q more true is = absurd (omega (arith, more, key_is q serial is))
-    over q more false is = copied.left q (omega (arith, more, from))
-
 -- a slot in which something is to stand is settled, and one in which nothing is goes
 pub slot_settled : (look : PortSlot → Option PortState) (settle : PortSlot → PortSlot) (slots : Slots) (serial : ℕ) (port : PortSlot) → Some port ≡ get slots serial → is_some (look port) ≡ true → slot_changed slots serial settle ≡ worked_off look settle slots serial
 slot_settled look settle slots serial port there some =
@@ -246,15 +203,3 @@ pub slot_goes : (look : PortSlot → Option PortState) (settle : PortSlot → Po
 slot_goes look settle slots serial port there none =
     sym (ap (λ (o : Option PortSlot). elim o as (λ _. Slots) [ None ↦ slots | Some slot ↦ cond (is_some (look slot)) (insert slots serial (settle slot)) (remove slots serial) ]) (sym there)
     ∙ ap (λ (b : Bool). cond b (insert slots serial (settle port)) (remove slots serial)) none)
-
--- what is copied under a serial that has a key
-pub port_copied : (ports : Slab PortSlot) (keys : Keys) (slots copy next : Slots) (at serial key : ℕ) → by_serial ports keys ≡ slots → AreKeyed ports keys → AreCopied slots copy at → at ≤ serial → ((q : ℕ) → at ≤ q → q < serial → get keys q ≡ None) → get keys serial ≡ Some key
-    → MatchOption (get slots serial) (next ≡ copy) (λ port. next ≡ insert copy serial port) → AreCopied slots next (serial + 1)
-port_copied ports keys slots copy next at serial key view keyed copied from none there put = go (get slots serial) refl put
-  where
-    some : is_some (get slots serial) ≡ true
-    some = ap (λ (m : Slots). is_some (get m serial)) (sym view) ∙ ap is_some (stands ports keys serial (Some key) there) ∙ keyed.there serial key there
-
-    go : (o : Option PortSlot) → get slots serial ≡ o → MatchOption o (next ≡ copy) (λ port. next ≡ insert copy serial port) → AreCopied slots next (serial + 1)
-    go None is _ = absurd (cc (sym some ∙ ap is_some is))
-    go (Some port) is at_next = one_copied ports keys slots copy next at serial port view copied from none is at_next

@@ -15,7 +15,7 @@ use Rattle.live_ports.specs.Changed.{changed, with_message, with_numbers, withou
 use Rattle.live_ports.specs.PortTable.{TrackedPorts, ports_at_rest}
 use Rattle.live_ports.specs.Seen.{Ports, lives_in, seen, seen_message, as_seen, mentions, AreLive, IsBelow}
 use Rattle.live_ports.specs.SeenLaws.{get_changed, get_seen, length_mapped, lives_seen}
-use Rattle.live_ports.specs.Tables.{Slots, former_ports, present_ports, AreMarked, SameBefore, AreNow, AreAtRest, AreSame, AreSound, AreStanding}
+use Rattle.live_ports.specs.Tables.{Slots, former_ports, present_ports, AreMarked, SameBefore, AreNow, AreAtRest, AreSound, AreStanding}
 use Rattle.live_ports.specs.declared.port.PortNumbers.{PortNumbers}
 use Rattle.live_ports.specs.declared.tables.Tables.{Tables}
 
@@ -209,17 +209,3 @@ seen_short raw count next sound serial port is = by (get raw serial) refl
     by (Some from) was =
         let same = ap (λ (p : PortState). length p.messages) (short_option (get raw serial) (get (as_seen raw) serial) (seen (lives_in raw)) port (get_seen raw serial) is from was) in
         omega (arith, same, length_mapped (seen_message (lives_in raw)) from.messages, (sound.below serial from was).short)
-
--- the same table again
-pub same_stands : (old new : Tables) → AreSame old new → AreStanding old → AreStanding new
-same_stands old new same stands = record {
-  touched = subst (AreMarked new.slots) (sym same.touched) (subst (λ (s : Slots). AreMarked s old.touched.items) (sym same.slots) stands.touched);
-  before = same_sound _ _ _ _ _ _ (ap former_ports same.slots) same.count_before same.next_before stands.before;
-  current = same_sound _ _ _ _ _ _ (ap present_ports same.slots) same.count same.next stands.current;
-  rises = omega (arith, same.next, same.next_before, stands.rises);
-}
-
-pub same_view : (old new : Tables) → AreSame old new
-    → ◌≡◌ {A = TrackedPorts} (record { before = record { ports = as_seen (former_ports new.slots); next = new.next_before }; current = record { ports = as_seen (present_ports new.slots); next = new.next } })
-    (record { before = record { ports = as_seen (former_ports old.slots); next = old.next_before }; current = record { ports = as_seen (present_ports old.slots); next = old.next } })
-same_view old new same = λ i. record { before = record { ports = as_seen (former_ports (same.slots i)); next = same.next_before i }; current = record { ports = as_seen (present_ports (same.slots i)); next = same.next i } }

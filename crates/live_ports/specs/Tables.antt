@@ -71,15 +71,6 @@ pub record AreAtRest (new : Tables) (raw : Ports) (many serial : ℕ) : Type 0 w
   pub count_before : new.count_before ≡ many
   pub next_before : new.next_before ≡ serial
 
--- the same table again
-pub record AreSame (old new : Tables) : Type 0 where
-  pub slots : new.slots ≡ old.slots
-  pub touched : new.touched.items ≡ old.touched.items
-  pub count : new.count ≡ old.count
-  pub next : new.next ≡ old.next
-  pub count_before : new.count_before ≡ old.count_before
-  pub next_before : new.next_before ≡ old.next_before
-
 -- ports of a state: counted, no more than may be, and below the next serial
 pub record AreSound (ports : Ports) (count next : ℕ) : Type 0 where
   pub counted : count ≡ finmap.len ports

@@ -1,4 +1,4 @@
-ghost use Rattle.std.specs.Prelude.{◌≡◌, ◌<◌, ◌-◌, ◌^◌, None, Some, length, is_some, option_map, slice_index_or, IfOk, IfSome, OnOk, OnErr};
+ghost use Rattle.std.specs.Prelude.{◌≡◌, ◌<◌, ◌-◌, ◌^◌, None, Some, length, is_some, option_map, slice_index_or, IfSome, OnOk, OnErr};
 ghost use Rattle.ipc_model.specs.state.State.{new_port};
 ghost use Rattle.live_ports.specs.Changed.{IsMessageAt, messages_in, numbers_of, with_message, with_numbers, without_first};
 ghost use Rattle.live_ports.specs.PortSlot.{slot_at_rest};
@@ -155,20 +155,6 @@ impl Port {
         ensures { self.new ≡ record self.old { current = None } }
     {
         self.lives = false;
-    }
-
-    /// The same port again, with the changes to keep or to give up.
-    pub(crate) fn copy(&self) -> Result<Port, AllocError>
-        ensures { IfOk result (λ copy. copy ≡ self.now) }
-    {
-        let queue = self.queue.copy()?;
-        Ok(Port {
-            numbers: self.numbers,
-            former: self.former,
-            queue,
-            lives: self.lives,
-            lived: self.lived,
-        })
     }
 
     /// Keeps the changes. It takes no memory.

@@ -1,4 +1,4 @@
-ghost use Rattle.std.specs.Prelude.{◌≡◌, ◌<◌, ◌≤◌, ◌+◌, ◌-◌, ◌^◌, true, OnOk, OnErr, is_some, length, nat_le, option_map, slice_index_or, IfOk, MatchOption};
+ghost use Rattle.std.specs.Prelude.{◌≡◌, ◌<◌, ◌≤◌, ◌+◌, ◌-◌, ◌^◌, true, OnOk, OnErr, is_some, length, nat_le, option_map, slice_index_or, MatchOption};
 ghost use Rattle.std.specs.FinMap as map;
 ghost use Rattle.codes.specs.declared.limits.TheConstants.{MAX_PORTS};
 ghost use Rattle.ipc_model.specs.effects.Effects.{map_values};
@@ -235,14 +235,6 @@ impl LivePorts {
                 Err(error)
             }
         }
-    }
-
-    /// The same ports again, with the changes to keep or to give up.
-    pub fn copy(&self) -> Result<LivePorts, AllocError>
-        ensures { IfOk result (λ copy. copy ≡ self.now) }
-    {
-        let tables = self.tables.copy()?;
-        Ok(LivePorts { tables })
     }
 
     /// Keeps the changes. It takes no memory.

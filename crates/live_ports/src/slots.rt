@@ -1,5 +1,5 @@
 //! The slots of ports, in a slab.
-ghost use Rattle.std.specs.Prelude.{◌≡◌, ℕ, ◌≤◌, ◌<◌, ◌-◌, ◌^◌, None, IfOk, IfSome, MatchOption, OnOk, OnErr, length, option_copied, option_and_then};
+ghost use Rattle.std.specs.Prelude.{◌≡◌, ℕ, ◌≤◌, ◌<◌, ◌-◌, ◌^◌, None, IfSome, MatchOption, OnOk, OnErr, length, option_copied, option_and_then};
 ghost use Rattle.std.specs.FinMap as map;
 ghost use Rattle.live_ports.specs.Changed.{with_message, with_numbers, without_first};
 ghost use Rattle.live_ports.specs.PortSlot.{PortSlot};
@@ -20,7 +20,6 @@ use std::mem;
 /// key of each serial. Contracts see the finite map from serials to ports.
 #[derive(Drop)]
 pub(crate) struct PortSlots {
-    alloc: Global,
     ports: Slab<Port>,
     keys: SerialKeys,
 }
@@ -48,7 +47,6 @@ impl PortSlots {
         ensures { result ≡ map.empty }
     {
         PortSlots {
-            alloc,
             ports: Slab::new(alloc),
             keys: SerialKeys::new(alloc),
         }
@@ -151,47 +149,6 @@ impl PortSlots {
         if let Some(key) = self.keys.get(serial) {
             give_up_at(&mut self.ports, key);
         }
-    }
-
-    /// The same ports again.
-    pub(crate) fn copy(&self) -> Result<PortSlots, AllocError>
-        ensures { IfOk result (λ copy. copy ≡ self.now) }
-    {
-        let mut copy = PortSlots::new(self.alloc);
-        match self.copy_into(&mut copy) {
-            Ok(()) => Ok(copy),
-            Err(error) => {
-                drop(copy);
-                Err(error)
-            }
-        }
-    }
-
-    /// All ports come into slots that have none.
-    fn copy_into(&self, copy: &mut PortSlots) -> Result<(), AllocError>
-        requires { copy.old ≡ map.empty }
-        ensures { OnOk result (copy.new ≡ self.now) }
-    {
-        let mut at: u128 = 0;
-        while let Some((serial, _)) = self.keys.next_from(at) {
-            self.copy_port(serial, copy)?;
-            // No serial is the last number that there may be.
-            let Some(next) = serial.checked_add(1) else {
-                return Err(AllocError);
-            };
-            at = next;
-        }
-        Ok(())
-    }
-
-    /// A port comes into a copy, if it is there.
-    fn copy_port(&self, serial: u128, copy: &mut PortSlots) -> Result<(), AllocError>
-        ensures { OnOk result (MatchOption (map.get self.now serial) (copy.new ≡ copy.old) (λ port. copy.new ≡ map.insert copy.old serial port)) }
-    {
-        let Some(port) = self.get(serial) else {
-            return Ok(());
-        };
-        copy.insert(serial, port.copy()?)
     }
 }
 

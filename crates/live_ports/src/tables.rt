@@ -1,10 +1,10 @@
 //! The slots of ports, with the serials of those that were changed, as a plain table.
-ghost use Rattle.std.specs.Prelude.{◌≡◌, ◌<◌, ◌≤◌, ◌+◌, ◌-◌, ◌^◌, ◌∷◌, ◌++◌, [], true, None, Some, OnOk, OnErr, IfOk, IfSome, is_some, length, option_map, option_and_then, slice_index_or};
+ghost use Rattle.std.specs.Prelude.{◌≡◌, ◌<◌, ◌≤◌, ◌+◌, ◌-◌, ◌^◌, ◌∷◌, ◌++◌, [], true, None, Some, OnOk, OnErr, IfSome, is_some, length, option_map, option_and_then, slice_index_or};
 ghost use Rattle.std.specs.FinMap as map;
 ghost use Rattle.codes.specs.declared.limits.TheConstants.{MAX_PORTS};
 ghost use Rattle.ipc_model.specs.state.State.{new_port};
 ghost use Rattle.live_ports.specs.Changed.{IsMessageAt, changed, messages_at, messages_in, numbers_of, with_message, with_numbers, without_first};
-ghost use Rattle.live_ports.specs.Tables.{before_of, current_of, former_ports, present_ports, slot_changed, present_changed, buried, kept_slot, given_up_slot, AreMarked, SameBefore, AreNow, AreAtRest, AreSame};
+ghost use Rattle.live_ports.specs.Tables.{before_of, current_of, former_ports, present_ports, slot_changed, present_changed, buried, kept_slot, given_up_slot, AreMarked, SameBefore, AreNow, AreAtRest};
 ghost use Rattle.live_ports.specs.Touched.{worked_off};
 
 use crate::port::{Port, PortNumbers};
@@ -157,23 +157,6 @@ impl Tables {
         self.slots.bury(u128::from(serial));
         self.count -= 1;
         Ok(())
-    }
-
-    /// The same table again, with the changes to keep or to give up.
-    pub(crate) fn copy(&self) -> Result<Tables, AllocError>
-        ensures { IfOk result (λ copy. AreSame self.now copy) }
-    {
-        let touched = Vec::from_slice(self.alloc, self.touched.as_slice())?;
-        let slots = self.slots.copy()?;
-        Ok(Tables {
-            alloc: self.alloc,
-            slots,
-            touched,
-            count: self.count,
-            count_before: self.count_before,
-            next: self.next,
-            next_before: self.next_before,
-        })
     }
 
     /// Keeps the changes. It takes no memory.

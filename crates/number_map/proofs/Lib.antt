@@ -1,3 +1,2 @@
 mod Lent
-mod PutAll
 mod Viewed

@@ -14,17 +14,9 @@ use std::collections::BTreeMap;
 use std::collections::btree_map::Iter;
 use std::marker::Model;
 
-/// A way to copy values.
-pub trait Copier<V> {
-    /// A copy of a value.
-    fn copy(&self, value: &V) -> Result<V, AllocError>
-        ensures { IfOk result (λ copy. copy ≡ value.now) };
-}
-
 /// A map from numbers to values.
 #[derive(Drop)]
 pub struct NumberMap<V> {
-    alloc: Global,
     entries: BTreeMap<u128, V>,
 }
 
@@ -46,7 +38,6 @@ impl<V> NumberMap<V> {
         ensures { result ≡ map.empty }
     {
         NumberMap {
-            alloc,
             entries: BTreeMap::new(alloc),
         }
     }
@@ -127,16 +118,5 @@ impl<V: Drop> NumberMap<V> {
         ensures removed { self.new ≡ map.remove self.old key }
     {
         self.entries.remove(&key)
-    }
-
-    /// A copy of the map.
-    pub fn copy<C: Copier<V>>(&self, copier: &C) -> Result<NumberMap<V>, AllocError>
-        ensures { IfOk result (λ copy. copy ≡ self.now) }
-    {
-        let mut copy = NumberMap::new(self.alloc);
-        for (key, value) in &self.entries {
-            copy.insert(*key, copier.copy(value)?)?;
-        }
-        Ok(copy)
     }
 }

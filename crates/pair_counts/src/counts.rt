@@ -1,4 +1,4 @@
-ghost use Rattle.std.specs.Prelude.{◌≡◌, ◌+◌, ◌-◌, ◌<◌, ◌^◌, IfOk, OnOk, OnErr};
+ghost use Rattle.std.specs.Prelude.{◌≡◌, ◌+◌, ◌-◌, ◌<◌, ◌^◌, OnOk, OnErr};
 ghost use Rattle.std.specs.FinMap as map;
 ghost use Rattle.pair_counts.specs.Counts.{count_at, key, with_count, IsLeast};
 ghost use Rattle.pair_counts.specs.Rights.{right_fewer, right_more};
@@ -150,14 +150,6 @@ impl PairCounts {
                 Err(error)
             }
         }
-    }
-
-    /// The same counts again, with the changes to keep or to give up.
-    pub fn copy(&self) -> Result<PairCounts, AllocError>
-        ensures { IfOk result (λ copy. copy ≡ self.now) }
-    {
-        let counts = self.counts.copy()?;
-        Ok(PairCounts { counts })
     }
 
     /// Keeps the changes. It takes no memory.

@@ -1,4 +1,4 @@
-ghost use Rattle.std.specs.Prelude.{◌≡◌, ◌<◌, ◌^◌, IfOk, OnOk, OnErr};
+ghost use Rattle.std.specs.Prelude.{◌≡◌, ◌<◌, ◌^◌, OnOk, OnErr};
 ghost use Rattle.std.specs.FinMap as map;
 ghost use Rattle.place_index.specs.Places.{key, moved, with_place, without_place, IsNext};
 ghost use Rattle.tracked_map.specs.Tracked.{at_rest};
@@ -64,14 +64,6 @@ impl PlaceIndex {
             return None;
         };
         Some((found - key(number, 0)) as u64)
-    }
-
-    /// The same index again, with the changes to keep or to give up.
-    pub fn copy(&self) -> Result<PlaceIndex, AllocError>
-        ensures { IfOk result (λ copy. copy ≡ self.now) }
-    {
-        let places = self.places.copy()?;
-        Ok(PlaceIndex { places })
     }
 
     /// Keeps the changes. It takes no memory.

@@ -1,4 +1,4 @@
-ghost use Rattle.std.specs.Prelude.{◌≡◌, ℕ, ◌≤◌, ◌<◌, ◌^◌, ◌↔◌, true, false, IfOk, OnOk, OnErr, IsSome, IfSome, IsTrue, MatchBool, None, is_some, option_copied};
+ghost use Rattle.std.specs.Prelude.{◌≡◌, ℕ, ◌≤◌, ◌<◌, ◌^◌, ◌↔◌, true, false, OnOk, OnErr, IsSome, IfSome, IsTrue, MatchBool, None, is_some, option_copied};
 ghost use Rattle.std.specs.FinMap as map;
 ghost use Rattle.ipc_model.specs.calls.PortCalls.{stands_elsewhere};
 ghost use Rattle.ipc_model.specs.state.State.{IsUnused, name_of_port};
@@ -177,14 +177,6 @@ impl PortSpace {
             return None;
         };
         Some((name as u32, *entry))
-    }
-
-    /// The same names again, with the changes to keep or to give up.
-    pub fn copy(&self) -> Result<PortSpace, AllocError>
-        ensures { IfOk result (λ copy. copy ≡ self.now) }
-    {
-        let tables = self.tables.copy()?;
-        Ok(PortSpace { tables })
     }
 
     /// Keeps the changes. It takes no memory.

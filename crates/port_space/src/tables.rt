@@ -1,5 +1,5 @@
 //! The names of a space with what stands beside them, as plain tables.
-ghost use Rattle.std.specs.Prelude.{◌≡◌, ◌≤◌, ◌<◌, ◌^◌, ℕ, true, false, None, Some, IfOk, OnOk, MatchOption, is_some, option_and_then, option_copied};
+ghost use Rattle.std.specs.Prelude.{◌≡◌, ◌≤◌, ◌<◌, ◌^◌, ℕ, true, false, None, Some, OnOk, MatchOption, is_some, option_and_then, option_copied};
 ghost use Rattle.std.specs.FinMap as map;
 ghost use Rattle.ipc_model.specs.state.State.{port_held};
 ghost use Rattle.port_space.specs.Beside.{holds, with_port, without_port, port_key, AreByPort, GoesOn};
@@ -86,22 +86,6 @@ impl Tables {
             self.gaps.set(u128::from(name), ())?;
         }
         Ok(())
-    }
-
-    /// The same tables again, with the changes to keep or to give up.
-    pub(crate) fn copy(&self) -> Result<Tables, AllocError>
-        ensures { IfOk result (λ copy. copy ≡ self.now) }
-    {
-        let names = self.names.copy()?;
-        let by_port = self.by_port.copy()?;
-        let gaps = self.gaps.copy()?;
-        Ok(Tables {
-            names,
-            by_port,
-            gaps,
-            low: self.low,
-            low_before: self.low_before,
-        })
     }
 
     /// Keeps the changes. It takes no memory.

@@ -1,5 +1,5 @@
 //! The rights in queues and requests by the ports that they are to, as plain tables.
-ghost use Rattle.std.specs.Prelude.{◌≡◌, IfOk, OnOk, take};
+ghost use Rattle.std.specs.Prelude.{◌≡◌, OnOk, take};
 ghost use Rattle.std.specs.FinMap as map;
 ghost use Rattle.live_ports.specs.Changed.{messages_at};
 ghost use Rattle.ports.specs.Burials.{AreWithout};
@@ -86,22 +86,6 @@ impl PortIndexes {
         self.counts.clear(0, serial)?;
         self.counts.clear(1, serial)?;
         clear_carriers(&mut self.carriers, serial)
-    }
-
-    /// The same indexes again, with the changes to keep or to give up.
-    pub(crate) fn copy(&self) -> Result<PortIndexes, AllocError>
-        ensures { IfOk result (λ copy. copy ≡ self.now) }
-    {
-        let counts = self.counts.copy()?;
-        let carriers = self.carriers.copy()?;
-        let no_senders = self.no_senders.copy()?;
-        let port_destroyed = self.port_destroyed.copy()?;
-        Ok(PortIndexes {
-            counts,
-            carriers,
-            no_senders,
-            port_destroyed,
-        })
     }
 
     /// Keeps the changes. It takes no memory.

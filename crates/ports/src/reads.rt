@@ -1,5 +1,5 @@
 // What is asked of the ports.
-ghost use Rattle.std.specs.Prelude.{◌≡◌, ◌<◌, ◌≤◌, ◌^◌, find, IfOk, MatchOption, is_some, length, nat_le, option_map, slice_index_or};
+ghost use Rattle.std.specs.Prelude.{◌≡◌, ◌<◌, ◌≤◌, ◌^◌, find, MatchOption, is_some, length, nat_le, option_map, slice_index_or};
 ghost use Rattle.std.specs.FinMap as map;
 ghost use Rattle.codes.specs.declared.limits.TheConstants.{MAX_PORTS};
 ghost use Rattle.ipc_laws.specs.MapSums.{total};
@@ -14,7 +14,6 @@ ghost use Rattle.pair_counts.specs.Rights.{right_weight};
 use crate::Ports;
 use ipc_model::{CarriedRight, Message};
 use live_ports::PortNumbers;
-use std::alloc::AllocError;
 
 impl Ports {
     /// How many ports live.
@@ -103,14 +102,5 @@ impl Ports {
         ensures { result ≡ option_map (λ e. e.0) (find (λ e. carries serial e.1) (map.entries self.now.current.ports)) }
     {
         self.indexes.carriers.least(serial)
-    }
-
-    /// The same ports again, with the changes to keep or to give up.
-    pub fn copy(&self) -> Result<Ports, AllocError>
-        ensures { IfOk result (λ copy. copy ≡ self.now) }
-    {
-        let ports = self.ports.copy()?;
-        let indexes = self.indexes.copy()?;
-        Ok(Ports { ports, indexes })
     }
 }

@@ -1,7 +1,6 @@
 //! The messages in a port's queue, whose changes are kept or given up.
 #![tactic(auto)]
 
-mod copy;
 mod queue;
 
 pub use queue::{PushFault, Queue};

@@ -1,7 +1,6 @@
-ghost use Rattle.std.specs.Prelude.{◌≡◌, ◌<◌, ◌≤◌, ◌-◌, ◌^◌, ◌↔◌, ◌==◌, ◌∷◌, ◌++◌, [], length, drop, option_copied, IfOk, OnOk, OnErr, IsErrOf, MatchOption, slice_index_or};
+ghost use Rattle.std.specs.Prelude.{◌≡◌, ◌<◌, ◌≤◌, ◌-◌, ◌^◌, ◌↔◌, ◌==◌, ◌∷◌, ◌++◌, [], length, drop, option_copied, OnOk, OnErr, IsErrOf, MatchOption, slice_index_or};
 ghost use Rattle.queue.specs.TrackedList.{list_at_rest};
 
-use crate::copy::copy_of_messages;
 use ipc_model::Message;
 use std::alloc::{AllocError, Global};
 use std::collections::VecDeque;
@@ -34,7 +33,6 @@ const MAX_MESSAGES: usize = u32::MAX as usize;
 /// was when its changes were last kept or given up, and as it is. Messages that are taken stay in the ring until then.
 #[derive(Drop)]
 pub struct Queue {
-    alloc: Global,
     messages: VecDeque<Message>,
     /// How many of the messages are taken, the oldest ones.
     taken: usize,
@@ -64,7 +62,6 @@ impl Queue {
         ensures { result ≡ list_at_rest [] }
     {
         Queue {
-            alloc,
             messages: VecDeque::new(alloc),
             taken: 0,
             before: 0,
@@ -124,19 +121,6 @@ impl Queue {
         ensures { result.now ≡ slice_index_or self.now.current index result.now }
     {
         &self.messages[self.taken + index as usize]
-    }
-
-    /// The same queue again, with the changes to keep or to give up.
-    pub fn copy(&self) -> Result<Queue, AllocError>
-        ensures { IfOk result (λ copy. copy ≡ self.now) }
-    {
-        let messages = copy_of_messages(self.alloc, &self.messages)?;
-        Ok(Queue {
-            alloc: self.alloc,
-            messages,
-            taken: self.taken,
-            before: self.before,
-        })
     }
 
     /// Keeps the changes. It takes no memory.

@@ -1,5 +1,5 @@
 //! The names by the ports that they have to do with, as plain tables.
-ghost use Rattle.std.specs.Prelude.{◌≡◌, IfOk, OnOk, option_and_then};
+ghost use Rattle.std.specs.Prelude.{◌≡◌, OnOk, option_and_then};
 ghost use Rattle.std.specs.FinMap as map;
 ghost use Rattle.ipc_model.specs.state.State.{received_port, request_of};
 ghost use Rattle.spaces.specs.Indexes.{IsMoved, SameBefore, AreGivenUp, AreKept};
@@ -59,22 +59,6 @@ impl NameIndexes {
         are_words(former);
         are_words(entry);
         Ok(())
-    }
-
-    /// The same indexes again, with the changes to keep or to give up.
-    pub(crate) fn copy(&self) -> Result<NameIndexes, AllocError>
-        ensures { IfOk result (λ copy. copy ≡ self.now) }
-    {
-        let sharers = self.sharers.copy()?;
-        let requesters = self.requesters.copy()?;
-        let receivers = self.receivers.copy()?;
-        let counts = self.counts.copy()?;
-        Ok(NameIndexes {
-            sharers,
-            requesters,
-            receivers,
-            counts,
-        })
     }
 
     /// Keeps the changes. It takes no memory.

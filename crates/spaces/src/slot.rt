@@ -1,4 +1,4 @@
-ghost use Rattle.std.specs.Prelude.{◌≡◌, ◌<◌, None, Some, IfOk, OnOk, OnErr, IsSome, is_some, option_map, option_copied};
+ghost use Rattle.std.specs.Prelude.{◌≡◌, ◌<◌, None, Some, OnOk, OnErr, IsSome, is_some, option_map, option_copied};
 ghost use Rattle.std.specs.FinMap as map;
 ghost use Rattle.codes.specs.declared.limits.TheConstants.{MAX_NAMES};
 ghost use Rattle.ipc_model.specs.state.State.{Names};
@@ -119,18 +119,6 @@ impl Space {
                 Err(error)
             }
         }
-    }
-
-    /// The same slot again, with the changes to keep or to give up.
-    pub(crate) fn copy(&self) -> Result<Space, AllocError>
-        ensures { IfOk result (λ copy. copy ≡ self.now) }
-    {
-        let names = self.names.copy()?;
-        Ok(Space {
-            names,
-            is_there: self.is_there,
-            was_there: self.was_there,
-        })
     }
 
     /// Keeps the changes. It takes no memory.

@@ -1,4 +1,4 @@
-ghost use Rattle.std.specs.Prelude.{◌≡◌, ◌<◌, ◌^◌, None, Some, IfOk, OnOk, OnErr, IfSome, is_some};
+ghost use Rattle.std.specs.Prelude.{◌≡◌, ◌<◌, ◌^◌, None, Some, OnOk, OnErr, IfSome, is_some};
 ghost use Rattle.std.specs.FinMap as map;
 ghost use Rattle.codes.specs.declared.limits.TheConstants.{MAX_NAMES, MAX_SPACES};
 ghost use Rattle.ipc_laws.specs.MapSums.{total};
@@ -187,15 +187,6 @@ impl Spaces {
         ensures { IsNextAt received_port self.now.current port from result }
     {
         self.indexes.receivers.next(port, from)
-    }
-
-    /// The same spaces again, with the changes to keep or to give up.
-    pub fn copy(&self) -> Result<Spaces, AllocError>
-        ensures { IfOk result (λ copy. copy ≡ self.now) }
-    {
-        let table = self.table.copy()?;
-        let indexes = self.indexes.copy()?;
-        Ok(Spaces { table, indexes })
     }
 
     /// How many send rights to a port names hold.

@@ -1,4 +1,4 @@
-ghost use Rattle.std.specs.Prelude.{◌≡◌, ◌<◌, ◌^◌, None, Some, IfOk, OnOk, OnErr, is_some, option_map, option_copied};
+ghost use Rattle.std.specs.Prelude.{◌≡◌, ◌<◌, ◌^◌, None, Some, OnOk, OnErr, is_some, option_map, option_copied};
 ghost use Rattle.std.specs.FinMap as map;
 ghost use Rattle.codes.specs.declared.limits.TheConstants.{MAX_NAMES, MAX_SPACES};
 ghost use Rattle.ipc_model.specs.state.State.{Names};
@@ -10,7 +10,7 @@ use crate::numbers::Numbers;
 use crate::slot::Space;
 use crate::slots::{close_at, give_slots_up, keep_slots, open_at, put_at, remove_at};
 use ipc_model::Entry;
-use number_map::{Copier, NumberMap};
+use number_map::NumberMap;
 use port_space::PortSpace;
 use std::alloc::{AllocError, Global};
 use std::marker::Model;
@@ -46,16 +46,6 @@ impl Model for SpaceTable {
     ghost invariant = { λ t.
         AreTouched was is t.slots t.touched.items × (t.count ≡ map.len (picked is t.slots)) × (t.count_before ≡ map.len (picked was t.slots))
         × AreTaken t.numbers (picked is t.slots) × AreTaken t.numbers_before (picked was t.slots) };
-}
-
-/// Copies a slot.
-#[derive(Drop)]
-struct SpaceCopier;
-
-impl Copier<Space> for SpaceCopier {
-    fn copy(&self, value: &Space) -> Result<Space, AllocError> {
-        value.copy()
-    }
 }
 
 impl SpaceTable {
@@ -198,23 +188,6 @@ impl SpaceTable {
             self.numbers.remove(space);
         }
         Ok(())
-    }
-
-    /// The same spaces again, with the changes to keep or to give up.
-    pub fn copy(&self) -> Result<SpaceTable, AllocError>
-        ensures { IfOk result (λ copy. copy ≡ self.now) }
-    {
-        let touched = Vec::from_slice(self.alloc, self.touched.as_slice())?;
-        let slots = self.slots.copy(&SpaceCopier)?;
-        Ok(SpaceTable {
-            alloc: self.alloc,
-            slots,
-            touched,
-            count: self.count,
-            count_before: self.count_before,
-            numbers: self.numbers,
-            numbers_before: self.numbers_before,
-        })
     }
 
     /// Keeps the changes. It takes no memory.

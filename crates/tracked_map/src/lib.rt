@@ -1,12 +1,12 @@
 //! A map from numbers to values whose changes are kept or given up. Neither takes memory.
 #![tactic(auto)]
 
-ghost use Rattle.std.specs.Prelude.{◌≡◌, ℕ, ◌≤◌, ◌<◌, [], true, Some, None, OnOk, OnErr, MatchOption, is_some, option_copied, IfOk, ◌^◌};
+ghost use Rattle.std.specs.Prelude.{◌≡◌, ℕ, ◌≤◌, ◌<◌, [], true, Some, None, OnOk, OnErr, MatchOption, is_some, option_copied, ◌^◌};
 ghost use Rattle.std.specs.FinMap as map;
 ghost use Rattle.std.specs.Option.{option_flatten};
 ghost use Rattle.tracked_map.specs.Tracked.{at_rest, len_after, over, put, shown, unmarked, AreMarked, HasSlots};
 
-use number_map::{Copier, NumberMap};
+use number_map::NumberMap;
 use std::alloc::{AllocError, Global};
 use std::marker::Model;
 
@@ -17,7 +17,6 @@ use std::marker::Model;
 /// is a write in place.
 #[derive(Drop)]
 pub struct TrackedMap<V> {
-    alloc: Global,
     slots: NumberMap<Option<V>>,
     former: Vec<(u128, Option<V>)>,
     len: usize,
@@ -36,23 +35,12 @@ impl<V> Model for TrackedMap<V> {
     ghost invariant = { λ t. IsSound t.slots t.former.items t.len t.len_before };
 }
 
-/// Copies what stands in a slot.
-#[derive(Drop)]
-struct SlotCopier;
-
-impl<V: Copy> Copier<Option<V>> for SlotCopier {
-    fn copy(&self, value: &Option<V>) -> Result<Option<V>, AllocError> {
-        Ok(*value)
-    }
-}
-
 impl<V> TrackedMap<V> {
     /// A map of nothing. It takes no memory.
     pub fn new(alloc: Global) -> Self
         ensures { result ≡ at_rest map.empty }
     {
         TrackedMap {
-            alloc,
             slots: NumberMap::new(alloc),
             former: Vec::new(alloc),
             len: 0,
@@ -139,21 +127,6 @@ impl<V: Copy + Drop> TrackedMap<V> {
         self.len -= 1;
         self.former.push_reserved((key, Some(before)));
         Ok(())
-    }
-
-    /// The same map again, with the changes to keep or to give up.
-    pub fn copy(&self) -> Result<TrackedMap<V>, AllocError>
-        ensures { IfOk result (λ copy. copy ≡ self.now) }
-    {
-        let slots = self.slots.copy(&SlotCopier)?;
-        let former = Vec::from_slice(self.alloc, self.former.as_slice())?;
-        Ok(TrackedMap {
-            alloc: self.alloc,
-            slots,
-            former,
-            len: self.len,
-            len_before: self.len_before,
-        })
     }
 
     /// Keeps the changes. It takes no memory.
