@@ -18,29 +18,29 @@ fn of_five(counts: &PairCounts) -> OfFive {
     ([counts.count(5, 7), counts.count(5, 9)], counts.least(5))
 }
 
-/// What stands with 5 in a copy with one (5, 9) less.
-fn one_less(counts: &PairCounts) -> Option<OfFive> {
-    let mut copy = counts.copy().ok()?;
-    let done = copy.subtract(5, 9);
-    let seen = of_five(&copy);
-    drop(copy);
-    done.ok()?;
-    Some(seen)
-}
-
-/// What stands with 5: at first, with one (5, 9) less and no (5, 7), with no (5, 9) either, and once all is given up.
-fn changed(counts: &mut PairCounts) -> Option<[OfFive; 4]> {
-    count(counts)?;
-    let first = of_five(counts);
+/// One (5, 9) less, and no (5, 7).
+fn count_fewer(counts: &mut PairCounts) -> Option<OfFive> {
     counts.subtract(5, 9).ok()?;
     counts.clear(5, 7).ok()?;
-    let fewer = of_five(counts);
-    let none = one_less(counts)?;
-    counts.give_up();
-    Some([first, fewer, none, of_five(counts)])
+    Some(of_five(counts))
 }
 
-fn changed_from_none(alloc: Global) -> Option<[OfFive; 4]> {
+/// What stands with 5: at first, with one (5, 9) less and no (5, 7), with no (5, 9) either, once all is given up, and once
+/// the first change is made again and kept.
+fn changed(counts: &mut PairCounts) -> Option<[OfFive; 5]> {
+    count(counts)?;
+    let first = of_five(counts);
+    let fewer = count_fewer(counts)?;
+    counts.subtract(5, 9).ok()?;
+    let none = of_five(counts);
+    counts.give_up();
+    let again = of_five(counts);
+    count_fewer(counts)?;
+    counts.keep();
+    Some([first, fewer, none, again, of_five(counts)])
+}
+
+fn changed_from_none(alloc: Global) -> Option<[OfFive; 5]> {
     let mut counts = PairCounts::new(alloc);
     let seen = changed(&mut counts);
     drop(counts);
@@ -50,6 +50,7 @@ fn changed_from_none(alloc: Global) -> Option<[OfFive; 4]> {
 #[test]
 fn counts_change_and_are_given_up(rt: HostRuntime) {
     let first = ([1, 2], Some(7));
-    let wanted = [first, ([0, 1], Some(9)), ([0, 0], None), first];
+    let fewer = ([0, 1], Some(9));
+    let wanted = [first, fewer, ([0, 0], None), first, fewer];
     same(&rt, changed_from_none(rt.alloc()), Some(wanted));
 }

@@ -112,27 +112,20 @@ fn seen(ports: &Ports) -> Picture {
     }
 }
 
-/// What is seen of a copy that keeps its changes.
-fn kept(ports: &Ports) -> Option<Picture> {
-    let mut copy = ports.copy().ok()?;
-    copy.keep();
-    let seen = seen(&copy);
-    drop(copy);
-    Some(seen)
-}
-
-/// What is seen: at first, once port 1 has died, of a copy that keeps this, once port 2 has died too, and once all is
-/// given up.
+/// What is seen: at first, once port 1 has died, once port 2 has died too, once all is given up, and once port 1 has died
+/// again and this is kept.
 fn buried(alloc: Global, ports: &mut Ports) -> Option<[Picture; 5]> {
     fill(alloc, ports)?;
     let first = seen(ports);
     ports.bury(1).ok()?;
     let without_1 = seen(ports);
-    let kept = kept(ports)?;
     ports.bury(2).ok()?;
     let without_2 = seen(ports);
     ports.give_up();
-    Some([first, without_1, kept, without_2, seen(ports)])
+    let given_up = seen(ports);
+    ports.bury(1).ok()?;
+    ports.keep();
+    Some([first, without_1, without_2, given_up, seen(ports)])
 }
 
 fn buried_from_none(alloc: Global) -> Option<[Picture; 5]> {
@@ -177,24 +170,26 @@ fn ports_die_and_live_again(rt: HostRuntime) {
     let wanted = [
         at_first(),
         without_1(),
-        without_1(),
         without_2(),
         at_first(),
+        without_1(),
     ];
     same(&rt, buried_from_none(rt.alloc()), Some(wanted));
 }
 
-/// What is seen: once the oldest message of port 2 is taken, of a copy that keeps this, once the other one is taken too,
-/// and once all is given up.
+/// What is seen: once the oldest message of port 2 is taken, once the other one is taken too, once all is given up, and
+/// once the oldest is taken again and this is kept.
 fn taken(alloc: Global, ports: &mut Ports) -> Option<[Picture; 4]> {
     fill(alloc, ports)?;
     ports.take(2).ok()?;
     let without_first = seen(ports);
-    let kept = kept(ports)?;
     ports.take(2).ok()?;
     let without_both = seen(ports);
     ports.give_up();
-    Some([without_first, kept, without_both, seen(ports)])
+    let given_up = seen(ports);
+    ports.take(2).ok()?;
+    ports.keep();
+    Some([without_first, without_both, given_up, seen(ports)])
 }
 
 fn taken_from_none(alloc: Global) -> Option<[Picture; 4]> {
@@ -226,6 +221,6 @@ fn without_both() -> Picture {
 
 #[test]
 fn messages_are_taken_and_put_back(rt: HostRuntime) {
-    let wanted = [without_first(), without_first(), without_both(), at_first()];
+    let wanted = [without_first(), without_both(), at_first(), without_first()];
     same(&rt, taken_from_none(rt.alloc()), Some(wanted));
 }

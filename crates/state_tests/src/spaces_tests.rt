@@ -35,15 +35,6 @@ fn names(alloc: Global, spaces: &Spaces) -> Option<Names> {
     Some(names)
 }
 
-/// The names of space 2 in a copy that keeps its changes.
-fn kept(alloc: Global, spaces: &Spaces) -> Option<Names> {
-    let mut copy = spaces.copy().ok()?;
-    copy.keep();
-    let seen = names(alloc, &copy);
-    drop(copy);
-    seen
-}
-
 /// One name of space 2 is renamed, one removed, and one put.
 fn rename_and_remove(spaces: &mut Spaces) -> Option<()> {
     rename(spaces, 2, 0x105, 0x101)?;
@@ -51,15 +42,17 @@ fn rename_and_remove(spaces: &mut Spaces) -> Option<()> {
     hold(spaces, 2, 0x100, 9, None)
 }
 
-/// The names of space 2: at first, once they are changed, in a copy that keeps this, and once it is given up.
+/// The names of space 2: at first, once they are changed, once that is given up, and once it is done again and kept.
 fn renamed(alloc: Global, spaces: &mut Spaces) -> Option<[Option<Names>; 4]> {
     fill(spaces)?;
     let first = names(alloc, spaces);
     rename_and_remove(spaces)?;
     let now = names(alloc, spaces);
-    let kept = kept(alloc, spaces);
     spaces.give_up();
-    Some([first, now, kept, names(alloc, spaces)])
+    let given_up = names(alloc, spaces);
+    rename_and_remove(spaces)?;
+    spaces.keep();
+    Some([first, now, given_up, names(alloc, spaces)])
 }
 
 fn renamed_in_new(alloc: Global) -> Option<[Option<Names>; 4]> {
@@ -73,7 +66,7 @@ fn renamed_in_new(alloc: Global) -> Option<[Option<Names>; 4]> {
 fn names_are_put_renamed_and_removed(rt: HostRuntime) {
     let first = Some([Some(0x102), Some(0x105), None]);
     let now = Some([Some(0x100), Some(0x101), None]);
-    let wanted = [first, now, now, first];
+    let wanted = [first, now, first, now];
     same(&rt, renamed_in_new(rt.alloc()), Some(wanted));
 }
 
