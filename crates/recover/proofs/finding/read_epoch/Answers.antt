@@ -1,11 +1,15 @@
-use Rattle.std.proofs.Common.{◌%◌, drop, sym, subst}
+use Rattle.std.proofs.Common.{◌≡◌, ◌⊎◌, ◌%◌, ℕ, Err, IsErrOf, OnErr, OnOk, drop, sym, subst, ◌∙◌}
 use Rattle.std.proofs.lemmas.Result.{IfOk-weaker, err_from_is_err_and}
+use Rattle.disk.specs.Moments.{one_more}
 use Rattle.disk.specs.Slots.{Slots, slot_of}
 use Rattle.ipc_model.specs.store.Recovery.{HoldsImage, IsOfEpoch}
 use Rattle.ipc_model.specs.store.Store.{SpellsBatches}
 use Rattle.recover.specs.Replayed.{ReplaysAll}
 use Rattle.slot_steps.specs.Steps.{image_slot, segment_slot}
+use Rattle.journal.specs.declared.fault.StoreFault.TheVariants as fault
+use Rattle.recover.proofs.Faults.{none_at_error, none_in_error}
 use Rattle.recover.proofs.Ways.{no_run, reads_one}
+use Rattle.slot_steps.proofs.Moments.{unchanged_then}
 use Rattle.recover.proofs.finding.read_epoch.Goals as goal
 
 pub returns-in_err-base-clause-damaged : goal.returns-in_err-base-clause-damaged
@@ -36,3 +40,33 @@ returns-clause-read g c = λ honest.
     (subst (λ slot. ReplaysAll (slot_of first slot) c.in_ok-base.base read.0 read.1 read.2) c.segment_slot.ensures
     (subst (λ (d : Slots). ReplaysAll (slot_of d c.segment_slot.result) c.in_ok-base.base read.0 read.1 read.2) (c.in_ok-base.ensures.seen honest) replays)))
     (c.replay_segment.ensures.state honest)
+
+pub returns-in_err-base-clause-read : goal.returns-in_err-base-clause-read
+returns-in_err-base-clause-read g c = λ honest. let p = err_from_is_err_and c.from_residual.result c.from_residual.ensures.1 in none_in_error _ c.from_residual.result _ p.1
+
+pub returns-in_err-base-clause-quiet : goal.returns-in_err-base-clause-quiet
+returns-in_err-base-clause-quiet g c = let p = err_from_is_err_and c.from_residual.result c.from_residual.ensures.1 in none_at_error _ c.from_residual.result _ p.1
+
+pub returns-in_err-base-clause-seen : goal.returns-in_err-base-clause-seen
+returns-in_err-base-clause-seen g c = λ honest. c.load_image.ensures.seen honest
+
+pub returns-in_err-base-clause-time : goal.returns-in_err-base-clause-time
+returns-in_err-base-clause-time g c = λ honest. c.load_image.ensures.time honest
+
+pub returns-clause-seen : goal.returns-clause-seen
+returns-clause-seen g c = λ honest. c.replay_segment.ensures.seen honest ∙ c.in_ok-base.ensures.seen honest
+
+pub returns-clause-time : goal.returns-clause-time
+returns-clause-time g c = λ honest. unchanged_then _ _ _ (c.load_image.ensures.time honest) (c.replay_segment.ensures.time honest)
+
+pub returns-clause-quiet : goal.returns-clause-quiet
+returns-clause-quiet g c = subst (λ (n : ℕ). OnOk c.replay_segment.result (g.D.Disk.failed_calls c.replay_segment.new.disk ≡ n)) c.in_ok-base.ensures.quiet c.replay_segment.ensures.quiet
+
+pub returns-clause-still : goal.returns-clause-still
+returns-clause-still g c = subst (λ (n : ℕ). OnErr c.replay_segment.result ((c.replay_segment.result ≡ Err fault.Device) ⊎ (g.D.Disk.failed_calls c.replay_segment.new.disk ≡ n))) c.in_ok-base.ensures.quiet c.replay_segment.ensures.still
+
+pub returns-clause-device : goal.returns-clause-device
+returns-clause-device g c = subst (λ (n : ℕ). IsErrOf c.replay_segment.result fault.Device → g.D.Disk.failed_calls c.replay_segment.new.disk ≡ one_more n) c.in_ok-base.ensures.quiet c.replay_segment.ensures.device
+
+pub returns-clause-faults : goal.returns-clause-faults
+returns-clause-faults g c = c.replay_segment.ensures.faults

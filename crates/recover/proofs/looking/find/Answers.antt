@@ -1,4 +1,4 @@
-use Rattle.std.proofs.Common.{sym, subst}
+use Rattle.std.proofs.Common.{sym, subst, ◌∙◌}
 use Rattle.std.proofs.lemmas.Result.{err_from_is_err_and}
 use Rattle.disk.specs.Slots.{Slots}
 use Rattle.ipc_model.specs.store.Recovery.{Recovered}
@@ -6,6 +6,7 @@ use Rattle.recover.specs.Found.{Reads}
 use Rattle.recover.specs.Headers.{Says}
 use Rattle.recover.specs.Surveyed.{IsInUse as Uses, IsUnused, Surveys}
 use Rattle.standing.specs.Standing.{as_written}
+use Rattle.recover.proofs.Faults.{none_at_error, none_in_error}
 use Rattle.recover.proofs.looking.find.Goals as goal
 
 pub returns-in_err-survey_store-clause-damaged : goal.returns-in_err-survey_store-clause-damaged
@@ -53,3 +54,45 @@ returns-in_ok-kernel-in-New-clause-reads g c = λ honest.
 pub returns-in_ok-kernel-in-InUse-clause-reads : goal.returns-in_ok-kernel-in-InUse-clause-reads
 returns-in_ok-kernel-in-InUse-clause-reads g c = λ honest.
     subst (λ (s : Slots). Reads s c.in-InUse.epoch c.in_ok-kernel-in-InUse.records c.in_ok-kernel-in-InUse.kernel) (c.in_ok-headers.ensures.seen honest) (c.in_ok-kernel-in-InUse.ensures.reads honest)
+
+pub returns-in_err-headers-clause-reads : goal.returns-in_err-headers-clause-reads
+returns-in_err-headers-clause-reads g c = λ honest. let p = err_from_is_err_and c.from_residual.result c.from_residual.ensures.1 in none_in_error _ c.from_residual.result _ p.1
+
+pub returns-in_err-headers-clause-quiet : goal.returns-in_err-headers-clause-quiet
+returns-in_err-headers-clause-quiet g c = let p = err_from_is_err_and c.from_residual.result c.from_residual.ensures.1 in none_at_error _ c.from_residual.result _ p.1
+
+pub returns-in_err-headers-clause-seen : goal.returns-in_err-headers-clause-seen
+returns-in_err-headers-clause-seen g c = λ honest. c.read_headers.ensures.seen honest
+
+pub returns-in_err-survey_store-clause-reads : goal.returns-in_err-survey_store-clause-reads
+returns-in_err-survey_store-clause-reads g c = λ honest. let p = err_from_is_err_and c.from_residual-in_err-survey_store.result c.from_residual-in_err-survey_store.ensures.1 in none_in_error _ c.from_residual-in_err-survey_store.result _ p.1
+
+pub returns-in_err-survey_store-clause-quiet : goal.returns-in_err-survey_store-clause-quiet
+returns-in_err-survey_store-clause-quiet g c = let p = err_from_is_err_and c.from_residual-in_err-survey_store.result c.from_residual-in_err-survey_store.ensures.1 in none_at_error _ c.from_residual-in_err-survey_store.result _ p.1
+
+pub returns-in_err-survey_store-clause-seen : goal.returns-in_err-survey_store-clause-seen
+returns-in_err-survey_store-clause-seen g c = λ honest. c.in_ok-headers.ensures.seen honest
+
+pub returns-in_err-kernel-in-New-clause-reads : goal.returns-in_err-kernel-in-New-clause-reads
+returns-in_err-kernel-in-New-clause-reads g c = λ honest. let p = err_from_is_err_and c.from_residual-in_err-kernel-in-New.result c.from_residual-in_err-kernel-in-New.ensures.1 in none_in_error _ c.from_residual-in_err-kernel-in-New.result _ p.1
+
+pub returns-in_err-kernel-in-New-clause-quiet : goal.returns-in_err-kernel-in-New-clause-quiet
+returns-in_err-kernel-in-New-clause-quiet g c = let p = err_from_is_err_and c.from_residual-in_err-kernel-in-New.result c.from_residual-in_err-kernel-in-New.ensures.1 in none_at_error _ c.from_residual-in_err-kernel-in-New.result _ p.1
+
+pub returns-in_err-kernel-in-New-clause-seen : goal.returns-in_err-kernel-in-New-clause-seen
+returns-in_err-kernel-in-New-clause-seen g c = λ honest. c.look_new.ensures.seen honest ∙ c.in_ok-headers.ensures.seen honest
+
+pub returns-in_err-kernel-in-InUse-clause-reads : goal.returns-in_err-kernel-in-InUse-clause-reads
+returns-in_err-kernel-in-InUse-clause-reads g c = λ honest. let p = err_from_is_err_and c.from_residual-in_err-kernel-in-InUse.result c.from_residual-in_err-kernel-in-InUse.ensures.1 in none_in_error _ c.from_residual-in_err-kernel-in-InUse.result _ p.1
+
+pub returns-in_err-kernel-in-InUse-clause-quiet : goal.returns-in_err-kernel-in-InUse-clause-quiet
+returns-in_err-kernel-in-InUse-clause-quiet g c = let p = err_from_is_err_and c.from_residual-in_err-kernel-in-InUse.result c.from_residual-in_err-kernel-in-InUse.ensures.1 in none_at_error _ c.from_residual-in_err-kernel-in-InUse.result _ p.1
+
+pub returns-in_err-kernel-in-InUse-clause-seen : goal.returns-in_err-kernel-in-InUse-clause-seen
+returns-in_err-kernel-in-InUse-clause-seen g c = λ honest. c.look_in_use.ensures.seen honest ∙ c.in_ok-headers.ensures.seen honest
+
+pub returns-in_ok-kernel-in-New-clause-seen : goal.returns-in_ok-kernel-in-New-clause-seen
+returns-in_ok-kernel-in-New-clause-seen g c = λ honest. c.look_new.ensures.seen honest ∙ c.in_ok-headers.ensures.seen honest
+
+pub returns-in_ok-kernel-in-InUse-clause-seen : goal.returns-in_ok-kernel-in-InUse-clause-seen
+returns-in_ok-kernel-in-InUse-clause-seen g c = λ honest. c.look_in_use.ensures.seen honest ∙ c.in_ok-headers.ensures.seen honest

@@ -1,4 +1,4 @@
-use Rattle.std.proofs.Common.{◌+◌, ℕ, drop, sym, subst, arith}
+use Rattle.std.proofs.Common.{◌+◌, ℕ, drop, sym, subst, arith, ◌∙◌}
 use Rattle.std.proofs.lemmas.Result.{err_from_is_err_and}
 use Rattle.disk.specs.Slots.{Slots, slot_of}
 use Rattle.ipc_model.specs.store.Store.{SpellsBatches}
@@ -7,6 +7,7 @@ use Rattle.recover.specs.Replayed.{ReplaysAll}
 use Rattle.recover.specs.Surveyed.{IsInUse as Uses}
 use Rattle.slot_steps.specs.Steps.{segment_slot}
 use Rattle.recover.proofs.Ways.{next_damaged, one_reads, read_damaged, two_few, two_reads}
+use Rattle.recover.proofs.Faults.{none_at_error, none_in_error}
 use Rattle.recover.proofs.looking.look_in_use.Goals as goal
 
 pub returns-in_err-kernel-clause-damaged : goal.returns-in_err-kernel-clause-damaged
@@ -41,3 +42,24 @@ returns-clause-reads g c = λ honest.
     let few = two_few seen e mid next.kernel c.in_ok-kernel.first c.in_ok-kernel.field-0-2 next.next next.field-0-2 (c.in_ok-kernel.ensures.read honest) replays in
     subst (λ (n : ℕ). Reads seen e n next.kernel) (omega (arith, few, c.saturating_add.ensures))
     (two_reads seen e mid next.kernel c.in_ok-kernel.first c.in_ok-kernel.field-0-2 next.next next.field-0-2 used (c.in_ok-kernel.ensures.read honest) replays)
+
+pub returns-in_err-kernel-clause-reads : goal.returns-in_err-kernel-clause-reads
+returns-in_err-kernel-clause-reads g c = λ honest. let p = err_from_is_err_and c.from_residual.result c.from_residual.ensures.1 in none_in_error _ c.from_residual.result _ p.1
+
+pub returns-in_err-kernel-clause-quiet : goal.returns-in_err-kernel-clause-quiet
+returns-in_err-kernel-clause-quiet g c = let p = err_from_is_err_and c.from_residual.result c.from_residual.ensures.1 in none_at_error _ c.from_residual.result _ p.1
+
+pub returns-in_err-kernel-clause-seen : goal.returns-in_err-kernel-clause-seen
+returns-in_err-kernel-clause-seen g c = λ honest. c.read_epoch.ensures.seen honest
+
+pub returns-in_err-kernel-2-clause-reads : goal.returns-in_err-kernel-2-clause-reads
+returns-in_err-kernel-2-clause-reads g c = λ honest. let p = err_from_is_err_and c.from_residual-in_err-kernel-2.result c.from_residual-in_err-kernel-2.ensures.1 in none_in_error _ c.from_residual-in_err-kernel-2.result _ p.1
+
+pub returns-in_err-kernel-2-clause-quiet : goal.returns-in_err-kernel-2-clause-quiet
+returns-in_err-kernel-2-clause-quiet g c = let p = err_from_is_err_and c.from_residual-in_err-kernel-2.result c.from_residual-in_err-kernel-2.ensures.1 in none_at_error _ c.from_residual-in_err-kernel-2.result _ p.1
+
+pub returns-in_err-kernel-2-clause-seen : goal.returns-in_err-kernel-2-clause-seen
+returns-in_err-kernel-2-clause-seen g c = λ honest. c.replay_segment.ensures.seen honest ∙ c.in_ok-kernel.ensures.seen honest
+
+pub returns-clause-seen : goal.returns-clause-seen
+returns-clause-seen g c = λ honest. c.replay_segment.ensures.seen honest ∙ c.in_ok-kernel.ensures.seen honest

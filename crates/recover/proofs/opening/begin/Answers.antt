@@ -1,9 +1,14 @@
-use Rattle.std.proofs.Common.{Err, ap, sym, subst, ◌∙◌}
+use Rattle.std.proofs.Common.{◌≡◌, ℕ, Err, ap, sym, subst, ◌∙◌}
 use Rattle.std.proofs.lemmas.Result.{err_from_is_err_and}
+use Rattle.checkpoint.specs.Images.{open_image, unwritten}
+use Rattle.disk.specs.Moments.{one_more}
+use Rattle.disk.specs.Slots.{Slots}
 use Rattle.ipc_model.specs.state.State.{State}
-use Rattle.ipc_model.specs.store.Recovery.{Recovered}
+use Rattle.ipc_model.specs.store.Recovery.{HoldsImage, IsNew, Recovered}
+use Rattle.ipc_model.specs.texts.Images.{image_text}
 use Rattle.recover.specs.Kept.{IsKept}
 use Rattle.recover.specs.Stopping.{HaveLastGates}
+use Rattle.recover.specs.Surveyed.{IsUnused}
 use Rattle.standing.specs.Standing.{as_written}
 use Rattle.recover.proofs.Faults.{device_no_damage, memory_no_damage, memory_no_device, none_at_error, none_in_error, of_device, of_memory, right_err}
 use Rattle.recover.proofs.Joined.{device_err, still_then_same}
@@ -155,3 +160,21 @@ returns-in_err-have_no_batch-clause-unchanged g c = λ honest. right_err _ _ c.f
 
 pub returns-in_err-have_no_batch-clause-untouched : goal.returns-in_err-have_no_batch-clause-untouched
 returns-in_err-have_no_batch-clause-untouched g c = λ honest. right_err _ _ c.from_residual.result (c.have_no_batch.ensures.time honest)
+
+pub write_first-requires-clause-unused : goal.write_first-requires-clause-unused
+write_first-requires-clause-unused g c = λ honest. subst IsUnused (sym (c.in_ok-have_no_batch.ensures.seen honest)) (c.requires.unused honest)
+
+pub write_first-requires-clause-new : goal.write_first-requires-clause-new
+write_first-requires-clause-new g c = λ honest. subst (λ (s : Slots). IsNew (as_written s)) (sym (c.in_ok-have_no_batch.ensures.seen honest)) (c.in_ok-have_no_batch.ensures.new honest)
+
+pub write_first-requires-clause-image : goal.write_first-requires-clause-image
+write_first-requires-clause-image g c = c.in_ok-kernel-2.ensures.image ∙ ap (λ (s : State). unwritten 0 (image_text s)) c.in_ok-kernel.ensures
+
+pub write_first-requires-clause-holds : goal.write_first-requires-clause-holds
+write_first-requires-clause-holds g c = subst (λ (s : State). HoldsImage 0 (open_image 0 (image_text s)) s) c.in_ok-kernel.ensures c.in_ok-kernel-2.ensures.holds
+
+pub returns-in_err-kernel-3-clause-device : goal.returns-in_err-kernel-3-clause-device
+returns-in_err-kernel-3-clause-device g c = λ told. subst (λ (n : ℕ). g.D.Disk.failed_calls c.write_first.new.disk ≡ one_more n) c.in_ok-have_no_batch.ensures.quiet c.in_err-kernel-3.ensures.failures.err
+
+pub returns-clause-quiet : goal.returns-clause-quiet
+returns-clause-quiet g c = c.in_ok-kernel-3.ensures.failures.ok ∙ c.in_ok-have_no_batch.ensures.quiet

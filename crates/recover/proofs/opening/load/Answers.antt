@@ -1,4 +1,4 @@
-use Rattle.std.proofs.Common.{◌≡◌, ◌⊎◌, Err, IfOk, OnErr, OnOk, false, sym, subst, true}
+use Rattle.std.proofs.Common.{◌≡◌, ◌⊎◌, ◌∙◌, Err, IfOk, OnErr, OnOk, ap, false, sym, subst, true}
 use Rattle.std.specs.Prelude.{IsErrOf}
 use Rattle.std.proofs.lemmas.Result.{err_from_is_err_and}
 use Rattle.disk.specs.Slots.{Slots}
@@ -7,10 +7,10 @@ use Rattle.recover.specs.Headers.{Says}
 use Rattle.recover.specs.Stopping.{HaveLastGates}
 use Rattle.recover.specs.Surveyed.{IsInUse as Uses, IsUnused, Surveys}
 use Rattle.standing.specs.Standing.{as_written}
-use Rattle.recover.proofs.Faults.{never_version, none_at_error, none_in_error, one_of_four, untouched_then}
+use Rattle.recover.proofs.Faults.{device_no_damage, never_version, none_at_error, none_in_error, one_of_four, right_err, untouched_then}
 use Rattle.disk.specs.Moments.{one_more}
 use Rattle.journal.specs.declared.fault.StoreFault.TheVariants.{Device}
-use Rattle.recover.proofs.Joined.{leaves_same}
+use Rattle.recover.proofs.Joined.{device_err, leaves_same}
 use Rattle.recover.proofs.opening.load.Goals as goal
 
 pub returns-in_err-survey_store-clause-damaged : goal.returns-in_err-survey_store-clause-damaged
@@ -177,3 +177,24 @@ returns-in_err-survey_store-clause-kept g c = λ honest. let p = err_from_is_err
 
 pub returns-in_err-survey_store-clause-quiet : goal.returns-in_err-survey_store-clause-quiet
 returns-in_err-survey_store-clause-quiet g c = let p = err_from_is_err_and c.from_residual-in_err-survey_store.result c.from_residual-in_err-survey_store.ensures.1 in none_at_error _ c.from_residual-in_err-survey_store.result _ p.1
+
+pub returns-in_err-headers-clause-damaged : goal.returns-in_err-headers-clause-damaged
+returns-in_err-headers-clause-damaged g c = λ honest told. let p = err_from_is_err_and c.from_residual.result c.from_residual.ensures.1 in absurd (device_no_damage c.from_residual.result (p.1 ∙ ap Err p.2) told)
+
+pub returns-in_err-headers-clause-unchanged : goal.returns-in_err-headers-clause-unchanged
+returns-in_err-headers-clause-unchanged g c = λ honest. let p = err_from_is_err_and c.from_residual.result c.from_residual.ensures.1 in device_err _ c.from_residual.result _ (p.1 ∙ ap Err p.2)
+
+pub returns-in_err-headers-clause-untouched : goal.returns-in_err-headers-clause-untouched
+returns-in_err-headers-clause-untouched g c = λ honest. let p = err_from_is_err_and c.from_residual.result c.from_residual.ensures.1 in device_err _ c.from_residual.result _ (p.1 ∙ ap Err p.2)
+
+pub returns-in_err-headers-clause-still : goal.returns-in_err-headers-clause-still
+returns-in_err-headers-clause-still g c = let p = err_from_is_err_and c.from_residual.result c.from_residual.ensures.1 in device_err _ c.from_residual.result _ (p.1 ∙ ap Err p.2)
+
+pub returns-in_err-survey_store-clause-unchanged : goal.returns-in_err-survey_store-clause-unchanged
+returns-in_err-survey_store-clause-unchanged g c = λ honest. right_err _ _ c.from_residual-in_err-survey_store.result (c.in_ok-headers.ensures.seen honest)
+
+pub returns-in_err-survey_store-clause-untouched : goal.returns-in_err-survey_store-clause-untouched
+returns-in_err-survey_store-clause-untouched g c = λ honest. right_err _ _ c.from_residual-in_err-survey_store.result (c.read_synced.ensures.time honest)
+
+pub returns-in_err-survey_store-clause-still : goal.returns-in_err-survey_store-clause-still
+returns-in_err-survey_store-clause-still g c = right_err _ _ c.from_residual-in_err-survey_store.result c.in_ok-headers.ensures.failures.ok

@@ -9,6 +9,7 @@ use Rattle.recover.specs.Replayed.{Replays}
 use Rattle.slot_steps.proofs.Moments.{unchanged_then}
 use Rattle.recover.proofs.Streams.{IsLeft, all_replayed, left_on, none_left, unread}
 use Rattle.recover.proofs.Surveys.{some_is}
+use Rattle.recover.proofs.Faults.{none_at_error, none_in_error}
 use Rattle.recover.proofs.reading.replay_all.Goals as goal
 
 -- nothing is spelled from here on
@@ -77,3 +78,15 @@ returns-in_err-now-clause-time g c = λ honest. unchanged_then (g.D.Disk.view c.
 
 pub returns-in_err-state-clause-time : goal.returns-in_err-state-clause-time
 returns-in_err-state-clause-time g c = λ honest. unchanged_then (g.D.Disk.view c.args.disk.now) (g.D.Disk.view c.loop-now.disk) (g.D.Disk.view c.next-next.new.disk) (c.loop-now.invariant.time honest) (c.next-next.ensures.time honest)
+
+pub returns-in_err-now-clause-state : goal.returns-in_err-now-clause-state
+returns-in_err-now-clause-state g c = λ honest. let p = err_from_is_err_and c.from_residual.result c.from_residual.ensures.1 in none_in_error _ c.from_residual.result _ p.1
+
+pub returns-in_err-now-clause-quiet : goal.returns-in_err-now-clause-quiet
+returns-in_err-now-clause-quiet g c = let p = err_from_is_err_and c.from_residual.result c.from_residual.ensures.1 in none_at_error _ c.from_residual.result _ p.1
+
+pub returns-in_err-state-clause-state : goal.returns-in_err-state-clause-state
+returns-in_err-state-clause-state g c = λ honest. let p = err_from_is_err_and c.from_residual-in_err-state.result c.from_residual-in_err-state.ensures.1 in none_in_error _ c.from_residual-in_err-state.result _ p.1
+
+pub returns-in_err-state-clause-quiet : goal.returns-in_err-state-clause-quiet
+returns-in_err-state-clause-quiet g c = let p = err_from_is_err_and c.from_residual-in_err-state.result c.from_residual-in_err-state.ensures.1 in none_at_error _ c.from_residual-in_err-state.result _ p.1
