@@ -1,1 +1,2 @@
+mod Exits
 pub mod Whole

@@ -1,3 +1,4 @@
+mod Exits
 mod Pieces
 mod Steps
 mod Storing
