@@ -1,4 +1,3 @@
-mod Exits
 mod Pieces
 mod Steps
 mod Storing

@@ -2,7 +2,6 @@ use Rattle.std.proofs.Common.{ℕ, List, ◌++◌, take, ap, ◌∙◌}
 use Rattle.disk.specs.Slots.{slot_of, with_slot}
 use Rattle.slot_steps.proofs.Following.{closed_then}
 use Rattle.slot_steps.proofs.Lengths.{always, segment_written}
-use Rattle.journal.proofs.Exits.{none_at_fault}
 use Rattle.journal.proofs.roll.write_header.Goals as goal
 
 pub returns-clause-header : goal.returns-clause-header
@@ -22,15 +21,3 @@ returns-clause-any_moment g c = λ honest shut.
     closed_then slot old written (g.D.Disk.view c.sync_behind.new.disk)
     (closed_then slot old cut written (c.cut_behind.ensures.any_moment honest shut) (c.write_behind.ensures.any_moment honest shut_cut))
     (c.sync_behind.ensures.any_moment honest (c.in_ok-write_behind.ensures.shut honest shut_cut))
-
-pub returns-in_err-cut_behind-clause-header : goal.returns-in_err-cut_behind-clause-header
-returns-in_err-cut_behind-clause-header g c = λ honest. none_at_fault _ _ c.from_residual.result c.from_residual.ensures.1
-
-pub returns-in_err-cut_behind-clause-synced : goal.returns-in_err-cut_behind-clause-synced
-returns-in_err-cut_behind-clause-synced g c = λ honest. none_at_fault _ _ c.from_residual.result c.from_residual.ensures.1
-
-pub returns-in_err-write_behind-clause-header : goal.returns-in_err-write_behind-clause-header
-returns-in_err-write_behind-clause-header g c = λ honest. none_at_fault _ _ c.from_residual-in_err-write_behind.result c.from_residual-in_err-write_behind.ensures.1
-
-pub returns-in_err-write_behind-clause-synced : goal.returns-in_err-write_behind-clause-synced
-returns-in_err-write_behind-clause-synced g c = λ honest. none_at_fault _ _ c.from_residual-in_err-write_behind.result c.from_residual-in_err-write_behind.ensures.1

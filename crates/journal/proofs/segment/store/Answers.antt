@@ -1,5 +1,4 @@
 use Rattle.std.proofs.Common.{◌+◌, length, arith}
-use Rattle.journal.proofs.Exits.{none_at_fault}
 use Rattle.journal.proofs.Storing.{storing_text, storing_sync, storing_whole}
 use Rattle.journal.proofs.segment.store.Goals as goal
 
@@ -34,21 +33,3 @@ returns-clause-any_moment g c = λ honest synced.
     (storing_whole (g.D.Disk.view c.args.disk.now) (g.D.Disk.view c.write_at.new.self) (g.D.Disk.view c.sync.new.self) (g.D.Disk.view c.write_at-2.new.self) c.args.slot c.args.text.now c.saturating_sub-gate.result _ synced some (omega arith)
     (c.write_at.ensures.time honest) (c.in_ok-write_at.ensures.written honest) (c.sync.ensures.time honest) (c.sync.ensures.seen honest) (c.in_ok-sync.ensures.synced honest) (omega arith) (c.write_at-2.ensures.time honest))
     (c.sync-2.ensures.time honest)).time
-
-pub returns-in_err-write_at-clause-stored : goal.returns-in_err-write_at-clause-stored
-returns-in_err-write_at-clause-stored g c = λ honest. none_at_fault _ _ c.from_residual.result c.from_residual.ensures.1
-
-pub returns-in_err-write_at-clause-synced : goal.returns-in_err-write_at-clause-synced
-returns-in_err-write_at-clause-synced g c = λ honest. none_at_fault _ _ c.from_residual.result c.from_residual.ensures.1
-
-pub returns-in_err-sync-clause-stored : goal.returns-in_err-sync-clause-stored
-returns-in_err-sync-clause-stored g c = λ honest. none_at_fault _ _ c.from_residual-in_err-sync.result c.from_residual-in_err-sync.ensures.1
-
-pub returns-in_err-sync-clause-synced : goal.returns-in_err-sync-clause-synced
-returns-in_err-sync-clause-synced g c = λ honest. none_at_fault _ _ c.from_residual-in_err-sync.result c.from_residual-in_err-sync.ensures.1
-
-pub returns-in_err-write_at-2-clause-stored : goal.returns-in_err-write_at-2-clause-stored
-returns-in_err-write_at-2-clause-stored g c = λ honest. none_at_fault _ _ c.from_residual-in_err-write_at-2.result c.from_residual-in_err-write_at-2.ensures.1
-
-pub returns-in_err-write_at-2-clause-synced : goal.returns-in_err-write_at-2-clause-synced
-returns-in_err-write_at-2-clause-synced g c = λ honest. none_at_fault _ _ c.from_residual-in_err-write_at-2.result c.from_residual-in_err-write_at-2.ensures.1

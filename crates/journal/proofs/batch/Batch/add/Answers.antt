@@ -1,6 +1,5 @@
 use Rattle.std.proofs.Common.{◌+◌, refl, sym, ap, subst, ◌∙◌}
 use Rattle.journal.specs.Batch.{IsWhole, with_text, value_of}
-use Rattle.journal.proofs.Exits.{none_at_fault}
 use Rattle.journal.proofs.Whole.{more_text, pushed_long, value_back, whole_of, whole_padded}
 use Rattle.journal.proofs.batch.Batch.add.Goals as goal
 
@@ -30,9 +29,3 @@ returns-clause-ok c =
     (subst (IsWhole count) (sym (c.reserve.ensures.items ∙ c.in_ok-write_front.ensures.ok)) c.self.invariant) c.push_before_gate.ensures c.write_header.ensures in
     ap (value_of (count + 1)) (whole_padded new batch is) ∙ value_back (count + 1) new batch is refl
     ∙ ap (λ items. with_text (value_of count items) c.args.text.now) (c.reserve.ensures.items ∙ c.in_ok-write_front.ensures.ok) ∙ ap (λ b. with_text b c.args.text.now) c.self.view_is
-
-pub returns-in_err-write_front-clause-ok : goal.returns-in_err-write_front-clause-ok
-returns-in_err-write_front-clause-ok c = none_at_fault _ _ c.from_residual.result c.from_residual.ensures.1
-
-pub returns-in_err-reserve-clause-ok : goal.returns-in_err-reserve-clause-ok
-returns-in_err-reserve-clause-ok c = none_at_fault _ _ c.from_residual-in_err-reserve.result c.from_residual-in_err-reserve.ensures.1

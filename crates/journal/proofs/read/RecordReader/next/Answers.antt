@@ -4,7 +4,6 @@ use Rattle.disk.specs.Slots.{slot_of}
 use Rattle.journal.specs.Readers.{ReaderValue, place_of}
 use Rattle.journal.specs.Reading.{IsNothing}
 use Rattle.journal.specs.Windows.{IsOver}
-use Rattle.journal.proofs.Exits.{none_at_fault, none_in_fault}
 use Rattle.journal.proofs.read.RecordReader.next.Goals as goal
 
 pub returns-in_err-found-clause-damaged : goal.returns-in_err-found-clause-damaged
@@ -18,39 +17,3 @@ returns-in_err-found-clause-damaged g c = λ honest told.
     let none = c.in_err-found.ensures.damaged (cc (p.1, p.2, told)) bytes full.0 full.1 in
     subst (λ (r : ReaderValue). IsNothing (slot_of seen r.window.slot) (place_of r)) c.self.view_is
     (subst (λ (at : ℕ). IsNothing bytes (record { at = at; number = inside.number; left = inside.left; size = inside.size })) c.in_ok-fill.ensures.place.1 none)
-
-pub returns-in_err-fill-clause-leads : goal.returns-in_err-fill-clause-leads
-returns-in_err-fill-clause-leads g c = λ honest. none_in_fault _ _ c.from_residual.result c.from_residual.ensures.1
-
-pub returns-in_err-fill-clause-last : goal.returns-in_err-fill-clause-last
-returns-in_err-fill-clause-last g c = λ honest. none_in_fault _ _ c.from_residual.result c.from_residual.ensures.1
-
-pub returns-in_err-fill-clause-stays : goal.returns-in_err-fill-clause-stays
-returns-in_err-fill-clause-stays g c = none_in_fault _ _ c.from_residual.result c.from_residual.ensures.1
-
-pub returns-in_err-fill-clause-over : goal.returns-in_err-fill-clause-over
-returns-in_err-fill-clause-over g c = λ honest. none_at_fault _ _ c.from_residual.result c.from_residual.ensures.1
-
-pub returns-in_err-fill-clause-counted : goal.returns-in_err-fill-clause-counted
-returns-in_err-fill-clause-counted g c = none_in_fault _ _ c.from_residual.result c.from_residual.ensures.1
-
-pub returns-in_err-fill-clause-quiet : goal.returns-in_err-fill-clause-quiet
-returns-in_err-fill-clause-quiet g c = none_at_fault _ _ c.from_residual.result c.from_residual.ensures.1
-
-pub returns-in_err-found-clause-leads : goal.returns-in_err-found-clause-leads
-returns-in_err-found-clause-leads g c = λ honest. none_in_fault _ _ c.from_residual-in_err-found.result c.from_residual-in_err-found.ensures.1
-
-pub returns-in_err-found-clause-last : goal.returns-in_err-found-clause-last
-returns-in_err-found-clause-last g c = λ honest. none_in_fault _ _ c.from_residual-in_err-found.result c.from_residual-in_err-found.ensures.1
-
-pub returns-in_err-found-clause-stays : goal.returns-in_err-found-clause-stays
-returns-in_err-found-clause-stays g c = none_in_fault _ _ c.from_residual-in_err-found.result c.from_residual-in_err-found.ensures.1
-
-pub returns-in_err-found-clause-over : goal.returns-in_err-found-clause-over
-returns-in_err-found-clause-over g c = λ honest. none_at_fault _ _ c.from_residual-in_err-found.result c.from_residual-in_err-found.ensures.1
-
-pub returns-in_err-found-clause-counted : goal.returns-in_err-found-clause-counted
-returns-in_err-found-clause-counted g c = none_in_fault _ _ c.from_residual-in_err-found.result c.from_residual-in_err-found.ensures.1
-
-pub returns-in_err-found-clause-quiet : goal.returns-in_err-found-clause-quiet
-returns-in_err-found-clause-quiet g c = none_at_fault _ _ c.from_residual-in_err-found.result c.from_residual-in_err-found.ensures.1

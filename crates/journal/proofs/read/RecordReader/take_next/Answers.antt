@@ -3,7 +3,6 @@ use Rattle.std.proofs.lemmas.Result.{err_from_is_err_and}
 use Rattle.journal.specs.Reading.{Place, Leads, IsLast, IsNothing}
 use Rattle.journal.specs.Readers.{ReaderValue, place_of}
 use Rattle.journal.specs.Windows.{IsOver, IsFull}
-use Rattle.journal.proofs.Exits.{none_at_fault, none_in_fault}
 use Rattle.journal.proofs.Pieces.{window_on}
 use Rattle.journal.proofs.Steps.{taken, last, no_batch_at, no_record_at}
 use Rattle.journal.proofs.read.RecordReader.take_next.Goals as goal
@@ -54,33 +53,3 @@ pub returns-clause-over : goal.returns-clause-over
 returns-clause-over c = λ bytes over.
     window_on bytes c.self.inside.window c.pass.new.self (length c.front-front.result.now - length c.in_ok-entry.behind.now) (subst (λ (r : ReaderValue). IsOver bytes r.window) (sym c.self.view_is) over)
     (omega (arith, ap length c.front-front.ensures)) c.pass.ensures.at c.pass.ensures.front c.pass.ensures.others.1 c.pass.ensures.others.2
-
-pub returns-in_err-left-clause-leads : goal.returns-in_err-left-clause-leads
-returns-in_err-left-clause-leads c = λ bytes over full. none_in_fault _ _ c.from_residual.result c.from_residual.ensures.1
-
-pub returns-in_err-left-clause-last : goal.returns-in_err-left-clause-last
-returns-in_err-left-clause-last c = λ bytes over full. none_in_fault _ _ c.from_residual.result c.from_residual.ensures.1
-
-pub returns-in_err-left-clause-over : goal.returns-in_err-left-clause-over
-returns-in_err-left-clause-over c = λ bytes over. none_at_fault _ _ c.from_residual.result c.from_residual.ensures.1
-
-pub returns-in_err-left-clause-stays : goal.returns-in_err-left-clause-stays
-returns-in_err-left-clause-stays c = none_in_fault _ _ c.from_residual.result c.from_residual.ensures.1
-
-pub returns-in_err-left-clause-counted : goal.returns-in_err-left-clause-counted
-returns-in_err-left-clause-counted c = none_in_fault _ _ c.from_residual.result c.from_residual.ensures.1
-
-pub returns-in_err-entry-clause-leads : goal.returns-in_err-entry-clause-leads
-returns-in_err-entry-clause-leads c = λ bytes over full. none_in_fault _ _ c.from_residual-in_err-entry.result c.from_residual-in_err-entry.ensures.1
-
-pub returns-in_err-entry-clause-last : goal.returns-in_err-entry-clause-last
-returns-in_err-entry-clause-last c = λ bytes over full. none_in_fault _ _ c.from_residual-in_err-entry.result c.from_residual-in_err-entry.ensures.1
-
-pub returns-in_err-entry-clause-over : goal.returns-in_err-entry-clause-over
-returns-in_err-entry-clause-over c = λ bytes over. none_at_fault _ _ c.from_residual-in_err-entry.result c.from_residual-in_err-entry.ensures.1
-
-pub returns-in_err-entry-clause-stays : goal.returns-in_err-entry-clause-stays
-returns-in_err-entry-clause-stays c = none_in_fault _ _ c.from_residual-in_err-entry.result c.from_residual-in_err-entry.ensures.1
-
-pub returns-in_err-entry-clause-counted : goal.returns-in_err-entry-clause-counted
-returns-in_err-entry-clause-counted c = none_in_fault _ _ c.from_residual-in_err-entry.result c.from_residual-in_err-entry.ensures.1
