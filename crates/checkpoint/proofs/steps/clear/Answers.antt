@@ -1,7 +1,6 @@
 use Rattle.slot_steps.proofs.Following.{synced_shut}
 use Rattle.slot_steps.proofs.Gates.{closing_then}
 use Rattle.slot_steps.proofs.Lengths.{on_ok}
-use Rattle.checkpoint.proofs.Exits.{none_at_fault}
 use Rattle.checkpoint.proofs.Whole.{cut_to_header}
 use Rattle.checkpoint.proofs.steps.clear.Goals as goal
 
@@ -28,21 +27,3 @@ returns-clause-any_moment g c = λ honest synced.
     closing_then slot old zeros (g.D.Disk.view c.cut_behind.new.disk) 24
     (closing_then slot old closed zeros 24 (c.close_slot.ensures.any_moment honest synced) (c.write_zeros.ensures.any_moment honest shut))
     (c.cut_behind.ensures.any_moment honest (c.in_ok-write_zeros.ensures.shut honest shut))
-
-pub returns-in_err-close_slot-clause-cleared : goal.returns-in_err-close_slot-clause-cleared
-returns-in_err-close_slot-clause-cleared g c = λ honest. none_at_fault _ _ c.from_residual.result c.from_residual.ensures.1
-
-pub returns-in_err-close_slot-clause-others : goal.returns-in_err-close_slot-clause-others
-returns-in_err-close_slot-clause-others g c = λ honest. none_at_fault _ _ c.from_residual.result c.from_residual.ensures.1
-
-pub returns-in_err-close_slot-clause-shut : goal.returns-in_err-close_slot-clause-shut
-returns-in_err-close_slot-clause-shut g c = λ honest. none_at_fault _ _ c.from_residual.result c.from_residual.ensures.1
-
-pub returns-in_err-write_zeros-clause-cleared : goal.returns-in_err-write_zeros-clause-cleared
-returns-in_err-write_zeros-clause-cleared g c = λ honest. none_at_fault _ _ c.from_residual-in_err-write_zeros.result c.from_residual-in_err-write_zeros.ensures.1
-
-pub returns-in_err-write_zeros-clause-others : goal.returns-in_err-write_zeros-clause-others
-returns-in_err-write_zeros-clause-others g c = λ honest. none_at_fault _ _ c.from_residual-in_err-write_zeros.result c.from_residual-in_err-write_zeros.ensures.1
-
-pub returns-in_err-write_zeros-clause-shut : goal.returns-in_err-write_zeros-clause-shut
-returns-in_err-write_zeros-clause-shut g c = λ honest. none_at_fault _ _ c.from_residual-in_err-write_zeros.result c.from_residual-in_err-write_zeros.ensures.1

@@ -1,7 +1,6 @@
 use Rattle.ipc_model.specs.store.Store.{image_content}
 use Rattle.slot_steps.proofs.Gates.{opening_then}
 use Rattle.slot_steps.proofs.Lengths.{on_ok}
-use Rattle.checkpoint.proofs.Exits.{none_at_fault}
 use Rattle.checkpoint.proofs.Whole.{header_written, gate_written}
 use Rattle.checkpoint.proofs.steps.finish.Goals as goal
 
@@ -23,9 +22,3 @@ returns-clause-any_moment g c = λ honest shut.
     let before = c.in_ok-write_header.ensures.written honest in
     opening_then slot old mid (g.D.Disk.view c.write_gate.new.disk) (image_content c.args.epoch c.args.text.now) (c.in_ok-write_header.ensures.synced honest)
     (header_written slot old.seen mid.seen c.args.epoch c.args.text.now (c.requires honest) before) (c.write_header.ensures.any_moment honest shut) (c.write_gate.ensures.any_moment honest)
-
-pub returns-in_err-write_header-clause-made : goal.returns-in_err-write_header-clause-made
-returns-in_err-write_header-clause-made g c = λ honest. none_at_fault _ _ c.from_residual.result c.from_residual.ensures.1
-
-pub returns-in_err-write_header-clause-synced : goal.returns-in_err-write_header-clause-synced
-returns-in_err-write_header-clause-synced g c = λ honest. none_at_fault _ _ c.from_residual.result c.from_residual.ensures.1

@@ -1,6 +1,5 @@
 use Rattle.slot_steps.proofs.Gates.{closing_remade, closing_then, remade_then}
 use Rattle.checkpoint.specs.Images.{open_image}
-use Rattle.checkpoint.proofs.Exits.{none_at_fault}
 use Rattle.checkpoint.proofs.steps.write_all.Goals as goal
 
 pub returns-in_err-write_text-clause-any_moment : goal.returns-in_err-write_text-clause-any_moment
@@ -20,15 +19,3 @@ returns-clause-any_moment g c = λ honest synced.
     remade_then slot old written (g.D.Disk.view c.finish.new.disk) 24 (open_image c.args.epoch c.args.text.now)
     (closing_then slot old (g.D.Disk.view c.clear.new.disk) written 24 (c.clear.ensures.any_moment honest synced) (c.write_text.ensures.any_moment honest shut))
     (c.finish.ensures.any_moment honest (c.in_ok-write_text.ensures.shut honest shut))
-
-pub returns-in_err-clear-clause-made : goal.returns-in_err-clear-clause-made
-returns-in_err-clear-clause-made g c = λ honest. none_at_fault _ _ c.from_residual.result c.from_residual.ensures.1
-
-pub returns-in_err-clear-clause-synced : goal.returns-in_err-clear-clause-synced
-returns-in_err-clear-clause-synced g c = λ honest. none_at_fault _ _ c.from_residual.result c.from_residual.ensures.1
-
-pub returns-in_err-write_text-clause-made : goal.returns-in_err-write_text-clause-made
-returns-in_err-write_text-clause-made g c = λ honest. none_at_fault _ _ c.from_residual-in_err-write_text.result c.from_residual-in_err-write_text.ensures.1
-
-pub returns-in_err-write_text-clause-synced : goal.returns-in_err-write_text-clause-synced
-returns-in_err-write_text-clause-synced g c = λ honest. none_at_fault _ _ c.from_residual-in_err-write_text.result c.from_residual-in_err-write_text.ensures.1

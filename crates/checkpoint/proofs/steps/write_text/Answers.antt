@@ -1,7 +1,6 @@
 use Rattle.std.proofs.Common.{◌+◌, ◌∙◌}
 use Rattle.slot_steps.proofs.Following.{closed_then}
 use Rattle.checkpoint.specs.Images.{first_pieces}
-use Rattle.checkpoint.proofs.Exits.{none_at_fault}
 use Rattle.checkpoint.proofs.Whole.{held_more, others_more}
 use Rattle.checkpoint.proofs.steps.write_text.Goals as goal
 
@@ -18,12 +17,3 @@ loop-piece-preserved g c =
       passed = λ honest shut. closed_then slot first old new (c.loop-piece.invariant.passed honest shut) (c.push_piece.ensures.any_moment honest (c.loop-piece.invariant.shut honest shut));
       quiet = c.in_ok-push_piece.ensures.failures.ok ∙ c.loop-piece.invariant.quiet;
     }
-
-pub returns-in_err-push_piece-clause-held : goal.returns-in_err-push_piece-clause-held
-returns-in_err-push_piece-clause-held g c = λ honest. none_at_fault _ _ c.from_residual.result c.from_residual.ensures.1
-
-pub returns-in_err-push_piece-clause-others : goal.returns-in_err-push_piece-clause-others
-returns-in_err-push_piece-clause-others g c = λ honest. none_at_fault _ _ c.from_residual.result c.from_residual.ensures.1
-
-pub returns-in_err-push_piece-clause-shut : goal.returns-in_err-push_piece-clause-shut
-returns-in_err-push_piece-clause-shut g c = λ honest shut. none_at_fault _ _ c.from_residual.result c.from_residual.ensures.1
