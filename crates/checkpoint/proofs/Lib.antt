@@ -1,1 +1,3 @@
+mod Along
+mod Exits
 pub mod Whole

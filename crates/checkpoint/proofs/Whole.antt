@@ -1,14 +1,12 @@
 -- An image's text behind its header's place, and then the whole image.
-use Rattle.std.proofs.Common.{◌≡◌, ℕ, ◌+◌, ◌*◌, ◌<◌, ◌≤◌, List, [], ◌∷◌, ◌++◌, length, take, drop, refl, sym, ap, subst, ◌∙◌, arith, append_assoc, length-append, length-take}
-use Rattle.std.proofs.lemmas.List.{append-nil, take-append-le, take_all, drop_at}
+use Rattle.std.proofs.Common.{◌≡◌, ℕ, ◌<◌, ◌≤◌, List, [], ◌∷◌, ◌++◌, length, take, drop, sym, ap, subst, ◌∙◌, arith, append_assoc, length-append}
+use Rattle.std.proofs.lemmas.List.{append-nil, drop_at}
 use Rattle.disk.specs.declared.slot.Slot.{Slot}
-use Rattle.disk.specs.Moments.{View, Passes, Follows, IsSynced}
 use Rattle.disk.specs.Slots.{Slots, slot_of, with_slot}
 use Rattle.ipc_model.specs.store.Store.{IsClosed, epoch_text, image_content, open_gate}
 use Rattle.words.specs.Words.{long_word}
-use Rattle.checkpoint.specs.Images.{HoldsBehind, IsFinishing, open_image}
-use Rattle.slot_steps.specs.Steps.{HasSomeGate, IsStillClosed}
-use Rattle.slot_steps.proofs.Gates.{behind_first, opening_then}
+use Rattle.checkpoint.specs.Images.{HoldsBehind, open_image}
+use Rattle.slot_steps.proofs.Gates.{behind_first}
 use Rattle.slot_steps.proofs.Lengths.{closed_cut, closed_front, cut_length, own_of}
 use Rattle.slot_steps.proofs.Moments.{with_twice}
 

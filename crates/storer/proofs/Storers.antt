@@ -264,6 +264,14 @@ module _ {D : Type 0} (honest : Type 0) (view : D → View) (base : State) where
   pub unwritten_loses : (old new : StorerValue D) → view new.store.disk ≡ view old.store.disk → LosesNothing view base old new
   unwritten_loses old new same = no_time (view old.store.disk) (view new.store.disk) (StandsFor base old.stored (records_of new.entries)) (sym same)
 
+  -- it learned more of the history, and wrote nothing
+  pub learned_loses : (old new : StorerValue D) → new ≡ record old { entries = new.entries } → LosesNothing view base old new
+  learned_loses old new same = unwritten_loses old new (ap (λ (v : StorerValue D). view v.store.disk) same)
+
+  -- and then it did something
+  pub learned_then : (old mid new : StorerValue D) → mid ≡ record old { entries = mid.entries } → LosesNothing view base mid new → LosesNothing view base old new
+  learned_then old mid new same loses = subst (λ (v : StorerValue D). Passes (view v.store.disk) (view new.store.disk) (StandsFor base v.stored (records_of new.entries))) same loses
+
   -- what is learned, and nothing else
   pub caught_storer : (old : StorerValue D) (other new : List Entry) → IsStorer honest view base old → IsRecorded base other → new ≡ old.entries ++ drop (length old.entries) other → Begins old.entries new → Begins other new
       → IsStorer honest view base (record old { entries = new })
