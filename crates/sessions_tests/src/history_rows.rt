@@ -2,7 +2,7 @@ ghost use Rattle.std.specs.Prelude.{◌≡◌};
 ghost use Rattle.std.specs.Arc.{arc_value};
 
 use crate::expect::same;
-use crate::making::{add, add_to_both, begin_row, row_of, space_at};
+use crate::entries::{add, add_to_both, begin_row, row_of, space_at};
 use history::{AddFault, CatchUpFault, FirstRow, Past, Row};
 use std::alloc::{AllocError, Global};
 use std::marker::Brand;

@@ -1,10 +1,9 @@
-//! A peer, and the streams between it and the relay.
+//! A peer of the relay, and the streams between the two.
 use relay::relay;
 use std::alloc::Global;
 use std::cell::{Cell, RefCell};
 use std::io;
 use std::io::{BufWriter, ErrorKind, Read, Write};
-use std::test::Fail;
 use wire::WireFault;
 
 /// A peer that answers each frame by the same frame, as far as it was sent.
@@ -121,18 +120,13 @@ pub(crate) struct Relayed {
 }
 
 /// Relays an input between the peer and a writer with room for so many bytes.
-pub(crate) fn relay_to(
-    alloc: Global,
-    input: &[u8],
-    peer: &Echo,
-    room: usize,
-) -> Result<Relayed, Fail> {
+pub(crate) fn relay_to(alloc: Global, input: &[u8], peer: &Echo, room: usize) -> Option<Relayed> {
     let filling = Filling {
         output: Vec::new(alloc),
         room,
     };
-    let mut output = BufWriter::new(alloc, filling)?;
-    let mut requests = BufWriter::new(alloc, Forth(peer))?;
+    let mut output = BufWriter::new(alloc, filling).ok()?;
+    let mut requests = BufWriter::new(alloc, Forth(peer)).ok()?;
     let end = relay(
         alloc,
         &mut Dripping(input),
@@ -141,7 +135,7 @@ pub(crate) fn relay_to(
         &mut requests,
     );
     let (filling, _) = output.into_parts();
-    Ok(Relayed {
+    Some(Relayed {
         end,
         output: filling.output,
     })

@@ -2,7 +2,7 @@ ghost use Rattle.std.specs.Prelude.{◌≡◌};
 ghost use Rattle.std.specs.Arc.{arc_value};
 
 use crate::expect::same;
-use crate::making::{add, row_of, space_at};
+use crate::entries::{add, row_of, space_at};
 use history::{FirstRow, Past, Row};
 use std::alloc::{AllocError, Global};
 use std::marker::Brand;
