@@ -1,8 +1,9 @@
 use crate::expect::{same, same_in_row};
-use crate::store::{Store, drawing_of};
+use crate::frames::served;
+use crate::inspected::drawing_of;
+use crate::store::Store;
 use disk::{Disk, MemDisk};
 use inspect::{ListFault, list};
-use server::{Alone, Opened, open, serve};
 use std::alloc::Global;
 use std::io;
 use std::io::{ErrorKind, Write};
@@ -23,21 +24,11 @@ name 00000100 00030000 port 1 refs 1
 port 1 held 1 00000100 send 1 once 0 queue 0 of 5 seqno 1 mscount 1
 ";
 
-/// The disk of an opened store after these frames.
-fn after_frames<D: Disk + Drop>(alloc: Global, opened: Opened<D>) -> D {
-    let mut caller = Alone::new(alloc, opened);
-    let mut rest = FRAMES.as_slice();
-    let mut output = Vec::new(alloc);
-    let _ = serve(alloc, &mut rest, &mut output, &mut caller);
-    caller.into_disk()
-}
-
 /// The disk of a new store after the frames.
-fn used<S: Store + Drop>(alloc: Global) -> Option<S> {
-    match open(alloc, S::empty(alloc)) {
-        Ok(opened) => Some(after_frames(alloc, opened)),
-        Err(_) => None,
-    }
+fn used<S: Store + Drop>(alloc: Global) -> S {
+    let (run, disk) = served(alloc, S::empty(alloc), &FRAMES);
+    drop(run);
+    disk
 }
 
 /// Takes so many bytes, and fails from then on.
@@ -84,15 +75,14 @@ fn listed_when_used<S: Store + Drop>(
     alloc: Global,
     room: usize,
     wanted: &[u8],
-) -> Option<(Result<(), ListFault>, bool)> {
-    let mut disk: S = used(alloc)?;
-    Some(listed(alloc, &mut disk, room, wanted))
+) -> (Result<(), ListFault>, bool) {
+    listed(alloc, &mut used::<S>(alloc), room, wanted)
 }
 
 #[test]
 fn a_store_is_listed(rt: HostRuntime) {
     let seen = listed_when_used::<MemDisk>(rt.alloc(), 1000, LINES.as_bytes());
-    same(&rt, seen, Some((Ok(()), true)));
+    same(&rt, seen, (Ok(()), true));
 }
 
 #[test]
@@ -100,7 +90,7 @@ fn a_writer_that_fails_has_a_part(rt: HostRuntime) {
     for room in [0, 1, 40, 129] {
         let part = LINES.as_bytes().get(..room).unwrap_or(b"no part");
         let seen = listed_when_used::<MemDisk>(rt.alloc(), room, part);
-        same_in_row(&rt, room, seen, Some((Err(ListFault::Write), true)));
+        same_in_row(&rt, room, seen, (Err(ListFault::Write), true));
     }
 }
 
@@ -114,8 +104,7 @@ fn edges(drawing: &[u8]) -> usize {
 
 /// How many the drawing of the store has.
 fn edges_when_used<S: Store + Drop>(alloc: Global) -> Option<usize> {
-    let mut disk: S = used(alloc)?;
-    let drawing = drawing_of(alloc, &mut disk)?;
+    let drawing = drawing_of(alloc, &mut used::<S>(alloc))?;
     Some(edges(&drawing))
 }
 

@@ -1,5 +1,5 @@
 use Rattle.std.specs.Arc.{arc_value}
-use Rattle.sessions_tests.proofs.history_rows.one_that_was_left_behind_catches_up.Given as goal
+use Rattle.sessions_tests.proofs.history_rows.seen_on_new.Given as goal
 
 -- the row that was just made
 abbrev pub ghosts-see_from : goal.ghosts-see_from
