@@ -2,11 +2,10 @@ use crate::expect::{same, same_in_row};
 use crate::frames::served;
 use crate::inspected::drawing_of;
 use crate::store::Store;
+use crate::streams::{Filling, Seen};
 use disk::{Disk, MemDisk};
 use inspect::{ListFault, list};
 use std::alloc::Global;
-use std::io;
-use std::io::{ErrorKind, Write};
 
 /// A receive right is allocated, a send right made of it, a message of 28 bytes sent by a copy of that, and received.
 const FRAMES: [u8; 108] = [
@@ -31,30 +30,6 @@ fn used<S: Store + Drop>(alloc: Global) -> S {
     disk
 }
 
-/// Takes so many bytes, and fails from then on.
-#[derive(Drop)]
-struct Narrow {
-    output: Vec<u8>,
-    room: usize,
-}
-
-impl Write for Narrow {
-    fn write(&mut self, bytes: &[u8]) -> io::Result<usize> {
-        let Some(first) = bytes.first() else {
-            return Ok(0);
-        };
-        if self.output.len() >= self.room {
-            return Err(io::Error::from(ErrorKind::BrokenPipe));
-        }
-        self.output.push(*first)?;
-        Ok(1)
-    }
-
-    fn flush(&mut self) -> io::Result<()> {
-        Ok(())
-    }
-}
-
 /// How the listing of a store ends to a writer with so much room, and whether that has these bytes then.
 fn listed<D: Disk>(
     alloc: Global,
@@ -62,9 +37,11 @@ fn listed<D: Disk>(
     room: usize,
     wanted: &[u8],
 ) -> (Result<(), ListFault>, bool) {
-    let mut writer = Narrow {
+    let seen = Seen::new();
+    let mut writer = Filling {
         output: Vec::new(alloc),
         room,
+        seen: &seen,
     };
     let end = list(alloc, disk, &mut writer);
     (end, writer.output.as_slice() == wanted)
