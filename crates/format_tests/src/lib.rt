@@ -34,6 +34,8 @@ mod sample;
 #[cfg(test)]
 mod script_tests;
 #[cfg(test)]
+mod streams;
+#[cfg(test)]
 mod type_desc_tests;
 #[cfg(test)]
 mod wire_tests;
