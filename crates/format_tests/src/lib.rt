@@ -1,11 +1,14 @@
 //! Tests of the formats: words, codes, frames, calls, messages and records; images and their texts, new segments and images
-//! in their slots, and what an inspector prints.
+//! in their slots, and what an inspector prints; and of the relay of frames between streams that are cut, that end and that
+//! fail.
 #![tactic(auto)]
 
 #[cfg(test)]
 mod calls_tests;
 #[cfg(test)]
 mod checkpoint_tests;
+#[cfg(test)]
+mod client_tests;
 #[cfg(test)]
 mod codes_tests;
 #[cfg(test)]
@@ -21,11 +24,17 @@ mod listing_tests;
 #[cfg(test)]
 mod msg_header_tests;
 #[cfg(test)]
+mod peer;
+#[cfg(test)]
 mod record_tests;
+#[cfg(test)]
+mod relay_tests;
 #[cfg(test)]
 mod sample;
 #[cfg(test)]
 mod script_tests;
+#[cfg(test)]
+mod streams;
 #[cfg(test)]
 mod type_desc_tests;
 #[cfg(test)]

@@ -1,4 +1,5 @@
 use crate::expect::{is_there, same, same_bytes, same_in_row};
+use crate::streams::OneByte;
 use std::alloc::Global;
 use std::io;
 use std::io::{Read, Write};
@@ -6,28 +7,6 @@ use wire::{Frame, WireFault, read_frame, write_frame};
 
 // The frame of the number 5 and the argument 1.
 const FRAME: [u8; 12] = [8, 0, 0, 0, 5, 0, 0, 0, 1, 0, 0, 0];
-
-// Gives one byte a read, and fails once `before` reads are over.
-#[derive(Drop)]
-struct OneByte {
-    bytes: &'static [u8],
-    before: usize,
-}
-
-impl Read for OneByte {
-    fn read(&mut self, buf: &mut [u8]) -> io::Result<usize> {
-        if self.before == 0 {
-            return Err(io::ErrorKind::Other.into());
-        }
-        self.before -= 1;
-        if self.bytes.is_empty() || buf.is_empty() {
-            return Ok(0);
-        }
-        buf[0] = self.bytes[0];
-        self.bytes = &self.bytes[1..];
-        Ok(1)
-    }
-}
 
 // Takes `room` bytes, and then fails, or takes none if it is `stuck`.
 #[derive(Drop)]
@@ -138,7 +117,7 @@ fn makes_frames(rt: HostRuntime) {
 }
 
 /// Gives the frame of the number 5 and the argument 1, and fails once so many reads are over.
-fn reader(before: usize) -> OneByte {
+fn reader(before: usize) -> OneByte<'static> {
     let bytes: &'static [u8] = b"\x08\0\0\0\x05\0\0\0\x01\0\0\0";
     OneByte { bytes, before }
 }

@@ -1,11 +1,13 @@
 //! Tests of the core and of the service over it: events one by one and in lists, streams, faults, a row that is full, and stops
-//! between and within calls.
+//! between and within calls; and of what inspectors print of a store, and how they end.
 #![tactic(auto)]
 
 #[cfg(test)]
 mod asking;
 #[cfg(test)]
 mod batches;
+#[cfg(test)]
+mod checkpoint_phases;
 #[cfg(test)]
 mod checkpoints;
 #[cfg(test)]
@@ -16,6 +18,12 @@ mod failures;
 mod frames;
 #[cfg(test)]
 mod full_row;
+#[cfg(test)]
+mod inspected;
+#[cfg(test)]
+mod inspectors;
+#[cfg(test)]
+mod listings;
 #[cfg(test)]
 mod lists;
 #[cfg(test)]

@@ -98,16 +98,25 @@ fn letters_of(alloc: Global, outcomes: &[Outcome]) -> Option<Vec<u8>> {
     Some(letters)
 }
 
-/// What a list of events answers on a disk, and the disk that a stop then leaves.
+/// What a list of events answers on a disk, and the disk as a read then gives it.
+pub(crate) fn play_on<D: Disk + Drop>(
+    alloc: Global,
+    disk: D,
+    letters: &[u8],
+) -> Option<(Vec<u8>, D)> {
+    let events = events_of(alloc, letters).ok()?;
+    let (outcomes, disk) = played(alloc, disk, &events)?;
+    Some((letters_of(alloc, &outcomes?)?, disk))
+}
+
+/// The same, and the disk that a stop then leaves.
 pub(crate) fn play<S: Store + Drop>(
     alloc: Global,
     disk: S,
     letters: &[u8],
 ) -> Option<(Vec<u8>, S)> {
-    let events = events_of(alloc, letters).ok()?;
-    let (outcomes, disk) = played(alloc, disk, &events)?;
-    let disk = disk.stop()?;
-    Some((letters_of(alloc, &outcomes?)?, disk))
+    let (answers, disk) = play_on(alloc, disk, letters)?;
+    Some((answers, disk.stop()?))
 }
 
 /// Two calls are one batch. Their replies are given in any order, each once, as soon as its receipt is handed in; what isn't

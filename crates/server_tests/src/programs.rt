@@ -8,12 +8,12 @@ use std::env::FillError;
 use std::rt::Env;
 use std::{env, fs, io};
 
-/// What a run of the program with these words gave.
+/// What a run of a program with some words gave.
 #[derive(Drop)]
-struct Ended {
-    status: u8,
-    output: Vec<u8>,
-    errors: Vec<u8>,
+pub(crate) struct Ended {
+    pub(crate) status: u8,
+    pub(crate) output: Vec<u8>,
+    pub(crate) errors: Vec<u8>,
 }
 
 /// A run of the program. It has no clause, so that a test's proof carries nothing of it.
@@ -30,14 +30,19 @@ fn run(rt: &HostRuntime, words: Option<&[String]>, bytes: &[u8]) -> Ended {
 }
 
 /// Whether a run ended with this status, and wrote this to each of the two.
-fn has_ended(ended: &Ended, status: u8, output: &[u8], errors: &str) -> bool {
+pub(crate) fn has_ended(ended: &Ended, status: u8, output: &[u8], errors: &str) -> bool {
     ended.status == status
         && ended.output.as_slice() == output
         && ended.errors.as_slice() == errors.as_bytes()
 }
 
 /// Whether a run with this input ends so.
-fn ends(rt: &HostRuntime, words: Option<&[String]>, bytes: &[u8], end: (u8, &[u8], &str)) -> bool {
+pub(crate) fn ends(
+    rt: &HostRuntime,
+    words: Option<&[String]>,
+    bytes: &[u8],
+    end: (u8, &[u8], &str),
+) -> bool {
     let (status, output, errors) = end;
     has_ended(&run(rt, words, bytes), status, output, errors)
 }
@@ -55,7 +60,7 @@ fn make_folder(rt: &HostRuntime, path: &str) -> io::Result<()> {
 }
 
 /// A new folder, as the program's words.
-fn folder(rt: &HostRuntime, name: &str) -> Option<Vec<String>> {
+pub(crate) fn folder(rt: &HostRuntime, name: &str) -> Option<Vec<String>> {
     let path = path_of(rt, name)?;
     make_folder(rt, path.as_str()).ok()?;
     let mut words = Vec::new(rt.alloc());

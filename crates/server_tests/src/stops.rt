@@ -1,5 +1,6 @@
 use crate::expect::same_in_row;
 use crate::frames::{served, three_calls};
+use crate::lists::KINDS;
 use crate::store::Store;
 use disk::{Disk, MemDisk, Torn};
 use ipc_model::Reply;
@@ -59,15 +60,6 @@ fn is_left(stop_at: u64, seen: Option<(u64, Known)>) -> bool {
     let is_found = told.min(2) <= found && found <= told.saturating_add(1).min(2);
     is_found && (port, set, told == 3) == (1 <= found, 2 <= found, stop_at == 33)
 }
-
-static KINDS: [Torn; 6] = [
-    Torn::Old,
-    Torn::New,
-    Torn::Half,
-    Torn::Fill(0),
-    Torn::Fill(0x5a),
-    Torn::Fill(0xff),
-];
 
 #[test]
 fn a_stop_leaves_the_calls_that_were_answered(rt: HostRuntime) {

@@ -80,6 +80,9 @@ pub(crate) trait Store: Disk {
     /// A disk whose slots hold what this one's do, all of it synced.
     fn copied(&self, alloc: Global) -> Option<Self>;
 
+    /// The bytes of a slot.
+    fn bytes(&self, slot: Slot) -> &[u8];
+
     /// Plans failures of calls, as `MemDisk::plan` does.
     fn plan_faults(&mut self, stop_at: Option<u64>, fail_at: Option<u64>, torn: Torn);
 
@@ -101,6 +104,10 @@ impl Store for MemDisk {
             self.content(Slot::Segment1),
         );
         copy.ok()
+    }
+
+    fn bytes(&self, slot: Slot) -> &[u8] {
+        self.content(slot)
     }
 
     fn plan_faults(&mut self, stop_at: Option<u64>, fail_at: Option<u64>, torn: Torn) {

@@ -12,7 +12,7 @@ use wire::WireFault;
 
 /// What a stream was asked for.
 #[derive(Drop)]
-struct Seen {
+pub(crate) struct Seen {
     /// Bytes that were written since the last flush.
     unflushed: Cell<usize>,
     /// How often a byte was asked for while a reply wasn't flushed.
@@ -22,7 +22,7 @@ struct Seen {
 }
 
 impl Seen {
-    fn new() -> Seen {
+    pub(crate) fn new() -> Seen {
         Seen {
             unflushed: Cell::new(0),
             early: Cell::new(0),
@@ -56,10 +56,10 @@ impl<'a> Read for Dripping<'a> {
 
 /// Takes one byte a write, up to some number of bytes, and fails from then on.
 #[derive(Drop)]
-struct Filling<'a> {
-    output: Vec<u8>,
-    room: usize,
-    seen: &'a Seen,
+pub(crate) struct Filling<'a> {
+    pub(crate) output: Vec<u8>,
+    pub(crate) room: usize,
+    pub(crate) seen: &'a Seen,
 }
 
 impl<'a> Write for Filling<'a> {

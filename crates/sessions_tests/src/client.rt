@@ -75,8 +75,9 @@ pub(crate) fn serve<
         + 'static,
 >(rt: R, path: &str) {
     let mut output = Vec::new(rt.alloc());
-    if let Ok(opened) = open(rt.alloc(), MemDisk::new(rt.alloc())) {
-        let _ = serve_opened(rt, path, opened, &mut output);
+    match open(rt.alloc(), MemDisk::new(rt.alloc())) {
+        Ok(opened) => drop(serve_opened(rt, path, opened, &mut output)),
+        Err(fault) => drop(fault),
     }
 }
 

@@ -1,4 +1,4 @@
-//! Tests of sessions in threads of their own, beside the loops.
+//! Tests of sessions in threads of their own, beside the loops, and of the history that they share.
 #![tactic(auto)]
 
 #[cfg(test)]
@@ -8,11 +8,17 @@ mod client;
 #[cfg(test)]
 mod closed;
 #[cfg(test)]
+mod entries;
+#[cfg(test)]
 mod expect;
 #[cfg(test)]
 mod flag;
 #[cfg(test)]
 mod full_row;
+#[cfg(test)]
+mod history_rows;
+#[cfg(test)]
+mod history_threads;
 #[cfg(test)]
 mod pieces;
 #[cfg(test)]

@@ -77,8 +77,16 @@ impl<L: Founding + Send + Sync, D: Disk + Drop, G: Gate> Service for Shared<L, D
 
     fn seen_together(one: Session<L>, other: Session<L>) -> Option<[usize; 2]> {
         match meet(one, other) {
-            Ok((one, other)) => Some([one.seen(), other.seen()]),
-            Err(_) => None,
+            Ok((one, other)) => {
+                let seen = [one.seen(), other.seen()];
+                drop(one);
+                drop(other);
+                Some(seen)
+            }
+            Err(both) => {
+                drop(both);
+                None
+            }
         }
     }
 
@@ -96,8 +104,15 @@ impl<L: Founding + Send + Sync, D: Disk + Drop, G: Gate> Service for Shared<L, D
 
     fn counts_closed(self, sessions: Vec<Session<L>>) -> Option<[u64; 3]> {
         match close(self, sessions) {
-            Ok(book) => Some([u64::from(book.made), book.past.len() as u64, book.stored]),
-            Err(_) => None,
+            Ok(book) => {
+                let counts = [u64::from(book.made), book.past.len() as u64, book.stored];
+                drop(book);
+                Some(counts)
+            }
+            Err(left) => {
+                drop(left);
+                None
+            }
         }
     }
 }

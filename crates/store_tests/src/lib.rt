@@ -1,8 +1,16 @@
-//! Tests of the store: a disk that stops, the journal, and recovery.
+//! Tests of the running state and of the store that holds it. Of the state's parts: that each call that takes memory is done where
+//! there is enough, and that changes are kept and given up. Of the kernel over them: calls and what they answer, and the bounds.
+//! Of the store: a disk that stops, the journal, and recovery. The rest is proved.
 #![tactic(auto)]
 
 #[cfg(test)]
+mod asked;
+#[cfg(test)]
 mod bending;
+#[cfg(test)]
+mod calls_made;
+#[cfg(test)]
+mod copied;
 #[cfg(test)]
 mod counted;
 #[cfg(test)]
@@ -16,15 +24,43 @@ mod expect;
 #[cfg(test)]
 mod journal_tests;
 #[cfg(test)]
+mod lawful;
+#[cfg(test)]
 mod looked;
+#[cfg(test)]
+mod machine;
 #[cfg(test)]
 mod making;
 #[cfg(test)]
+mod many_names_tests;
+#[cfg(test)]
+mod many_ports_tests;
+#[cfg(test)]
+mod names;
+#[cfg(test)]
+mod notify_tests;
+#[cfg(test)]
+mod pair_counts_tests;
+#[cfg(test)]
+mod ports_tests;
+#[cfg(test)]
+mod queue_tests;
+#[cfg(test)]
+mod recorded;
+#[cfg(test)]
 mod recover_tests;
+#[cfg(test)]
+mod replayed;
+#[cfg(test)]
+mod sample;
+#[cfg(test)]
+mod spaces_tests;
 #[cfg(test)]
 mod store;
 #[cfg(test)]
 mod streams;
+#[cfg(test)]
+mod transit_tests;
 #[cfg(test)]
 mod two_epochs;
 #[cfg(test)]

@@ -1,5 +1,5 @@
 use crate::expect::same;
-use crate::making::add_port;
+use crate::sample::add_port;
 use codes::MAX_PORTS;
 use ports::Ports;
 use std::alloc::Global;

@@ -1,18 +1,11 @@
+//! The programs that list a store and draw it.
 use crate::expect::{same, same_in_row};
+use crate::programs::{self, Ended, folder};
 use inspect::{show, show_drawing};
-use server::lone;
+use std::fs;
 use std::fs::Permissions;
 use std::os::unix::fs::PermissionsExt;
 use std::time::SystemTime;
-use std::{env, fs};
-
-/// What a run of a program gave.
-#[derive(Drop)]
-struct Ended {
-    status: u8,
-    output: Vec<u8>,
-    errors: Vec<u8>,
-}
 
 /// Runs the program that lists a store, or the one that draws it. It has no clause, so that a test's proof carries nothing of it.
 fn run(rt: &HostRuntime, words: Option<&[String]>, is_drawing: bool) -> Ended {
@@ -33,17 +26,11 @@ fn run(rt: &HostRuntime, words: Option<&[String]>, is_drawing: bool) -> Ended {
 /// A status, and what is written to the output and to the errors.
 type End = (u8, &'static str, &'static str);
 
-/// Whether a run ended so.
-fn has_ended(ended: &Ended, end: End) -> bool {
-    let (status, output, errors) = end;
-    ended.status == status
-        && ended.output.as_slice() == output.as_bytes()
-        && ended.errors.as_slice() == errors.as_bytes()
-}
-
 /// Whether a run ends so.
 fn ends(rt: &HostRuntime, words: Option<&[String]>, is_drawing: bool, end: End) -> bool {
-    has_ended(&run(rt, words, is_drawing), end)
+    let (status, output, errors) = end;
+    let ended = run(rt, words, is_drawing);
+    programs::has_ended(&ended, status, output.as_bytes(), errors)
 }
 
 /// The lines of an empty store.
@@ -86,26 +73,11 @@ fn words_have_a_status_and_a_line(rt: HostRuntime) {
     same(&rt, ends_with(&rt, 1, false, NOWHERE), Some(true));
 }
 
-/// The path of a folder for a test.
-fn path_of(rt: &HostRuntime, name: &str) -> Option<String> {
-    let mut folder = env::temp_dir(rt).ok()?;
-    folder.push(name).ok()?;
-    String::from_str(rt.alloc(), folder.as_path().as_str()).ok()
-}
-
-/// A new folder, as a program's word.
-fn folder(rt: &HostRuntime, name: &str) -> Option<[String; 1]> {
-    let path = path_of(rt, name)?;
-    let _ = fs::remove_dir_all(rt, path.as_str());
-    fs::create_dir(rt, path.as_str()).ok()?;
-    Some([path])
-}
-
 /// Whether an empty folder is listed, which can be removed as one then.
 fn lists_empty(rt: &HostRuntime, name: &str) -> Option<bool> {
     let words = folder(rt, name)?;
     let is_listed = ends(rt, Some(&words), false, LISTED);
-    let [path] = &words;
+    let path = words.first()?;
     fs::remove_dir(rt, path.as_str()).ok()?;
     Some(is_listed)
 }
@@ -117,12 +89,11 @@ fn an_empty_folder_stays_empty(rt: HostRuntime) {
 
 /// Makes a store in the folder that is the only word: a server's run without a call.
 fn make_store(rt: &HostRuntime, words: &[String]) -> Option<()> {
-    let mut input: &[u8] = &[];
-    let mut output = Vec::new(rt.alloc());
-    let mut errors = Vec::new(rt.alloc());
-    let words = Some(words);
-    let status = lone(rt.alloc(), rt, words, &mut input, &mut output, &mut errors);
-    if status == 0 { Some(()) } else { None }
+    if programs::ends(rt, Some(words), &[], (0, &[], "")) {
+        Some(())
+    } else {
+        None
+    }
 }
 
 /// Gives a file a mode.
@@ -186,7 +157,7 @@ fn lists_what_can_be_read(rt: &HostRuntime, words: &[String], path: &str) -> Opt
 
 fn lists_read_only(rt: &HostRuntime, name: &str) -> Option<[bool; 2]> {
     let words = folder(rt, name)?;
-    let [path] = &words;
+    let path = words.first()?;
     lists_what_can_be_read(rt, &words, path.as_str())
 }
 

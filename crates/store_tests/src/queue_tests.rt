@@ -1,5 +1,5 @@
 use crate::expect::same;
-use crate::making::empty;
+use crate::sample::empty;
 use queue::{PushFault, Queue};
 use std::alloc::Global;
 

@@ -1,11 +1,11 @@
 use crate::expect::{same, same_in_row};
-use crate::store::{Store, drawing_of};
+use crate::frames::served;
+use crate::inspected::drawing_of;
+use crate::store::Store;
+use crate::streams::{Filling, Seen};
 use disk::{Disk, MemDisk};
 use inspect::{ListFault, list};
-use server::{Alone, Opened, open, serve};
 use std::alloc::Global;
-use std::io;
-use std::io::{ErrorKind, Write};
 
 /// A receive right is allocated, a send right made of it, a message of 28 bytes sent by a copy of that, and received.
 const FRAMES: [u8; 108] = [
@@ -23,45 +23,11 @@ name 00000100 00030000 port 1 refs 1
 port 1 held 1 00000100 send 1 once 0 queue 0 of 5 seqno 1 mscount 1
 ";
 
-/// The disk of an opened store after these frames.
-fn after_frames<D: Disk + Drop>(alloc: Global, opened: Opened<D>) -> D {
-    let mut caller = Alone::new(alloc, opened);
-    let mut rest = FRAMES.as_slice();
-    let mut output = Vec::new(alloc);
-    let _ = serve(alloc, &mut rest, &mut output, &mut caller);
-    caller.into_disk()
-}
-
 /// The disk of a new store after the frames.
-fn used<S: Store + Drop>(alloc: Global) -> Option<S> {
-    match open(alloc, S::empty(alloc)) {
-        Ok(opened) => Some(after_frames(alloc, opened)),
-        Err(_) => None,
-    }
-}
-
-/// Takes so many bytes, and fails from then on.
-#[derive(Drop)]
-struct Narrow {
-    output: Vec<u8>,
-    room: usize,
-}
-
-impl Write for Narrow {
-    fn write(&mut self, bytes: &[u8]) -> io::Result<usize> {
-        let Some(first) = bytes.first() else {
-            return Ok(0);
-        };
-        if self.output.len() >= self.room {
-            return Err(io::Error::from(ErrorKind::BrokenPipe));
-        }
-        self.output.push(*first)?;
-        Ok(1)
-    }
-
-    fn flush(&mut self) -> io::Result<()> {
-        Ok(())
-    }
+fn used<S: Store + Drop>(alloc: Global) -> S {
+    let (run, disk) = served(alloc, S::empty(alloc), &FRAMES);
+    drop(run);
+    disk
 }
 
 /// How the listing of a store ends to a writer with so much room, and whether that has these bytes then.
@@ -71,9 +37,11 @@ fn listed<D: Disk>(
     room: usize,
     wanted: &[u8],
 ) -> (Result<(), ListFault>, bool) {
-    let mut writer = Narrow {
+    let seen = Seen::new();
+    let mut writer = Filling {
         output: Vec::new(alloc),
         room,
+        seen: &seen,
     };
     let end = list(alloc, disk, &mut writer);
     (end, writer.output.as_slice() == wanted)
@@ -84,15 +52,14 @@ fn listed_when_used<S: Store + Drop>(
     alloc: Global,
     room: usize,
     wanted: &[u8],
-) -> Option<(Result<(), ListFault>, bool)> {
-    let mut disk: S = used(alloc)?;
-    Some(listed(alloc, &mut disk, room, wanted))
+) -> (Result<(), ListFault>, bool) {
+    listed(alloc, &mut used::<S>(alloc), room, wanted)
 }
 
 #[test]
 fn a_store_is_listed(rt: HostRuntime) {
     let seen = listed_when_used::<MemDisk>(rt.alloc(), 1000, LINES.as_bytes());
-    same(&rt, seen, Some((Ok(()), true)));
+    same(&rt, seen, (Ok(()), true));
 }
 
 #[test]
@@ -100,7 +67,7 @@ fn a_writer_that_fails_has_a_part(rt: HostRuntime) {
     for room in [0, 1, 40, 129] {
         let part = LINES.as_bytes().get(..room).unwrap_or(b"no part");
         let seen = listed_when_used::<MemDisk>(rt.alloc(), room, part);
-        same_in_row(&rt, room, seen, Some((Err(ListFault::Write), true)));
+        same_in_row(&rt, room, seen, (Err(ListFault::Write), true));
     }
 }
 
@@ -114,8 +81,7 @@ fn edges(drawing: &[u8]) -> usize {
 
 /// How many the drawing of the store has.
 fn edges_when_used<S: Store + Drop>(alloc: Global) -> Option<usize> {
-    let mut disk: S = used(alloc)?;
-    let drawing = drawing_of(alloc, &mut disk)?;
+    let drawing = drawing_of(alloc, &mut used::<S>(alloc))?;
     Some(edges(&drawing))
 }
 

@@ -2,37 +2,18 @@
 //! newest open image, of its epoch's segment, and of the next segment from its opening on; the epoch is that image's, and the
 //! records are those of these segments.
 use crate::expect::same_in_row;
-use crate::store::{Store, are_alike, drawing_of, lines_of};
-use disk::{Disk, MemDisk};
-use ipc_model::{Call, Reply};
+use crate::inspected::{are_alike, drawing_of, lines_of};
+use crate::lists::play_on;
+use crate::store::Store;
+use disk::MemDisk;
 use std::alloc::Global;
 use std::process::Abort;
-use system::{Event, Opened, Outcome, System, open};
-
-/// An event of the core, which a table can hold.
-#[derive(Clone, Copy)]
-enum Step {
-    /// A receive right is allocated in space 1.
-    Allocate,
-    Take,
-    Append,
-    Durable,
-    /// The reply of this ticket is told.
-    Told(u64),
-    Cut,
-    RollClose,
-    RollHead,
-    RollOpen,
-    ImageClose,
-    Piece,
-    Finish,
-}
 
 /// What the inspector prints of a store: its lines, and its drawing.
 type Printed = (&'static str, &'static str);
 
-/// A step, and what is printed behind it.
-type Phase = (Step, Printed);
+/// A list of events, a letter each, and what is printed behind it.
+type Phase = (&'static [u8], Printed);
 
 const NEW: Printed = (
     "epoch 0 records 0
@@ -122,105 +103,55 @@ const TWO_NAMES_DRAWN: &str = r#"digraph ports {
 
 /// A receive right is stored and told, and a checkpoint made. It tells of the next epoch from its last step on the disk on.
 static CHECKPOINT: [Phase; 13] = [
-    (Step::Allocate, NEW),
-    (Step::Take, NEW),
-    (Step::Append, ONE_RECORD),
-    (Step::Durable, ONE_RECORD),
-    (Step::Told(0), ONE_RECORD),
-    (Step::Cut, ONE_RECORD),
-    (Step::RollClose, ONE_RECORD),
-    (Step::RollHead, ONE_RECORD),
-    (Step::RollOpen, ONE_RECORD),
-    (Step::ImageClose, ONE_RECORD),
-    (Step::Piece, ONE_RECORD),
-    (Step::Finish, ONE_NAME_IN_AN_IMAGE),
-    (Step::Durable, ONE_NAME_IN_AN_IMAGE),
+    (b"a", NEW),
+    (b"ak", NEW),
+    (b"akw", ONE_RECORD),
+    (b"akwd", ONE_RECORD),
+    (b"akwd0", ONE_RECORD),
+    (b"akwd0c", ONE_RECORD),
+    (b"akwd0cl", ONE_RECORD),
+    (b"akwd0clh", ONE_RECORD),
+    (b"akwd0clho", ONE_RECORD),
+    (b"akwd0clhoi", ONE_RECORD),
+    (b"akwd0clhoip", ONE_RECORD),
+    (b"akwd0clhoipf", ONE_NAME_IN_AN_IMAGE),
+    (b"akwd0clhoipfd", ONE_NAME_IN_AN_IMAGE),
 ];
 
 /// The same, and a second right is stored in the next epoch's segment while the image is made.
 static BESIDE: [Phase; 18] = [
-    (Step::Allocate, NEW),
-    (Step::Take, NEW),
-    (Step::Append, ONE_RECORD),
-    (Step::Durable, ONE_RECORD),
-    (Step::Told(0), ONE_RECORD),
-    (Step::Cut, ONE_RECORD),
-    (Step::RollClose, ONE_RECORD),
-    (Step::RollHead, ONE_RECORD),
-    (Step::RollOpen, ONE_RECORD),
-    (Step::ImageClose, ONE_RECORD),
-    (Step::Allocate, ONE_RECORD),
-    (Step::Take, ONE_RECORD),
-    (Step::Append, TWO_RECORDS),
-    (Step::Durable, TWO_RECORDS),
-    (Step::Told(1), TWO_RECORDS),
-    (Step::Piece, TWO_RECORDS),
-    (Step::Finish, ONE_RECORD_BEHIND_AN_IMAGE),
-    (Step::Durable, ONE_RECORD_BEHIND_AN_IMAGE),
+    (b"a", NEW),
+    (b"ak", NEW),
+    (b"akw", ONE_RECORD),
+    (b"akwd", ONE_RECORD),
+    (b"akwd0", ONE_RECORD),
+    (b"akwd0c", ONE_RECORD),
+    (b"akwd0cl", ONE_RECORD),
+    (b"akwd0clh", ONE_RECORD),
+    (b"akwd0clho", ONE_RECORD),
+    (b"akwd0clhoi", ONE_RECORD),
+    (b"akwd0clhoia", ONE_RECORD),
+    (b"akwd0clhoiak", ONE_RECORD),
+    (b"akwd0clhoiakw", TWO_RECORDS),
+    (b"akwd0clhoiakwd", TWO_RECORDS),
+    (b"akwd0clhoiakwd1", TWO_RECORDS),
+    (b"akwd0clhoiakwd1p", TWO_RECORDS),
+    (b"akwd0clhoiakwd1pf", ONE_RECORD_BEHIND_AN_IMAGE),
+    (b"akwd0clhoiakwd1pfd", ONE_RECORD_BEHIND_AN_IMAGE),
 ];
 
-fn event_of(step: Step) -> Event {
-    match step {
-        Step::Allocate => Event::Submit {
-            space: 1,
-            call: Call::Allocate { right: 1 },
-        },
-        Step::Take => Event::Take,
-        Step::Append => Event::Append,
-        Step::Durable => Event::Durable,
-        Step::Told(ticket) => Event::Reply { ticket },
-        Step::Cut => Event::Cut,
-        Step::RollClose => Event::RollClose,
-        Step::RollHead => Event::RollHead,
-        Step::RollOpen => Event::RollOpen,
-        Step::ImageClose => Event::ImageClose,
-        Step::Piece => Event::Piece,
-        Step::Finish => Event::Finish,
-    }
+/// Whether each event of a list was done, by the letters of what they answer: a ticket, a name, or that it was done. None of
+/// the tables' comes out of turn.
+fn are_done(answers: &[u8]) -> bool {
+    answers
+        .iter()
+        .all(|answer| matches!(*answer, b'#' | b'+' | b'A'..=b'Z'))
 }
 
-/// Whether an event wasn't refused. None of the tables' comes out of turn.
-fn is_done(outcome: &Outcome) -> bool {
-    matches!(
-        outcome,
-        Outcome::Ticket(_) | Outcome::Reply(Reply::Allocate { .. }) | Outcome::Done
-    )
-}
-
-/// Whether a step is done by a core.
-fn is_step_done<D: Disk>(core: &mut System<D>, step: Step) -> bool {
-    let event = event_of(step);
-    let outcome = core.step(&event);
-    drop(event);
-    let is_done = is_done(&outcome);
-    drop(outcome);
-    is_done
-}
-
-/// Whether all steps of these phases are done by a core.
-fn are_done<D: Disk>(core: &mut System<D>, phases: &[Phase]) -> bool {
-    for (step, _) in phases {
-        if !is_step_done(core, *step) {
-            return false;
-        }
-    }
-    true
-}
-
-/// The disk of an opened store behind the steps of these phases, as a read gives it, where all are done.
-fn disk_behind<D: Disk + Drop>(alloc: Global, opened: Opened<D>, phases: &[Phase]) -> Option<D> {
-    let mut core = System::new(alloc, opened);
-    let are_done = are_done(&mut core, phases);
-    let disk = core.into_disk();
-    if are_done { Some(disk) } else { None }
-}
-
-/// The same of a new store.
-fn disk_after<S: Store + Drop>(alloc: Global, phases: &[Phase]) -> Option<S> {
-    match open(alloc, S::empty(alloc)) {
-        Ok(opened) => disk_behind(alloc, opened, phases),
-        Err(_) => None,
-    }
+/// The disk of a new store behind a list of events, as a read gives it, where all are done.
+fn disk_after<S: Store + Drop>(alloc: Global, letters: &[u8]) -> Option<S> {
+    let (answers, disk) = play_on(alloc, S::empty(alloc), letters)?;
+    if are_done(&answers) { Some(disk) } else { None }
 }
 
 /// The lines and the drawing of a store, and whether its slots stay as they were.
@@ -233,9 +164,9 @@ fn inspected<S: Store + Drop>(alloc: Global, disk: &mut S) -> Option<Inspected> 
     Some((lines, drawing, are_alike(&before, disk)))
 }
 
-/// The same of a new store behind the steps of these phases.
-fn inspected_after<S: Store + Drop>(alloc: Global, phases: &[Phase]) -> Option<Inspected> {
-    let mut disk: S = disk_after(alloc, phases)?;
+/// The same of a new store behind a list of events.
+fn inspected_after<S: Store + Drop>(alloc: Global, letters: &[u8]) -> Option<Inspected> {
+    let mut disk: S = disk_after(alloc, letters)?;
     inspected(alloc, &mut disk)
 }
 
@@ -248,9 +179,9 @@ fn texts(seen: &Option<Inspected>) -> Option<(&str, &str, bool)> {
 
 /// Compares what is seen behind each of these phases with what is wanted.
 fn check_phases<S: Store + Drop, A: Abort>(rt: &A, alloc: Global, phases: &[Phase]) {
-    for (row, (_, (lines, drawing))) in phases.iter().enumerate() {
-        let seen = inspected_after::<S>(alloc, phases.get(..=row).unwrap_or(&[]));
-        same_in_row(rt, row, texts(&seen), Some((*lines, *drawing, true)));
+    for (letters, (lines, drawing)) in phases {
+        let seen = inspected_after::<S>(alloc, letters);
+        same_in_row(rt, *letters, texts(&seen), Some((*lines, *drawing, true)));
     }
 }
 

@@ -3,7 +3,7 @@ ghost use Rattle.ipc_model.specs.declared.message.PortInMessage.TheVariants as i
 ghost use Rattle.ipc_model.specs.declared.message.RightKind.TheVariants as kinds;
 
 use crate::expect::same;
-use crate::making::add_port;
+use crate::sample::add_port;
 use ipc_model::{CarriedRight, Message, PortInMessage, RightKind, Sequence};
 use ports::{PortNumbers, Ports};
 use std::alloc::{AllocError, Global};

@@ -1,10 +1,10 @@
-//! A peer, and the streams between it and the relay.
+//! A peer of the relay, and the streams between the two.
+use crate::streams::OneByte;
 use relay::relay;
 use std::alloc::Global;
 use std::cell::{Cell, RefCell};
 use std::io;
 use std::io::{BufWriter, ErrorKind, Read, Write};
-use std::test::Fail;
 use wire::WireFault;
 
 /// A peer that answers each frame by the same frame, as far as it was sent.
@@ -74,21 +74,6 @@ impl<'a> Write for Forth<'a> {
     }
 }
 
-/// Gives one byte a read.
-#[derive(Drop)]
-struct Dripping<'a>(&'a [u8]);
-
-impl<'a> Read for Dripping<'a> {
-    fn read(&mut self, buffer: &mut [u8]) -> io::Result<usize> {
-        let (Some((first, behind)), Some(place)) = (self.0.split_first(), buffer.first_mut()) else {
-            return Ok(0);
-        };
-        *place = *first;
-        self.0 = behind;
-        Ok(1)
-    }
-}
-
 /// Takes one byte a write, up to some number of bytes, and fails from then on.
 #[derive(Drop)]
 struct Filling {
@@ -121,27 +106,26 @@ pub(crate) struct Relayed {
 }
 
 /// Relays an input between the peer and a writer with room for so many bytes.
-pub(crate) fn relay_to(
-    alloc: Global,
-    input: &[u8],
-    peer: &Echo,
-    room: usize,
-) -> Result<Relayed, Fail> {
+pub(crate) fn relay_to(alloc: Global, input: &[u8], peer: &Echo, room: usize) -> Option<Relayed> {
     let filling = Filling {
         output: Vec::new(alloc),
         room,
     };
-    let mut output = BufWriter::new(alloc, filling)?;
-    let mut requests = BufWriter::new(alloc, Forth(peer))?;
+    let mut output = BufWriter::new(alloc, filling).ok()?;
+    let mut requests = BufWriter::new(alloc, Forth(peer)).ok()?;
+    let mut dripping = OneByte {
+        bytes: input,
+        before: usize::MAX,
+    };
     let end = relay(
         alloc,
-        &mut Dripping(input),
+        &mut dripping,
         &mut output,
         &mut Back(peer),
         &mut requests,
     );
     let (filling, _) = output.into_parts();
-    Ok(Relayed {
+    Some(Relayed {
         end,
         output: filling.output,
     })

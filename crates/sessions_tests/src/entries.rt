@@ -1,4 +1,4 @@
-//! Entries and rows for tests.
+//! Entries and rows of a history, for tests.
 
 use history::{AddFault, Entry, FirstRow, Past, Row};
 use ipc_model::{Call, Record, Reply};

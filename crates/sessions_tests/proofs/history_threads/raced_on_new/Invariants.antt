@@ -1,5 +1,5 @@
 use Rattle.std.specs.Arc.{arc_value}
-use Rattle.history_tests.proofs.threads_tests.one_of_two_threads_sets_a_cell.Given as goal
+use Rattle.sessions_tests.proofs.history_threads.raced_on_new.Given as goal
 
 -- the row that was just made
 abbrev pub ghosts-raced : goal.ghosts-raced

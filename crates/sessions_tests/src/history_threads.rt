@@ -1,13 +1,13 @@
+//! Two threads and a history: that one of them sets a cell.
 ghost use Rattle.std.specs.Prelude.{◌≡◌};
 ghost use Rattle.std.specs.Arc.{arc_value};
 
+use crate::entries::{add, row_of, space_at};
 use crate::expect::same;
-use crate::making::{add, row_of, space_at};
 use history::{FirstRow, Past, Row};
 use std::alloc::{AllocError, Global};
 use std::marker::Brand;
 use std::sync::Arc;
-use std::test::Fail;
 use std::thread::{Threads, join};
 
 /// Adds an entry, and says whether it could.
@@ -56,10 +56,13 @@ fn raced<L: FirstRow + Send + Sync, R: Threads + Sync>(
     Ok(first != second && space == Some(wanted))
 }
 
+/// The same in a new row.
+fn raced_on_new<R: Threads + Sync>(rt: &R, alloc: Global) -> Option<bool> {
+    let row = row_of(alloc, 2).ok()?;
+    raced::<Brand, R>(rt, alloc, row).ok()
+}
+
 #[test]
-fn one_of_two_threads_sets_a_cell(rt: HostRuntime) -> Result<(), Fail> {
-    let row = row_of(rt.alloc(), 2)?;
-    let done = raced::<Brand, _>(&rt, rt.alloc(), row)?;
-    same(&rt, done, true);
-    Ok(())
+fn one_of_two_threads_sets_a_cell(rt: HostRuntime) {
+    same(&rt, raced_on_new(&rt, rt.alloc()), Some(true));
 }
