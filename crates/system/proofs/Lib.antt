@@ -6,6 +6,7 @@ mod Counting
 mod Going
 pub mod Lists
 mod OrderLaws
+mod Making
 pub mod Passed
 pub mod Rows
 mod Runs
