@@ -1,13 +1,8 @@
 -- A connection among others: what the calls of its task make of its session.
-use Rattle.std.specs.Prelude.{◌≡◌, ℕ, List, Option, None, Some, codes}
-use Rattle.connections.specs.declared.ending.SocketEnd.{SocketEnd}
-use Rattle.connections.specs.declared.ending.SocketEnd.TheVariants.{Socket, Store}
+use Rattle.std.specs.Prelude.{◌≡◌, Option, Some}
 use Rattle.ipc_model.specs.declared.call.Call.{Call}
 use Rattle.ipc_model.specs.history.History.{called, looked, redeemed}
 use Rattle.ipc_model.specs.state.State.{State}
-use Rattle.server.specs.Program as lone
-use Rattle.server.specs.declared.program.LoneEnd.TheVariants.{Fault}
-use Rattle.serving.specs.declared.service.ServeFault.TheVariants as serve_fault
 use Rattle.sessions.specs.Tokens.{SessionValue, Did}
 use Rattle.system.specs.Halves.{TicketValue}
 
@@ -26,8 +21,3 @@ LacksOne base _ c _ = ⊥
 abbrev pub TellsOne : State → Option SessionValue → TicketValue → Option SessionValue → Type 0
 TellsOne base (Some old) ticket (Some new) = Did base old (redeemed ticket.seen) new
 TellsOne base _ ticket _ = ⊥
-
--- the line of errors that a run ends with
-abbrev pub line_of : SocketEnd → List ℕ
-line_of Socket = codes "machipcd: socket\n"
-line_of (Store fault) = lone.line_of (Fault (serve_fault.Store fault))

@@ -3,12 +3,11 @@
 
 mod bound;
 mod connected;
-mod ending;
 mod patience;
 mod program;
 mod threads;
 
 pub use connected::Connected;
-pub use ending::SocketEnd;
 pub use patience::{Patience, Peer, SocketPeer};
 pub use program::serve_opened;
+pub use server::SocketEnd;

@@ -2,11 +2,11 @@ ghost use Rattle.std.specs.Prelude.{◌≡◌};
 ghost use Rattle.std.specs.Arc.{arc_value};
 
 use crate::bound::bind;
-use crate::ending::SocketEnd;
 use crate::threads::{accept, start_loops};
 use codes::MAX_RECORDS;
 use disk::Disk;
 use journal::StoreFault;
+use server::SocketEnd;
 use sessions::{Founding, MOST_SESSIONS, OpenGate, Row, Shared};
 use std::alloc::{AllocGlobal, Global};
 use std::io::Write;

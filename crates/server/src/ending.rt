@@ -1,10 +1,10 @@
 ghost use Rattle.std.specs.Prelude.{◌≡◌, OnOk, OnErr, IfErr};
 ghost use Rattle.std.specs.Io.KnownBytes.{Appends};
-ghost use Rattle.connections.specs.Connecting.{line_of};
+ghost use Rattle.server.specs.Ending.{line_of};
 ghost use Rattle.wire.specs.Writing.{AppendsPart};
 
+use crate::{LoneEnd, ServeFault};
 use journal::StoreFault;
-use server::{LoneEnd, ServeFault};
 use std::io::Write;
 use wire::{WireFault, write_bytes};
 
