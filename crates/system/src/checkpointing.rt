@@ -100,7 +100,7 @@ impl<D: Disk> System<D> {
             return Ok(false);
         };
         self.finished_first = self.receipt.is_none();
-        self.finished = Some(finished);
+        drop(self.finished.replace(finished));
         Ok(true)
     }
 }

@@ -220,7 +220,7 @@ impl KernelHalf {
         ensures { self.new ≡ with_receipt self.old receipt }
     {
         self.handed += u64::from(receipt.count());
-        self.spare = Some(receipt.into_empty());
+        drop(self.spare.replace(receipt.into_empty()));
     }
 
     /// Begins the next epoch, with a copy of the state after the whole row. There is none while a checkpoint is under way or

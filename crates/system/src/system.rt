@@ -156,7 +156,7 @@ impl<D: Disk> System<D> {
     {
         match self.core.take() {
             Some(taken) => {
-                self.out = Some(taken);
+                drop(self.out.replace(taken));
                 true
             }
             None => false,
@@ -183,18 +183,18 @@ impl<D: Disk> System<D> {
             return Ok(false);
         };
         if taken.epoch != self.store.epoch() {
-            self.out = Some(taken);
+            drop(self.out.replace(taken));
             return Ok(false);
         }
         let Taken { epoch, batch } = taken;
         match self.store.append(batch) {
             Ok(receipt) => {
-                self.receipt = Some(receipt);
+                drop(self.receipt.replace(receipt));
                 self.finished_first = true;
                 Ok(true)
             }
             Err((fault, batch)) => {
-                self.out = Some(Taken { epoch, batch });
+                drop(self.out.replace(Taken { epoch, batch }));
                 Err(fault)
             }
         }
