@@ -13,7 +13,6 @@ use std::rt::Files;
 /// there is an empty slot, and the first write or cut of its slot makes it.
 ///
 /// Nothing is proved of the contents: that these files keep the disk model is a premise.
-#[derive(Drop)]
 pub struct FileDisk<R: Files + Drop> {
     files: R,
     folder: String,
@@ -25,6 +24,23 @@ pub struct FileDisk<R: Files + Drop> {
     // A sync failed. The system may have dropped what it could not write, so that later syncs would say nothing.
     is_sync_lost: bool,
     failures: u64,
+}
+
+// Written out, as proofs above then know one function, and not the parts.
+impl<R: Files + Drop> Drop for FileDisk<R> {
+    fn drop(self) {
+        let FileDisk {
+            files,
+            folder,
+            slots,
+            is_folder_synced: _,
+            is_sync_lost: _,
+            failures: _,
+        } = self;
+        drop(files);
+        drop(folder);
+        drop(slots);
+    }
 }
 
 #[derive(Drop)]

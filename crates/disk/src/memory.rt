@@ -14,7 +14,6 @@ use std::alloc::{AllocError, Global};
 /// Four slots in memory. A stop leaves of it whatever the disk model lets a stop leave.
 ///
 /// It keeps each write since it was made. A call that lacks memory fails and changes nothing.
-#[derive(Drop)]
 pub struct MemDisk {
     alloc: Global,
     first: Contents,
@@ -23,6 +22,23 @@ pub struct MemDisk {
     plan: Plan,
     failures: u64,
     ghost is_replay: { slots_of seen ≡ replayed (slots_of first) log.items },
+}
+
+// Written out, as proofs above then know one function, and not the parts.
+impl Drop for MemDisk {
+    fn drop(self) {
+        let MemDisk {
+            alloc: _,
+            first,
+            seen,
+            log,
+            plan: _,
+            failures: _,
+        } = self;
+        drop(first);
+        drop(seen);
+        drop(log);
+    }
 }
 
 fn fill(buffer: &mut [u8], bytes: &[u8], at: u64) -> usize

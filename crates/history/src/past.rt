@@ -14,7 +14,6 @@ use std::sync::Arc;
 
 /// A beginning of the history, up to a row that it keeps. Contracts see its entries, how many rows came before its row, where
 /// that row begins and the names of its cells, and how many of the row's entries were read.
-#[derive(Drop)]
 pub struct Past<L: FirstRow> {
     pub(crate) alloc: Global,
     pub(crate) place: Place<L>,
@@ -24,6 +23,21 @@ pub struct Past<L: FirstRow> {
 
     // What was read of the row.
     pub(crate) seen: Vec<Held>,
+}
+
+// Written out, as proofs above then know one function, and not the parts.
+impl<L: FirstRow> Drop for Past<L> {
+    fn drop(self) {
+        let Past {
+            alloc: _,
+            place,
+            notes,
+            seen,
+        } = self;
+        drop(place);
+        drop(notes);
+        drop(seen);
+    }
 }
 
 impl<L: FirstRow> Model for Past<L> {

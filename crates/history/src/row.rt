@@ -11,10 +11,18 @@ use std::marker::Model;
 
 /// A row of cells, each set at most once: one for each entry, and one that links it to the next row. Contracts see the cells'
 /// names.
-#[derive(Drop)]
 pub struct Row {
     link: OnceBox<Link>,
     cells: Vec<OnceBox<Held>>,
+}
+
+// Written out, as proofs above then know one function, and not the parts.
+impl Drop for Row {
+    fn drop(self) {
+        let Row { link, cells } = self;
+        drop(link);
+        drop(cells);
+    }
 }
 
 impl Model for Row {

@@ -14,12 +14,25 @@ use std::marker::Model;
 /// the state of the written definition as it was when they last were, and as it is.
 ///
 /// A change for which memory is wanted gives all changes up.
-#[derive(Drop)]
 pub struct IpcState {
     pub(crate) spaces: Spaces,
     pub(crate) ports: Ports,
     /// The place of a set at the place of each name that holds the receive right of a member.
     pub(crate) members: PlaceIndex,
+}
+
+// Written out, as proofs above then know one function, and not the parts.
+impl Drop for IpcState {
+    fn drop(self) {
+        let IpcState {
+            spaces,
+            ports,
+            members,
+        } = self;
+        drop(spaces);
+        drop(ports);
+        drop(members);
+    }
 }
 
 impl Model for IpcState {

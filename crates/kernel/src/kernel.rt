@@ -40,10 +40,17 @@ impl From<AllocError> for ReplayFault {
 }
 
 /// The state of the machine. Contracts see it as the state of the written definition.
-#[derive(Drop)]
 pub struct Kernel {
     pub(crate) alloc: Global,
     pub(crate) state: IpcState,
+}
+
+// Written out, as proofs above then know one function, and not the parts.
+impl Drop for Kernel {
+    fn drop(self) {
+        let Kernel { alloc: _, state } = self;
+        drop(state);
+    }
 }
 
 impl Model for Kernel {

@@ -28,12 +28,24 @@ use system::{CallFault, Opened, System};
 pub const CHECKPOINT_RECORDS: u64 = 32_768;
 
 /// The caller of a lone connection: the core over an opened store that nobody else uses.
-#[derive(Drop)]
 pub struct Alone<D: Disk> {
     alloc: Global,
     system: System<D>,
     space: u32,
     failed: bool,
+}
+
+// Written out, as proofs above then know one function, and not the parts.
+impl<D: Disk + Drop> Drop for Alone<D> {
+    fn drop(self) {
+        let Alone {
+            alloc: _,
+            system,
+            space: _,
+            failed: _,
+        } = self;
+        drop(system);
+    }
 }
 
 impl<D: Disk> Model for Alone<D> {

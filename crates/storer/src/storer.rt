@@ -18,7 +18,6 @@ use std::marker::Model;
 use storing::{Receipt, StoreHalf};
 
 /// What lies under the lock of the store: the half that stores, and what it knows of the history.
-#[derive(Drop)]
 pub struct Storer<L: Founding, D: Disk> {
     pub(crate) store: StoreHalf<D>,
     past: Past<L>,
@@ -26,6 +25,20 @@ pub struct Storer<L: Founding, D: Disk> {
     // How many records of the history are stored, and how many led to the state that a checkpoint under way is made of.
     pub(crate) stored: u64,
     pub(crate) earlier: u64,
+}
+
+// Written out, as proofs above then know one function, and not the parts.
+impl<L: Founding, D: Disk + Drop> Drop for Storer<L, D> {
+    fn drop(self) {
+        let Storer {
+            store,
+            past,
+            stored: _,
+            earlier: _,
+        } = self;
+        drop(store);
+        drop(past);
+    }
 }
 
 impl<L: Founding, D: Disk> Model for Storer<L, D> {

@@ -16,12 +16,25 @@ use std::alloc::Global;
 use std::marker::Model;
 
 /// The half of the core that stores. It knows of calls what batches and cuts bring.
-#[derive(Drop)]
 pub struct StoreHalf<D: Disk> {
     disk: D,
     segment: Segment,
     failed: bool,
     checkpoint: Option<Checkpoint>,
+}
+
+// Written out, as proofs above then know one function, and not the parts.
+impl<D: Disk + Drop> Drop for StoreHalf<D> {
+    fn drop(self) {
+        let StoreHalf {
+            disk,
+            segment: _,
+            failed: _,
+            checkpoint,
+        } = self;
+        drop(disk);
+        drop(checkpoint);
+    }
 }
 
 impl<D: Disk> Model for StoreHalf<D> {

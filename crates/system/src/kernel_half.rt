@@ -38,7 +38,6 @@ impl From<AllocError> for SubmitFault {
 }
 
 /// The half of the core that makes calls. It knows of the store what receipts tell.
-#[derive(Drop)]
 pub struct KernelHalf {
     kernel: Kernel,
     epoch: u64,
@@ -51,6 +50,25 @@ pub struct KernelHalf {
     // The batch that takes the place of the one that is taken next; there is none while a batch is out.
     spare: Option<Batch>,
     is_cut: bool,
+}
+
+// Written out, as proofs above then know one function, and not the parts.
+impl Drop for KernelHalf {
+    fn drop(self) {
+        let KernelHalf {
+            kernel,
+            epoch: _,
+            older,
+            row,
+            handed: _,
+            spare,
+            is_cut: _,
+        } = self;
+        drop(kernel);
+        drop(older);
+        drop(row);
+        drop(spare);
+    }
 }
 
 impl Model for KernelHalf {

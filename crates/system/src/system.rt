@@ -57,7 +57,6 @@ impl From<StoreFault> for CallFault {
 ///
 /// It keeps what waits: records that aren't taken, a batch or its receipt, the receipt of an image, and tickets that aren't
 /// answered. What was stored and answered it lets go.
-#[derive(Drop)]
 pub struct System<D: Disk> {
     pub(crate) alloc: Global,
     pub(crate) core: KernelHalf,
@@ -69,6 +68,28 @@ pub struct System<D: Disk> {
     // Whether the image's receipt is older than the batch's, where both are out.
     pub(crate) finished_first: bool,
     pub(crate) tickets: Tickets,
+}
+
+// Written out, as proofs above then know one function, and not the parts.
+impl<D: Disk + Drop> Drop for System<D> {
+    fn drop(self) {
+        let System {
+            alloc: _,
+            core,
+            store,
+            out,
+            receipt,
+            finished,
+            finished_first: _,
+            tickets,
+        } = self;
+        drop(core);
+        drop(store);
+        drop(out);
+        drop(receipt);
+        drop(finished);
+        drop(tickets);
+    }
 }
 
 impl<D: Disk> Model for System<D> {
