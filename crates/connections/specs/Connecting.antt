@@ -3,7 +3,7 @@ use Rattle.std.specs.Prelude.{◌≡◌, Option, Some}
 use Rattle.ipc_model.specs.declared.call.Call.{Call}
 use Rattle.ipc_model.specs.history.History.{called, looked, redeemed}
 use Rattle.ipc_model.specs.state.State.{State}
-use Rattle.sessions.specs.Tokens.{SessionValue, Did}
+use Rattle.session_core.specs.Tokens.{SessionValue, Did}
 use Rattle.system.specs.Halves.{TicketValue}
 
 -- What becomes of a connection's session, which there is between calls: a call was made, whose ticket saw all that the session had

@@ -31,7 +31,7 @@ pub struct Connected<'a, L: Founding, D: Disk, G, R, P> {
 
 impl<'a, L: Founding, D: Disk, G, R, P> Model for Connected<'a, L, D, G, R, P> {
     ghost use Rattle.std.specs.Prelude.{◌≡◌, Option, true, is_some};
-    ghost use Rattle.sessions.specs.Tokens.{SessionValue, session_code};
+    ghost use Rattle.session_core.specs.Tokens.{SessionValue, session_code};
     ghost use Rattle.std.specs.Coded.{coded_option};
 
     ghost Value = { Option SessionValue };

@@ -11,11 +11,12 @@ use Rattle.ipc_model.specs.calls.Step.{Run}
 use Rattle.ipc_model.specs.declared.record.Record.{Record}
 use Rattle.ipc_model.specs.history.History.{Session, Sessions, AllLegal, AreAll, AreApart, Legal, places_of}
 use Rattle.ipc_model.specs.state.State.{State}
-use Rattle.sessions.proofs.Apart.{AreForeign, apart_beside, foreign_both, foreign_to, none_apart, none_foreign}
-use Rattle.sessions.proofs.Calling.{counted}
-use Rattle.sessions.proofs.Histories.{own_further}
-use Rattle.sessions.specs.Closing.{AllBelong, AreLegal, Belongs, Match, tasks_of}
-use Rattle.sessions.specs.Tokens.{SessionValue, IsHistory}
+use Rattle.session_core.proofs.Apart.{AreForeign, apart_beside, foreign_both, foreign_to, none_apart, none_foreign}
+use Rattle.session_core.proofs.Calling.{counted}
+use Rattle.session_core.proofs.Histories.{own_further}
+use Rattle.session_core.specs.Belonging.{AllBelong, Belongs, tasks_of}
+use Rattle.session_core.specs.Tokens.{SessionValue, IsHistory}
+use Rattle.sessions.specs.Closing.{AreLegal}
 use Rattle.storer.specs.Storing.{StandsFor}
 
 module _ (base : State) (entries : List Entry) (stored : ℕ) where
@@ -93,14 +94,3 @@ stands_in base known entries stored c begins (k, more, within, (state, run, stan
     let front : take k (records_of entries) ≡ take k (records_of known) =
     ap (take k) (begins_records known entries begins) ∙ take-append-le k (records_of known) (records_of (drop (length known) entries)) within in
     (k, more, omega (arith, within, begins_records_length known entries begins), (state, subst (λ (l : List Record). Run base l state) (sym front) run, stands))
-
--- All parts of the ledger are found where as many sessions are handed in as were made.
-pub matched : (base : State) (known entries : List Entry) (stored made : ℕ) (sessions : List SessionValue) (whole rest gathered amount total : ℕ) → IsHistory base entries → Begins known entries → AllBelong base entries stored 0 sessions → made + rest ≡ whole
-    → rest + length sessions ≤ gathered → gathered ≤ whole → amount ≡ length (places_of (tasks_of sessions)) → (gathered ≡ whole → amount ≡ total) → total ≡ length entries → Match base known entries stored made sessions
-matched base known entries stored made sessions whole rest gathered amount total history begins belong parts more within sum all counts = record {
-  history = history;
-  begins = begins;
-  belong = belong;
-  most = omega (arith, parts, more, within);
-  all = λ same. sym sum ∙ all (omega (arith, same, parts, more, within)) ∙ counts;
-}

@@ -1,9 +1,1 @@
-mod Apart
-mod Calling
-mod Calls
 mod Closings
-mod Cores
-mod Cutting
-mod Histories
-mod Meetings
-mod Taking

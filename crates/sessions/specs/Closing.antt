@@ -1,57 +1,20 @@
 -- What is left of sessions of one history once both halves are closed.
-use Rattle.std.specs.Prelude.{◌≡◌, ℕ, ◌<◌, ◌≤◌, List, [], ◌∷◌, length, map}
+use Rattle.std.specs.Prelude.{◌≡◌, ℕ, List, map}
 use Rattle.disk.specs.Moments.{View, MayLeave}
 use Rattle.disk.specs.Slots.{Slots}
-use Rattle.history.specs.Entries.{Begins, records_of}
-use Rattle.history.specs.Pasts.{PastValue}
+use Rattle.history.specs.Entries.{records_of}
 use Rattle.history.specs.declared.entry.Entry.{Entry}
-use Rattle.ipc_model.specs.history.History.{Session, Sessions, IsLegalHistory, places_of}
+use Rattle.ipc_model.specs.history.History.{Sessions, IsLegalHistory}
 use Rattle.ipc_model.specs.state.State.{State}
-use Rattle.sessions.specs.Tokens.{SessionValue, IsHistory, IsSession}
+use Rattle.session_core.specs.Belonging.{tasks_of}
+use Rattle.session_core.specs.Tokens.{SessionValue, IsHistory}
 use Rattle.storer.specs.Storing.{StandsFor}
-
--- what the sessions are in the history
-abbrev pub tasks_of : List SessionValue → List Session
-tasks_of sessions = map (λ s. s.task) sessions
-
--- A session belongs to a history of which so many records are stored: it has seen a beginning of it, and was told of no more
--- than is stored. Its number is greater than the last one's.
-pub record Belongs (base : State) (entries : List Entry) (stored last : ℕ) (session : SessionValue) : Type 0 where
-  pub rises : last < session.number
-  pub begins : Begins session.past.entries entries
-  pub told : session.task.told ≤ stored
-  pub is : IsSession base session (length session.task.places)
-
--- It is seen to do so, where the history is in the row that the session saw last.
-pub record CanBelong (past : PastValue) (stored last : ℕ) (session : SessionValue) : Type 0 where
-  pub rises : last < session.number
-  pub same : session.past.rows ≡ past.rows
-  pub within : length session.past.entries ≤ length past.entries
-  pub told : session.task.told ≤ stored
-
--- Each of these sessions does, and their numbers rise.
-abbrev pub AllBelong : State → List Entry → ℕ → ℕ → List SessionValue → Type 0
-AllBelong base entries stored last [] = Unit {0}
-AllBelong base entries stored last (session ∷ sessions) = Belongs base entries stored last session × AllBelong base entries stored session.number sessions
-
-abbrev pub AllCanBelong : PastValue → ℕ → ℕ → List SessionValue → Type 0
-AllCanBelong past stored last [] = Unit {0}
-AllCanBelong past stored last (session ∷ sessions) = CanBelong past stored last session × AllCanBelong past stored session.number sessions
 
 -- Operations made each of these sessions in one legal history.
 pub record AreLegal (base : State) (entries : List Entry) (sessions : List SessionValue) : Type 0 where
   pub each : Sessions
   pub theirs : map (λ s. s.1) each ≡ tasks_of sessions
   pub legal : IsLegalHistory base 0 (records_of entries) each
-
--- What both halves and the sessions that are handed in have in common: one history, which begins with what the store's half knows,
--- and to which all of these sessions belong. If they are all that were made, its records are as many as their places.
-pub record Match (base : State) (known entries : List Entry) (stored made : ℕ) (sessions : List SessionValue) : Type 0 where
-  pub history : IsHistory base entries
-  pub begins : Begins known entries
-  pub belong : AllBelong base entries stored 0 sessions
-  pub most : length sessions ≤ made
-  pub all : length sessions ≡ made → length (places_of (tasks_of sessions)) ≡ length entries
 
 -- A stop leaves the state after some first records of a history, and no fewer than are stored.
 pub record IsLeft (base : State) (stored : ℕ) (view : View) : Type 0 where

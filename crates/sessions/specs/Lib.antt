@@ -1,3 +1,1 @@
 pub mod Closing
-pub mod Keeping
-pub mod Tokens

@@ -4,11 +4,11 @@ use crate::gate::{Gate, Step};
 use crate::shared::Shared;
 use codes::MAX_RECORDS;
 use disk::Disk;
-use history::{Founding, Row};
 use journal::StoreFault;
+use session_core::{End, Founding, Row};
 use std::sync::{Arc, Wait};
 use std::time::Clock;
-use storer::{End, NotBegun};
+use storer::NotBegun;
 use storing::Finished;
 
 /// How many records an epoch's row has when a checkpoint is begun.
@@ -17,7 +17,7 @@ pub const CHECKPOINT_RECORDS: u64 = 32_768;
 impl<L: Founding, D: Disk, G: Gate> Shared<L, D, G> {
     /// Makes an image each time that the epoch's row has `records` records, until it is told to stop or the store fails.
     pub fn checkpointer<R: Wait + Clock>(&self, rt: &R, records: u64) {
-        self.keeper.lock(rt).begin_images();
+        self.desk.lock(rt).begin_images();
         for _ in rt.forever() {
             let Some(end) = self.next_end(rt, records) else {
                 return;
@@ -45,19 +45,17 @@ impl<L: Founding, D: Disk, G: Gate> Shared<L, D, G> {
 
     /// Waits until the row has so many records. Answers whether the loop is to go on.
     fn await_records<R: Wait>(&self, rt: &R, records: u64) -> bool {
-        let keeper = self.calls.wait_while(
-            rt,
-            self.keeper.lock(rt),
-            |keeper| keeper.is_short(records),
-        );
-        !keeper.is_ending()
+        let desk = self
+            .calls
+            .wait_while(rt, self.desk.lock(rt), |desk| desk.is_short(records));
+        !desk.is_ending()
     }
 
     /// Ends the epoch, where memory is there for it.
     fn cut<R: Wait>(&self, rt: &R) -> Option<End<L>> {
         let row = Row::new(self.alloc, MAX_RECORDS as usize).ok()?;
         let row = Arc::new(self.alloc, row).ok()?;
-        let cut = self.keeper.lock(rt).cut(row);
+        let cut = self.desk.lock(rt).keeper.cut(row);
         self.news.notify_all();
         cut.ok()?
     }
@@ -67,7 +65,7 @@ impl<L: Founding, D: Disk, G: Gate> Shared<L, D, G> {
         match self.do_steps(rt, end) {
             Ok(finished) => {
                 self.gate.pass(rt, Step::Finished);
-                self.keeper.lock(rt).finished(finished);
+                self.desk.lock(rt).keeper.finished(finished);
                 self.calls.notify_all();
                 true
             }

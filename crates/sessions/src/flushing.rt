@@ -3,11 +3,11 @@
 use crate::gate::{Gate, Step};
 use crate::shared::Shared;
 use disk::Disk;
-use history::Founding;
+use session_core::{Founding, Load};
 use std::sync::Wait;
 use std::thread;
 use std::time::{Clock, Duration};
-use storer::{Load, NotStored};
+use storer::NotStored;
 
 /// For how many milliseconds a loop waits for memory before it tries again.
 const PATIENCE_MILLISECONDS: u64 = 10;
@@ -30,11 +30,11 @@ impl<L: Founding, D: Disk, G: Gate> Shared<L, D, G> {
     /// The records that wait, once there are some. None where the loop is to end.
     fn next_load<R: Wait + Clock>(&self, rt: &R) -> Option<Load<L>> {
         for _ in rt.forever() {
-            let keeper = self
+            let desk = self
                 .calls
-                .wait_while(rt, self.keeper.lock(rt), |keeper| keeper.is_idle());
-            let is_over = keeper.is_over();
-            drop(keeper);
+                .wait_while(rt, self.desk.lock(rt), |desk| desk.is_idle());
+            let is_over = desk.is_over();
+            drop(desk);
             if is_over {
                 return None;
             }
@@ -50,7 +50,7 @@ impl<L: Founding, D: Disk, G: Gate> Shared<L, D, G> {
     /// Takes the records that wait.
     fn take_load<R: Wait>(&self, rt: &R) -> Option<Load<L>> {
         self.gate.pass(rt, Step::Take);
-        self.keeper.lock(rt).take().ok().flatten()
+        self.desk.lock(rt).keeper.take().ok().flatten()
     }
 
     /// Stores a load, and hands its receipt in. Says whether it did: else the store failed, which all are told.
@@ -74,7 +74,7 @@ impl<L: Founding, D: Disk, G: Gate> Shared<L, D, G> {
             Ok(receipt) => {
                 self.stored.notify_all();
                 self.gate.pass(rt, Step::Durable);
-                self.keeper.lock(rt).durable(receipt);
+                self.desk.lock(rt).keeper.durable(receipt);
                 self.news.notify_all();
                 Ok(true)
             }

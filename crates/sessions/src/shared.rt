@@ -4,15 +4,13 @@ ghost use Rattle.codes.specs.declared.limits.TheConstants.{MAX_FRAME_CONTENT};
 ghost use Rattle.codes.specs.declared.name.TheConstants.{FIRST_SPACE};
 ghost use Rattle.ipc_model.specs.history.History.{called, looked, redeemed};
 ghost use Rattle.ipc_model.specs.texts.Texts.{reply_text};
-ghost use Rattle.sessions.specs.Tokens.{Did};
+ghost use Rattle.session_core.specs.Tokens.{Did};
 
-use crate::fault::SessionFault;
-use crate::keeper::{Keeper, MOST_SESSIONS, Waited};
-use crate::session::Session;
+use crate::desk::{Desk, Waited};
 use disk::Disk;
-use history::{Founding, Past, Row};
 use ipc_model::{Call, Reply};
 use journal::StoreFault;
+use session_core::{Founding, Keeper, MOST_SESSIONS, Past, Row, Session, SessionFault};
 use std::alloc::Global;
 use std::sync::ledger::Blank;
 use std::sync::{Arc, Condvar, Mutex, Wait};
@@ -26,7 +24,7 @@ use system::{Opened, SubmitFault, Ticket};
 pub struct Shared<L: Founding, D: Disk, G> {
     pub(crate) alloc: Global,
     pub(crate) gate: G,
-    pub(crate) keeper: Mutex<Keeper<L>>,
+    pub(crate) desk: Mutex<Desk<L>>,
     pub(crate) storer: Mutex<Storer<L, D>>,
 
     // Waited on under the kernel's lock: that there is something to do for the loops, that replies can be told, and that the state
@@ -69,7 +67,7 @@ impl<L: Founding, D: Disk, G: Drop> Shared<L, D, G> {
         Ok(Shared {
             alloc,
             gate,
-            keeper: Mutex::new(keeper),
+            desk: Mutex::new(Desk::new(keeper)),
             storer: Mutex::new(storer),
             calls: Condvar::new(),
             news: Condvar::new(),
@@ -82,7 +80,7 @@ impl<L: Founding, D: Disk, G: Drop> Shared<L, D, G> {
     pub fn session(&self, rt: &impl Wait) -> Result<Session<L>, SessionFault>
         ensures new { IfOk result (λ session. (session.task.space ≡ FIRST_SPACE) × (session.task.told ≡ 0) × (session.task.places ≡ [])) }
     {
-        self.keeper.lock(rt).session()
+        self.desk.lock(rt).keeper.session()
     }
 
     /// Makes a call of a session, whose ticket keeps its reply. Also where it isn't made, the session may have seen more.
@@ -98,13 +96,13 @@ impl<L: Founding, D: Disk, G: Drop> Shared<L, D, G> {
         ensures given { IfOk result.1 (λ ticket. Did L.base session (called call.now ticket.answer) result.0 × (ticket.seen ≡ result.0.task.seen)) }
         ensures err { OnErr result.1 (Did L.base session looked result.0) }
     {
-        let mut keeper = self
+        let mut desk = self
             .news
-            .wait_while(rt, self.keeper.lock(rt), |keeper| keeper.awaits_epoch());
-        let before = keeper.made();
-        let made = keeper.submit(session, call);
-        let has_more = before < keeper.made();
-        drop(keeper);
+            .wait_while(rt, self.desk.lock(rt), |desk| desk.awaits_epoch());
+        let before = desk.keeper.made();
+        let made = desk.keeper.submit(session, call);
+        let has_more = before < desk.keeper.made();
+        drop(desk);
         self.tell_of_record(has_more);
         made
     }
@@ -126,13 +124,13 @@ impl<L: Founding, D: Disk, G: Drop> Shared<L, D, G> {
         most: Duration,
     ) -> Waited {
         let seen = session.seen() as u64;
-        let (keeper, _) = self.changes.wait_timeout_while(
+        let (desk, _) = self.changes.wait_timeout_while(
             rt,
-            self.keeper.lock(rt),
+            self.desk.lock(rt),
             most,
-            |keeper| keeper.is_unchanged(seen),
+            |desk| desk.is_unchanged(seen),
         );
-        keeper.waited(seen)
+        desk.waited(seen)
     }
 
     /// The reply that a ticket of this session keeps, once all that its call saw is stored; until then it waits.
@@ -150,11 +148,11 @@ impl<L: Founding, D: Disk, G: Drop> Shared<L, D, G> {
         ensures err { OnErr result.1 (result.0 ≡ session) }
     {
         let seen = ticket.seen();
-        let mut keeper = self
+        let desk = self
             .news
-            .wait_while(rt, self.keeper.lock(rt), |keeper| keeper.is_awaited(seen));
-        let fault = keeper.fault();
-        let (session, told) = keeper.redeem(session, ticket);
+            .wait_while(rt, self.desk.lock(rt), |desk| desk.is_awaited(seen));
+        let fault = desk.fault();
+        let (session, told) = desk.keeper.redeem(session, ticket);
         match told {
             Ok(reply) => (session, Ok(reply)),
             Err(_) => (session, Err(fault.unwrap_or(StoreFault::Failed))),
@@ -163,26 +161,26 @@ impl<L: Founding, D: Disk, G: Drop> Shared<L, D, G> {
 
     /// The fault that a loop met, if one did: nothing more is stored then.
     pub fn fault(&self, rt: &impl Wait) -> Option<StoreFault> {
-        self.keeper.lock(rt).fault()
+        self.desk.lock(rt).fault()
     }
 
     /// Tells both loops to end, behind what was called until now.
     pub fn stop(&self, rt: &impl Wait) {
-        self.keeper.lock(rt).stop();
+        self.desk.lock(rt).stop();
         self.calls.notify_all();
         self.news.notify_all();
     }
 
     /// The loop that stores ends: it tells all who wait.
     pub(crate) fn end(&self, rt: &impl Wait) {
-        self.keeper.lock(rt).end();
+        self.desk.lock(rt).end();
         self.news.notify_all();
         self.changes.notify_all();
     }
 
     /// A loop met a fault: it tells all who wait.
     pub(crate) fn fail(&self, rt: &impl Wait, fault: StoreFault) {
-        self.keeper.lock(rt).fail(fault);
+        self.desk.lock(rt).fail(fault);
         self.news.notify_all();
         self.changes.notify_all();
         self.calls.notify_all();

@@ -1,7 +1,7 @@
 //! New stores that are shared.
 ghost use Rattle.std.specs.Prelude.{◌≡◌};
 ghost use Rattle.std.specs.Arc.{arc_value};
-ghost use Rattle.sessions.specs.declared.keeper.TheConstants.{MOST_SESSIONS};
+ghost use Rattle.session_core.specs.declared.keeper.TheConstants.{MOST_SESSIONS};
 
 use codes::MAX_RECORDS;
 use disk::Disk;

@@ -2,7 +2,7 @@ use Rattle.std.proofs.Common.{◌≤◌, ℕ, List, sym, ap, subst}
 use Rattle.disk.specs.Moments.{MayLeave}
 use Rattle.history.specs.Entries.{Begins, records_of}
 use Rattle.history.specs.declared.entry.Entry.{Entry}
-use Rattle.sessions.specs.Tokens.{SessionValue}
+use Rattle.session_core.specs.Tokens.{SessionValue}
 use Rattle.sessions.proofs.Closings.{all_apart, all_legal, all_of, all_rise, are_all, stands_in}
 use Rattle.sessions.proofs.closing.close.Goals as goal
 use Rattle.storer.specs.Storing.{StandsFor}

@@ -1,0 +1,9 @@
+mod Apart
+mod Belongings
+mod Calling
+mod Calls
+mod Cores
+mod Cutting
+mod Histories
+mod Meetings
+mod Taking

@@ -1,0 +1,31 @@
+use Rattle.std.proofs.Common.{◌∙◌, List, sym, ap}
+use Rattle.history.specs.declared.entry.Entry.{Entry}
+use Rattle.session_core.specs.Keeping.{CoreValue, IsCore}
+use Rattle.session_core.proofs.Cores.{after_call, applied_call, handed_after, kept_some, unapplied_call}
+use Rattle.session_core.proofs.making.Core.apply.Goals as goal
+
+pub invariant_of-self : goal.invariant_of-self
+invariant_of-self g c =
+    let s = c.self.inside in
+    let core = kept_some (λ (l : List Entry). IsCore g.L.Founding.base s.half l s.opened s.earlier s.taken s.older) s.past c.in-Some.kept (sym c.take.ensures.value ∙ c.in-Some.is) c.self.invariant.2 in
+    let a = c.apply_beside-kept in (
+      handed_after g.L.Founding.base s.half a.new.half c.in-Some.kept a.result.0 s.opened s.earlier s.taken s.older c.args.number c.args.space c.args.call.now core _ a.result.2 a.ensures.given a.ensures.kept a.ensures.err ∙ c.self.invariant.0,
+      c.self.invariant.1,
+      after_call g.L.Founding.base s.half a.new.half c.in-Some.kept a.result.0 s.opened s.earlier s.taken s.older c.args.number c.args.space c.args.call.now core _ a.result.2 a.ensures.given a.ensures.kept a.ensures.err,
+    )
+
+pub returns-clause-given : goal.returns-clause-given
+returns-clause-given g c =
+    let s = c.self.inside in
+    let core = kept_some (λ (l : List Entry). IsCore g.L.Founding.base s.half l s.opened s.earlier s.taken s.older) s.past c.in-Some.kept (sym c.take.ensures.value ∙ c.in-Some.is) c.self.invariant.2 in
+    let a = c.apply_beside-kept in
+    applied_call g.L.Founding.base s.half a.new.half c.in-Some.kept.entries s.opened s.earlier s.taken s.older c.args.number c.args.space c.args.call.now core a.result.2 c.args.seen.entries a.result.0.entries a.result.1.entries c.args.self.now.half.row.made
+    (ap (λ (v : CoreValue). v.half.row.made) c.self.view_is) a.ensures.given a.ensures.kept a.ensures.seen a.ensures.more
+
+pub returns-clause-err : goal.returns-clause-err
+returns-clause-err g c =
+    let s = c.self.inside in
+    let there = sym c.take.ensures.value ∙ c.in-Some.is in
+    let core = kept_some (λ (l : List Entry). IsCore g.L.Founding.base s.half l s.opened s.earlier s.taken s.older) s.past c.in-Some.kept there c.self.invariant.2 in
+    let a = c.apply_beside-kept in
+    unapplied_call g.L.Founding.base s.half a.new.half s.past c.in-Some.kept a.result.0 s.opened s.earlier s.taken s.older c.args.self.now core there c.self.view_is a.result.2 c.args.seen.entries a.result.1.entries c.requires a.ensures.begins a.ensures.err

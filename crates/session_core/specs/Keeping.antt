@@ -1,0 +1,122 @@
+-- What is kept under the lock of the kernel, and what a call there makes of it.
+use Rattle.std.specs.Prelude.{◌≡◌, ℕ, ◌+◌, ◌-◌, Bool, List, [], ◌∷◌, ◌++◌, length, Option, Some, option_map, if◌then◌else◌, refl}
+use Rattle.std.specs.Coded.{Coded, code_by, coded×, coded_ℕ, coded_option}
+use Rattle.history.specs.Entries.{Begins, records_of}
+use Rattle.history.specs.Pasts.{PastValue, past_code}
+use Rattle.history.specs.declared.entry.Entry.{Entry}
+use Rattle.ipc_model.specs.calls.Step.{Run, Step, has_record}
+use Rattle.ipc_model.specs.declared.call.Call.{Call}
+use Rattle.ipc_model.specs.declared.call.Reply.{Reply}
+use Rattle.ipc_model.specs.state.State.{State}
+use Rattle.session_core.specs.Tokens.{entry_by, with_entry, IsHistory}
+use Rattle.storer.specs.Storing.{EndValue, LoadValue}
+use Rattle.system.specs.Core.{Counts, IsApplied, Wait}
+use Rattle.system.specs.Halves.{Cuts, Gives, KernelValue, TakesBatch, TicketValue, first_half, kernel_code}
+
+-- The half that makes calls, and the history (none while a call is being made). Of the records that were made since the store
+-- was opened, `earlier` were made before this epoch, whose row began with `opened` ones, and `taken` were taken to be stored; the
+-- row of the epoch before has `older` records.
+pub record CoreValue : Type 0 where
+  pub half : KernelValue
+  pub past : Option PastValue
+  pub opened : ℕ
+  pub earlier : ℕ
+  pub taken : ℕ
+  pub older : ℕ
+
+abbrev pub core_code : Coded CoreValue
+core_code =
+    code_by (KernelValue × (Option PastValue × (ℕ × (ℕ × (ℕ × ℕ))))) (coded× kernel_code (coded× (coded_option past_code) (coded× coded_ℕ (coded× coded_ℕ (coded× coded_ℕ coded_ℕ)))))
+    (λ c. (c.half, (c.past, (c.opened, (c.earlier, (c.taken, c.older)))))) (λ p. record { half = p.0; past = p.1.0; opened = p.1.1.0; earlier = p.1.1.1.0; taken = p.1.1.1.1.0; older = p.1.1.1.1.1 }) (λ _. refl)
+
+-- The history is what was applied: it runs from the base to the kernel's state, and its records that weren't taken wait.
+pub record IsCore (base : State) (half : KernelValue) (entries : List Entry) (opened earlier taken older : ℕ) : Type 0 where
+  pub applied : IsApplied base (records_of entries) half.kernel half.row.made
+  pub counts : Counts opened earlier taken taken (length (records_of entries)) older half.row.length
+  pub waits : Wait opened earlier taken (records_of entries) older half.older half.row.waiting
+
+-- what goes on from a state in an epoch, whose row has so many records, with a history that begins there
+abbrev pub first_core : State → ℕ → ℕ → PastValue → CoreValue
+first_core kernel epoch records past = record { half = first_half kernel epoch records; past = Some past; opened = records; earlier = 0; taken = 0; older = 0 }
+
+-- What lies under the lock of the kernel: this, and how many sessions were made.
+pub record KeeperValue : Type 0 where
+  pub core : CoreValue
+  pub given : ℕ
+
+abbrev pub keeper_code : Coded KeeperValue
+keeper_code = code_by (CoreValue × ℕ) (coded× core_code coded_ℕ) (λ k. (k.core, k.given)) (λ p. record { core = p.0; given = p.1 }) (λ _. refl)
+
+-- the entries of the history that is kept
+abbrev pub entries_in : CoreValue → Option (List Entry)
+entries_in core = option_map (λ p. p.entries) core.past
+
+-- The number in its epoch of the first record that wasn't taken: in the epoch before, or in this one.
+abbrev pub first_number : ℕ → ℕ → ℕ → ℕ → Bool → ℕ
+first_number opened earlier older taken is_older = if is_older then older - (earlier - taken) else opened + (taken - earlier)
+
+-- The two that learn of a record: the history that is kept, and the one that a session of this number has seen.
+pub record BesideValue : Type 0 where
+  pub number : ℕ
+  pub kept : PastValue
+  pub mine : PastValue
+
+abbrev pub beside_code : Coded BesideValue
+beside_code = code_by (ℕ × (PastValue × PastValue)) (coded× coded_ℕ (coded× past_code past_code)) (λ b. (b.number, (b.kept, b.mine))) (λ p. record { number = p.0; kept = p.1.0; mine = p.1.1 }) (λ _. refl)
+
+abbrev pub both_learned : BesideValue → ℕ → Call → Reply → BesideValue
+both_learned old space c answer = record {
+  number = old.number;
+  kept = with_entry old.kept (entry_by old.number space c answer);
+  mine = with_entry old.mine (entry_by old.number space c answer);
+}
+
+-- what the history has more where a call was made
+abbrev pub entries_of_call : ℕ → ℕ → Call → TicketValue → List Entry
+entries_of_call number space c ticket = if has_record c ticket.answer then entry_by number space c ticket.answer ∷ [] else []
+
+-- A call was made in the state after all of the history, of which its session had seen a beginning. The session has then seen
+-- all, with the call's record, if it has one.
+pub record Applies (base : State) (number space : ℕ) (seen : List Entry) (c : Call) (ticket : TicketValue) (after : List Entry) (old_made new_made : ℕ) : Type 0 where
+  pub before : List Entry
+  pub begins : Begins seen before
+  pub after_is : after ≡ before ++ entries_of_call number space c ticket
+  pub kernel : State
+  pub next : State
+  pub run : Run base (records_of before) kernel
+  pub step : Step kernel space c ticket.answer next
+  pub history : IsHistory base after
+  pub seen_is : ticket.seen ≡ length after
+  pub old_counted : old_made ≡ length before
+  pub new_counted : new_made ≡ length after
+
+-- A session that makes no call may have seen more of the history.
+pub record Learns (base : State) (seen after : List Entry) : Type 0 where
+  pub begins : Begins seen after
+  pub history : IsHistory base after
+
+-- A call was made and is kept: a ticket was given, and the history has the call's entry, if it has one.
+pub record Makes (old : CoreValue) (number space : ℕ) (c : Call) (ticket : TicketValue) (new : CoreValue) : Type 0 where
+  pub gives : Gives old.half space c ticket new.half
+  pub entries : entries_in new ≡ option_map (λ l. l ++ entries_of_call number space c ticket) (entries_in old)
+  pub rest : new ≡ record old { half = new.half; past = new.past }
+
+-- Records that waited were taken to be stored, with the history up to them: the ones behind those that were taken before.
+pub record Loads (old : CoreValue) (load : LoadValue) (new : CoreValue) : Type 0 where
+  pub takes : TakesBatch old.half (record { epoch = load.epoch; batch = load.batch }) new.half
+  pub entries : entries_in old ≡ Some load.entries
+  pub first : load.first ≡ old.taken
+  pub rest : new ≡ record old { half = new.half; taken = old.taken + load.batch.count }
+
+-- Nothing changed, but the row in which the history goes on.
+pub record IsSame (old new : CoreValue) : Type 0 where
+  pub entries : entries_in new ≡ entries_in old
+  pub rest : new ≡ record old { past = new.past }
+
+-- The epoch ended after all of the history.
+pub record Ends (old : CoreValue) (end : EndValue) (new : CoreValue) : Type 0 where
+  pub cuts : Cuts old.half end.cut new.half
+  pub entries : entries_in old ≡ Some end.entries
+  pub all : end.earlier ≡ length end.entries
+  pub same : entries_in new ≡ entries_in old
+  pub rest : new ≡ record old { half = new.half; past = new.past; opened = 0; earlier = end.earlier; older = old.half.row.length }

@@ -1,0 +1,3 @@
+pub mod Belonging
+pub mod Keeping
+pub mod Tokens

@@ -1,0 +1,302 @@
+ghost use Rattle.std.specs.Prelude.{◌≡◌, ◌⊎◌, ◌+◌, ◌<◌, ◌≤◌, ◌∷◌, [], ◌++◌, Some, false, length, IfOk, IfErr, IfSome, IfNone, IsErrOf, MatchBool, OnErr};
+ghost use Rattle.codes.specs.declared.limits.TheConstants.{MAX_FRAME_CONTENT};
+ghost use Rattle.codes.specs.declared.name.TheConstants.{FIRST_SPACE};
+ghost use Rattle.ipc_model.specs.history.History.{attached_by, called, looked, redeemed, space_after};
+ghost use Rattle.ipc_model.specs.texts.Texts.{reply_text};
+ghost use Rattle.ipc_model.specs.state.Circular.{Grounded};
+ghost use Rattle.ipc_model.specs.state.Lawful.{Lawful};
+ghost use Rattle.session_core.specs.Keeping.{Ends, IsSame, Loads, Makes, entries_in, first_core};
+ghost use Rattle.session_core.specs.Tokens.{Did, IsHistory};
+ghost use Rattle.session_core.specs.declared.keeper.TheConstants.{MOST_SESSIONS};
+ghost use Rattle.system.specs.Halves.{CanCut, CannotTake, with_receipt};
+
+use crate::counting::Tally;
+use crate::fault::SessionFault;
+use crate::making::Core;
+use crate::numbers::Numbers;
+use crate::session::{Card, Session};
+use boxcar::tag::{Names, Tag};
+use codes::FIRST_SPACE;
+use history::{Founding, Past, Row};
+use ipc_model::{Call, Reply};
+use std::alloc::{AllocError, Global};
+use std::marker::Model;
+use std::sync::Arc;
+use std::sync::ledger::{Blank, Book};
+use storer::{End, Load};
+use storing::{Finished, Receipt};
+use system::{Kernel, SubmitFault, Ticket};
+
+/// How many sessions one history gives at most.
+pub const MOST_SESSIONS: u32 = u32::MAX;
+
+/// What lies under the lock of the kernel: the half that makes calls beside the history, the book that counts all sessions' records,
+/// and the sessions' numbers.
+#[derive(Drop)]
+pub struct Keeper<L: Founding> {
+    core: Core<L>,
+    book: Book<L>,
+    numbers: Numbers<L>,
+}
+
+impl<L: Founding> Model for Keeper<L> {
+    ghost use Rattle.std.specs.Prelude.{◌≡◌};
+    ghost use Rattle.session_core.specs.Keeping.{KeeperValue, keeper_code};
+
+    ghost Value = { KeeperValue };
+
+    ghost coded = { keeper_code };
+
+    ghost view = { λ k. record { core = k.core; given = k.numbers } };
+
+    ghost invariant = { λ k. k.book.total ≡ k.core.half.row.made };
+}
+
+impl<L: Founding> Keeper<L> {
+    /// Goes on from a state in an epoch, whose segment holds so many records, with the history that begins here.
+    pub fn new(
+        alloc: Global,
+        kernel: Kernel,
+        epoch: u64,
+        records: u64,
+        past: Past<L>,
+        blank: Blank,
+    ) -> Self
+        requires base { (kernel ≡ L.base) × Lawful L.base × Grounded L.base }
+        requires none { past.entries ≡ [] }
+        requires blank { (blank.name ≡ L.name) × (blank.parts ≡ L.parts) × (L.parts ≡ MOST_SESSIONS) }
+        ensures { result ≡ record { core = first_core kernel epoch records past; given = 0 } }
+    {
+        let (book, rest) = blank.open::<L>();
+        Keeper {
+            core: Core::new(alloc, kernel, epoch, records, past),
+            book,
+            numbers: Numbers::new(rest),
+        }
+    }
+
+    /// Makes a call of a session. Its session has then seen all of the history; also where the call isn't made, it may have seen
+    /// more.
+    ///
+    /// `NoMemory`: a growth was refused. `EpochFull`: no room is left for the call's record.
+    pub fn submit(
+        &mut self,
+        session: Session<L>,
+        call: &Call,
+    ) -> (Session<L>, Result<Ticket, SubmitFault>)
+        ensures given { IfOk result.1 (λ ticket. Did L.base session (called call.now ticket.answer) result.0 × (ticket.seen ≡ result.0.task.seen)) }
+        ensures makes { IfOk result.1 (λ ticket. Makes self.old.core session.number session.task.space call.now ticket self.new.core × (self.new.given ≡ self.old.given)) }
+        ensures err { OnErr result.1 (Did L.base session looked result.0 × (self.new ≡ self.old)) }
+    {
+        let Session { card, past } = session;
+        let before = self.core.made();
+        let (past, made) = self.core.apply(card.number, card.space, past, call);
+        match made {
+            Ok(ticket) => {
+                let mut card = card;
+                note_call(&mut card, &mut self.book, before, past.len(), call, &ticket);
+                (Session { card, past }, Ok(ticket))
+            }
+            Err(fault) => (Session { card, past }, Err(fault)),
+        }
+    }
+}
+
+impl<L: Founding> Keeper<L> {
+    /// A new session, of a task that is attached to space 1. It has seen all of the history. `NoMemory`: a growth was refused.
+    /// `Spent`: no number is left.
+    pub fn session(&mut self) -> Result<Session<L>, SessionFault>
+        ensures new { IfOk result (λ session. (session.task.space ≡ FIRST_SPACE) × (session.task.told ≡ 0) × (session.task.places ≡ [])) }
+        ensures next { IfOk result (λ session. (session.number ≡ self.old.given + 1) × (entries_in self.old.core ≡ Some session.past.entries) × (self.new ≡ record self.old { given = self.old.given + 1 })) }
+        ensures spent { IsErrOf result SessionFault.Spent → self.old.given ≡ MOST_SESSIONS }
+        ensures err { OnErr result (self.new ≡ self.old) }
+    {
+        let past = self.core.again()?;
+        let Some((number, share)) = self.numbers.next() else {
+            drop(past);
+            return Err(SessionFault::Spent);
+        };
+        let card = Card {
+            number,
+            space: FIRST_SPACE,
+            told: 0,
+            places: Tag::empty(),
+            share,
+        };
+        Ok(Session { card, past })
+    }
+
+    /// The reply of a ticket of this session, once all that its call saw is stored; else the ticket comes back.
+    pub fn redeem(&self, session: Session<L>, ticket: Ticket) -> (Session<L>, Result<Reply, Ticket>)
+        ensures redeemed { IfOk result.1 (λ reply. (reply ≡ ticket.answer) × Did L.base session (redeemed ticket.seen) result.0) }
+        ensures stored { IfOk result.1 (λ reply. ticket.seen ≤ self.now.core.half.handed) }
+        ensures fits { IfOk result.1 (λ reply. length (reply_text reply) ≤ MAX_FRAME_CONTENT) }
+        ensures back { IfErr result.1 (λ kept. (kept ≡ ticket) × (result.0 ≡ session)) }
+        ensures early { OnErr result.1 ((session.task.seen < ticket.seen) ⊎ (self.now.core.half.handed < ticket.seen)) }
+    {
+        let mut session = session;
+        let seen = ticket.seen();
+        if seen > session.past.len() as u64 {
+            return (session, Err(ticket));
+        }
+        match self.core.reply(ticket) {
+            Ok(reply) => {
+                session.card.told = session.card.told.max(seen);
+                (session, Ok(reply))
+            }
+            Err(ticket) => (session, Err(ticket)),
+        }
+    }
+}
+
+impl<L: Founding> Keeper<L> {
+    /// All of the history, and the ledger that counts its records.
+    pub(crate) fn into_tally(self) -> Tally<L>
+        ensures past { (self.core.past ≡ Some result.past) × (result.made ≡ self.given) }
+        ensures history { IsHistory L.base result.past.entries }
+        ensures counted { result.book.total ≡ length result.past.entries }
+        ensures parts { result.made + result.share.parts ≡ L.parts }
+        ensures amount { result.share.amount ≡ 0 }
+    {
+        let Keeper {
+            core,
+            book,
+            numbers,
+        } = self;
+        let (made, share) = numbers.into_rest();
+        Tally {
+            past: core.into_past(),
+            made,
+            book,
+            share,
+        }
+    }
+
+    /// Takes records that wait to be stored, with the history up to them. There is none while a load is out, or where no record
+    /// waits. Where memory is wanted nothing changed.
+    pub fn take(&mut self) -> Result<Option<Load<L>>, AllocError>
+        ensures taken { IfOk result (λ load. IfSome load (λ load. Loads self.old.core load self.new.core × (self.new.given ≡ self.old.given))) }
+        ensures none { IfOk result (λ load. IfNone load (CannotTake self.old.core.half × (self.new ≡ self.old))) }
+        ensures err { OnErr result (self.new ≡ self.old) }
+    {
+        self.core.take()
+    }
+
+    /// Learns that the load that was out is stored. A receipt of more records than were taken changes nothing.
+    pub fn durable(&mut self, receipt: Receipt)
+        ensures known { receipt + self.old.core.half.handed ≤ self.old.core.taken → self.new ≡ record self.old { core = record self.old.core { half = with_receipt self.old.core.half receipt } } }
+        ensures unknown { self.old.core.taken < receipt + self.old.core.half.handed → self.new ≡ self.old }
+    {
+        self.core.durable(receipt);
+    }
+
+    /// Begins the next epoch, whose entries come into this row, with a copy of the state. There is none while a checkpoint is under
+    /// way, or records of the epoch before wait, and in the last epoch; then, and where memory is wanted, no call is undone and none
+    /// is lost, but the history may go on in the row.
+    pub fn cut(&mut self, row: Arc<Row, Global>) -> Result<Option<End<L>>, AllocError>
+        ensures cut { IfOk result (λ end. IfSome end (λ end. Ends self.old.core end self.new.core)) }
+        ensures not_now { IfOk result (λ end. IfNone end ((CanCut self.old.core.half → ⊥) × IsSame self.old.core self.new.core)) }
+        ensures err { OnErr result (IsSame self.old.core self.new.core) }
+        ensures given { self.new.given ≡ self.old.given }
+    {
+        self.core.cut(row)
+    }
+
+    /// Learns that a checkpoint is over.
+    pub fn finished(&mut self, receipt: Finished)
+        ensures { self.new ≡ record self.old { core = record self.old.core { half = record self.old.core.half { is_cut = false } } } }
+    {
+        self.core.finished(receipt);
+    }
+
+    /// How many records were made since the store was opened.
+    pub fn made(&self) -> u64
+        ensures { result ≡ self.now.core.half.row.made }
+    {
+        self.core.made()
+    }
+
+    /// How many records are stored, as receipts tell.
+    pub fn handed(&self) -> u64
+        ensures { result ≡ self.now.core.half.handed }
+    {
+        self.core.handed()
+    }
+
+    /// Whether records wait to be taken.
+    pub fn is_waiting(&self) -> bool
+        ensures { MatchBool result (self.now.core.taken < self.now.core.half.row.made) (self.now.core.half.row.made ≤ self.now.core.taken) }
+    {
+        self.core.is_waiting()
+    }
+
+    /// How many records the epoch's row has.
+    pub fn row_length(&self) -> u64
+        ensures { result ≡ self.now.core.half.row.length }
+    {
+        self.core.row_length()
+    }
+}
+
+/// Notes on a session's card that it made a call, after which there are so many records: one of its own, which the book counts,
+/// or none.
+fn note_call<L: Founding>(
+    card: &mut Card<L>,
+    book: &mut Book<L>,
+    before: u64,
+    after: usize,
+    call: &Call,
+    ticket: &Ticket,
+)
+    requires { 0 < card.old.share.parts }
+    ensures same { (card.new.number ≡ card.old.number) × (card.new.told ≡ card.old.told) × (card.new.share.parts ≡ card.old.share.parts) }
+    ensures recorded { before < after → (card.new.space ≡ card.old.space) × (card.new.places.numbers ≡ card.old.places.numbers ++ before ∷ [])
+        × (card.new.share.amount ≡ card.old.share.amount + 1) × (book.new.total ≡ book.old.total + 1) }
+    ensures answered { after ≤ before → (card.new.space ≡ space_after card.old.space call.now ticket.now.answer) × (card.new.places.numbers ≡ card.old.places.numbers)
+        × (card.new.share.amount ≡ card.old.share.amount) × (book.new.total ≡ book.old.total) }
+{
+    if before < after as u64 {
+        let places = std::mem::replace(&mut card.places, Tag::empty());
+        card.places = with_place(places, before);
+        book.add(&mut card.share, 1);
+    } else if ticket.is_success() {
+        card.space = attached_by(card.space, call);
+    }
+}
+
+/// The space that a call attaches its caller to where it is done.
+fn attached_by(space: u32, call: &Call) -> u32
+    ensures { result ≡ attached_by space call.now }
+{
+    match call {
+        Call::Attach { space: other } => *other,
+        _ => space,
+    }
+}
+
+/// A place more. It does nothing when it runs.
+fn with_place(places: Tag, place: u64) -> Tag
+    ensures { result.numbers ≡ places.numbers ++ place ∷ [] }
+{
+    let placing = Placing { places, place };
+    let tag = Tag::of::<Placing, OneMore>(&placing);
+    let Placing {
+        places: _,
+        place: _,
+    } = placing;
+    tag
+}
+
+/// Places and one more.
+struct Placing {
+    places: Tag,
+    place: u64,
+}
+
+struct OneMore;
+
+impl Names<Placing> for OneMore {
+    ghost use Rattle.std.specs.Prelude.{◌∷◌, [], ◌++◌};
+
+    ghost numbers = { λ p. p.places.numbers ++ p.place ∷ [] };
+}

@@ -1,0 +1,347 @@
+ghost use Rattle.std.specs.Prelude.{◌≡◌, ◌⊎◌, ◌≤◌, ◌<◌, ◌-◌, ◌+◌, ◌^◌, ◌++◌, [], false, length, Some, IfOk, IfErr, IfSome, IfNone, OnOk, OnErr, MatchBool};
+ghost use Rattle.codes.specs.declared.limits.TheConstants.{MAX_FRAME_CONTENT};
+ghost use Rattle.history.specs.Entries.{Begins};
+ghost use Rattle.ipc_model.specs.texts.Texts.{reply_text};
+ghost use Rattle.ipc_model.specs.state.Circular.{Grounded};
+ghost use Rattle.ipc_model.specs.state.Lawful.{Lawful};
+ghost use Rattle.session_core.specs.Keeping.{Applies, Ends, IsSame, Learns, Loads, Makes, entries_in, entries_of_call, first_core, first_number};
+ghost use Rattle.session_core.specs.Tokens.{IsHistory};
+ghost use Rattle.system.specs.Halves.{CanCut, CannotTake, Gives, with_receipt};
+
+use crate::beside::Beside;
+use history::{CatchUpFault, Founding, Past, Row};
+use ipc_model::{Call, Reply};
+use std::alloc::{AllocError, Global};
+use std::marker::Model;
+use std::sync::Arc;
+use storer::{End, Load};
+use storing::{Finished, Receipt};
+use system::{Kernel, KernelHalf, SubmitFault, Ticket};
+
+/// The half that makes calls, beside the history of what it made.
+#[derive(Drop)]
+pub(crate) struct Core<L: Founding> {
+    alloc: Global,
+    half: KernelHalf,
+
+    // None while a call is being made.
+    past: Option<Past<L>>,
+
+    // Of the records that were made: how many were in the row when it was begun, were made before the epoch, were taken to be
+    // stored, and are stored as receipts tell; and how many the row of the epoch before has.
+    opened: u64,
+    earlier: u64,
+    taken: u64,
+    handed: u64,
+    older: u64,
+}
+
+impl<L: Founding> Model for Core<L> {
+    ghost use Rattle.std.specs.Prelude.{◌≡◌, ◌≤◌, MatchOption};
+    ghost use Rattle.session_core.specs.Keeping.{CoreValue, IsCore, core_code};
+
+    ghost Value = { CoreValue };
+
+    ghost coded = { core_code };
+
+    ghost view = { λ c. record { half = c.half; past = c.past; opened = c.opened; earlier = c.earlier; taken = c.taken; older = c.older } };
+
+    ghost invariant = { λ c. (c.half.handed ≡ c.handed) × (c.handed ≤ c.taken)
+        × MatchOption c.past ⊥ (λ past. IsCore L.base c.half past.entries c.opened c.earlier c.taken c.older) };
+}
+
+impl<L: Founding> Core<L> {
+    /// Goes on from a state in an epoch, whose segment holds so many records, with the history that begins here.
+    pub(crate) fn new(
+        alloc: Global,
+        kernel: Kernel,
+        epoch: u64,
+        records: u64,
+        past: Past<L>,
+    ) -> Self
+        requires base { (kernel ≡ L.base) × Lawful L.base × Grounded L.base }
+        requires none { past.entries ≡ [] }
+        ensures { result ≡ first_core kernel epoch records past }
+    {
+        Core {
+            alloc,
+            half: KernelHalf::new(alloc, kernel, epoch, records),
+            past: Some(past),
+            opened: records,
+            earlier: 0,
+            taken: 0,
+            handed: 0,
+            older: 0,
+        }
+    }
+
+    /// How many records were made.
+    pub(crate) fn made(&self) -> u64
+        ensures { result ≡ self.now.half.row.made }
+    {
+        self.half.made()
+    }
+
+    /// Makes a call of a session of this number, whose task is attached to this space. The session has then seen all of the
+    /// history.
+    pub(crate) fn apply(
+        &mut self,
+        number: u32,
+        space: u32,
+        seen: Past<L>,
+        call: &Call,
+    ) -> (Past<L>, Result<Ticket, SubmitFault>)
+        requires { IsHistory L.base seen.entries }
+        ensures given { IfOk result.1 (λ ticket. Applies L.base number space seen.entries call.now ticket result.0.entries self.old.half.row.made self.new.half.row.made) }
+        ensures makes { IfOk result.1 (λ ticket. Makes self.old number space call.now ticket self.new) }
+        ensures err { OnErr result.1 (Learns L.base seen.entries result.0.entries × (self.new ≡ self.old)) }
+    {
+        let Some(kept) = self.past.take() else {
+            unreachable!()
+        };
+        let (kept, mine, made) = apply_beside(
+            self.alloc,
+            &mut self.half,
+            number,
+            space,
+            kept,
+            seen,
+            call,
+        );
+        self.past = Some(kept);
+        (mine, made)
+    }
+
+    /// Takes records that wait to be stored, with the history up to them. There is none while a load is out, or where no record
+    /// waits.
+    pub(crate) fn take(&mut self) -> Result<Option<Load<L>>, AllocError>
+        ensures taken { IfOk result (λ load. IfSome load (λ load. Loads self.old load self.new)) }
+        ensures none { IfOk result (λ load. IfNone load (CannotTake self.old.half × (self.new ≡ self.old))) }
+        ensures err { OnErr result (self.new ≡ self.old) }
+    {
+        let past = self.again()?;
+        let epoch = self.half.epoch();
+        // No number below passes these.
+        let _ = self.half.row_length();
+        let _ = past.len();
+        let Some(taken) = self.half.take() else {
+            return Ok(None);
+        };
+        let first = self.taken;
+        let number = first_number(
+            self.opened,
+            self.earlier,
+            self.older,
+            first,
+            taken.epoch() < epoch,
+        );
+        self.taken = first + u64::from(taken.count());
+        Ok(Some(Load {
+            epoch: taken.epoch(),
+            batch: taken.into_batch(),
+            past,
+            first,
+            number,
+        }))
+    }
+
+    /// Learns that the load that was out is stored.
+    pub(crate) fn durable(&mut self, receipt: Receipt)
+        ensures known { receipt + self.old.half.handed ≤ self.old.taken → self.new ≡ record self.old { half = with_receipt self.old.half receipt } }
+        ensures unknown { self.old.taken < receipt + self.old.half.handed → self.new ≡ self.old }
+    {
+        let count = u64::from(receipt.count());
+        // No receipt is of more than was taken.
+        if count <= self.taken - self.handed {
+            self.handed += count;
+            self.half.durable(receipt);
+        }
+    }
+
+    /// Learns that a checkpoint is over.
+    pub(crate) fn finished(&mut self, receipt: Finished)
+        ensures { self.new ≡ record self.old { half = record self.old.half { is_cut = false } } }
+    {
+        self.half.finished(receipt);
+    }
+
+    /// How many records are stored, as receipts tell.
+    pub(crate) fn handed(&self) -> u64
+        ensures { result ≡ self.now.half.handed }
+    {
+        self.handed
+    }
+
+    /// Whether records wait to be taken.
+    pub(crate) fn is_waiting(&self) -> bool
+        ensures { MatchBool result (self.now.taken < self.now.half.row.made) (self.now.half.row.made ≤ self.now.taken) }
+    {
+        self.taken < self.half.made()
+    }
+
+    /// How many records the epoch's row has.
+    pub(crate) fn row_length(&self) -> u64
+        ensures { result ≡ self.now.half.row.length }
+    {
+        self.half.row_length()
+    }
+
+    /// Begins the next epoch, whose entries come into this row, with a copy of the state. There is none while a checkpoint is
+    /// under way, or records of the epoch before wait.
+    pub(crate) fn cut(&mut self, row: Arc<Row, Global>) -> Result<Option<End<L>>, AllocError>
+        ensures cut { IfOk result (λ end. IfSome end (λ end. Ends self.old end self.new)) }
+        ensures not_now { IfOk result (λ end. IfNone end ((CanCut self.old.half → ⊥) × IsSame self.old self.new)) }
+        ensures err { OnErr result (IsSame self.old self.new) }
+    {
+        self.begin_row(row)?;
+        let past = self.again()?;
+        let length = self.half.row_length();
+        let cut = match self.half.cut(self.alloc) {
+            Ok(Some(cut)) => cut,
+            Ok(None) => {
+                drop(past);
+                return Ok(None);
+            }
+            Err(refused) => {
+                drop(past);
+                return Err(refused);
+            }
+        };
+        let earlier = past.len() as u64;
+        self.opened = 0;
+        self.earlier = earlier;
+        self.older = length;
+        Ok(Some(End {
+            cut,
+            epoch: self.half.epoch(),
+            past,
+            earlier,
+        }))
+    }
+
+    /// Goes on in another row, unless the one in use has no entry yet.
+    fn begin_row(&mut self, row: Arc<Row, Global>) -> Result<(), AllocError>
+        ensures { IsSame self.old self.new }
+    {
+        let Some(past) = &mut self.past else {
+            unreachable!()
+        };
+        if past.len() == past.start() {
+            return Ok(());
+        }
+        past.begin_row(row).or(Err(AllocError))
+    }
+
+    /// The reply that a ticket keeps, where all that it saw is stored; else the ticket comes back.
+    pub(crate) fn reply(&self, ticket: Ticket) -> Result<Reply, Ticket>
+        ensures ok { IfOk result (λ reply. (ticket.seen ≤ self.now.half.handed) × (reply ≡ ticket.answer)) }
+        ensures fits { IfOk result (λ reply. length (reply_text reply) ≤ MAX_FRAME_CONTENT) }
+        ensures err { IfErr result (λ kept. (self.now.half.handed < ticket.seen) × (kept ≡ ticket)) }
+    {
+        self.half.reply(ticket)
+    }
+
+    /// The history, with all that was made.
+    pub(crate) fn into_past(self) -> Past<L>
+        ensures past { self.past ≡ Some result }
+        ensures history { IsHistory L.base result.entries }
+        ensures all { self.half.row.made ≡ length result.entries }
+    {
+        let Core {
+            alloc: _,
+            half,
+            past,
+            opened: _,
+            earlier: _,
+            taken: _,
+            handed: _,
+            older: _,
+        } = self;
+        drop(half);
+        let Some(past) = past else { unreachable!() };
+        past
+    }
+
+    /// The history once more.
+    pub(crate) fn again(&mut self) -> Result<Past<L>, AllocError>
+        ensures same { self.new ≡ self.old }
+        ensures history { IfOk result (λ past. IsHistory L.base past.entries) }
+        ensures entries { IfOk result (λ past. entries_in self.old ≡ Some past.entries) }
+    {
+        let Some(past) = &mut self.past else {
+            unreachable!()
+        };
+        past.again()
+    }
+}
+
+/// Makes a call of a session of this number, whose task is attached to this space, beside what is kept of the history and what the
+/// session has seen of it, which is then all.
+fn apply_beside<L: Founding>(
+    alloc: Global,
+    half: &mut KernelHalf,
+    number: u32,
+    space: u32,
+    kept: Past<L>,
+    seen: Past<L>,
+    call: &Call,
+) -> (Past<L>, Past<L>, Result<Ticket, SubmitFault>)
+    ensures given { IfOk result.2 (λ ticket. Gives half.old space call.now ticket half.new) }
+    ensures kept { IfOk result.2 (λ ticket. result.0.entries ≡ kept.entries ++ entries_of_call number space call.now ticket) }
+    ensures seen { OnOk result.2 (result.1.entries ≡ result.0.entries) }
+    ensures begins { Begins seen.entries result.1.entries }
+    ensures more { OnOk result.2 (Begins seen.entries kept.entries) }
+    ensures err { OnErr result.2 ((half.new ≡ half.old) × (result.0 ≡ kept) × ((result.1.entries ≡ seen.entries) ⊎ (result.1.entries ≡ kept.entries))) }
+{
+    let mut mine = seen;
+    let mut kept = kept;
+    if let Err(fault) = level(&mut mine, &mut kept) {
+        return (kept, mine, Err(fault));
+    }
+    let beside = Beside {
+        alloc,
+        number,
+        kept,
+        mine,
+    };
+    let (beside, made) = half.submit_beside(space, call, beside);
+    let Beside {
+        alloc: _,
+        number: _,
+        kept,
+        mine,
+    } = beside;
+    (kept, mine, made)
+}
+
+/// The number in its epoch of the first record that wasn't taken, of which so many were: in the epoch before, or in this one.
+fn first_number(opened: u64, earlier: u64, older: u64, taken: u64, is_older: bool) -> u64
+    requires { MatchBool is_older ((taken ≤ earlier) × (earlier - taken ≤ older)) ((earlier ≤ taken) × (opened + (taken - earlier) < 2 ^ 64)) }
+    ensures { result ≡ first_number opened earlier older taken is_older }
+{
+    if is_older {
+        older - (earlier - taken)
+    } else {
+        opened + (taken - earlier)
+    }
+}
+
+/// Has a session learn all of the history. `EpochFull` where it can't, since it is ahead.
+fn level<L: Founding>(mine: &mut Past<L>, kept: &mut Past<L>) -> Result<(), SubmitFault>
+    ensures same { kept.new ≡ kept.old }
+    ensures rows { OnOk result (mine.new.rows ≡ kept.old.rows) }
+    ensures level { OnOk result (mine.new.entries ≡ kept.old.entries) }
+    ensures begins { Begins mine.old.entries mine.new.entries }
+    ensures err { OnErr result ((mine.new.entries ≡ mine.old.entries) ⊎ (mine.new.entries ≡ kept.old.entries)) }
+{
+    match mine.catch_up(kept) {
+        Ok(()) => {
+            if mine.rows() != kept.rows() || mine.len() != kept.len() {
+                return Err(SubmitFault::EpochFull);
+            }
+            Ok(())
+        }
+        Err(CatchUpFault::NoMemory) => Err(SubmitFault::NoMemory),
+        Err(CatchUpFault::Apart) => Err(SubmitFault::EpochFull),
+    }
+}

@@ -1,0 +1,88 @@
+ghost use Rattle.std.specs.Prelude.{◌≡◌, ◌+◌, ◌≤◌, ◌<◌, ◌-◌, Some, length, option_map, slice_get, MatchOption, OnOk, OnErr};
+ghost use Rattle.session_core.specs.Tokens.{HasRead};
+
+use boxcar::tag::Tag;
+use history::{Founding, Past};
+use ipc_model::Record;
+use std::alloc::AllocError;
+use std::marker::Model;
+use std::sync::ledger::Share;
+
+/// A session without what it has seen.
+#[derive(Drop)]
+pub(crate) struct Card<L: Founding> {
+    pub(crate) number: u32,
+    pub(crate) space: u32,
+    pub(crate) told: u64,
+
+    // In proofs alone: where its own records stand. The share's amount counts them.
+    pub(crate) places: Tag,
+    pub(crate) share: Share<L>,
+}
+
+/// A session: the token of all that its task has seen of the history. It is used up by each call, and comes back with what was
+/// seen.
+#[derive(Drop)]
+pub struct Session<L: Founding> {
+    pub(crate) card: Card<L>,
+    pub(crate) past: Past<L>,
+}
+
+impl<L: Founding> Model for Session<L> {
+    ghost use Rattle.std.specs.Prelude.{◌<◌, length};
+    ghost use Rattle.session_core.specs.Tokens.{SessionValue, IsSession, session_code, session_of};
+
+    ghost Value = { SessionValue };
+
+    ghost coded = { session_code };
+
+    ghost view = { λ s. session_of s.card.number s.card.space s.card.told s.card.places.numbers s.past };
+
+    ghost invariant = { λ s. IsSession L.base (session_of s.card.number s.card.space s.card.told s.card.places.numbers s.past) s.card.share.amount × (0 < s.card.share.parts) };
+}
+
+impl<L: Founding> Session<L> {
+    /// Its number, which no other session of its history has.
+    pub fn number(&self) -> u32
+        ensures { result ≡ self.now.number }
+    {
+        self.card.number
+    }
+
+    /// The space that its task is attached to.
+    pub fn space(&self) -> u32
+        ensures { result ≡ self.now.task.space }
+    {
+        self.card.space
+    }
+
+    /// How many records of the history it has seen.
+    pub fn seen(&self) -> usize
+        ensures { result ≡ self.now.task.seen }
+    {
+        self.past.len()
+    }
+
+    /// Of how many records of the history its task was told: the most that a redeemed reply saw.
+    pub fn told(&self) -> u64
+        ensures { result ≡ self.now.task.told }
+    {
+        self.card.told
+    }
+
+    /// Reads the records of the row that it saw last. It takes no lock. Where memory is wanted, what was read stays.
+    pub fn read(&mut self) -> Result<(), AllocError>
+        ensures ok { OnOk result (HasRead self.old (length self.old.past.entries - self.old.past.start) self.new) }
+        ensures err { OnErr result (HasRead self.old self.new.past.read self.new × (self.old.past.read ≤ self.new.past.read)) }
+    {
+        self.past.read()
+    }
+
+    /// The record at a place of the row that it saw last, if it was read. It takes neither lock nor memory.
+    pub fn record(&self, at: usize) -> Option<&Record>
+        ensures { MatchOption result (self.now.past.read ≤ at)
+            (λ r. (at < self.now.past.read) × (option_map (λ e. e.record) (slice_get self.now.past.entries (self.now.past.start + at)) ≡ Some r.now)) }
+    {
+        self.past.record(at)
+    }
+}
