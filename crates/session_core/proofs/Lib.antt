@@ -1,9 +1,9 @@
-mod Apart
+pub mod Apart
 mod Belongings
-mod Calling
+pub mod Calling
 mod Calls
 mod Cores
 mod Cutting
-mod Histories
+pub mod Histories
 mod Meetings
 mod Taking

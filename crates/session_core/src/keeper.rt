@@ -32,11 +32,24 @@ pub const MOST_SESSIONS: u32 = u32::MAX;
 
 /// What lies under the lock of the kernel: the half that makes calls beside the history, the book that counts all sessions' records,
 /// and the sessions' numbers.
-#[derive(Drop)]
 pub struct Keeper<L: Founding> {
     core: Core<L>,
     book: Book<L>,
     numbers: Numbers<L>,
+}
+
+// Written out, as proofs above then know one function, and not the parts.
+impl<L: Founding> Drop for Keeper<L> {
+    fn drop(self) {
+        let Keeper {
+            core,
+            book,
+            numbers,
+        } = self;
+        drop(core);
+        drop(book);
+        drop(numbers);
+    }
 }
 
 impl<L: Founding> Model for Keeper<L> {
