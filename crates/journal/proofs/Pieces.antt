@@ -1,5 +1,5 @@
 -- What a front of bytes tells of all of them.
-use Rattle.std.proofs.Common.{◌≡◌, ◌⊎◌, inl, inr, ℕ, ◌+◌, ◌≤◌, List, [], ◌++◌, length, take, drop, refl, sym, ap, ◌∙◌, subst, arith, append_assoc, take-append-drop, length-append, length-drop}
+use Rattle.std.proofs.Common.{◌≡◌, ◌⊎◌, inl, inr, ℕ, ◌+◌, ◌-◌, ◌≤◌, List, [], ◌++◌, length, take, drop, refl, sym, ap, ◌∙◌, subst, arith, append_assoc, take-append-drop, length-append, length-drop, length-take}
 use Rattle.std.proofs.lemmas.List.{take_all, take_at, take-take, drop_at, drop-drop, drop-take}
 use Rattle.journal.specs.declared.window.TheConstants.{LONGEST_STEP}
 use Rattle.journal.specs.Windows.{WindowValue, IsOver, IsFull}
@@ -75,3 +75,10 @@ window_opens bytes window end none inside room = record {
   shown = none ∙ sym (ap (λ (l : List ℕ). take (length l) (drop window.at bytes)) none);
   room = room;
 }
+
+-- what is left of the front of a buffer
+front_long : (from to : ℕ) (buffer : List ℕ) → to ≤ length buffer → length (drop from (take to buffer)) ≡ to - from
+front_long from to buffer fits = omega (arith, length-drop from (take to buffer), length-take to buffer)
+
+pub full_front : (from to : ℕ) (buffer : List ℕ) (window : WindowValue) → to ≤ length buffer → drop from (take to buffer) ≡ window.front → LONGEST_STEP ≤ to - from → LONGEST_STEP ≤ length window.front
+full_front from to buffer window fits is long = subst (λ n. LONGEST_STEP ≤ n) (sym (front_long from to buffer fits) ∙ ap length is) long

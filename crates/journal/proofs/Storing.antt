@@ -1,11 +1,11 @@
 -- What a stop may leave while a text is stored behind a slot's gate, call by call.
-use Rattle.std.proofs.Common.{◌≡◌, ◌⊎◌, inl, inr, ℕ, ◌+◌, ◌-◌, ◌<◌, ◌≤◌, List, [], ◌∷◌, ◌++◌, length, take, drop, get_or, refl, sym, ◌∙◌, ap, subst, arith, length-append, append_assoc, take-append-drop}
+use Rattle.std.proofs.Common.{◌≡◌, ◌⊎◌, inl, inr, ℕ, ◌+◌, ◌-◌, ◌<◌, ◌≤◌, List, Result, Ok, Err, [], ◌∷◌, ◌++◌, length, take, drop, get_or, refl, sym, ◌∙◌, ap, subst, arith, length-append, append_assoc, take-append-drop}
 use Rattle.std.proofs.lemmas.Bool.{cases_lt}
-use Rattle.std.proofs.lemmas.List.{append-nil, take_at, drop_at, take_all, drop_all, drop_more, take_more, length-take}
+use Rattle.std.proofs.lemmas.List.{append-nil, take_at, drop_at, take_all, take-append-le, drop_all, drop_more, take_more, length-take}
 use Rattle.disk.specs.declared.slot.Slot.{Slot}
 use Rattle.disk.specs.declared.slot.Slot.TheVariants.{Image0, Image1, Segment0, Segment1}
 use Rattle.disk.specs.Slots.{Slots, slot_of, with_slot, written_at, TornWrite}
-use Rattle.disk.specs.Moments.{View, MayLeave, Passes, Follows, IsSynced}
+use Rattle.disk.specs.Moments.{View, MayLeave, Passes, Follows, IsSynced, CountsFailure, one_more}
 use Rattle.journal.specs.Storing.{IsMidStore}
 
 -- no call
@@ -135,3 +135,28 @@ storing_whole old written synced new slot text gate n settled some last time_wri
     storing_gate old synced new slot text front y gate settled apart (omega (arith, length-take gate s)) so_far
     (λ c left. is_synced c left ∙ held)
     (subst (λ k. Passes synced new (Follows synced slot (TornWrite gate k))) one time)
+
+-- a call that failed behind calls that didn't
+pub counted_error : {T E : Type 0} (before mid now : ℕ) (r : Result T E) (e : E) → r ≡ Err e → mid ≡ before → now ≡ one_more mid → CountsFailure before now r
+counted_error before mid now (Ok v) e is same counted = absurd (cc is)
+counted_error before mid now (Err f) e is same counted = record { ok = tt; err = counted ∙ ap one_more same }
+
+-- the gate is opened over the last byte, and the text stands behind it
+opened_text : (s text : List ℕ) (gate x : ℕ) → gate + 1 ≡ length s → written_at (written_at s (gate + 1) text) gate (x ∷ []) ≡ take gate s ++ (x ∷ text)
+opened_text s text gate x last =
+    let first : written_at s (gate + 1) text ≡ s ++ text =
+    (λ i. take_all (gate + 1) s (omega (arith, last)) i ++ text ++ drop_all (gate + 1 + length text) s (omega (arith, last)) i) ∙ append-nil (s ++ text) in
+    let front : take gate (s ++ text) ≡ take gate s = take-append-le gate s text (omega (arith, last)) in
+    let behind : drop (gate + 1) (s ++ text) ≡ text = drop_at s text (gate + 1) (sym last) in
+    ap (λ (l : List ℕ). written_at l gate (x ∷ [])) first ∙ (λ i. front i ++ (x ∷ []) ++ behind i) ∙ append_assoc (take gate s) (x ∷ []) text
+
+pub batch_written : (slot : Slot) (old mid synced new after : Slots) (text : List ℕ) (gate x : ℕ) → 0 < length (slot_of old slot) → gate ≡ length (slot_of old slot) - 1
+    → mid ≡ with_slot old slot (written_at (slot_of old slot) (gate + 1) text) → synced ≡ mid → new ≡ with_slot synced slot (written_at (slot_of synced slot) gate (x ∷ [])) → after ≡ new
+    → after ≡ with_slot old slot (take (length (slot_of old slot) - 1) (slot_of old slot) ++ (x ∷ text))
+batch_written slot old mid synced new after text gate x some last first same second end =
+    let s : List ℕ = slot_of old slot in
+    let bytes : List ℕ = written_at s (gate + 1) text in
+    let stood : synced ≡ with_slot old slot bytes = same ∙ first in
+    let own : slot_of synced slot ≡ bytes = ap (λ (c : Slots). slot_of c slot) stood ∙ slot_set old slot bytes in
+    end ∙ second ∙ (λ i. with_slot (stood i) slot (written_at (own i) gate (x ∷ []))) ∙ slot_twice old slot bytes (written_at bytes gate (x ∷ []))
+    ∙ ap (λ (b : List ℕ). with_slot old slot b) (opened_text s text gate x (omega (arith, some, last))) ∙ ap (λ (n : ℕ). with_slot old slot (take n s ++ (x ∷ text))) last

@@ -347,3 +347,14 @@ module _ {D : Type 0} (honest : Type 0) (view : D → View) where
       let closed = (close_done b s0 s1 first done).1 in
       let headed = (head_done d s0 s1 s2 closed more).1 in
       record { closed = s1; headed = s2; closes = closed; heads = headed; opens = (open_done e s0 s1 s2 s3 first closed headed last).1 }
+
+module _ {D : Type 0} (honest : Type 0) (view : D → View) (records : ℕ) (state : State) where
+  -- a step of an image, where a checkpoint is under way
+  pub image_goes : (checkpoint : Option CheckpointValue) (old new : StoreValue D) → is_some checkpoint ≡ true → GoesOnImage honest view old new → GoesOn honest view records state checkpoint old new
+  image_goes None old new is goes = absurd (cc is)
+  image_goes (Some checkpoint) old new is goes = goes
+
+  -- nothing is due
+  pub none_due : (checkpoint : Option CheckpointValue) (store : StoreValue D) → is_some checkpoint ≡ false → store.segment.records < records → GoesOn honest view records state checkpoint store store
+  none_due None store none few = inl (inl few, refl)
+  none_due (Some checkpoint) store none few = absurd (cc none)

@@ -11,4 +11,5 @@ pub mod Passed
 pub mod Rows
 mod Runs
 pub mod Simulation
+mod Stored
 mod Tickets

@@ -1,10 +1,15 @@
 -- What a call leaves of the half that makes calls.
-use Rattle.std.proofs.Common.{◌≡◌, ℕ, ◌+◌, ◌≤◌, Bool, true, false, Result, Ok, Err, OnErr, arith, refl, subst, sym}
-use Rattle.std.specs.Prelude.{IsErrOf, if◌then◌else◌}
+use Rattle.std.proofs.Common.{◌≡◌, inl, inr, ℕ, ◌+◌, ◌-◌, ◌^◌, ◌≤◌, ◌<◌, ◌∙◌, ap, Bool, true, false, List, ◌++◌, length, take, length-append, Result, Ok, Err, OnErr, arith, refl, subst, sym}
+use Rattle.std.specs.Prelude.{IsErrOf, MatchBool, if◌then◌else◌}
+use Rattle.std.proofs.Math.Dec.{leb}
+use Rattle.std.proofs.lemmas.List.{take_at}
+use Rattle.std.proofs.lemmas.Bool.Decides.{leb_tells}
 use Rattle.ipc_model.specs.calls.Step.{has_record}
 use Rattle.ipc_model.specs.declared.call.Call.{Call}
 use Rattle.ipc_model.specs.declared.call.Reply.{Reply}
-use Rattle.system.specs.Halves.{RowValue, entry_of, row_after, with_record}
+use Rattle.ipc_model.specs.texts.Texts.{record_text}
+use Rattle.journal.specs.Batch.{without_last}
+use Rattle.system.specs.Halves.{CanCut, KernelValue, RowValue, entry_of, row_after, with_record}
 use Rattle.system.specs.declared.kernel_half.SubmitFault.{SubmitFault}
 use Rattle.system.specs.declared.kernel_half.SubmitFault.TheVariants as fault
 
@@ -34,3 +39,27 @@ with_fault P (Err f) holds = holds
 pub memory_no_full : {T : Type 0} (r : Result T SubmitFault) → r ≡ Err fault.NoMemory → IsErrOf r fault.EpochFull → ⊥
 memory_no_full (Ok v) is told = cc is
 memory_no_full (Err f) is told = cc (is, told)
+
+-- a number that is within another, or isn't, by the test
+pub due_or_not : (a b seen handed : ℕ) → a ≡ seen → b ≡ handed → MatchBool (leb a b) (seen ≤ handed) (handed < seen)
+due_or_not a b seen handed same_seen same_handed = elim (leb_tells a b) as (λ _. MatchBool (leb a b) (seen ≤ handed) (handed < seen)) [
+  | inl within ↦ subst (λ (t : Bool). MatchBool t (seen ≤ handed) (handed < seen)) (sym within.0) (omega (arith, within.1, same_seen, same_handed))
+  | inr beyond ↦ subst (λ (t : Bool). MatchBool t (seen ≤ handed) (handed < seen)) (sym beyond.0) (omega (arith, beyond.1, same_seen, same_handed))
+]
+
+-- the next epoch may begin, by the tests
+pub can_cut : (is_cut : Bool) (epoch older : ℕ) (half : KernelValue) → is_cut ≡ half.is_cut → epoch ≡ half.epoch → older ≡ half.older.count → is_cut ≡ false → epoch < 2 ^ 64 - 1 → (count : ℕ) → count ≡ older → count ≤ 0 → CanCut half
+can_cut is_cut epoch older half same_cut same_epoch same_older over next count counted none =
+    record { over = sym same_cut ∙ over; next = subst (λ n. n < 2 ^ 64 - 1) same_epoch next; none_older = omega (arith, same_older, counted, none) }
+
+one_less : (n : ℕ) → n + 1 - 1 ≡ n
+one_less n = omega arith
+
+-- a record that was written and taken out again
+pub record_out : (old with_one new : RowValue) (space : ℕ) (c : Call) (answer : Reply) (size : ℕ) → with_one ≡ with_record old (entry_of space c answer) → size ≡ length (record_text old.length (entry_of space c answer))
+    → new ≡ record { length = with_one.length - 1; made = with_one.made - 1; waiting = without_last with_one.waiting size } → new ≡ old
+record_out old with_one new space c answer size written long is =
+    let text : List ℕ = record_text old.length (entry_of space c answer) in
+    let less : length (old.waiting.body ++ text) - size ≡ length old.waiting.body = omega (arith, length-append old.waiting.body text, long) in
+    is ∙ ap (λ (r : RowValue). record { length = r.length - 1; made = r.made - 1; waiting = without_last r.waiting size }) written
+    ∙ (λ i. record { length = one_less old.length i; made = one_less old.made i; waiting = record { count = one_less old.waiting.count i; body = (ap (λ n. take n (old.waiting.body ++ text)) less ∙ take_at old.waiting.body text (length old.waiting.body) refl) i } })

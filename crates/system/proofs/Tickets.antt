@@ -1,6 +1,6 @@
 -- Tickets as they are given and answered.
 use Rattle.std.proofs.Common.{◌≡◌, ◌≢◌, ℕ, ◌+◌, ◌≤◌, ◌<◌, Bool, true, false, cond, Option, None, Some, Result, Err, refl, sym, ap, subst, ◌∙◌, arith}
-use Rattle.std.specs.Option.{IsSome}
+use Rattle.std.specs.Option.{IfNone, IfSome, IsSome, option_flatten}
 use Rattle.std.specs.Ordering.{nat_cmp, eq_by_cmp}
 use Rattle.std.specs.Cmp.{nat_cmp_total}
 use Rattle.std.specs.FinMap as finmap
@@ -51,3 +51,14 @@ dropped_place old made new is_made is_new none =
 
 pub err_same : {T E : Type 0} (r : Result T E) (a b : E) → r ≡ Err a → r ≡ Err b → a ≡ b
 err_same r a b one two = cc (one, two)
+
+-- a place that was taken out had a ticket where one comes of it
+pub taken_there : (o : Option (Option TicketValue)) (taken : Option TicketValue) → taken ≡ option_flatten o → IfSome taken (λ ticket. o ≡ Some (Some ticket))
+taken_there None taken is = subst (λ (t : Option TicketValue). IfSome t (λ ticket. None ≡ Some (Some ticket))) (sym is) tt
+taken_there (Some None) taken is = subst (λ (t : Option TicketValue). IfSome t (λ ticket. Some None ≡ Some (Some ticket))) (sym is) tt
+taken_there (Some (Some kept)) taken is = subst (λ (t : Option TicketValue). IfSome t (λ ticket. Some (Some kept) ≡ Some (Some ticket))) (sym is) refl
+
+pub none_taken : (o : Option (Option TicketValue)) (taken : Option TicketValue) → taken ≡ option_flatten o → IfNone taken ((ticket : TicketValue) → o ≡ Some (Some ticket) → ⊥)
+none_taken None taken is = subst (λ (t : Option TicketValue). IfNone t ((ticket : TicketValue) → None ≡ Some (Some ticket) → ⊥)) (sym is) (λ ticket there. cc there)
+none_taken (Some None) taken is = subst (λ (t : Option TicketValue). IfNone t ((ticket : TicketValue) → Some None ≡ Some (Some ticket) → ⊥)) (sym is) (λ ticket there. cc there)
+none_taken (Some (Some kept)) taken is = subst (λ (t : Option TicketValue). IfNone t ((ticket : TicketValue) → Some (Some kept) ≡ Some (Some ticket) → ⊥)) (sym is) tt

@@ -1,7 +1,8 @@
-use Rattle.std.proofs.Common.{ℕ, List, ◌++◌, take, ap, ◌∙◌}
+use Rattle.std.proofs.Common.{ℕ, List, ◌++◌, length, take, ap, subst, ◌∙◌, arith}
 use Rattle.disk.specs.Slots.{slot_of, with_slot}
+use Rattle.disk.specs.Moments.{CountsFailure}
 use Rattle.slot_steps.proofs.Following.{closed_then}
-use Rattle.slot_steps.proofs.Lengths.{always, segment_written}
+use Rattle.slot_steps.proofs.Lengths.{always, cut_length, own_of, segment_written}
 use Rattle.journal.proofs.roll.write_header.Goals as goal
 
 pub returns-clause-header : goal.returns-clause-header
@@ -21,3 +22,25 @@ returns-clause-any_moment g c = λ honest shut.
     closed_then slot old written (g.D.Disk.view c.sync_behind.new.disk)
     (closed_then slot old cut written (c.cut_behind.ensures.any_moment honest shut) (c.write_behind.ensures.any_moment honest shut_cut))
     (c.sync_behind.ensures.any_moment honest (c.in_ok-write_behind.ensures.shut honest shut_cut))
+
+pub returns-clause-synced : goal.returns-clause-synced
+returns-clause-synced g c = c.sync_behind.ensures.synced
+
+pub write_behind-requires-clause-inside : goal.write_behind-requires-clause-inside
+write_behind-requires-clause-inside g c = λ honest.
+    let old = (g.D.Disk.view c.args.disk.now).seen in
+    let gate = take 1 (slot_of old c.args.slot) in
+    omega (arith, ap length (own_of c.args.slot old (g.D.Disk.view c.cut_behind.new.disk).seen gate (c.in_ok-cut_behind.ensures.cut honest)), cut_length (slot_of old c.args.slot) 1 (c.requires honest))
+
+pub returns-in_err-cut_behind-clause-any_moment : goal.returns-in_err-cut_behind-clause-any_moment
+returns-in_err-cut_behind-clause-any_moment g c = c.cut_behind.ensures.any_moment
+
+pub returns-in_err-write_behind-clause-any_moment : goal.returns-in_err-write_behind-clause-any_moment
+returns-in_err-write_behind-clause-any_moment g c = λ honest shut.
+    closed_then c.args.slot (g.D.Disk.view c.args.disk.now) (g.D.Disk.view c.cut_behind.new.disk) (g.D.Disk.view c.write_behind.new.disk)
+    (c.cut_behind.ensures.any_moment honest shut) (c.write_behind.ensures.any_moment honest (c.in_ok-cut_behind.ensures.shut honest shut))
+
+pub returns-clause-failures : goal.returns-clause-failures
+returns-clause-failures g c =
+    subst (λ (n : ℕ). CountsFailure n (g.D.Disk.failed_calls c.sync_behind.new.disk) c.sync_behind.result)
+    (c.in_ok-write_behind.ensures.failures.ok ∙ c.in_ok-cut_behind.ensures.failures.ok) c.sync_behind.ensures.failures

@@ -1,23 +1,35 @@
-use Rattle.std.proofs.Common.{rules, ◌≡◌, ◌+◌, refl, true, ap, sym, subst, ◌∙◌}
+use Rattle.std.proofs.Common.{rules, ◌≡◌, ◌+◌, ◌-◌, ◌<◌, ◌^◌, refl, true, ap, subst, ◌∙◌}
 use Rattle.std.specs.Prelude.{is_none}
 use Rattle.ipc_model.specs.state.State.{State}
+use Rattle.image.specs.Rows.{snapshot_text}
 use Rattle.phases.specs.Phases.{IsImageOf}
-use Rattle.system.specs.Halves.{CanCut, KernelValue, next_row}
-use Rattle.system.proofs.Making.{with_fault}
+use Rattle.storing.specs.Values.{CutValue}
+use Rattle.system.specs.Halves.{KernelValue, next_row}
+use Rattle.system.proofs.Making.{can_cut, with_fault}
 use Rattle.system.proofs.kernel_half.KernelHalf.cut.Goals as goal
 
 pub returns-in_err-snapshot-clause-err : goal.returns-in_err-snapshot-clause-err
 returns-in_err-snapshot-clause-err c =
-    let can : CanCut c.args.self.now = search rules in
+    let old = c.self.view_is in
+    let next : c.self.inside.epoch < 2 ^ 64 - 1 = search rules in
+    let can = can_cut c.self.inside.is_cut c.self.inside.epoch c.self.inside.older.count c.args.self.now (ap (λ (k : KernelValue). k.is_cut) old) (ap (λ (k : KernelValue). k.epoch) old) (ap (λ (k : KernelValue). k.older.count) old)
+    c.if-self.false next c.count.result c.count.ensures c.if-count-gt0.false in
     with_fault _ c.from_residual.result (can, refl)
 
 pub returns-clause-cut : goal.returns-clause-cut
 returns-clause-cut c =
     let old = c.self.view_is in
-    let can : CanCut c.args.self.now = search rules in
-    let image : IsImageOf c.new.result.text c.self.inside.kernel = search rules in
-    let made : c.new.result.epoch ≡ c.self.inside.epoch + 1 = search rules in
-    let row : c.new.result.row ≡ c.self.inside.row.length = search rules in
+    let next : c.self.inside.epoch < 2 ^ 64 - 1 = search rules in
+    let can = can_cut c.self.inside.is_cut c.self.inside.epoch c.self.inside.older.count c.args.self.now (ap (λ (k : KernelValue). k.is_cut) old) (ap (λ (k : KernelValue). k.epoch) old) (ap (λ (k : KernelValue). k.older.count) old)
+    c.if-self.false next c.count.result c.count.ensures c.if-count-gt0.false in
+    let image : IsImageOf c.new.result.text c.self.inside.kernel = record {
+      text_is = ap (λ (v : CutValue). v.text) c.new.ensures ∙ ap snapshot_text c.in_ok-snapshot.ensures ∙ c.image_is_of_state.ensures c.self.inside.kernel;
+      lawful = c.has_image.ensures.lawful;
+      grounded = c.has_image.ensures.grounded;
+      short = c.has_image.ensures.short;
+    } in
+    let made : c.new.result.epoch ≡ c.self.inside.epoch + 1 = ap (λ (v : CutValue). v.epoch) c.new.ensures in
+    let row : c.new.result.row ≡ c.self.inside.row.length = ap (λ (v : CutValue). v.row) c.new.ensures ∙ c.len-row.ensures in
     record {
       can = can;
       epoch = made ∙ ap (λ (k : KernelValue). k.epoch + 1) old;
