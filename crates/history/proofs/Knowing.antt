@@ -256,6 +256,14 @@ module _ {X : Type 0} (f : X → ℕ) (g : X → Option PlacedValue) where
         ap known_entries same.1,
       )
 
+  -- the same place and notes once more, with nothing read
+  pub unread : (first : RowNames) (place other : PlaceValue) (mine new : List X) (seen none : List PlacedValue) → IsPast first place (map f mine) (map g mine) seen → other ≡ place → new ≡ mine → none ≡ []
+      → IsPast first other (map f new) (map g new) none
+  unread first place other mine new seen none is same more empty =
+      let whole : IsPast first place (map f mine) (map g mine) [] = record { notes = is.notes; leads = is.leads; begun = is.begun; read = refl } in
+      subst (λ (l : List PlacedValue). IsPast first other (map f new) (map g new) l) (sym empty)
+      (subst (λ (l : List X). IsPast first other (map f l) (map g l) []) (sym more) (subst (λ (p : PlaceValue). IsPast first p (map f mine) (map g mine) []) (sym same) whole))
+
 -- up to where a row was left the notes are of the first cells of those who went on
 pub front_cells : (first : RowNames) (mine theirs : List LinkValue) (own other : List ℕ) (known others : List (Option PlacedValue)) (s : ℕ) → AreNotes (names_after first mine).cells own known
     → AreNotes (names_after first theirs).cells other others → Leads first theirs (names_after first theirs).cells (length other) → take (length mine) theirs ≡ mine

@@ -1,3 +1,4 @@
+mod Membership
 mod Kept
 mod Releasing
 mod Alive

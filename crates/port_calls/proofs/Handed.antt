@@ -1,5 +1,5 @@
 -- What copy in took where a right came out.
-use Rattle.std.proofs.Common.{◌≡◌, List, [], ◌++◌, Option, None, Some, sym, ◌∙◌, ap}
+use Rattle.std.proofs.Common.{◌≡◌, List, [], ◌++◌, Option, None, Some, Result, Ok, Err, OnOk, sym, ◌∙◌, ap}
 use Rattle.ipc_model.specs.declared.message.CarriedRight.{CarriedRight}
 use Rattle.ipc_model.specs.rights.CopyIn.{Taken}
 use Rattle.ipc_model.specs.effects.Effects.{Effect}
@@ -19,3 +19,8 @@ pub taken_is : (o : Option Taken) (old new : State) (waiting after : List Effect
 taken_is None old new waiting after right none takes = absurd (cc takes.0)
 taken_is (Some taken) old new waiting after right none takes =
     some_is taken right new after takes.0 takes.1 (takes.2 ∙ ap (λ (es : List Effect). es ++ taken.notices) none)
+
+-- what holds in any case
+pub still_ok : {T E P : Type 0} (r : Result T E) → P → OnOk r P
+still_ok (Ok v) p = p
+still_ok (Err e) p = tt

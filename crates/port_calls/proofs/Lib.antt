@@ -1,3 +1,4 @@
 mod Handed
+mod Listed
 mod Moved
 mod Asking

@@ -1,9 +1,10 @@
 -- A name that stands for a right to a port holds its receive right or another one.
-use Rattle.std.proofs.Common.{◌≡◌, ℕ, ◌≤◌, ◌<◌, ◌/◌, ◌%◌, ◌^◌, Bool, true, false, cond, ◌||◌, nat_lt, Option, None, Some, option_and_then, refl, sym, ◌∙◌, ap, arith}
+use Rattle.std.proofs.Common.{◌≡◌, ℕ, ◌≤◌, ◌<◌, ◌/◌, ◌%◌, ◌^◌, min, Bool, true, false, cond, ◌||◌, nat_lt, Option, None, Some, option_and_then, refl, sym, ◌∙◌, ap, arith}
 use Rattle.std.proofs.lemmas.Bool.{ltb-false, ltb-true}
 use Rattle.ipc_model.specs.declared.entry.Entry.{Entry}
 use Rattle.ipc_model.specs.declared.entry.Entry.TheVariants.{Port, SendOnce, Set, Dead}
-use Rattle.ipc_model.specs.state.State.{is_number, received_port}
+use Rattle.ipc_model.specs.state.State.{is_number, received_port, request_of}
+use Rattle.spaces.specs.Burying.{IsNextMention}
 use Rattle.spaces.specs.Indexes.{IsNextAt, lesser}
 use Rattle.spaces.specs.Looking.{entry_in, port_named, port_shared, at_place}
 use Rattle.spaces.specs.Slots.{SpaceMap}
@@ -53,3 +54,11 @@ module _ (spaces : SpaceMap) (port from : ℕ) where
         let less : first ≤ second = ltb-false second first is in
         (s.0, s.1, named first ∙ first_is _ _ s.2, λ q after before. named q ∙ neither _ _ (s.3 q after before) (r.3 q after (omega (arith, before, less))))
   ] refl
+
+  -- the lesser of the first places at which a name stands for it and a request has it as target is the first that has to do with it
+  pub first_mention : (holder requester first : ℕ) → IsNextAt port_named spaces port from (Some holder) → IsNextAt request_of spaces port from (Some requester) → first ≡ min holder requester → IsNextMention port spaces from (Some first)
+  first_mention holder requester first h r is = (
+    omega (arith, is, h.0, r.0),
+    omega (arith, is, h.1, r.1),
+    λ q after before. (h.3 q after (omega (arith, before, is)), r.3 q after (omega (arith, before, is))),
+  )

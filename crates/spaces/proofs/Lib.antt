@@ -1,2 +1,3 @@
 mod Holding
+mod Moving
 mod Turning
