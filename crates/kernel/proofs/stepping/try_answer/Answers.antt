@@ -22,3 +22,6 @@ returns-clause-answered c =
 
 pub returns-clause-fits : goal.returns-clause-fits
 returns-clause-fits c = (step_fitting c.args.state.now.current c.args.space c.args.call.now c.in_ok-reply.reply c.step.new.state.current c.requires.lawful c.in_ok-reply.ensures.step).bytes
+
+pub returns-clause-none : goal.returns-clause-none
+returns-clause-none c = tt

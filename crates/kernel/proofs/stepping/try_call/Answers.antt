@@ -1,3 +1,4 @@
+use Rattle.std.proofs.Common.{rules}
 use Rattle.kernel.specs.Choosing.{prefers_told, giving_told}
 use Rattle.kernel.specs.Stepping.{of_some}
 use Rattle.kernel.specs.Trials.{acted}
@@ -9,3 +10,9 @@ returns-in-Some-clause-shown c =
     let tries = of_some _ c.in_ok-reply.field-0 c.in-Some.reply c.in-Some.is c.in_ok-reply.ensures.tries in
     let did = acted c.args.state.now.current c.args.space c.args.call.now c.in-Some.reply c.give_up.new.state.current c.give_up.new.effects tries in
     prefers_told c.args.state.now.current c.args.space c.args.call.now c.args.shown.now c.in-Some.reply did.0 did.1 (giving_told c.args.call.now gives) did.2
+
+pub returns-clause-tries : goal.returns-clause-tries
+returns-clause-tries c = search rules
+
+pub returns-clause-shown : goal.returns-clause-shown
+returns-clause-shown c = search rules
