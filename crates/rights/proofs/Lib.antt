@@ -1,3 +1,4 @@
+mod Leaving
 mod Arriving
 mod Naming
 mod OnTheWay

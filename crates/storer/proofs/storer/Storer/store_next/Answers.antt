@@ -1,4 +1,4 @@
-use Rattle.std.proofs.Common.{◌∙◌, ℕ, ◌+◌, sym, subst}
+use Rattle.std.proofs.Common.{rules, ◌∙◌, ℕ, ◌+◌, sym, subst}
 use Rattle.storer.specs.Storing.{IsStorer, LoadValue, StorerValue}
 use Rattle.storer.proofs.Storers.{appended, begins_here, loses_from, next_here, not_appended}
 use Rattle.storer.proofs.storer.Storer.store_next.Goals as goal
@@ -37,3 +37,6 @@ returns-in-Err-clause-any_moment g c =
     let begins = begins_here g.D.Disk.honest g.D.Disk.view g.L.Founding.base old c.args.self.now load c.args.load c.self.view_is c.load.view_is c.requires.begins in
     loses_from g.D.Disk.honest g.D.Disk.view g.L.Founding.base old c.args.self.now c.append.new.self c.self.view_is
     (not_appended g.D.Disk.honest g.D.Disk.view g.L.Founding.base old load c.append.new.self c.self.invariant c.load.invariant begins next c.append.ensures.any_moment c.in-Err.fault c.in-Err.ensures.failed c.in-Err.ensures.full (λ device. (c.in-Err.ensures.device device).0) c.in-Err.ensures.faults).loses
+
+pub returns-in-Err-clause-back : goal.returns-in-Err-clause-back
+returns-in-Err-clause-back g c = search rules
