@@ -8,7 +8,7 @@ ghost use Rattle.tracked_map.specs.Slots.{picked};
 use crate::Spaces;
 use crate::slot::Space;
 use crate::table::SpaceTable;
-use number_map::NumberMap;
+use number_table::NumberTable;
 
 impl Spaces {
     /// The least number from one on that a space has. What closed since the changes were last kept is passed over.
@@ -29,7 +29,7 @@ impl SpaceTable {
 }
 
 /// The least number from one on under which a slot has a space.
-fn next_there(slots: &NumberMap<Space>, from: u64) -> Option<u32>
+fn next_there(slots: &NumberTable<Space>, from: u64) -> Option<u32>
     ensures { IsNextSpace (picked is slots.now) from result }
 {
     let mut at = from;
@@ -43,12 +43,12 @@ fn next_there(slots: &NumberMap<Space>, from: u64) -> Option<u32>
 }
 
 /// The least number of a word from one on that has a slot, and whether there is a space in it.
-fn next_slot(slots: &NumberMap<Space>, from: u64) -> Option<(u32, bool)>
+fn next_slot(slots: &NumberTable<Space>, from: u64) -> Option<(u32, bool)>
     ensures slot { MatchOption result ((number : ℕ) → from ≤ number → number < 2 ^ 32 → map.get slots.now number ≡ None)
         (λ e. (from ≤ e.0) × (e.1 ≡ is_some (option_and_then is (map.get slots.now e.0))) × ((number : ℕ) → from ≤ number → number < e.0 → map.get slots.now number ≡ None)) }
     ensures fits { IfSome result (λ e. e.0 < 2 ^ 32) }
 {
-    let Some((key, slot)) = slots.next_from(u128::from(from)) else {
+    let Some((key, slot)) = slots.next_from(from) else {
         return None;
     };
     let Ok(number) = u32::try_from(key) else {

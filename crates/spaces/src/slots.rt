@@ -10,42 +10,42 @@ ghost use Rattle.tracked_map.specs.Touched.{AreTouched, turned};
 
 use crate::slot::Space;
 use ipc_model::Entry;
-use number_map::NumberMap;
+use number_table::NumberTable;
 use std::alloc::{AllocError, Global};
 
 /// Makes a space without names where none is there.
 pub(crate) fn open_at(
     alloc: Global,
-    slots: &mut NumberMap<Space>,
+    slots: &mut NumberTable<Space>,
     space: u32,
 ) -> Result<(), AllocError>
     requires absent { (slot : SpaceSlot) → map.get slots.old space ≡ Some slot → slot.current ≡ None }
     ensures ok { OnOk result (slots.new ≡ slot_opened slots.old space) }
     ensures err { OnErr result (slots.new ≡ slots.old) }
 {
-    if let Some(slot) = slots.get_mut(u128::from(space)) {
+    if let Some(slot) = slots.get_mut(space) {
         slot.open();
         return Ok(());
     }
     let mut slot = Space::new(alloc);
     slot.open();
-    drop(slots.insert(u128::from(space), slot)?);
+    drop(slots.insert(space, slot)?);
     Ok(())
 }
 
 /// A space without names goes.
-pub(crate) fn close_at(slots: &mut NumberMap<Space>, space: u32)
+pub(crate) fn close_at(slots: &mut NumberTable<Space>, space: u32)
     requires empty { (slot : SpaceSlot) → map.get slots.old space ≡ Some slot → (names : Names) → slot.current ≡ Some names → names ≡ map.empty }
     ensures { slots.new ≡ slot_changed slots.old space (λ slot. record slot { current = None }) }
 {
-    if let Some(slot) = slots.get_mut(u128::from(space)) {
+    if let Some(slot) = slots.get_mut(space) {
         slot.close();
     }
 }
 
 /// Has a name of a space stand for this. Where memory is wanted the changes of the space are given up.
 pub(crate) fn put_at(
-    slots: &mut NumberMap<Space>,
+    slots: &mut NumberTable<Space>,
     space: u32,
     name: u32,
     entry: Entry,
@@ -55,7 +55,7 @@ pub(crate) fn put_at(
     ensures ok { OnOk result (slots.new ≡ slot_changed slots.old space (λ slot. record slot { current = option_map (λ names. map.insert names name entry) slot.current })) }
     ensures err { OnErr result (slots.new ≡ slot_changed slots.old space (λ slot. slot_at_rest slot.before)) }
 {
-    match slots.get_mut(u128::from(space)) {
+    match slots.get_mut(space) {
         Some(slot) => slot.put(name, entry),
         None => Ok(()),
     }
@@ -63,21 +63,21 @@ pub(crate) fn put_at(
 
 /// Takes a name of a space out of use. Where memory is wanted the changes of the space are given up.
 pub(crate) fn remove_at(
-    slots: &mut NumberMap<Space>,
+    slots: &mut NumberTable<Space>,
     space: u32,
     name: u32,
 ) -> Result<(), AllocError>
     ensures ok { OnOk result (slots.new ≡ slot_changed slots.old space (λ slot. record slot { current = option_map (λ names. map.remove names name) slot.current })) }
     ensures err { OnErr result (slots.new ≡ slot_changed slots.old space (λ slot. slot_at_rest slot.before)) }
 {
-    match slots.get_mut(u128::from(space)) {
+    match slots.get_mut(space) {
         Some(slot) => slot.remove(name),
         None => Ok(()),
     }
 }
 
 /// Keeps the changes of the slots of these keys.
-pub(crate) fn keep_slots(slots: &mut NumberMap<Space>, touched: &[u128])
+pub(crate) fn keep_slots(slots: &mut NumberTable<Space>, touched: &[u32])
     requires { AreTouched was is slots.old touched.now }
     ensures shown { picked is slots.new ≡ picked is slots.old }
     ensures rest { AreTouched was is slots.new [] }
@@ -89,7 +89,7 @@ pub(crate) fn keep_slots(slots: &mut NumberMap<Space>, touched: &[u128])
     }
 }
 
-fn keep_slot(slots: &mut NumberMap<Space>, key: u128)
+fn keep_slot(slots: &mut NumberTable<Space>, key: u32)
     ensures { slots.new ≡ turned is kept_slot slots.old key }
 {
     let Some(slot) = slots.get_mut(key) else {
@@ -103,7 +103,7 @@ fn keep_slot(slots: &mut NumberMap<Space>, key: u128)
 }
 
 /// Gives the changes of the slots of these keys up.
-pub(crate) fn give_slots_up(slots: &mut NumberMap<Space>, touched: &[u128])
+pub(crate) fn give_slots_up(slots: &mut NumberTable<Space>, touched: &[u32])
     requires { AreTouched is was slots.old touched.now }
     ensures shown { picked was slots.new ≡ picked was slots.old }
     ensures rest { AreTouched is was slots.new [] }
@@ -115,7 +115,7 @@ pub(crate) fn give_slots_up(slots: &mut NumberMap<Space>, touched: &[u128])
     }
 }
 
-fn give_slot_up(slots: &mut NumberMap<Space>, key: u128)
+fn give_slot_up(slots: &mut NumberTable<Space>, key: u32)
     ensures { slots.new ≡ turned was given_slot slots.old key }
 {
     let Some(slot) = slots.get_mut(key) else {

@@ -10,7 +10,7 @@ use crate::numbers::Numbers;
 use crate::slot::Space;
 use crate::slots::{close_at, give_slots_up, keep_slots, open_at, put_at, remove_at};
 use ipc_model::Entry;
-use number_map::NumberMap;
+use number_table::NumberTable;
 use port_space::PortSpace;
 use std::alloc::{AllocError, Global};
 use std::marker::Model;
@@ -20,9 +20,9 @@ use std::marker::Model;
 #[derive(Drop)]
 pub struct SpaceTable {
     alloc: Global,
-    pub(crate) slots: NumberMap<Space>,
+    pub(crate) slots: NumberTable<Space>,
     /// The slots that may have changed.
-    touched: Vec<u128>,
+    touched: Vec<u32>,
     count: usize,
     count_before: usize,
     numbers: Numbers,
@@ -55,7 +55,7 @@ impl SpaceTable {
     {
         SpaceTable {
             alloc,
-            slots: NumberMap::new(alloc),
+            slots: NumberTable::new(alloc),
             touched: Vec::new(alloc),
             count: 0,
             count_before: 0,
@@ -82,7 +82,7 @@ impl SpaceTable {
     pub fn names(&self, space: u32) -> Option<&PortSpace>
         ensures { option_map (λ names. names.current) (option_copied result) ≡ map.get self.now.current space }
     {
-        match self.slots.get(u128::from(space)) {
+        match self.slots.get(space) {
             Some(slot) => slot.names(),
             None => None,
         }
@@ -109,7 +109,7 @@ impl SpaceTable {
         }
         match open_at(self.alloc, &mut self.slots, space) {
             Ok(()) => {
-                self.touched.push_reserved(u128::from(space));
+                self.touched.push_reserved(space);
                 self.count += 1;
                 self.numbers.add(space);
                 Ok(())
@@ -134,7 +134,7 @@ impl SpaceTable {
         }
         match put_at(&mut self.slots, space, name, entry) {
             Ok(()) => {
-                self.touched.push_reserved(u128::from(space));
+                self.touched.push_reserved(space);
                 Ok(())
             }
             Err(error) => {
@@ -158,7 +158,7 @@ impl SpaceTable {
         }
         match remove_at(&mut self.slots, space, name) {
             Ok(()) => {
-                self.touched.push_reserved(u128::from(space));
+                self.touched.push_reserved(space);
                 Ok(())
             }
             Err(error) => {
@@ -183,7 +183,7 @@ impl SpaceTable {
         }
         if self.contains(space) {
             close_at(&mut self.slots, space);
-            self.touched.push_reserved(u128::from(space));
+            self.touched.push_reserved(space);
             self.count -= 1;
             self.numbers.remove(space);
         }

@@ -7,7 +7,7 @@ pub returns-clause-slot : goal.returns-clause-slot
 returns-clause-slot c =
     let same = c.in-Ok.ensures.1 in
     let there = ap (map.get c.args.slots.now) same ∙ c.in-Some.ensures.1 in (
-      omega (arith, same, c.from.ensures, c.in-Some.ensures.0),
+      omega (arith, same, c.in-Some.ensures.0),
       c.is_there.ensures ∙ sym (ap (λ (slot : Option SpaceSlot). is_some (option_and_then is slot)) there),
-      λ number after before. c.in-Some.ensures.2 number (omega (arith, after, c.from.ensures)) (omega (arith, before, same)),
+      λ number after before. c.in-Some.ensures.2 number after (omega (arith, before, same)),
     )

@@ -23,7 +23,7 @@ invariant_of-self-in-Ok c =
     let none = ap (λ (t : TrackedSpaces). get t.current c.args.space) c.self.view_is ∙ c.requires.absent in
     let more = len-insert nat_cmp_total (picked is c.self.inside.slots) c.args.space empty ∙ ap (λ (o : Option Names). cond (is_some o) (len (picked is c.self.inside.slots)) (len (picked is c.self.inside.slots) + 1)) none in (
       subst (λ (s : SpaceSlots). AreTouched was is s c.push_reserved.new.self.items) (sym opened)
-          (laws.opened_touched c.self.inside.slots c.reserve.new.self.items c.push_reserved.new.self.items c.args.space (c.push_reserved.ensures.items ∙ ap (λ (k : ℕ). c.reserve.new.self.items ++ k ∷ []) c.from.ensures) (subst (AreTouched was is c.self.inside.slots) (sym c.reserve.ensures.items) c.self.invariant.0)),
+          (laws.opened_touched c.self.inside.slots c.reserve.new.self.items c.push_reserved.new.self.items c.args.space c.push_reserved.ensures.items (subst (AreTouched was is c.self.inside.slots) (sym c.reserve.ensures.items) c.self.invariant.0)),
       ap (λ (n : ℕ). n + 1) c.self.invariant.1 ∙ sym (ap (λ (s : SpaceSlots). len (picked is s)) opened ∙ ap len (laws.opened_is c.self.inside.slots c.args.space) ∙ more),
       c.self.invariant.2 ∙ sym (ap (λ (s : SpaceSlots). len (picked was s)) opened ∙ ap len (laws.opened_was c.self.inside.slots c.args.space)),
       subst (λ (s : SpaceSlots). AreTaken c.add.new.self (picked is s)) (sym opened) (subst (AreTaken c.add.new.self) (sym (laws.opened_is c.self.inside.slots c.args.space)) (c.add.ensures (picked is c.self.inside.slots) c.self.invariant.3)),

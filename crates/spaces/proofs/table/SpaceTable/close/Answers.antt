@@ -30,7 +30,7 @@ invariant_of-self-then-contains c =
     let change : SpaceSlot → SpaceSlot = λ slot. record slot { current = None } in
     let done = c.close_at.ensures in (
       subst (λ (s : SpaceSlots). AreTouched was is s c.push_reserved.new.self.items) (sym done)
-          (laws.changed_touched c.self.inside.slots c.reserve.new.self.items c.push_reserved.new.self.items c.args.space change (c.push_reserved.ensures.items ∙ ap (λ (k : ℕ). c.reserve.new.self.items ++ k ∷ []) c.from.ensures)
+          (laws.changed_touched c.self.inside.slots c.reserve.new.self.items c.push_reserved.new.self.items c.args.space change c.push_reserved.ensures.items
           (subst (AreTouched was is c.self.inside.slots) (sym c.reserve.ensures.items) c.self.invariant.0)),
       ap (λ (n : ℕ). n - 1) c.self.invariant.1
           ∙ sym (ap (λ (s : SpaceSlots). len (picked is s)) done ∙ ap len (laws.looks_gone c.self.inside.slots c.args.space change is (λ (s : SpaceSlot). refl)) ∙ laws.one_less (picked is c.self.inside.slots) c.args.space (sym c.contains.ensures ∙ c.if-contains.true)),

@@ -21,7 +21,7 @@ invariant_of-self-in-Ok c =
     let put : Names → Names = λ names. insert names c.args.name c.args.entry in
     let change : SpaceSlot → SpaceSlot = λ slot. record slot { current = option_map put slot.current } in (
       subst (λ (s : SpaceSlots). AreTouched was is s c.push_reserved.new.self.items) (sym done)
-          (laws.changed_touched c.self.inside.slots c.reserve.new.self.items c.push_reserved.new.self.items c.args.space change (c.push_reserved.ensures.items ∙ ap (λ (k : ℕ). c.reserve.new.self.items ++ k ∷ []) c.from.ensures) (subst (AreTouched was is c.self.inside.slots) (sym c.reserve.ensures.items) c.self.invariant.0)),
+          (laws.changed_touched c.self.inside.slots c.reserve.new.self.items c.push_reserved.new.self.items c.args.space change c.push_reserved.ensures.items (subst (AreTouched was is c.self.inside.slots) (sym c.reserve.ensures.items) c.self.invariant.0)),
       c.self.invariant.1 ∙ sym (ap (λ (s : SpaceSlots). len (picked is s)) done ∙ ap len (laws.looks_changed c.self.inside.slots c.args.space change is put (λ (s : SpaceSlot). refl)) ∙ laws.as_many (picked is c.self.inside.slots) c.args.space put),
       c.self.invariant.2 ∙ sym (ap (λ (s : SpaceSlots). len (picked was s)) done ∙ ap len (laws.looks_same c.self.inside.slots c.args.space change was (λ (s : SpaceSlot). refl))),
       subst (λ (s : SpaceSlots). AreTaken c.self.inside.numbers (picked is s)) (sym done)
