@@ -36,6 +36,21 @@ module _ (old between new : Places) (keys : Keys) (serial key : ℕ) (content : 
         | inr apart ↦ recent.found noted (sym (noting.others (place_of noted.0) apart ∙ alike (place_of noted.0)) ∙ stands)
       ]
 
+-- a serial that has a key is noted again
+module _ (old new : Places) (keys : Keys) (serial key : ℕ) (content : Option (ℕ × ℕ))
+    (recent : AreRecent old keys) (has : get keys serial ≡ Some key) (noting : IsNoted content (place_of serial) old new)
+    (is : IfSome content (λ noted. (noted.0 ≡ serial) × (noted.1 ≡ key))) where
+  pub noted_recent : AreRecent new keys
+  noted_recent = record {
+    found = λ noted stands. elim (cases_eq (place_of noted.0) (place_of serial)) [
+      | inl same ↦ own noted (key_of serial key content is noted (noting.here noted (ap (at new) (sym same) ∙ stands)))
+      | inr apart ↦ recent.found noted (sym (noting.others (place_of noted.0) apart) ∙ stands)
+    ];
+  }
+    where
+      own : (noted : ℕ × ℕ) → (noted.0 ≡ serial) × (noted.1 ≡ key) → get keys noted.0 ≡ Some noted.1
+      own noted same = ap (get keys) same.0 ∙ has ∙ ap Some (sym same.1)
+
 -- a serial's key goes, and its place is free
 module _ (old new : Places) (keys : Keys) (serial : ℕ) (recent : AreRecent old keys) (noting : IsNoted None (place_of serial) old new) where
   pub removed_recent : AreRecent new (remove keys serial)

@@ -55,6 +55,21 @@ impl SerialKeys {
         self.keys.get(serial).copied()
     }
 
+    /// The key of a serial, which is found in one look from now on, until another serial takes its place in the table.
+    pub(crate) fn find(&mut self, serial: u128) -> Option<usize>
+        ensures found { result ≡ map.get self.old serial }
+        ensures same { self.new ≡ self.old }
+    {
+        if let Some(key) = noted_key(&self.recent, serial) {
+            return Some(key);
+        }
+        let Some(key) = self.keys.get(serial).copied() else {
+            return None;
+        };
+        note(&mut self.recent, place(serial), noted(serial, key));
+        Some(key)
+    }
+
     /// The least serial from one on that has a key, with it.
     pub(crate) fn next_from(&self, from: u128) -> Option<(u128, &usize)>
         ensures { MatchOption result ((serial : ℕ) → from ≤ serial → map.get self.now serial ≡ None)

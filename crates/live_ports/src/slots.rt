@@ -133,11 +133,11 @@ impl PortSlots {
         }
     }
 
-    /// Keeps the changes of a port.
+    /// Keeps the changes of a port. It is found in one look by the next call, however many ports were made since it was.
     pub(crate) fn keep(&mut self, serial: u128)
         ensures { self.new ≡ slot_changed self.old serial kept_slot }
     {
-        if let Some(key) = self.keys.get(serial) {
+        if let Some(key) = self.keys.find(serial) {
             keep_at(&mut self.ports, key);
         }
     }
