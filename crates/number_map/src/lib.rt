@@ -7,11 +7,12 @@ ghost use Rattle.std.specs.FinMap as map;
 ghost use Rattle.std.specs.Map.Iter.{ShowsInOrder, ShowsValuesInOrder, deref_pair};
 ghost use Rattle.std.specs.Borrow.{LendsIf, sem};
 ghost use Rattle.std.specs.Option.{option_copied_mut};
+ghost use Rattle.number_map.specs.From.{IsFrom};
 ghost use Rattle.number_map.specs.contracts.NumberMap.{the_row};
 
 use std::alloc::{AllocError, Global};
 use std::collections::BTreeMap;
-use std::collections::btree_map::Iter;
+use std::collections::btree_map::{Iter, Range};
 use std::marker::Model;
 
 /// A map from numbers to values.
@@ -87,6 +88,14 @@ impl<V> NumberMap<V> {
             return None;
         };
         Some((*key, value))
+    }
+
+    /// The entries from this key on, rising by key.
+    pub fn range_from(&self, from: u128) -> Range<'_, u128, V>
+        ensures rest { IsFrom self.now from result }
+        ensures runs { ShowsInOrder (deref_pair {K = ℕ} {X = V}) }
+    {
+        self.entries.range(from..)
     }
 
     /// The entries, rising by key.
