@@ -7,6 +7,7 @@ use Rattle.std.specs.Ordering.{nat_cmp, eq_by_cmp, is_eq}
 use Rattle.std.specs.declared.cmp.Ordering.{Ordering}
 use Rattle.std.specs.declared.cmp.Ordering.TheVariants.{Less, Equal, Greater}
 use Rattle.std.specs.FinMap.{FinMap, find, empty, entries, get, insert, remove, len, get-entries, get-empty, get-insert, get-remove, len-empty, len-entries, len-insert, len-remove, empty_of_len, same_map, nat_cmp-IsAntisymmetric}
+use Rattle.number_map.specs.From.{IsFrom}
 use Rattle.tracked_map.specs.Tracked.{put, over, shown, is_among, unmarked, len_after, Tracked, at_rest, HasSlots, AreMarked, IsSound}
 
 is_equal : (o : Ordering) → is_eq o ≡ true → o ≡ Equal
@@ -336,6 +337,53 @@ module _ {X : Type 0} where
       → ((q : ℕ) → at ≤ q → q < key → get slots q ≡ None) → ((value : X) → slot ≡ Some value → ⊥) → Passed m from (key + 1)
   passed_slot slots m from at key slot seen passed is below none =
       same_passed _ _ from (key + 1) seen (passed_mark slots from key slot is none (passed_more slots from at key (same_passed _ _ from at (sym seen) passed) below))
+
+  -- a walk over the slots from a key on: those that it has yet to see, and nothing was seen
+  pub record Goes (m : FinMap {K = ℕ} nat_cmp X) (from : ℕ) (rest : List (ℕ × Option X)) : Type 0 where
+    pub slots : FinMap {K = ℕ} nat_cmp (Option X)
+    pub seen : shown slots ≡ m
+    pub at : ℕ
+    pub from_on : from ≤ at
+    pub passed : Passed m from at
+    pub left : IsFrom slots at rest
+
+  pub goes_off : (m : FinMap {K = ℕ} nat_cmp X) (slots : FinMap {K = ℕ} nat_cmp (Option X)) (from : ℕ) (rest : List (ℕ × Option X)) → shown slots ≡ m → IsFrom slots from rest → Goes m from rest
+  goes_off m slots from rest seen left = record { slots = slots; seen = seen; at = from; from_on = omega arith; passed = λ key le below. absurd (omega (arith, le, below)); left = left }
+
+  -- a slot without a value is passed over
+  pub goes_on : (m : FinMap {K = ℕ} nat_cmp X) (from key : ℕ) (slot : Option X) (all rest : List (ℕ × Option X)) → all ≡ (key, slot) ∷ rest → ((value : X) → slot ≡ Some value → ⊥) → Goes m from all → Goes m from rest
+  goes_on m from key slot all rest is none goes =
+      let left : IsFrom goes.slots goes.at ((key, slot) ∷ rest) = subst (IsFrom goes.slots goes.at) is goes.left in
+      record {
+        slots = goes.slots;
+        seen = goes.seen;
+        at = key + 1;
+        from_on = omega (arith, goes.from_on, left.0);
+        passed = passed_slot goes.slots m from goes.at key slot goes.seen goes.passed left.2 left.1 none;
+        left = left.3;
+      }
+
+  -- nothing stands before the next slot
+  pub goes_before : (m : FinMap {K = ℕ} nat_cmp X) (from key : ℕ) (slot : Option X) (all rest : List (ℕ × Option X)) → all ≡ (key, slot) ∷ rest → Goes m from all → Passed m from key
+  goes_before m from key slot all rest is goes =
+      let left : IsFrom goes.slots goes.at ((key, slot) ∷ rest) = subst (IsFrom goes.slots goes.at) is goes.left in
+      same_passed _ _ from key goes.seen (passed_more goes.slots from goes.at key (same_passed _ _ from goes.at (sym goes.seen) goes.passed) left.1)
+
+  -- the first slot with a value is the least key's
+  pub goes_to : (m : FinMap {K = ℕ} nat_cmp X) (from key : ℕ) (slot : Option X) (value : X) (all rest : List (ℕ × Option X)) → all ≡ (key, slot) ∷ rest → slot ≡ Some value → Goes m from all
+      → (from ≤ key) × (get m key ≡ Some value) × Passed m from key
+  goes_to m from key slot value all rest is some goes =
+      let left : IsFrom goes.slots goes.at ((key, slot) ∷ rest) = subst (IsFrom goes.slots goes.at) is goes.left in (
+        omega (arith, goes.from_on, left.0),
+        ap (λ n. get n key) (sym goes.seen) ∙ sym (got goes.slots key (Some slot) (Some value) (sym left.2) some),
+        goes_before m from key slot all rest is goes,
+      )
+
+  -- nor behind the last
+  pub goes_out : (m : FinMap {K = ℕ} nat_cmp X) (from key : ℕ) (all : List (ℕ × Option X)) → all ≡ [] → Goes m from all → from ≤ key → get m key ≡ None
+  goes_out m from key all none goes le =
+      let left : IsFrom goes.slots goes.at [] = subst (IsFrom goes.slots goes.at) none goes.left in
+      same_passed _ _ from (key + 1) goes.seen (passed_more goes.slots from goes.at (key + 1) (same_passed _ _ from goes.at (sym goes.seen) goes.passed) (λ q from_on _. left q from_on)) key le (omega arith)
 
 module _ {X : Type 0} where
   -- where there are as many values as slots, no slot is without one

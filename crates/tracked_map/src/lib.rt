@@ -85,18 +85,14 @@ impl<V> TrackedMap<V> {
         ensures { MatchOption result ((key : ℕ) → from ≤ key → key ≤ last → map.get self.now.current key ≡ None)
             (λ e. (from ≤ e.0) × (e.0 ≤ last) × (map.get self.now.current e.0 ≡ Some e.1.now) × ((key : ℕ) → from ≤ key → key < e.0 → map.get self.now.current key ≡ None)) }
     {
-        let mut at = from;
-        while let Some((key, slot)) = self.slots.next_from(at) {
-            if last < key {
+        let mut rest = self.slots.range_from(from);
+        while let Some((key, slot)) = rest.next() {
+            if last < *key {
                 return None;
             }
             if let Some(value) = slot {
-                return Some((key, value));
+                return Some((*key, value));
             }
-            let Some(next) = key.checked_add(1) else {
-                return None;
-            };
-            at = next;
         }
         None
     }
