@@ -66,7 +66,7 @@ impl Spaces {
         let Some(entry) = self.entry(space, name) else {
             return Ok(());
         };
-        self.put_name(space, name, after_death(entry, port))
+        self.put_over(space, name, Some(entry), after_death(entry, port))
     }
 }
 

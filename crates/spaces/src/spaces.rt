@@ -1,4 +1,4 @@
-ghost use Rattle.std.specs.Prelude.{◌≡◌, ◌<◌, ◌^◌, None, Some, OnOk, OnErr, IfSome, is_some};
+ghost use Rattle.std.specs.Prelude.{◌≡◌, ◌<◌, ◌^◌, true, None, Some, OnOk, OnErr, IfSome, is_some};
 ghost use Rattle.std.specs.FinMap as map;
 ghost use Rattle.codes.specs.declared.limits.TheConstants.{MAX_NAMES, MAX_SPACES};
 ghost use Rattle.ipc_laws.specs.MapSums.{total};
@@ -90,10 +90,29 @@ impl Spaces {
         ensures ok { OnOk result (self.new ≡ record self.old { current = names_changed self.old.current space (λ names. map.insert names name entry) }) }
         ensures err { OnErr result (self.new ≡ spaces_at_rest self.old.before) }
     {
-        let Some(names) = self.table.names(space) else {
+        if !self.contains(space) {
             return Ok(());
-        };
-        let former = names.get(name);
+        }
+        let former = self.entry(space, name);
+        self.put_over(space, name, former, entry)
+    }
+
+    /// Has a name of a space that is there stand for this in place of what it stood for. Where memory is wanted the
+    /// changes are given up.
+    pub(crate) fn put_over(
+        &mut self,
+        space: u32,
+        name: u32,
+        former: Option<Entry>,
+        entry: Entry,
+    ) -> Result<(), AllocError>
+        requires there { is_some (map.get self.old.current space) ≡ true }
+        requires former { former ≡ entry_in self.old.current space name }
+        requires room { (names : Names) → map.get self.old.current space ≡ Some names → map.get names name ≡ None → map.len names < MAX_NAMES }
+        requires few { AreFewReferences entry }
+        ensures ok { OnOk result (self.new ≡ record self.old { current = names_changed self.old.current space (λ names. map.insert names name entry) }) }
+        ensures err { OnErr result (self.new ≡ spaces_at_rest self.old.before) }
+    {
         match put_in_both(
             &mut self.table,
             &mut self.indexes,
