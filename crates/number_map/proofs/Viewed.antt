@@ -1,5 +1,5 @@
 -- The entries of a std map seen as a finite map.
-use Rattle.std.proofs.Common.{◌≡◌, ◌≤◌, ◌<◌, ℕ, ◌+◌, Bool, true, ◌&&◌, false, subst, slice_get, cond, List, [], ◌∷◌, length, Option, None, Some, is_some, map, T, refl, sym, ◌∙◌, ap, arith}
+use Rattle.std.proofs.Common.{◌≡◌, ◌≤◌, ◌<◌, ℕ, ◌+◌, Bool, true, ◌&&◌, false, subst, slice_get, cond, List, [], ◌∷◌, length, Option, None, Some, is_some, map, refl, sym, ◌∙◌, ap, arith}
 use Rattle.std.specs.Cmp.{nat_cmp_total, eq_by_cmp_equiv, ranked}
 use Rattle.std.specs.Ordering.{nat_cmp}
 use Rattle.std.specs.declared.cmp.Ordering.{Ordering}
@@ -8,7 +8,7 @@ use Rattle.std.specs.FinMap.{FinMap, find, put, empty, entries, entries-insert, 
 use Rattle.std.specs.BTreeMap.{BTreeMap, is_at}
 use Rattle.std.specs.BTreeMap.Range.{IsRangeOf, IsEntryInRange, IsLeBy, range_contains}
 use Rattle.std.specs.declared.ops.Bound.TheVariants.{Included, Unbounded}
-use Rattle.std.specs.Option.{IsSome, IfSome}
+use Rattle.std.specs.Option.{IfSome}
 use Rattle.std.specs.Ordering.{is_gt, is_eq, is_le}
 use Rattle.std.specs.Map.{lookup, keys_of}
 use Rattle.std.specs.List.{AllByRecursion, filter}

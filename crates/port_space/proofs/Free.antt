@@ -1,8 +1,9 @@
 -- The unused names of a space, as names come and go.
-use Rattle.std.proofs.Common.{◌≡◌, inl, inr, ℕ, ◌≤◌, ◌<◌, Bool, true, false, not, cond, nat_lt, None, Some, is_some, refl, sym, ◌∙◌, ap, arith}
-use Rattle.std.proofs.lemmas.Bool.{ltb-false, ltb-true}
+use Rattle.std.proofs.Common.{◌≡◌, inl, inr, ℕ, ◌≤◌, ◌<◌, Bool, true, false, not, cond, nat_lt, Option, None, Some, is_some, refl, sym, ◌∙◌, ap, arith}
+use Rattle.std.proofs.lemmas.Bool.{cases_eq, ltb-false, ltb-true}
 use Rattle.std.specs.Ordering.{nat_cmp, eq_by_cmp}
-use Rattle.std.specs.FinMap.{get, len, empty_of_len, get-empty}
+use Rattle.std.specs.Cmp.{nat_cmp_total}
+use Rattle.std.specs.FinMap.{get, insert, remove, len, empty_of_len, get-empty, get-insert, get-remove, same_map, nat_cmp-IsAntisymmetric}
 use Rattle.codes.specs.declared.name.TheConstants.{FIRST_NAME}
 use Rattle.ipc_model.specs.declared.entry.Entry.{Entry}
 use Rattle.ipc_model.specs.state.State.{Names}
@@ -56,6 +57,34 @@ free_put names after gaps fewer low next name entry changed less free goes = rec
           let more : low ≤ q = ltb-false q low over in
           beyond q more short ∙ ap not (sym (less q ∙ gone q (eq_by_cmp nat_cmp q name) (no_gap q more)))
     ] refl
+
+-- a name in use is no gap, nor the least unused one
+module _ (names : Names) (gaps : Numbers) (low name : ℕ) (former entry : Entry) (free : AreFree names gaps low) (used : get names name ≡ Some former) where
+  no_gap_of : has gaps name ≡ false
+  no_gap_of = not_true (has gaps name) (λ there.
+      let within = free.within name there in
+      absurd (cc (sym (ap is_some used) ∙ free.below name within.0 within.1 ∙ ap not there)))
+
+  absent : (o : Option (Unit {0})) → is_some o ≡ false → o ≡ None
+  absent None none = refl
+  absent (Some x) none = absurd (cc none)
+
+  pub no_gap_goes : gaps ≡ remove gaps name
+  no_gap_goes = same_map nat_cmp_total nat_cmp-IsAntisymmetric _ _ (λ (q : ℕ). go q (eq_by_cmp nat_cmp q name) refl ∙ sym (get-remove nat_cmp_total gaps name q))
+    where
+      go : (q : ℕ) (b : Bool) → eq_by_cmp nat_cmp q name ≡ b → get gaps q ≡ cond b None (get gaps q)
+      go q true same = ap (get gaps) (key_is q name same) ∙ absent (get gaps name) no_gap_of
+      go q false other = refl
+
+  pub stays_low : GoesOn (insert names name entry) gaps low low
+  stays_low = elim (cases_eq (len gaps) 0) [
+    | inl none ↦ inl (none, record { from_on = omega arith; used = λ q le below. absurd (omega (arith, le, below)); unused = get-insert nat_cmp_total names name entry low ∙ go (eq_by_cmp nat_cmp low name) refl (free.next none) })
+    | inr some ↦ inr (some, refl)
+  ]
+    where
+      go : (b : Bool) → eq_by_cmp nat_cmp low name ≡ b → get names low ≡ None → cond b (Some entry) (get names low) ≡ None
+      go true same none = absurd (cc (sym used ∙ ap (get names) (sym (key_is low name same)) ∙ none))
+      go false other none = none
 
 -- a name that goes is a gap, where it is below
 pub free_removed : (names after : Names) (gaps more : Numbers) (low name : ℕ) → ((q : ℕ) → get after q ≡ cond (eq_by_cmp nat_cmp q name) None (get names q))

@@ -7,14 +7,14 @@ use Rattle.codes.specs.declared.limits.TheConstants.{MAX_NAMES}
 use Rattle.ipc_model.specs.declared.entry.Entry.{Entry}
 use Rattle.ipc_model.specs.state.State.{Names, is_number, port_held}
 use Rattle.ipc_laws.specs.MapSums.{key_is}
-use Rattle.port_space.specs.Beside.{Numbers, has, StandBeside, AreByPort, AreFree}
+use Rattle.port_space.specs.Beside.{Numbers, has, with_port, without_port, StandBeside, AreByPort, AreFree, GoesOn}
 use Rattle.port_space.specs.References.{AreBounded, AreFewReferences}
 use Rattle.port_space.specs.Tables.{AreSmall, AreNew, AreKept, AreGivenUp, IsPut, IsRemoved, SameBefore}
 use Rattle.tracked_map.specs.Tracked.{Tracked, at_rest}
 use Rattle.port_space.specs.declared.tables.Tables.{Tables}
 use Rattle.port_space.proofs.ByPort.{by_port_changed}
 use Rattle.port_space.proofs.Bounds.{bounded_insert, bounded_remove, bounded_empty}
-use Rattle.port_space.proofs.Free.{free_put, free_removed, free_without}
+use Rattle.port_space.proofs.Free.{free_put, free_removed, free_without, no_gap_goes, stays_low}
 
 pub small_insert : (names : Names) (name : ℕ) (entry : Entry) → AreSmall names → name < 2 ^ 32 → AreSmall (insert names name entry)
 small_insert names name entry small fits q there = go (eq_by_cmp nat_cmp q name) refl (sym (ap is_some (get-insert nat_cmp_total names name entry q)) ∙ there)
@@ -68,6 +68,19 @@ removed_stands old new name fits beside gone = record {
   where
     changed : (q : ℕ) → get new.names.current q ≡ cond (eq_by_cmp nat_cmp q name) None (get old.names.current q)
     changed q = ap (λ (n : Names). get n q) gone.names ∙ get-remove nat_cmp_total old.names.current name q
+
+-- a name in use stands for another thing
+pub put_used : (old new : Tables) (name : ℕ) (entry : Entry) (former : Option Entry) → AreFree old.names.current old.gaps.current old.low → former ≡ get old.names.current name → is_some former ≡ true
+    → new.names.current ≡ insert old.names.current name entry → new.by_port.current ≡ with_port (without_port old.by_port.current (option_and_then port_held former) name) (port_held entry) name
+    → new.gaps ≡ old.gaps → new.low ≡ old.low → IsPut old new name entry
+put_used old new name entry None free was used names by_port gaps low = absurd (cc used)
+put_used old new name entry (Some former) free was used names by_port gaps low = record {
+  names = names;
+  by_port = by_port ∙ ap (λ (o : Option Entry). with_port (without_port old.by_port.current (option_and_then port_held o) name) (port_held entry) name) was;
+  gaps = ap (λ (t : Tracked (Unit {0})). t.current) gaps ∙ no_gap_goes old.names.current old.gaps.current old.low name former entry free (sym was);
+  low = subst (λ (n : ℕ). GoesOn new.names.current new.gaps.current old.low n) (sym low) (subst (λ (n : Names). GoesOn n new.gaps.current old.low old.low) (sym names)
+      (subst (λ (t : Tracked (Unit {0})). GoesOn (insert old.names.current name entry) t.current old.low old.low) (sym gaps) (stays_low old.names.current old.gaps.current old.low name former entry free (sym was))));
+}
 
 no_number : (q : ℕ) → has empty q ≡ false
 no_number q = ap is_some (get-empty nat_cmp q)

@@ -2,7 +2,7 @@
 ghost use Rattle.std.specs.Prelude.{◌≡◌, ◌≤◌, ◌<◌, ◌^◌, ℕ, true, false, None, Some, OnOk, MatchOption, is_some, option_and_then, option_copied};
 ghost use Rattle.std.specs.FinMap as map;
 ghost use Rattle.ipc_model.specs.state.State.{port_held};
-ghost use Rattle.port_space.specs.Beside.{holds, with_port, without_port, port_key, AreByPort, GoesOn};
+ghost use Rattle.port_space.specs.Beside.{holds, with_port, without_port, port_key, AreByPort, AreFree, GoesOn};
 ghost use Rattle.port_space.specs.Tables.{IsPut, IsRemoved, SameBefore, AreGivenUp, AreKept, AreNew, AreSmall};
 
 use codes::FIRST_NAME;
@@ -39,10 +39,7 @@ impl Tables {
     fn port_under(&self, name: u32) -> Option<u64>
         ensures { result ≡ option_and_then port_held (map.get self.now.names.current name) }
     {
-        match self.names.get(u128::from(name)) {
-            Some(entry) => port_held(entry),
-            None => None,
-        }
+        held_by(self.names.get(u128::from(name)).copied())
     }
 
     /// The least name from one on that holds a send or receive right of a port.
@@ -63,13 +60,19 @@ impl Tables {
     /// Has a name stand for this. Where memory is wanted the changes are to be given up.
     pub(crate) fn put(&mut self, name: u32, entry: Entry) -> Result<(), AllocError>
         requires small { AreSmall self.old.names.current }
+        requires free { AreFree self.old.names.current self.old.gaps.current self.old.low }
         ensures ok { OnOk result (IsPut self.old self.new name entry) }
         ensures before { SameBefore self.old self.new }
     {
-        let former = self.port_under(name);
-        change_port(&mut self.by_port, former, port_held(&entry), name)?;
-        self.names.set(u128::from(name), entry)?;
-        self.gaps.remove(u128::from(name))?;
+        let key = u128::from(name);
+        let former = self.names.get(key).copied();
+        change_port(&mut self.by_port, held_by(former), port_held(&entry), name)?;
+        self.names.set(key, entry)?;
+        // A name in use is no gap, nor the least unused one.
+        if former.is_some() {
+            return Ok(());
+        }
+        self.gaps.remove(key)?;
         self.low = next_unused(&self.names, &self.gaps, self.low);
         Ok(())
     }
@@ -106,6 +109,16 @@ impl Tables {
         self.by_port.give_up();
         self.gaps.give_up();
         self.low = self.low_before;
+    }
+}
+
+/// The port that a name holds a send or receive right of, if it is in use and does.
+fn held_by(entry: Option<Entry>) -> Option<u64>
+    ensures { result ≡ option_and_then port_held entry }
+{
+    match entry {
+        Some(entry) => port_held(&entry),
+        None => None,
     }
 }
 

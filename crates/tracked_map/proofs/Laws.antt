@@ -48,12 +48,6 @@ last_false true e = refl
 last_false false e = e
 
 -- what fits is short of what doesn't
-pub short_of : (a b : ℕ) → a < 2 ^ 128 → (b < 2 ^ 128 → ⊥) → a < b
-short_of a b fits over = elim (nat_lt a b) as (λ (t : Bool). nat_lt a b ≡ t → a < b) [
-  | true ↦ λ (less : _). ltb-true a b less
-  | false ↦ λ (more : _). absurd (over (omega (arith, fits, ltb-false a b more)))
-] refl
-
 module _ {X : Type 0} where
   flat_cond : (b : Bool) (o : Option X) (p : Option (Option X)) → option_flatten (cond b (Some o) p) ≡ cond b o (option_flatten p)
   flat_cond true o p = refl

@@ -1,4 +1,4 @@
-use Rattle.std.proofs.Common.{◌≡◌, ◌≤◌, ◌<◌, ℕ, Some, None, sym, subst, ◌∙◌, ap}
+use Rattle.std.proofs.Common.{sym, subst, ◌∙◌, ap}
 use Rattle.std.specs.FinMap as map
 use Rattle.number_map.proofs.Viewed.{none_from, first_from, IsFirstFrom}
 use Rattle.number_map.proofs.NumberMap.next_from.Goals as goal

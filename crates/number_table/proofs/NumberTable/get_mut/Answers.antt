@@ -1,4 +1,4 @@
-use Rattle.std.proofs.Common.{None, Some, inr, ◌∙◌, ap, arith, refl, slice_set, slice_index_or}
+use Rattle.std.proofs.Common.{None, Some, inr, ◌∙◌, ap, arith, refl, slice_set}
 use Rattle.std.proofs.lemmas.List.{set-get_or}
 use Rattle.std.specs.FinMap as map
 use Rattle.std.specs.Option.{option_copied_mut}

@@ -1,4 +1,4 @@
-use Rattle.std.proofs.Common.{sym, ◌∙◌, ap}
+use Rattle.std.proofs.Common.{◌∙◌, ap}
 use Rattle.std.specs.FinMap as map
 use Rattle.number_table.specs.Rows.{rows_from}
 use Rattle.number_table.proofs.Shown.{got, inserted}

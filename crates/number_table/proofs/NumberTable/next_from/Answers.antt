@@ -1,5 +1,4 @@
-use Rattle.std.proofs.Common.{None, Some, sym, ◌∙◌, ap, arith, slice_index_or, inl, inr}
-use Rattle.std.specs.FinMap as map
+use Rattle.std.proofs.Common.{None, Some, sym, ◌∙◌, ap, arith, slice_index_or}
 use Rattle.number_table.proofs.Shown.{got, none_from, none_before}
 use Rattle.number_table.proofs.NumberTable.next_from.Goals as goal
 

@@ -1,4 +1,4 @@
-use Rattle.std.proofs.Common.{◌∙◌, ap, arith}
+use Rattle.std.proofs.Common.{ap, arith}
 use Rattle.tracked_map.specs.Tracked.{Tracked}
 use Rattle.tracked_map.proofs.Laws.{goes_off, goes_on, goes_to, goes_before, goes_out}
 use Rattle.tracked_map.proofs.TrackedMap.next_within.Goals as goal

@@ -7,7 +7,7 @@ use Rattle.port_space.proofs.Standing.{put_stands, same_stands, small_bounded}
 use Rattle.port_space.proofs.space.PortSpace.put.Goals as goal
 
 pub put-requires : goal.put-requires
-put-requires c = record { small = small_bounded c.self.inside.tables.names.current c.self.invariant.1.bounded }
+put-requires c = record { small = small_bounded c.self.inside.tables.names.current c.self.invariant.1.bounded; free = c.self.invariant.1.free }
 
 pub invariant_of-self : goal.invariant_of-self
 invariant_of-self c =

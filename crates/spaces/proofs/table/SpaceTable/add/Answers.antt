@@ -1,4 +1,4 @@
-use Rattle.std.proofs.Common.{ℕ, ◌+◌, cond, [], ◌∷◌, ◌++◌, Option, None, is_some, ap, sym, subst, ◌∙◌}
+use Rattle.std.proofs.Common.{ℕ, ◌+◌, cond, Option, None, is_some, ap, sym, subst, ◌∙◌}
 use Rattle.std.specs.Cmp.{nat_cmp_total}
 use Rattle.std.specs.FinMap.{empty, get, insert, len, len-insert}
 use Rattle.ipc_model.specs.state.State.{Names}

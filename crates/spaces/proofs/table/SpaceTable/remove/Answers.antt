@@ -1,4 +1,4 @@
-use Rattle.std.proofs.Common.{ℕ, [], ◌∷◌, ◌++◌, option_map, refl, ap, sym, subst, ◌∙◌}
+use Rattle.std.proofs.Common.{option_map, refl, ap, sym, subst, ◌∙◌}
 use Rattle.std.specs.FinMap.{remove, len}
 use Rattle.ipc_model.specs.state.State.{Names}
 use Rattle.tracked_map.specs.Slots.{picked}
