@@ -8,7 +8,7 @@ use Rattle.std.specs.declared.cmp.Ordering.{Ordering}
 use Rattle.std.specs.declared.cmp.Ordering.TheVariants.{Less, Equal, Greater}
 use Rattle.std.specs.FinMap.{FinMap, find, empty, entries, get, insert, remove, len, get-entries, get-empty, get-insert, get-remove, len-empty, len-entries, len-insert, len-remove, empty_of_len, same_map, nat_cmp-IsAntisymmetric}
 use Rattle.number_map.specs.From.{IsFrom}
-use Rattle.tracked_map.specs.Tracked.{put, over, shown, is_among, unmarked, len_after, Tracked, at_rest, HasSlots, AreMarked, IsSound}
+use Rattle.tracked_map.specs.Tracked.{put, over, shown, is_among, is_in, is_mark, unmarked, len_after, Tracked, at_rest, HasSlots, AreMarked, AreRemoved, IsSound}
 
 is_equal : (o : Ordering) → is_eq o ≡ true → o ≡ Equal
 is_equal Less e = absurd (cc e)
@@ -38,6 +38,10 @@ or_true : (a b : Bool) → b ≡ true → (a || b) ≡ true
 or_true true b e = refl
 or_true false b e = e
 
+pub neither : (a b : Bool) → (a || b) ≡ false → (a ≡ false) × (b ≡ false)
+neither true b none = absurd (cc none)
+neither false b none = (refl, none)
+
 not_last : (a b : Bool) → (a || (b || false)) ≡ true → b ≡ false → a ≡ true
 not_last true b e f = refl
 not_last false true e f = absurd (cc f)
@@ -48,6 +52,11 @@ last_false true e = refl
 last_false false e = e
 
 -- what fits is short of what doesn't
+-- a key behind others
+in_append : (q k : ℕ) (keys : List ℕ) → is_in q (keys ++ k ∷ []) ≡ (is_in q keys || (eq_by_cmp nat_cmp q k || false))
+in_append q k [] = refl
+in_append q k (n ∷ keys) = elim (eq_by_cmp nat_cmp q n) as (λ (b : Bool). (b || is_in q (keys ++ k ∷ [])) ≡ ((b || is_in q keys) || (eq_by_cmp nat_cmp q k || false))) [ true ↦ refl | false ↦ in_append q k keys ]
+
 module _ {X : Type 0} where
   flat_cond : (b : Bool) (o : Option X) (p : Option (Option X)) → option_flatten (cond b (Some o) p) ≡ cond b o (option_flatten p)
   flat_cond true o p = refl
@@ -396,3 +405,80 @@ taken_out slots key slot left (Some value) there was gone = ap (insert slots key
 -- where a slot has no value, none is removed
 pub none_removed : {X : Type 0} (slots : FinMap {K = ℕ} nat_cmp (Option X)) (key : ℕ) → option_flatten (get slots key) ≡ None → remove (shown slots) key ≡ shown slots
 none_removed slots key none = without_none (shown slots) key (get_shown slots key ∙ none)
+
+module _ {X : Type 0} where
+  -- keys that were removed
+  pub none_removed_yet : (slots : FinMap {K = ℕ} nat_cmp (Option X)) (keys : List ℕ) → keys ≡ [] → AreMarked slots [] → AreRemoved slots keys
+  none_removed_yet slots keys none marked = subst (AreRemoved slots) (sym none) (record { each = λ q among. absurd (cc among); all = λ q is. absurd (cc (marked q is)) })
+
+  -- a value set in a slot that isn't without one
+  pub set_removed : (slots next : FinMap {K = ℕ} nat_cmp (Option X)) (keys : List ℕ) (key : ℕ) (value : X) (found : Option (Option X)) → found ≡ get slots key → is_mark found ≡ false → next ≡ insert slots key (Some value)
+      → AreRemoved slots keys → AreRemoved next keys
+  set_removed slots next keys key value found was other at removed = subst (λ m. AreRemoved m keys) (sym at) (record {
+    each = λ q among. get-insert nat_cmp_total slots key (Some value) q ∙ kept q (eq_by_cmp nat_cmp q key) refl (removed.each q among);
+    all = λ q is. left q (eq_by_cmp nat_cmp q key) (sym (get-insert nat_cmp_total slots key (Some value) q) ∙ is);
+  })
+    where
+      kept : (q : ℕ) (b : Bool) → eq_by_cmp nat_cmp q key ≡ b → get slots q ≡ Some None → cond b (Some (Some value)) (get slots q) ≡ Some None
+      kept q true same is = absurd (cc (sym other ∙ ap is_mark (was ∙ sym (ap (get slots) (key_is q key same)) ∙ is)))
+      kept q false same is = is
+
+      left : (q : ℕ) (b : Bool) → cond b (Some (Some value)) (get slots q) ≡ Some None → is_in q keys ≡ true
+      left q true is = absurd (cc is)
+      left q false is = removed.all q is
+
+  -- a key more
+  pub more_removed : (slots next : FinMap {K = ℕ} nat_cmp (Option X)) (keys longer : List ℕ) (key : ℕ) → next ≡ insert slots key None → longer ≡ keys ++ key ∷ [] → AreRemoved slots keys → AreRemoved next longer
+  more_removed slots next keys longer key at is removed = subst (λ m. AreRemoved m longer) (sym at) (subst (AreRemoved (insert slots key None)) (sym is) (record {
+    each = λ q among. get-insert nat_cmp_total slots key None q ∙ kept q (eq_by_cmp nat_cmp q key) (sym (in_append q key keys) ∙ among);
+    all = λ q none. in_append q key keys ∙ left q (eq_by_cmp nat_cmp q key) (sym (get-insert nat_cmp_total slots key None q) ∙ none);
+  }))
+    where
+      kept : (q : ℕ) (b : Bool) → (is_in q keys || (b || false)) ≡ true → cond b (Some None) (get slots q) ≡ Some None
+      kept q true among = refl
+      kept q false among = removed.each q (last_false (is_in q keys) among)
+
+      left : (q : ℕ) (b : Bool) → cond b (Some None) (get slots q) ≡ Some None → (is_in q keys || (b || false)) ≡ true
+      left q true none = or_true (is_in q keys) true refl
+      left q false none = either_true (is_in q keys) false (removed.all q none)
+
+  -- the slots that are left to go: none of them has a value
+  pub record AreLeft (slots : FinMap {K = ℕ} nat_cmp (Option X)) (keys : List ℕ) : Type 0 where
+    pub empty : (key : ℕ) → is_in key keys ≡ true → (value : X) → get slots key ≡ Some (Some value) → ⊥
+    pub all : (key : ℕ) → get slots key ≡ Some None → is_in key keys ≡ true
+
+  pub all_left : (slots : FinMap {K = ℕ} nat_cmp (Option X)) (keys : List ℕ) → AreRemoved slots keys → AreLeft slots keys
+  all_left slots keys removed = record { empty = λ q among value has. cc (sym has ∙ removed.each q among); all = removed.all }
+
+  pub record IsGone (slots next : FinMap {K = ℕ} nat_cmp (Option X)) (shorter : List ℕ) : Type 0 where
+    pub shows : shown next ≡ shown slots
+    pub left : AreLeft next shorter
+
+  pub is_gone : (slots next : FinMap {K = ℕ} nat_cmp (Option X)) (keys shorter : List ℕ) (key : ℕ) → next ≡ remove slots key → keys ≡ shorter ++ key ∷ [] → AreLeft slots keys → IsGone slots next shorter
+  is_gone slots next keys shorter key at is left = subst (λ m. IsGone slots m shorter) (sym at) (record {
+    shows = by (get slots key) refl;
+    left = record {
+      empty = λ q among value has. none q (eq_by_cmp nat_cmp q key) value among (sym (get-remove nat_cmp_total slots key q) ∙ has);
+      all = λ q none. let still = still_marked slots key q (eq_by_cmp nat_cmp q key) refl (sym (get-remove nat_cmp_total slots key q) ∙ none) in
+          not_last (is_in q shorter) (eq_by_cmp nat_cmp q key) (sym (among_all q) ∙ left.all q still.0) still.1;
+    };
+  })
+    where
+      among_all : (q : ℕ) → is_in q keys ≡ (is_in q shorter || (eq_by_cmp nat_cmp q key || false))
+      among_all q = ap (is_in q) is ∙ in_append q key shorter
+
+      none : (q : ℕ) (b : Bool) (value : X) → is_in q shorter ≡ true → cond b None (get slots q) ≡ Some (Some value) → ⊥
+      none q true value among has = cc has
+      none q false value among has = left.empty q (among_all q ∙ either_true (is_in q shorter) (eq_by_cmp nat_cmp q key || false) among) value has
+
+      last : is_in key keys ≡ true
+      last = among_all key ∙ ap (λ (b : Bool). is_in key shorter || (b || false)) (itself_same key) ∙ or_true (is_in key shorter) true refl
+
+      by : (o : Option (Option X)) → get slots key ≡ o → shown (remove slots key) ≡ shown slots
+      by None here = ap shown (without_none {X = Option X} slots key here)
+      by (Some None) here = same_without slots key here
+      by (Some (Some value)) here = absurd (left.empty key last value here)
+
+  pub none_left : (slots : FinMap {K = ℕ} nat_cmp (Option X)) (keys : List ℕ) → length keys ≡ 0 → AreLeft slots keys → AreMarked slots []
+  none_left slots [] no_keys left = λ q is. absurd (cc (left.all q is))
+  none_left slots (k ∷ keys) no_keys left = absurd (omega (arith, no_keys))

@@ -48,6 +48,21 @@ HasSlots slots former = (key : ℕ) → is_among key former ≡ true → is_some
 abbrev pub AreMarked : {X : Type 0} → FinMap {K = ℕ} nat_cmp (Option X) → List (ℕ × Option X) → Type 0
 AreMarked slots former = (key : ℕ) → get slots key ≡ Some None → is_among key former ≡ true
 
+-- whether a slot that has no value was found
+abbrev pub is_mark : {X : Type 0} → Option (Option X) → Bool
+is_mark None = false
+is_mark (Some None) = true
+is_mark (Some (Some value)) = false
+
+abbrev pub is_in : ℕ → List ℕ → Bool
+is_in key [] = false
+is_in key (k ∷ keys) = eq_by_cmp nat_cmp key k || is_in key keys
+
+-- these keys are those of the slots without a value
+pub record AreRemoved {X : Type 0} (slots : FinMap {K = ℕ} nat_cmp (Option X)) (keys : List ℕ) : Type 0 where
+  pub each : (key : ℕ) → is_in key keys ≡ true → get slots key ≡ Some None
+  pub all : (key : ℕ) → get slots key ≡ Some None → is_in key keys ≡ true
+
 -- a slot without a value removed
 abbrev pub unmarked : {X : Type 0} → FinMap {K = ℕ} nat_cmp (Option X) → ℕ → FinMap {K = ℕ} nat_cmp (Option X)
 unmarked {X} slots key = elim (get slots key) as (λ _. FinMap {K = ℕ} nat_cmp (Option X)) [

@@ -1,10 +1,10 @@
 //! A map from numbers to values whose changes are kept or given up. Neither takes memory.
 #![tactic(auto)]
 
-ghost use Rattle.std.specs.Prelude.{◌≡◌, ℕ, ◌≤◌, ◌<◌, [], true, Some, None, OnOk, OnErr, MatchOption, is_some, option_copied, ◌^◌};
+ghost use Rattle.std.specs.Prelude.{◌≡◌, ℕ, ◌≤◌, ◌<◌, ◌||◌, [], true, false, Some, None, IfOk, OnOk, OnErr, MatchOption, is_some, option_copied, ◌^◌};
 ghost use Rattle.std.specs.FinMap as map;
 ghost use Rattle.std.specs.Option.{option_flatten};
-ghost use Rattle.tracked_map.specs.Tracked.{at_rest, len_after, over, put, shown, unmarked, AreMarked, HasSlots};
+ghost use Rattle.tracked_map.specs.Tracked.{at_rest, is_mark, len_after, over, put, shown, unmarked, AreMarked, AreRemoved, HasSlots};
 
 use number_map::NumberMap;
 use std::alloc::{AllocError, Global};
@@ -14,17 +14,20 @@ use std::marker::Model;
 /// the map as it was then (`before`) and as it is (`current`).
 ///
 /// A value that is replaced or removed goes to the list of what was; its slot stays until then, so that giving a change up
-/// is a write in place.
+/// is a write in place. The keys that were removed are the slots without a value, unless one of them was set again.
 #[derive(Drop)]
 pub struct TrackedMap<V> {
     slots: NumberMap<Option<V>>,
     former: Vec<(u128, Option<V>)>,
+    removed: Vec<u128>,
+    is_refilled: bool,
     len: usize,
     len_before: usize,
 }
 
 impl<V> Model for TrackedMap<V> {
-    ghost use Rattle.tracked_map.specs.Tracked.{Tracked, tracked_code, over, shown, IsSound};
+    ghost use Rattle.std.specs.Prelude.{◌≡◌, false};
+    ghost use Rattle.tracked_map.specs.Tracked.{Tracked, tracked_code, over, shown, AreRemoved, IsSound};
 
     ghost Value = { Tracked V };
 
@@ -32,7 +35,7 @@ impl<V> Model for TrackedMap<V> {
 
     ghost view = { λ t. record { before = over (shown t.slots) t.former.items; current = shown t.slots } };
 
-    ghost invariant = { λ t. IsSound t.slots t.former.items t.len t.len_before };
+    ghost invariant = { λ t. IsSound t.slots t.former.items t.len t.len_before × (t.is_refilled ≡ false → AreRemoved t.slots t.removed.items) };
 }
 
 impl<V> TrackedMap<V> {
@@ -43,6 +46,8 @@ impl<V> TrackedMap<V> {
         TrackedMap {
             slots: NumberMap::new(alloc),
             former: Vec::new(alloc),
+            removed: Vec::new(alloc),
+            is_refilled: false,
             len: 0,
             len_before: 0,
         }
@@ -104,11 +109,23 @@ impl<V: Copy + Drop> TrackedMap<V> {
         ensures ok { OnOk result (self.new ≡ record self.old { current = map.insert self.old.current key value }) }
         ensures err { OnErr result (self.new ≡ self.old) }
     {
+        self.replace(key, value)?;
+        Ok(())
+    }
+
+    /// Sets the value of a key, and gives the one before. Where memory is wanted nothing changed.
+    pub fn replace(&mut self, key: u128, value: V) -> Result<Option<V>, AllocError>
+        ensures before { IfOk result (λ before. before ≡ map.get self.old.current key) }
+        ensures ok { OnOk result (self.new ≡ record self.old { current = map.insert self.old.current key value }) }
+        ensures err { OnErr result (self.new ≡ self.old) }
+    {
         self.former.reserve(1)?;
-        let before = self.slots.insert(key, Some(value))?.flatten();
+        let found = self.slots.insert(key, Some(value))?;
+        self.is_refilled = either(self.is_refilled, is_mark(found));
+        let before = found.flatten();
         self.len = len_with(self.len, before.is_some(), self.slots.len());
         self.former.push_reserved((key, before));
-        Ok(())
+        Ok(before)
     }
 
     /// Removes the value of a key, if it has one. Where memory is wanted nothing changed.
@@ -117,11 +134,13 @@ impl<V: Copy + Drop> TrackedMap<V> {
         ensures err { OnErr result (self.new ≡ self.old) }
     {
         self.former.reserve(1)?;
+        self.removed.reserve(1)?;
         let Some(before) = take_value(&mut self.slots, key) else {
             return Ok(());
         };
         self.len -= 1;
         self.former.push_reserved((key, Some(before)));
+        self.removed.push_reserved(key);
         Ok(())
     }
 
@@ -129,8 +148,16 @@ impl<V: Copy + Drop> TrackedMap<V> {
     pub fn keep(&mut self)
         ensures { self.new ≡ at_rest self.old.current }
     {
-        forget_marks(&mut self.slots, &self.former, self.len);
+        forget(
+            &mut self.slots,
+            &self.former,
+            &self.removed,
+            self.is_refilled,
+            self.len,
+        );
         self.former.clear();
+        self.removed.clear();
+        self.is_refilled = false;
         self.len_before = self.len;
     }
 
@@ -141,6 +168,8 @@ impl<V: Copy + Drop> TrackedMap<V> {
         put_back(&mut self.slots, &self.former);
         forget_marks(&mut self.slots, &self.former, self.len_before);
         self.former.clear();
+        self.removed.clear();
+        self.is_refilled = false;
         self.len = self.len_before;
     }
 }
@@ -154,6 +183,23 @@ fn take_value<V>(slots: &mut NumberMap<Option<V>>, key: u128) -> Option<V>
         Some(slot) => slot.take(),
         None => None,
     }
+}
+
+/// Whether a slot was found that has no value.
+fn is_mark<V: Copy>(found: Option<Option<V>>) -> bool
+    ensures { result ≡ is_mark found }
+{
+    match found {
+        Some(None) => true,
+        Some(Some(_)) | None => false,
+    }
+}
+
+/// Whether one of two is so.
+fn either(one: bool, other: bool) -> bool
+    ensures { result ≡ (one || other) }
+{
+    one || other
 }
 
 /// How many values there are once a key has one that had one or hadn't, where there are no more than so many.
@@ -188,6 +234,27 @@ fn write<V: Drop>(slots: &mut NumberMap<Option<V>>, key: u128, value: Option<V>)
     }
 }
 
+/// Removes the slots without a value: those of the keys that were removed, unless one of them was set again.
+fn forget<V: Drop>(
+    slots: &mut NumberMap<Option<V>>,
+    former: &[(u128, Option<V>)],
+    removed: &[u128],
+    is_refilled: bool,
+    len: usize,
+)
+    requires marked { AreMarked slots.old former.now }
+    requires counted { len ≡ map.len (shown slots.old) }
+    requires removed { is_refilled ≡ false → AreRemoved slots.old removed.now }
+    ensures shown { shown slots.new ≡ shown slots.old }
+    ensures none { AreMarked slots.new [] }
+{
+    if is_refilled {
+        forget_marks(slots, former, len);
+        return;
+    }
+    forget_removed(slots, removed);
+}
+
 /// Removes the slots without a value, which are among those of these keys; so many have one. Where there are no more slots
 /// than these, none is looked at.
 fn forget_marks<V: Drop>(slots: &mut NumberMap<Option<V>>, former: &[(u128, Option<V>)], len: usize)
@@ -202,6 +269,19 @@ fn forget_marks<V: Drop>(slots: &mut NumberMap<Option<V>>, former: &[(u128, Opti
     let mut rest = former;
     while let Some(((key, _), before)) = rest.split_last() {
         forget_mark(slots, *key);
+        rest = before;
+    }
+}
+
+/// Removes the slots of these keys, which are those without a value.
+fn forget_removed<V: Drop>(slots: &mut NumberMap<Option<V>>, removed: &[u128])
+    requires { AreRemoved slots.old removed.now }
+    ensures shown { shown slots.new ≡ shown slots.old }
+    ensures none { AreMarked slots.new [] }
+{
+    let mut rest = removed;
+    while let Some((key, before)) = rest.split_last() {
+        drop(slots.remove(*key));
         rest = before;
     }
 }
