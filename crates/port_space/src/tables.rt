@@ -65,9 +65,8 @@ impl Tables {
         ensures before { SameBefore self.old self.new }
     {
         let key = u128::from(name);
-        let former = self.names.get(key).copied();
+        let former = self.names.replace(key, entry)?;
         change_port(&mut self.by_port, held_by(former), port_held(&entry), name)?;
-        self.names.set(key, entry)?;
         // A name in use is no gap, nor the least unused one.
         if former.is_some() {
             return Ok(());

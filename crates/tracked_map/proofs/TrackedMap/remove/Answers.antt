@@ -19,13 +19,13 @@ overflow_sub-self g c =
 
 pub invariant_of-self-2 : goal.invariant_of-self-2
 invariant_of-self-2 g c =
-    let noted = c.push_reserved.ensures.items ∙ ap (λ (l : List _). l ++ (c.args.key, Some c.in-Some.before) ∷ []) c.reserve.ensures.items in
-    (
-    put_sound c.self.inside.slots c.take_value.new.slots c.self.inside.former.items c.push_reserved.new.self.items c.args.key None (Some c.in-Some.before) c.self.inside.len c.self.inside.len_before true false
-    c.in-Some.ensures.slots noted c.self.invariant.0
-    (is_put c.self.inside.slots c.take_value.new.slots c.self.inside.former.items c.push_reserved.new.self.items c.args.key None (Some c.in-Some.before) c.self.inside.len true false
-    c.in-Some.ensures.slots noted c.in-Some.ensures.value c.self.invariant.0.counted refl refl),
-    λ honest. more_removed c.self.inside.slots c.take_value.new.slots c.self.inside.removed.items c.push_reserved-2.new.self.items c.args.key c.in-Some.ensures.slots (c.push_reserved-2.ensures.items ∙ ap (λ (l : List _). l ++ c.args.key ∷ []) c.reserve-2.ensures.items) (c.self.invariant.1 honest))
+    let noted = c.push_reserved.ensures.items ∙ ap (λ (l : List _). l ++ (c.args.key, Some c.in-Some.before) ∷ []) c.reserve.ensures.items in (
+      put_sound c.self.inside.slots c.take_value.new.slots c.self.inside.former.items c.push_reserved.new.self.items c.args.key None (Some c.in-Some.before) c.self.inside.len c.self.inside.len_before true false
+          c.in-Some.ensures.slots noted c.self.invariant.0
+          (is_put c.self.inside.slots c.take_value.new.slots c.self.inside.former.items c.push_reserved.new.self.items c.args.key None (Some c.in-Some.before) c.self.inside.len true false
+          c.in-Some.ensures.slots noted c.in-Some.ensures.value c.self.invariant.0.counted refl refl),
+      λ honest. more_removed c.self.inside.slots c.take_value.new.slots c.self.inside.removed.items c.push_reserved-2.new.self.items c.args.key c.in-Some.ensures.slots (c.push_reserved-2.ensures.items ∙ ap (λ (l : List _). l ++ c.args.key ∷ []) c.reserve-2.ensures.items) (c.self.invariant.1 honest),
+    )
 
 pub returns-clause-ok : goal.returns-clause-ok
 returns-clause-ok g c =

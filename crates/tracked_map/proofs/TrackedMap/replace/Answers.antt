@@ -13,12 +13,13 @@ len_with-self-inside-requires g c =
 pub invariant_of-self-2 : goal.invariant_of-self-2
 invariant_of-self-2 g c =
     let done = is_put c.self.inside.slots c.insert.new.self c.self.inside.former.items c.push_reserved.new.self.items c.args.key (Some c.args.value) c.flatten-before.result c.self.inside.len c.is_some.result true
-    c.in_ok-found.ensures.ok (c.push_reserved.ensures.items ∙ ap (λ (l : List _). l ++ (c.args.key, c.flatten-before.result) ∷ []) c.reserve.ensures.items) (c.flatten-before.ensures ∙ ap option_flatten c.in_ok-found.ensures.before) c.self.invariant.0.counted c.is_some.ensures refl in
-    (subst (λ n. IsSound c.insert.new.self c.push_reserved.new.self.items n c.self.inside.len_before) (sym c.len_with-self-inside.ensures)
-    (put_sound c.self.inside.slots c.insert.new.self c.self.inside.former.items c.push_reserved.new.self.items c.args.key (Some c.args.value) c.flatten-before.result c.self.inside.len c.self.inside.len_before c.is_some.result true
-    c.in_ok-found.ensures.ok (c.push_reserved.ensures.items ∙ ap (λ (l : List _). l ++ (c.args.key, c.flatten-before.result) ∷ []) c.reserve.ensures.items) c.self.invariant.0 done),
-    λ honest. set_removed c.self.inside.slots c.insert.new.self c.self.inside.removed.items c.args.key c.args.value c.in_ok-found.found c.in_ok-found.ensures.before (sym c.is_mark.ensures ∙ (neither c.self.inside.is_refilled c.is_mark.result (sym c.either-self-inside.ensures ∙ honest)).1) c.in_ok-found.ensures.ok
-        (c.self.invariant.1 (neither c.self.inside.is_refilled c.is_mark.result (sym c.either-self-inside.ensures ∙ honest)).0))
+    c.in_ok-found.ensures.ok (c.push_reserved.ensures.items ∙ ap (λ (l : List _). l ++ (c.args.key, c.flatten-before.result) ∷ []) c.reserve.ensures.items) (c.flatten-before.ensures ∙ ap option_flatten c.in_ok-found.ensures.before) c.self.invariant.0.counted c.is_some.ensures refl in (
+      subst (λ n. IsSound c.insert.new.self c.push_reserved.new.self.items n c.self.inside.len_before) (sym c.len_with-self-inside.ensures)
+          (put_sound c.self.inside.slots c.insert.new.self c.self.inside.former.items c.push_reserved.new.self.items c.args.key (Some c.args.value) c.flatten-before.result c.self.inside.len c.self.inside.len_before c.is_some.result true
+          c.in_ok-found.ensures.ok (c.push_reserved.ensures.items ∙ ap (λ (l : List _). l ++ (c.args.key, c.flatten-before.result) ∷ []) c.reserve.ensures.items) c.self.invariant.0 done),
+      λ honest. set_removed c.self.inside.slots c.insert.new.self c.self.inside.removed.items c.args.key c.args.value c.in_ok-found.found c.in_ok-found.ensures.before (sym c.is_mark.ensures ∙ (neither c.self.inside.is_refilled c.is_mark.result (sym c.either-self-inside.ensures ∙ honest)).1) c.in_ok-found.ensures.ok
+          (c.self.invariant.1 (neither c.self.inside.is_refilled c.is_mark.result (sym c.either-self-inside.ensures ∙ honest)).0),
+    )
 
 pub returns-clause-ok : goal.returns-clause-ok
 returns-clause-ok g c =
