@@ -64,8 +64,8 @@ fn send_to_target(
     notify_port_destroyed(alloc, state, target, serial)
 }
 
-/// A port dies: names of it become dead names, carried rights to it become `MACH_PORT_DEAD`, requests that were to
-/// tell it go, and what it held is released.
+/// A port dies: the rights of its messages are released, names of it become dead names with their notices, carried rights to it
+/// become `MACH_PORT_DEAD`, requests that were to tell it go, and the target that no notice will go to is released.
 fn die(
     state: &mut IpcState,
     serial: u64,
@@ -77,22 +77,7 @@ fn die(
         → effects.new ≡ effects.old ++ effects_of_death state.old.current serial port) }
     ensures before { state.new.before ≡ state.old.before }
 {
-    release_all(state, serial, numbers, effects)?;
-    state.bury(serial)
-}
-
-/// Adds what the death of a port sets off: the releases of the rights of its messages, the dead-name notices, and the
-/// release of the target that no notice will go to.
-fn release_all(
-    state: &IpcState,
-    serial: u64,
-    numbers: PortNumbers,
-    effects: &mut Effects,
-) -> Result<(), AllocError>
-    ensures { OnOk result ((port : PortState) → map.get state.now.current.ports serial ≡ Some port → port.no_senders_target ≡ numbers.no_senders_target
-        → effects.new ≡ effects.old ++ effects_of_death state.now.current serial port) }
-{
     state.releases(serial, effects)?;
-    state.dead_names(serial, effects)?;
+    state.bury(serial, effects)?;
     effects.release_target(numbers.no_senders_target)
 }

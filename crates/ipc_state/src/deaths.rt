@@ -1,7 +1,7 @@
 //! What a port's death changes, and whom it tells.
-ghost use Rattle.std.specs.Prelude.{◌≡◌, ◌++◌, None, OnOk, OnErr};
+ghost use Rattle.std.specs.Prelude.{◌≡◌, ◌++◌, None, OnOk, OnErr, flat_map};
 ghost use Rattle.std.specs.FinMap as map;
-ghost use Rattle.ipc_model.specs.effects.Effects.{after_death, dead_name_notices, entry_after_death, map_values, port_after_death};
+ghost use Rattle.ipc_model.specs.effects.Effects.{after_death, dead_name_notices, dead_name_of_entry, entry_after_death, map_values, port_after_death};
 ghost use Rattle.ipc_model.specs.state.State.{with_port};
 ghost use Rattle.ipc_state.specs.Members.{set_in};
 ghost use Rattle.ipc_state.specs.Running.{at_rest};
@@ -13,21 +13,16 @@ use spaces::Spaces;
 use std::alloc::AllocError;
 
 impl IpcState {
-    /// Adds the dead-name notices of the port's names to the effects, by space and name.
-    pub fn dead_names(&self, serial: u64, effects: &mut Effects) -> Result<(), AllocError>
-        ensures { OnOk result (effects.new ≡ effects.old ++ dead_name_notices self.now.current serial) }
-    {
-        self.spaces.dead_names(serial, effects)
-    }
-
-    /// A port dies: names of it become dead names, carried rights to it become `MACH_PORT_DEAD`, and requests that were
-    /// to tell it go. Where memory is wanted the changes are given up.
-    pub fn bury(&mut self, serial: u64) -> Result<(), AllocError>
+    /// A port dies: names of it become dead names, with a dead-name notice each where that was requested, by space and name;
+    /// carried rights to it become `MACH_PORT_DEAD`, and requests that were to tell it go. Where memory is wanted the
+    /// changes are given up.
+    pub fn bury(&mut self, serial: u64, effects: &mut Effects) -> Result<(), AllocError>
         ensures ok { OnOk result (self.new ≡ record self.old { current = after_death self.old.current serial }) }
+        ensures told { OnOk result (effects.new ≡ effects.old ++ dead_name_notices self.old.current serial) }
         ensures err { OnErr result (self.new ≡ at_rest self.old.before) }
     {
         self.leave_set(serial)?;
-        self.bury_outside(serial)?;
+        self.bury_outside(serial, effects)?;
         Ok(())
     }
 
@@ -47,12 +42,13 @@ impl IpcState {
     }
 
     /// A port that is in no set dies.
-    fn bury_outside(&mut self, serial: u64) -> Result<(), AllocError>
+    fn bury_outside(&mut self, serial: u64, effects: &mut Effects) -> Result<(), AllocError>
         requires outside { set_in self.old.current.ports serial ≡ None }
         ensures ok { OnOk result (self.new ≡ record self.old { current = after_death self.old.current serial }) }
+        ensures told { OnOk result (effects.new ≡ effects.old ++ dead_name_notices self.old.current serial) }
         ensures err { OnErr result (self.new ≡ at_rest self.old.before) }
     {
-        match bury_in_both(&mut self.spaces, &mut self.ports, serial) {
+        match bury_in_both(&mut self.spaces, &mut self.ports, serial, effects) {
             Ok(()) => Ok(()),
             Err(error) => {
                 self.spaces.give_up();
@@ -64,16 +60,22 @@ impl IpcState {
     }
 }
 
-fn bury_in_both(spaces: &mut Spaces, ports: &mut Ports, serial: u64) -> Result<(), AllocError>
+fn bury_in_both(
+    spaces: &mut Spaces,
+    ports: &mut Ports,
+    serial: u64,
+    effects: &mut Effects,
+) -> Result<(), AllocError>
     ensures spaces { OnOk result (spaces.new ≡ record spaces.old { current = map_values (map_values (entry_after_death serial)) spaces.old.current }) }
     ensures ports { OnOk result (ports.new ≡ record ports.old {
       current = record ports.old.current {
         ports = map_values (port_after_death serial) (map.remove ports.old.current.ports serial);
       };
     }) }
+    ensures told { OnOk result (effects.new ≡ effects.old ++ flat_map (λ s. flat_map (λ e. dead_name_of_entry serial e.0 e.1) (map.entries s.1)) (map.entries spaces.old.current)) }
     ensures before { spaces.new.before ≡ spaces.old.before }
     ensures ports_before { ports.new.before ≡ ports.old.before }
 {
-    spaces.bury(serial)?;
+    spaces.bury(serial, effects)?;
     ports.bury(serial)
 }

@@ -1,3 +1,4 @@
 mod Holding
 mod Moving
+mod Telling
 mod Turning

@@ -128,6 +128,16 @@ module _ (port : ℕ) (spaces : SpaceMap) (small : AreSmall spaces) where
       let within = fits space name names entry there here in
       nothing_from at (place space name) (dead_name_of_entry port name entry) (λ from. apart space name names entry there here (none (place space name) from (omega (arith, within.0, within.1))))))
 
+  -- places that are passed over have no notices
+  pub notices_same : (at next : ℕ) → at ≤ next → ((q : ℕ) → at ≤ q → q < next → is_number (at_place port_named spaces q) port ≡ false) → notices_from port spaces at ≡ notices_from port spaces next
+  notices_same at next le none =
+      entries_alike (λ (s : ℕ × Names). flat_map (λ e. from_on at (place s.0 e.0) (dead_name_of_entry port e.0 e.1)) (entries s.1)) (λ (s : ℕ × Names). flat_map (λ e. from_on next (place s.0 e.0) (dead_name_of_entry port e.0 e.1)) (entries s.1)) spaces
+      (λ space names there.
+      entries_alike (λ (e : ℕ × Entry). from_on at (place space e.0) (dead_name_of_entry port e.0 e.1)) (λ (e : ℕ × Entry). from_on next (place space e.0) (dead_name_of_entry port e.0 e.1)) names (λ name entry here.
+      less_or_not (place space name) next _
+      (λ less. nothing_from at (place space name) (dead_name_of_entry port name entry) (λ from. apart space name names entry there here (none (place space name) from less)) ∙ sym (below_none next (place space name) (dead_name_of_entry port name entry) less))
+      (λ more. above_all at (place space name) (dead_name_of_entry port name entry) (omega (arith, le, more)) ∙ sym (above_all next (place space name) (dead_name_of_entry port name entry) more))))
+
   module _ (space name : ℕ) (names : Names) (entry : Entry) (there : get spaces space ≡ Some names) (here : get names name ≡ Some entry) (is : is_name_of port entry ≡ true) (at : ℕ) (from : at ≤ place space name)
       (between : (q : ℕ) → at ≤ q → q < place space name → is_number (at_place port_named spaces q) port ≡ false) where
     abbrev gained : List Effect
@@ -193,3 +203,31 @@ notices_step port spaces at number small next = go (get spaces (number / 2 ^ 32)
     go : (o : Option Names) → get spaces (number / 2 ^ 32) ≡ o → notices_from port spaces at ≡ notice_at spaces number ++ notices_from port spaces (number + 1)
     go None none = absurd (cc (sym next.2 ∙ ap (λ (o : Option Names). is_number (option_and_then port_named (option_and_then (λ (m : Names). get m (number % 2 ^ 32)) o)) port) none))
     go (Some names) there = inner names there (get names (number % 2 ^ 32)) refl
+
+-- what the name of a place adds, where it stands for a right to the port
+abbrev pub notice_of : ℕ → SpaceMap → ℕ → List Effect
+notice_of port spaces number = elim (entry_in spaces (number / 2 ^ 32) (number % 2 ^ 32)) as (λ _. List Effect) [ None ↦ [] | Some entry ↦ dead_name_of_entry port (number % 2 ^ 32) entry ]
+
+pub notices_on : (port : ℕ) (spaces : SpaceMap) (at number : ℕ) → AreSmall spaces → at ≤ number → number < 2 ^ 64 → ((q : ℕ) → at ≤ q → q < number → is_number (at_place port_named spaces q) port ≡ false)
+    → notices_from port spaces at ≡ notice_of port spaces number ++ notices_from port spaces (number + 1)
+notices_on port spaces at number small le fits none = go (entry_in spaces (number / 2 ^ 32) (number % 2 ^ 32)) refl
+  where
+    passed_by : is_number (at_place port_named spaces number) port ≡ false → notices_from port spaces at ≡ notices_from port spaces (number + 1)
+    passed_by apart = notices_same port spaces small at (number + 1) (omega (arith, le)) (λ q from below. less_or_not q number _
+        (λ less. none q from less)
+        (λ more. ap (λ (k : ℕ). is_number (at_place port_named spaces k) port) (omega (arith, more, below)) ∙ apart))
+
+    named : (entry : Entry) → entry_in spaces (number / 2 ^ 32) (number % 2 ^ 32) ≡ Some entry → is_number (at_place port_named spaces number) port ≡ is_name_of port entry
+    named entry here = ap (λ (o : Option Entry). is_number (option_and_then port_named o) port) here ∙ named_alike port entry
+
+    by : (entry : Entry) → entry_in spaces (number / 2 ^ 32) (number % 2 ^ 32) ≡ Some entry → (b : Bool) → is_name_of port entry ≡ b
+        → notices_from port spaces at ≡ cond b (dead_name_notice (number % 2 ^ 32) (request_of entry)) [] ++ notices_from port spaces (number + 1)
+    by entry here true is =
+        notices_step port spaces at number small (le, fits, named entry here ∙ is, none)
+        ∙ ap (λ (o : Option Entry). dead_name_notice (number % 2 ^ 32) (option_and_then request_of o) ++ notices_from port spaces (number + 1)) here
+    by entry here false is = passed_by (named entry here ∙ is)
+
+    go : (o : Option Entry) → entry_in spaces (number / 2 ^ 32) (number % 2 ^ 32) ≡ o
+        → notices_from port spaces at ≡ (elim o as (λ _. List Effect) [ None ↦ [] | Some entry ↦ dead_name_of_entry port (number % 2 ^ 32) entry ]) ++ notices_from port spaces (number + 1)
+    go None here = passed_by (ap (λ (o : Option Entry). is_number (option_and_then port_named o) port) here)
+    go (Some entry) here = by entry here (is_name_of port entry) refl

@@ -1,29 +1,33 @@
 // What becomes of names as a port dies.
-ghost use Rattle.std.specs.Prelude.{◌≡◌, ◌<◌, ◌-◌, ◌+◌, ◌^◌, ◌%◌, ◌/◌, Some, None, OnOk, OnErr, MatchOption};
+ghost use Rattle.std.specs.Prelude.{◌≡◌, ◌<◌, ◌-◌, ◌+◌, ◌^◌, ◌%◌, ◌/◌, ◌++◌, Some, None, OnOk, OnErr, MatchOption, flat_map};
 ghost use Rattle.std.specs.FinMap as map;
-ghost use Rattle.ipc_model.specs.effects.Effects.{entry_after_death, map_values, one_more_if, without_target};
+ghost use Rattle.ipc_model.specs.effects.Effects.{dead_name_of_entry, entry_after_death, is_name_of, map_values, one_more_if, without_target};
 ghost use Rattle.ipc_model.specs.declared.entry.Entry.TheVariants.{Dead};
 ghost use Rattle.port_space.specs.References.{AreFewReferences};
 ghost use Rattle.spaces.specs.Burying.{IsNextMention};
 ghost use Rattle.spaces.specs.Indexes.{AreSmall};
 ghost use Rattle.spaces.specs.Looking.{entry_in};
 ghost use Rattle.spaces.specs.Slots.{spaces_at_rest, names_changed};
+ghost use Rattle.spaces.specs.Walks.{notice_of};
 
 use crate::Spaces;
+use crate::indexes::target_of;
+use effects::Effects;
 use ipc_model::{Entry, PortRights};
 use std::alloc::AllocError;
 
 impl Spaces {
-    /// A port dies: names that stand for rights to it become dead names, and dead-name requests that were to tell it go.
-    /// Where memory is wanted the changes are given up.
-    pub fn bury(&mut self, port: u64) -> Result<(), AllocError>
+    /// A port dies: names that stand for rights to it become dead names, each with a notice to its dead-name request, by
+    /// space and name; and dead-name requests that were to tell it go. Where memory is wanted the changes are given up.
+    pub fn bury(&mut self, port: u64, effects: &mut Effects) -> Result<(), AllocError>
         ensures ok { OnOk result (self.new ≡ record self.old { current = map_values (map_values (entry_after_death port)) self.old.current }) }
+        ensures told { OnOk result (effects.new ≡ effects.old ++ flat_map (λ s. flat_map (λ e. dead_name_of_entry port e.0 e.1) (map.entries s.1)) (map.entries self.old.current)) }
         ensures err { OnErr result (self.new ≡ spaces_at_rest self.old.before) }
     {
         self.are_small();
         let mut at: u64 = 0;
         while let Some(place) = self.next_mention(port, at) {
-            self.bury_at(port, place)?;
+            self.bury_at(port, place, effects)?;
             let Some(next) = place.checked_add(1) else {
                 self.are_small();
                 return Ok(());
@@ -55,10 +59,11 @@ impl Spaces {
         }
     }
 
-    /// The name of a place becomes what it is after the death of a port.
-    fn bury_at(&mut self, port: u64, number: u64) -> Result<(), AllocError>
+    /// The name of a place becomes what it is after the death of a port, and its request is told.
+    fn bury_at(&mut self, port: u64, number: u64, effects: &mut Effects) -> Result<(), AllocError>
         ensures ok { OnOk result (MatchOption (entry_in self.old.current (number / 2 ^ 32) (number % 2 ^ 32)) (self.new ≡ self.old)
             (λ entry. self.new ≡ record self.old { current = names_changed self.old.current (number / 2 ^ 32) (λ names. map.insert names (number % 2 ^ 32) (entry_after_death port entry)) })) }
+        ensures told { OnOk result (effects.new ≡ effects.old ++ notice_of port self.old.current number) }
         ensures err { OnErr result (self.new ≡ spaces_at_rest self.old.before) }
     {
         let space = (number / (1 << 32)) as u32;
@@ -66,7 +71,34 @@ impl Spaces {
         let Some(entry) = self.entry(space, name) else {
             return Ok(());
         };
-        self.put_over(space, name, Some(entry), after_death(entry, port))
+        self.put_over(space, name, Some(entry), after_death(entry, port))?;
+        if tell_of(entry, port, name, effects).is_err() {
+            self.give_up();
+            return Err(AllocError);
+        }
+        Ok(())
+    }
+}
+
+/// Tells the dead-name request of a name that stands for a right to a port, where it has one.
+fn tell_of(entry: Entry, port: u64, name: u32, effects: &mut Effects) -> Result<(), AllocError>
+    ensures { OnOk result (effects.new ≡ effects.old ++ dead_name_of_entry port name entry) }
+{
+    if !is_name_of(entry, port) {
+        return Ok(());
+    }
+    effects.dead_name(name, target_of(Some(entry)))?;
+    Ok(())
+}
+
+/// Whether a name stands for a right to a port.
+fn is_name_of(entry: Entry, port: u64) -> bool
+    ensures { result ≡ is_name_of port entry }
+{
+    match entry {
+        Entry::Port(rights) => rights.port == port,
+        Entry::SendOnce { port: other, .. } => other == port,
+        Entry::Set | Entry::Dead { .. } => false,
     }
 }
 

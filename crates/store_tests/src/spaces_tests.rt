@@ -85,9 +85,9 @@ fn next_notice(effects: &mut Effects) -> NoticeSeen {
     }
 }
 
-/// The dead-name notices of port 7, as they are handed out.
-fn told(spaces: &Spaces, effects: &mut Effects) -> Option<[NoticeSeen; 4]> {
-    spaces.dead_names(7, effects).ok()?;
+/// The dead-name notices of port 7 as it dies, as they are handed out.
+fn told(spaces: &mut Spaces, effects: &mut Effects) -> Option<[NoticeSeen; 4]> {
+    spaces.bury(7, effects).ok()?;
     Some([
         next_notice(effects),
         next_notice(effects),
@@ -130,12 +130,20 @@ fn held(spaces: &Spaces) -> Held {
     (entries, counts)
 }
 
+/// A port dies, and nobody is told.
+fn die(alloc: Global, spaces: &mut Spaces, port: u64) -> Option<()> {
+    let mut effects = Effects::new(alloc);
+    let done = spaces.bury(port, &mut effects).ok();
+    drop(effects);
+    done
+}
+
 /// What is held: once port 9 has died, once port 7 has died too, once space 2 is gone, and once all is given up.
-fn buried(spaces: &mut Spaces) -> Option<[Held; 4]> {
+fn buried(alloc: Global, spaces: &mut Spaces) -> Option<[Held; 4]> {
     fill(spaces)?;
-    spaces.bury(9).ok()?;
+    die(alloc, spaces, 9)?;
     let without_9 = held(spaces);
-    spaces.bury(7).ok()?;
+    die(alloc, spaces, 7)?;
     let without_7 = held(spaces);
     spaces.remove(2).ok()?;
     let without_space = held(spaces);
@@ -145,7 +153,7 @@ fn buried(spaces: &mut Spaces) -> Option<[Held; 4]> {
 
 fn buried_in_new(alloc: Global) -> Option<[Held; 4]> {
     let mut spaces = Spaces::new(alloc);
-    let seen = buried(&mut spaces);
+    let seen = buried(alloc, &mut spaces);
     drop(spaces);
     seen
 }
