@@ -1,5 +1,5 @@
 //! The names of a space with what stands beside them, as plain tables.
-ghost use Rattle.std.specs.Prelude.{◌≡◌, ◌≤◌, ◌<◌, ◌^◌, ℕ, true, false, None, Some, OnOk, MatchOption, is_some, option_and_then, option_copied};
+ghost use Rattle.std.specs.Prelude.{◌≡◌, ◌≤◌, ◌<◌, ◌^◌, ℕ, true, false, None, Some, OnOk, MatchOption, is_some, option_and_then};
 ghost use Rattle.std.specs.FinMap as map;
 ghost use Rattle.ipc_model.specs.state.State.{port_held};
 ghost use Rattle.port_space.specs.Beside.{holds, with_port, without_port, port_key, AreByPort, AreFree, GoesOn};
@@ -33,13 +33,6 @@ impl Tables {
             low: u128::from(FIRST_NAME),
             low_before: u128::from(FIRST_NAME),
         }
-    }
-
-    /// The port that a name holds a send or receive right of, if it does.
-    fn port_under(&self, name: u32) -> Option<u64>
-        ensures { result ≡ option_and_then port_held (map.get self.now.names.current name) }
-    {
-        held_by(self.names.get(u128::from(name)).copied())
     }
 
     /// The least name from one on that holds a send or receive right of a port.
@@ -81,9 +74,8 @@ impl Tables {
         ensures ok { OnOk result (IsRemoved self.old self.new name) }
         ensures before { SameBefore self.old self.new }
     {
-        let former = self.port_under(name);
-        leave_port(&mut self.by_port, former, name)?;
-        self.names.remove(u128::from(name))?;
+        let former = self.names.take(u128::from(name))?;
+        leave_port(&mut self.by_port, held_by(former), name)?;
         if FIRST_NAME <= name && u128::from(name) < self.low {
             self.gaps.set(u128::from(name), ())?;
         }

@@ -133,15 +133,25 @@ impl<V: Copy + Drop> TrackedMap<V> {
         ensures ok { OnOk result (self.new ≡ record self.old { current = map.remove self.old.current key }) }
         ensures err { OnErr result (self.new ≡ self.old) }
     {
+        self.take(key)?;
+        Ok(())
+    }
+
+    /// Takes the value of a key out, if it has one. Where memory is wanted nothing changed.
+    pub fn take(&mut self, key: u128) -> Result<Option<V>, AllocError>
+        ensures before { IfOk result (λ before. before ≡ map.get self.old.current key) }
+        ensures ok { OnOk result (self.new ≡ record self.old { current = map.remove self.old.current key }) }
+        ensures err { OnErr result (self.new ≡ self.old) }
+    {
         self.former.reserve(1)?;
         self.removed.reserve(1)?;
         let Some(before) = take_value(&mut self.slots, key) else {
-            return Ok(());
+            return Ok(None);
         };
         self.len -= 1;
         self.former.push_reserved((key, Some(before)));
         self.removed.push_reserved(key);
-        Ok(())
+        Ok(Some(before))
     }
 
     /// Keeps the changes. It takes no memory.

@@ -1,8 +1,8 @@
 use Rattle.std.proofs.Common.{◌++◌, ◌∷◌, [], List, Some, None, true, false, refl, ap, sym, ◌∙◌, arith}
 use Rattle.std.specs.FinMap as map
 use Rattle.tracked_map.specs.Tracked.{Tracked, over, shown}
-use Rattle.tracked_map.proofs.Laws.{both, is_put, more_removed, none_removed, put_sound}
-use Rattle.tracked_map.proofs.TrackedMap.remove.Goals as goal
+use Rattle.tracked_map.proofs.Laws.{both, got, is_put, more_removed, none_removed, put_sound}
+use Rattle.tracked_map.proofs.TrackedMap.take.Goals as goal
 
 pub returns-in_default-clause-ok : goal.returns-in_default-clause-ok
 returns-in_default-clause-ok g c =
@@ -33,3 +33,9 @@ returns-clause-ok g c =
     let done = is_put c.self.inside.slots c.take_value.new.slots c.self.inside.former.items c.push_reserved.new.self.items c.args.key None (Some c.in-Some.before) c.self.inside.len true false
     c.in-Some.ensures.slots noted c.in-Some.ensures.value c.self.invariant.0.counted refl refl in
     both _ _ _ _ done.unwound done.shows ∙ ap (λ (t : Tracked _). record { before = t.before; current = map.remove t.current c.args.key }) c.self.view_is
+
+pub returns-in_default-clause-before : goal.returns-in_default-clause-before
+returns-in_default-clause-before g c = got c.self.inside.slots c.args.key (map.get c.self.inside.slots c.args.key) None refl (sym c.in_default.ensures.value) ∙ ap (λ (t : Tracked _). map.get t.current c.args.key) c.self.view_is
+
+pub returns-clause-before : goal.returns-clause-before
+returns-clause-before g c = got c.self.inside.slots c.args.key (map.get c.self.inside.slots c.args.key) (Some c.in-Some.before) refl (sym c.in-Some.ensures.value) ∙ ap (λ (t : Tracked _). map.get t.current c.args.key) c.self.view_is
