@@ -1,14 +1,14 @@
 -- The table of places, where a place or a key changes.
-use Rattle.std.proofs.Common.{◌≡◌, ◌<◌, ◌≤◌, ℕ, Bool, true, false, cond, Option, None, Some, IfSome, length, replicate, slice_set, arith, refl, sym, ◌∙◌, ap, inl, inr}
+use Rattle.std.proofs.Common.{◌≡◌, ◌<◌, ◌≤◌, ℕ, Bool, true, false, cond, [], Option, None, Some, IfSome, is_some, length, replicate, slice_set, arith, refl, sym, ◌∙◌, ap, inl, inr}
 use Rattle.std.proofs.lemmas.Bool.{cases_eq, cases_lt}
 use Rattle.std.proofs.lemmas.List.{get_or-replicate, get_or_past, get_or-set_same, get_or-set_other, length-replicate}
 use Rattle.std.specs.Cmp.{nat_cmp_total}
 use Rattle.std.specs.Ordering.{nat_cmp, eq_by_cmp}
-use Rattle.std.specs.FinMap.{get, insert, remove, get-insert, get-remove}
+use Rattle.std.specs.FinMap.{empty, get, insert, remove, get-empty, get-insert, get-remove}
 use Rattle.ipc_laws.specs.ListLaws.{some_same}
 use Rattle.ipc_laws.specs.MapSums.{key_is, same_key}
 use Rattle.live_ports.specs.Slabbed.{Keys}
-use Rattle.live_ports.specs.Recent.{Places, at, place_of, AreRecent, IsNoted}
+use Rattle.live_ports.specs.Recent.{Places, at, place_of, AreRecent, IsLast, IsNoted}
 
 -- places that are free, or none, say nothing
 pub free_recent : (places : Places) (keys : Keys) → ((place : ℕ) → at places place ≡ None) → AreRecent places keys
@@ -66,6 +66,31 @@ module _ (old new : Places) (keys : Keys) (serial : ℕ) (recent : AreRecent old
         | inr apart ↦ recent.found noted (sym (noting.others (place_of noted.0) apart) ∙ stands)
       ]
 
+-- the last serial, as serials come and go
+pub none_last : (last : ℕ) (keys : Keys) → keys ≡ empty → IsLast last keys
+none_last last keys none = record { bound = λ serial there. absurd (cc (sym (ap (λ (m : Keys). is_some (get m serial)) none ∙ ap is_some (get-empty nat_cmp serial)) ∙ there)) }
+
+pub inserted_last : (last more serial key : ℕ) (keys : Keys) → last ≤ more → serial ≤ more → IsLast last keys → IsLast more (insert keys serial key)
+inserted_last last more serial key keys le here is = record { bound = λ other there. go other (eq_by_cmp nat_cmp other serial) refl (sym (ap is_some (get-insert nat_cmp_total keys serial key other)) ∙ there) }
+  where
+    go : (other : ℕ) (b : Bool) → eq_by_cmp nat_cmp other serial ≡ b → is_some (cond b (Some key) (get keys other)) ≡ true → other ≤ more
+    go other true same there = omega (arith, key_is other serial same, here)
+    go other false apart there = omega (arith, is.bound other there, le)
+
+pub removed_last : (last serial : ℕ) (keys : Keys) → IsLast last keys → IsLast last (remove keys serial)
+removed_last last serial keys is = record { bound = λ other there. go other (eq_by_cmp nat_cmp other serial) (sym (ap is_some (get-remove nat_cmp_total keys serial other)) ∙ there) }
+  where
+    go : (other : ℕ) (b : Bool) → is_some (cond b None (get keys other)) ≡ true → other ≤ last
+    go other true there = absurd (cc there)
+    go other false there = is.bound other there
+
+pub none_above : (last serial : ℕ) (keys : Keys) → IsLast last keys → last < serial → None ≡ get keys serial
+none_above last serial keys is above = go (get keys serial) refl
+  where
+    go : (o : Option ℕ) → get keys serial ≡ o → None ≡ o
+    go None at = refl
+    go (Some key) at = absurd (omega (arith, above, is.bound serial (ap is_some at)))
+
 -- a place that is written, and one that isn't there
 pub set_noted : (old : Places) (place : ℕ) (content : Option (ℕ × ℕ)) → place < length old → IsNoted content place old (slice_set old place content)
 set_noted old place content low = record {
@@ -86,6 +111,9 @@ all_free count place =
       | inl low ↦ get_or-replicate count place none none low
       | inr past ↦ get_or_past (replicate count none) place none (omega (arith, past, length-replicate count none))
     ]
+
+pub nothing_at : (place : ℕ) → at [] place ≡ None
+nothing_at place = get_or_past [] place None (omega arith)
 
 -- what is none wherever it is a clone of none
 pub none_alone : (P : Option (ℕ × ℕ) → Type 0) → ((x : ℕ × ℕ) → P (Some x) → ⊥) → (content : Option (ℕ × ℕ)) → P content → content ≡ None

@@ -1,5 +1,5 @@
 -- A table that finds the keys of most serials in one look. A serial has one place in it, which it shares with others.
-use Rattle.std.specs.Prelude.{◌≡◌, ◌≢◌, ◌%◌, ℕ, List, Option, None, Some, slice_index_or}
+use Rattle.std.specs.Prelude.{◌≡◌, ◌≢◌, ◌≤◌, ◌%◌, ℕ, true, List, Option, None, Some, is_some, slice_index_or}
 use Rattle.std.specs.FinMap as finmap
 use Rattle.live_ports.specs.Slabbed.{Keys}
 
@@ -22,3 +22,7 @@ pub record AreRecent (places : Places) (keys : Keys) : Type 0 where
 pub record IsNoted (content : Option (ℕ × ℕ)) (place : ℕ) (old new : Places) : Type 0 where
   pub here : (noted : ℕ × ℕ) → at new place ≡ Some noted → content ≡ Some noted
   pub others : (other : ℕ) → other ≢ place → at new other ≡ at old other
+
+-- no serial above this one has a key
+pub record IsLast (last : ℕ) (keys : Keys) : Type 0 where
+  pub bound : (serial : ℕ) → is_some (finmap.get keys serial) ≡ true → serial ≤ last

@@ -10,19 +10,21 @@ use std::marker::Model;
 const PLACES: usize = 16384;
 
 /// The keys of serials. An ordered map has them all; a table of `PLACES`, made with the first of them where there is
-/// memory for it, finds most of them in one look. Contracts see the finite map from serials to keys.
+/// memory for it, finds most of them in one look, and no serial above the last has one. Contracts see the finite map from
+/// serials to keys.
 #[derive(Drop)]
 pub(crate) struct SerialKeys {
     alloc: Global,
     keys: NumberMap<usize>,
     recent: Vec<Option<(u64, usize)>>,
+    last: u128,
 }
 
 impl Model for SerialKeys {
     ghost use Rattle.std.specs.Coded.{coded_ℕ};
     ghost use Rattle.std.specs.FinMap as map;
     ghost use Rattle.live_ports.specs.Slabbed.{Keys};
-    ghost use Rattle.live_ports.specs.Recent.{AreRecent};
+    ghost use Rattle.live_ports.specs.Recent.{AreRecent, IsLast};
 
     ghost Value = { Keys };
 
@@ -30,7 +32,7 @@ impl Model for SerialKeys {
 
     ghost view = { λ s. s.keys };
 
-    ghost invariant = { λ s. AreRecent s.recent.items s.keys };
+    ghost invariant = { λ s. AreRecent s.recent.items s.keys × IsLast s.last s.keys };
 }
 
 impl SerialKeys {
@@ -42,6 +44,7 @@ impl SerialKeys {
             alloc,
             keys: NumberMap::new(alloc),
             recent: Vec::new(alloc),
+            last: 0,
         }
     }
 
@@ -51,6 +54,9 @@ impl SerialKeys {
     {
         if let Some(key) = noted_key(&self.recent, serial) {
             return Some(key);
+        }
+        if self.last < serial {
+            return None;
         }
         self.keys.get(serial).copied()
     }
@@ -84,6 +90,7 @@ impl SerialKeys {
         ensures err { OnErr result (self.new ≡ self.old) }
     {
         self.keys.insert(serial, key)?;
+        self.last = self.last.max(serial);
         make_places(&mut self.recent, self.alloc);
         note(&mut self.recent, place(serial), noted(serial, key));
         Ok(())
