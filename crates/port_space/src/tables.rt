@@ -1,6 +1,5 @@
 //! The names of a space with what stands beside them, as plain tables.
 ghost use Rattle.std.specs.Prelude.{◌≡◌, ◌≤◌, ◌<◌, ◌^◌, ℕ, true, false, None, Some, OnOk, MatchOption, is_some, option_and_then};
-ghost use Rattle.std.specs.FinMap as map;
 ghost use Rattle.ipc_model.specs.state.State.{port_held};
 ghost use Rattle.port_space.specs.Beside.{holds, with_port, without_port, port_key, AreByPort, AreFree, GoesOn};
 ghost use Rattle.port_space.specs.Tables.{IsPut, IsRemoved, SameBefore, AreGivenUp, AreKept, AreNew, AreSmall};

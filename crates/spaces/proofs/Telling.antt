@@ -7,7 +7,7 @@ use Rattle.spaces.specs.Burying.{Buried, StandsApart}
 use Rattle.spaces.specs.Indexes.{AreSmall}
 use Rattle.spaces.specs.Looking.{entry_in, port_named, at_place, parts}
 use Rattle.spaces.specs.Slots.{SpaceMap}
-use Rattle.spaces.specs.Walks.{notice_of, notices_end, notices_first, notices_from, notices_on}
+use Rattle.spaces.specs.Walks.{notice_of, notices_end, notices_from, notices_on}
 
 module _ (port : ℕ) (before spaces : SpaceMap) (at : ℕ) (buried : Buried port before spaces at) where
   -- from the place on the names are as before

@@ -4,7 +4,7 @@
 ghost use Rattle.std.specs.Prelude.{◌≡◌, ℕ, ◌≤◌, ◌<◌, ◌||◌, [], true, false, Some, None, IfOk, OnOk, OnErr, MatchOption, is_some, option_copied, ◌^◌};
 ghost use Rattle.std.specs.FinMap as map;
 ghost use Rattle.std.specs.Option.{option_flatten};
-ghost use Rattle.tracked_map.specs.Tracked.{at_rest, is_mark, len_after, over, put, shown, unmarked, AreMarked, AreRemoved, HasSlots};
+ghost use Rattle.tracked_map.specs.Tracked.{at_rest, is_mark, len_after, over, shown, unmarked, AreMarked, AreRemoved, HasSlots};
 
 use number_map::NumberMap;
 use std::alloc::{AllocError, Global};

@@ -1,4 +1,4 @@
-use Rattle.std.proofs.Common.{refl, ap, ◌∙◌}
+use Rattle.std.proofs.Common.{ap, ◌∙◌}
 use Rattle.live_ports.specs.Recent.{Places, at}
 use Rattle.live_ports.proofs.Recency.{free_recent, none_last, nothing_at}
 use Rattle.live_ports.proofs.keys.SerialKeys.new.Goals as goal
