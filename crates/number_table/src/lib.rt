@@ -80,11 +80,13 @@ impl<V> NumberTable<V> {
 }
 
 impl<V: Drop> NumberTable<V> {
-    /// Sets the value of a number, and gives the one before. Where memory is wanted nothing changed.
+    /// Sets the value of a number, and gives the one before. Only a number without a value may lack memory, and then
+    /// nothing changed.
     pub fn insert(&mut self, number: u32, value: V) -> Result<Option<V>, AllocError>
         ensures before { IfOk result (λ before. before ≡ map.get self.old number) }
         ensures ok { OnOk result (self.new ≡ map.insert self.old number value) }
         ensures err { OnErr result (self.new ≡ self.old) }
+        ensures absent { OnErr result (map.get self.old number ≡ None) }
     {
         let at = number as usize;
         grow(&mut self.rows, at)?;
@@ -105,10 +107,11 @@ impl<V: Drop> NumberTable<V> {
     }
 }
 
-/// There is a row of this number from now on. Where memory is wanted there may be none.
+/// There is a row of this number from now on. Where memory is wanted there was none.
 fn grow<V: Drop>(rows: &mut Vec<Option<V>>, at: usize) -> Result<(), AllocError>
     ensures same { rows_from 0 rows.new.items ≡ rows_from 0 rows.old.items }
     ensures long { OnOk result (at < length rows.new.items) }
+    ensures short { OnErr result (length rows.old.items ≤ at) }
 {
     while rows.len() <= at {
         rows.push(None)?;
