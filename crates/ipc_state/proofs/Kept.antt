@@ -1,25 +1,26 @@
 -- The members are found where their places say, after each change.
-use Rattle.std.proofs.Common.{◌≡◌, ℕ, zero, suc, ◌+◌, ◌-◌, ◌^◌, ◌||◌, ◌≤◌, nat_le, nat_lt, arith, ◌<◌, ◌/◌, ◌%◌, ◌==◌, Bool, true, false, cond, Option, None, Some, is_some, option_map, option_and_then, refl, sym, ◌∙◌, ap, subst}
+use Rattle.std.proofs.Common.{◌≡◌, ℕ, ◌+◌, ◌-◌, ◌^◌, ◌||◌, ◌≤◌, nat_le, nat_lt, arith, ◌<◌, ◌/◌, ◌%◌, ◌==◌, Bool, true, false, cond, Option, None, Some, is_some, option_map, option_and_then, refl, sym, ◌∙◌, ap, subst}
 use Rattle.std.proofs.lemmas.Bool.{eqb-true, eqb-false, eq-eqb, ltb-false, ltb-true}
 use Rattle.std.specs.Cmp.{nat_cmp_total}
 use Rattle.std.specs.Ordering.{nat_cmp, eq_by_cmp}
-use Rattle.std.specs.FinMap.{FinMap, get, insert, remove, empty, len, get-empty, get-insert, get-remove, same_map, nat_cmp-IsAntisymmetric}
+use Rattle.std.specs.FinMap.{get, insert, remove, empty, len, get-empty, get-insert, get-remove, same_map, nat_cmp-IsAntisymmetric}
 use Rattle.codes.specs.declared.limits.TheConstants.{MAX_PORTS}
 use Rattle.ipc_laws.specs.ListLaws.{some_same}
 use Rattle.ipc_laws.specs.MapLaws.{get-map_values}
-use Rattle.ipc_laws.specs.MapSums.{insert-insert, insert-same, key_is, same_key}
+use Rattle.ipc_laws.specs.MapSums.{insert-insert, key_is, same_key}
 use Rattle.ipc_model.specs.declared.entry.Entry.{Entry}
 use Rattle.ipc_model.specs.declared.entry.Entry.TheVariants.{Port, SendOnce, Set, Dead}
 use Rattle.ipc_model.specs.declared.port.PortState.{PortState}
 use Rattle.ipc_model.specs.effects.Effects.{after_death, entry_after_death, map_values, one_more_if, port_after_death, without_target}
-use Rattle.ipc_model.specs.state.State.{State, Names, entry_at, new_port, ports_are_used_up, received_port, with_changed, with_names, with_port, without_name}
+use Rattle.ipc_model.specs.state.State.{State, Names, new_port, ports_are_used_up, received_port, with_names, with_port, without_name}
 use Rattle.ipc_model.specs.calls.PortCalls.{names_in}
-use Rattle.ipc_state.specs.Members.{AreMembers, AreMoving, DifferAt, one_moved, changed_members, same_members, set_in, set_place, set_place_of, state_of}
-use Rattle.ports.specs.Passed.{changed, numbers_of, with_message, with_numbers, PortNumbers, PortTable, TrackedPorts, Ports}
+use Rattle.ipc_state.specs.Members.{AreMembers, AreMoving, ArePlacesRenamed, DifferAt, one_moved, changed_members, same_members, set_in, set_place, set_place_of, state_of}
+use Rattle.ports.specs.Passed.{changed, numbers_of, with_numbers, PortNumbers, PortTable, TrackedPorts, Ports}
 use Rattle.spaces.specs.Passed.{alike_indexed, Numbers, moved, under_other_name, Tracked}
 use Rattle.spaces.specs.Indexes.{IsNextAt, opened_alike, closed_alike}
 use Rattle.spaces.specs.Laws.{get_names_changed}
-use Rattle.spaces.specs.Looking.{at_place, entry_in, place}
+use Rattle.spaces.specs.Looking.{entry_in, place}
+use Rattle.spaces.specs.Renamed.{not_renamed}
 use Rattle.spaces.specs.Slots.{SpaceMap, TrackedSpaces, names_changed}
 
 -- which members there were, and are
@@ -281,14 +282,16 @@ module _ (old new : TrackedSpaces) (ports : TrackedPorts) (members : Tracked (Un
       (subst (λ (m : Tracked (Unit {0})). Members (record old { current = names_changed old.current space (λ (names : Names). under_other_name names from to) }) ports m) (sym changed)
       (are.0, subst (λ (s : SpaceMap). AreMembers s ports.current.ports (moved (moved members.current (place space from) (set_place_of ports.current.ports space (Some entry)) None) (place space to) None (set_place_of ports.current.ports space (Some entry)))) renamed_is two))
 
--- where nothing stands under the name, nothing is renamed
-pub none_renamed : (state : State) (space from to : ℕ) → entry_at state space from ≡ None → state ≡ with_changed state space (λ (names : Names). under_other_name names from to)
-none_renamed state space from to none = go (get state.spaces space) refl none
+-- the same where nothing may stand under the name
+pub renamed_members : (old new : TrackedSpaces) (ports : TrackedPorts) (members after : Tracked (Unit {0})) → Members old ports members → (space from to : ℕ) → entry_in old.current space to ≡ None → from < 2 ^ 32 → to < 2 ^ 32 → space < 2 ^ 32
+    → new ≡ record old { current = names_changed old.current space (λ (names : Names). under_other_name names from to) } → ArePlacesRenamed ports.current.ports members after space from to (entry_in old.current space from) → Members new ports after
+renamed_members old new ports members after are space from to unused small other few is changed = go (entry_in old.current space from) refl changed
   where
-    go : (o : Option Names) → get state.spaces space ≡ o → option_and_then (λ (names : Names). get names from) o ≡ None
-        → state ≡ elim o as (λ _. State) [ None ↦ state | Some names ↦ with_names state space (under_other_name names from to) ]
-    go None at found = refl
-    go (Some names) at found = sym (ap (λ (m : SpaceMap). record state { spaces = m }) (ap (λ (o : Option Entry). insert state.spaces space (elim o as (λ _. Names) [ None ↦ names | Some e ↦ insert (remove names from) to e ])) found ∙ insert-same state.spaces space names at))
+    go : (o : Option Entry) → entry_in old.current space from ≡ o → ArePlacesRenamed ports.current.ports members after space from to o → Members new ports after
+    go None none same =
+        subst (λ (s : TrackedSpaces). Members s ports after) (ap (λ (m : SpaceMap). record old { current = m }) (not_renamed old.current space from to none) ∙ sym is)
+        (subst (Members old ports) (sym same) are)
+    go (Some entry) named moves = name_renamed old new ports members are space from to entry named unused after small other few is moves
 
 -- a name less, and nothing else of the others
 removed_again : (spaces : SpaceMap) (space : ℕ) (names : Names) → remove (insert spaces space names) space ≡ remove spaces space

@@ -8,7 +8,7 @@ use Rattle.ipc_model.specs.declared.entry.Entry.{Entry}
 use Rattle.ipc_model.specs.declared.port.PortState.{PortState}
 use Rattle.ipc_model.specs.state.State.{State, Names, is_number, received_port}
 use Rattle.ports.specs.Passed.{PortTable, Ports}
-use Rattle.spaces.specs.Passed.{IsIndexed, alike_indexed, nothing_indexed, place_moved, Numbers, moved}
+use Rattle.spaces.specs.Passed.{IsIndexed, alike_indexed, nothing_indexed, place_moved, Numbers, Tracked, moved}
 use Rattle.spaces.specs.Indexes.{IsNextAt}
 use Rattle.spaces.specs.Looking.{at_place, entry_in, parts_of, place, place_changed}
 use Rattle.spaces.specs.Slots.{SpaceMap, names_changed}
@@ -28,6 +28,13 @@ set_place spaces ports q = option_map (place (q / 2 ^ 32)) (option_and_then (set
 -- the same for a name of a space that stands for this
 abbrev pub set_place_of : Ports → ℕ → Option Entry → Option ℕ
 set_place_of ports space o = option_map (place space) (option_and_then (set_in ports) (option_and_then received_port o))
+
+-- what stood under one name of a space, if anything did, stands under another
+abbrev pub ArePlacesRenamed : Ports → Tracked (Unit {0}) → Tracked (Unit {0}) → ℕ → ℕ → ℕ → Option Entry → Type 0
+ArePlacesRenamed ports old new space from to None = new ≡ old
+ArePlacesRenamed ports old new space from to (Some entry) = new ≡ record old {
+  current = moved (moved old.current (place space from) (set_place_of ports space (Some entry)) None) (place space to) None (set_place_of ports space (Some entry));
+}
 
 -- the members stand at the places of their names
 abbrev pub AreMembers : SpaceMap → Ports → Numbers → Type 0

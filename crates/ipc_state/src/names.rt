@@ -1,12 +1,12 @@
-ghost use Rattle.std.specs.Prelude.{◌≡◌, ℕ, ◌<◌, ◌≤◌, ◌↔◌, None, Some, IfOk, OnOk, OnErr, IsSome, IfSome, IsTrue, is_some, option_and_then, option_map};
+ghost use Rattle.std.specs.Prelude.{◌≡◌, ℕ, ◌<◌, ◌≤◌, ◌↔◌, None, Some, IfOk, OnOk, OnErr, IsSome, IfSome, IsTrue, is_some};
 ghost use Rattle.std.specs.FinMap as map;
 ghost use Rattle.ipc_model.specs.calls.PortCalls.{names_in, stands_elsewhere};
-ghost use Rattle.ipc_model.specs.state.State.{IsUnused, Names, entry_at, with_changed, with_entry, without_name, name_of_port, received_port, request_of};
-ghost use Rattle.ipc_state.specs.Members.{set_place_of};
+ghost use Rattle.ipc_model.specs.state.State.{IsUnused, Names, entry_at, with_changed, with_entry, without_name, name_of_port, request_of};
+ghost use Rattle.ipc_state.specs.Members.{set_place_of, ArePlacesRenamed};
 ghost use Rattle.ipc_state.specs.Running.{at_rest};
 ghost use Rattle.spaces.specs.Passed.{moved, AreFewReferences, under_other_name};
 ghost use Rattle.spaces.specs.Looking.{entry_in, place};
-ghost use Rattle.spaces.specs.Slots.{names_changed, spaces_at_rest};
+ghost use Rattle.spaces.specs.Slots.{names_changed};
 
 use crate::IpcState;
 use crate::sets::{place, set_place};
@@ -142,16 +142,12 @@ impl IpcState {
         ensures ok { OnOk result (self.new ≡ record self.old { current = with_changed self.old.current space (λ names. under_other_name names from to) }) }
         ensures err { OnErr result (self.new ≡ at_rest self.old.before) }
     {
-        let Some(entry) = self.entry(space, from) else {
-            return Ok(());
-        };
         match rename_in_both(
             &mut self.spaces,
             &self.ports,
             &mut self.members,
             space,
             (from, to),
-            entry,
         ) {
             Ok(()) => Ok(()),
             Err(error) => {
@@ -193,10 +189,10 @@ fn put_in_both(
     ensures before { spaces.new.before ≡ spaces.old.before }
     ensures members_before { members.new.before ≡ members.old.before }
 {
-    let former = set_place(ports, space, spaces.entry(space, name));
+    let former = spaces.put_name(space, name, entry)?;
+    let earlier = set_place(ports, space, former);
     let later = set_place(ports, space, Some(entry));
-    members.change(place(space, name), former, later)?;
-    spaces.put_name(space, name, entry)
+    members.change(place(space, name), earlier, later)
 }
 
 fn remove_from_both(
@@ -211,9 +207,8 @@ fn remove_from_both(
     ensures before { spaces.new.before ≡ spaces.old.before }
     ensures members_before { members.new.before ≡ members.old.before }
 {
-    let former = set_place(ports, space, spaces.entry(space, name));
-    members.change(place(space, name), former, None)?;
-    spaces.remove_name(space, name)
+    let former = spaces.remove_name(space, name)?;
+    members.change(place(space, name), set_place(ports, space, former), None)
 }
 
 fn rename_in_both(
@@ -222,17 +217,18 @@ fn rename_in_both(
     members: &mut PlaceIndex,
     space: u32,
     names: (u32, u32),
-    entry: Entry,
 ) -> Result<(), AllocError>
     requires unused { entry_in spaces.old.current space names.1 ≡ None }
     ensures spaces { OnOk result (spaces.new ≡ record spaces.old { current = names_changed spaces.old.current space (λ n. under_other_name n names.0 names.1) }) }
-    ensures members { OnOk result (members.new ≡ record members.old { current = moved (moved members.old.current (place space names.0) (set_place_of ports.now.current.ports space (Some entry)) None) (place space names.1) None (set_place_of ports.now.current.ports space (Some entry)) }) }
+    ensures members { OnOk result (ArePlacesRenamed ports.now.current.ports members.old members.new space names.0 names.1 (entry_in spaces.old.current space names.0)) }
     ensures before { spaces.new.before ≡ spaces.old.before }
     ensures members_before { members.new.before ≡ members.old.before }
 {
     let (from, to) = names;
+    let Some(entry) = spaces.rename(space, from, to)? else {
+        return Ok(());
+    };
     let set = set_place(ports, space, Some(entry));
     members.change(place(space, from), set, None)?;
-    members.change(place(space, to), None, set)?;
-    spaces.rename(space, from, to)
+    members.change(place(space, to), None, set)
 }

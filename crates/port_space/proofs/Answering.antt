@@ -1,9 +1,7 @@
 -- What a space answers by what stands beside its names.
-use Rattle.std.proofs.Common.{◌≡◌, ℕ, ◌+◌, ◌-◌, ◌^◌, ◌<◌, ◌≤◌, ◌==◌, Bool, true, false, cond, not, ◌&&◌, nat_lt, Option, None, Some, MatchOption, MatchBool, IsSome, is_some, option_and_then, option_map, refl, sym, ◌∙◌, ap, subst, arith}
+use Rattle.std.proofs.Common.{◌≡◌, ℕ, ◌+◌, ◌-◌, ◌^◌, ◌<◌, ◌≤◌, ◌==◌, Bool, true, false, not, ◌&&◌, nat_lt, Option, None, Some, MatchOption, MatchBool, IsSome, is_some, option_and_then, option_map, refl, sym, ◌∙◌, ap, subst, arith}
 use Rattle.std.proofs.lemmas.Bool.{ltb-false, ltb-true, eqb-true, eq-eqb}
-use Rattle.std.specs.Cmp.{nat_cmp_total}
-use Rattle.std.specs.Ordering.{nat_cmp}
-use Rattle.std.specs.FinMap.{get, remove, len, len-remove, empty, get-empty, len-empty, same_map, nat_cmp-IsAntisymmetric}
+use Rattle.std.specs.FinMap.{get, len}
 use Rattle.codes.specs.declared.limits.TheConstants.{MAX_NAMES}
 use Rattle.codes.specs.declared.name.TheConstants.{FIRST_NAME}
 use Rattle.ipc_model.specs.declared.entry.Entry.{Entry}
@@ -155,7 +153,7 @@ gap_is_free names by_port gaps low gap beside there least =
 
 -- the first name past the dense ones, where there is no gap
 pub low_is_free : (names : Names) (by_port gaps : Numbers) (low : ℕ) → StandBeside names by_port gaps low → ((k : ℕ) → 0 ≤ k → k < 2 ^ 128 → get gaps k ≡ None) → IsFreeName names low
-low_is_free names by_port gaps low beside none = free_where names low beside.bounded.few beside.free.from (beside.free.next no_gaps) (λ k le lt. beside.free.below k le lt ∙ ap not (no_gap k))
+low_is_free names by_port gaps low beside none = free_where names low beside.bounded.few beside.free.from beside.free.next (λ k le lt. beside.free.below k le lt ∙ ap not (no_gap k))
   where
     -- the dense names are few
     dense : (n : ℕ) → n ≤ low - FIRST_NAME → n < 2 ^ 32 → n ≤ MAX_NAMES
@@ -178,18 +176,5 @@ low_is_free names by_port gaps low beside none = free_where names low beside.bou
       | false ↦ λ (_ : _). refl
     ] refl
 
-    gone : (o : Option (Unit {0})) → is_some o ≡ false → o ≡ None
-    gone None e = refl
-    gone (Some x) e = absurd (cc e)
-
-    no_gaps : len gaps ≡ 0
-    no_gaps = ap len (same_map nat_cmp_total nat_cmp-IsAntisymmetric gaps empty (λ q. gone (get gaps q) (no_gap q) ∙ sym (get-empty nat_cmp q))) ∙ len-empty nat_cmp (Unit {0})
-
 pub same_free : (names other : Names) (name : ℕ) → names ≡ other → IsFreeName names name → IsFreeName other name
 same_free names other name same free = subst (λ (n : Names). IsFreeName n name) same free
-
--- where a name went there is room for another
-pub room_after : (names : Names) (name : ℕ) (entry : Entry) → len names ≤ MAX_NAMES → get names name ≡ Some entry → len (remove names name) < MAX_NAMES
-room_after names name entry few there =
-    let fewer : len (remove names name) ≡ len names - 1 = len-remove nat_cmp_total names name ∙ ap (λ (o : Option Entry). cond (is_some o) (len names - 1) (len names)) there in
-    omega (arith, few, fewer)

@@ -3,7 +3,7 @@ use Rattle.std.proofs.Common.{◌≡◌, inl, inr, ℕ, ◌≤◌, ◌<◌, Bool
 use Rattle.std.proofs.lemmas.Bool.{cases_eq, ltb-false, ltb-true}
 use Rattle.std.specs.Ordering.{nat_cmp, eq_by_cmp}
 use Rattle.std.specs.Cmp.{nat_cmp_total}
-use Rattle.std.specs.FinMap.{get, insert, remove, len, empty_of_len, get-empty, get-insert, get-remove, same_map, nat_cmp-IsAntisymmetric}
+use Rattle.std.specs.FinMap.{get, insert, remove, get-remove, same_map, nat_cmp-IsAntisymmetric}
 use Rattle.codes.specs.declared.name.TheConstants.{FIRST_NAME}
 use Rattle.ipc_model.specs.declared.entry.Entry.{Entry}
 use Rattle.ipc_model.specs.state.State.{Names}
@@ -15,22 +15,26 @@ not_true true never = absurd (never refl)
 not_true false never = refl
 
 pub free_put : (names after : Names) (gaps fewer : Numbers) (low next name : ℕ) (entry : Entry) → ((q : ℕ) → get after q ≡ cond (eq_by_cmp nat_cmp q name) (Some entry) (get names q))
-    → ((q : ℕ) → has fewer q ≡ cond (eq_by_cmp nat_cmp q name) false (has gaps q)) → AreFree names gaps low → GoesOn after fewer low next → AreFree after fewer next
+    → ((q : ℕ) → has fewer q ≡ cond (eq_by_cmp nat_cmp q name) false (has gaps q)) → AreFree names gaps low → GoesOn after name low next → AreFree after fewer next
 free_put names after gaps fewer low next name entry changed less free goes = record {
   from = from;
   below = below;
   within = λ q there. let before = free.within q (was_there q (eq_by_cmp nat_cmp q name) (sym (less q) ∙ there)) in (before.0, omega (arith, before.1, low_next));
-  next = λ none. first none;
+  next = first;
 }
   where
     low_next : low ≤ next
-    low_next = elim goes [ inl on ↦ on.1.from_on | inr still ↦ omega (arith, still.1) ]
+    low_next = elim goes [ inl on ↦ omega (arith, on.1.from_on) | inr still ↦ omega (arith, still.1) ]
 
     from : FIRST_NAME ≤ next
     from = omega (arith, free.from, low_next)
 
-    first : len fewer ≡ 0 → get after next ≡ None
-    first none = elim goes [ inl on ↦ on.1.unused | inr still ↦ absurd (still.0 none) ]
+    apart : (b : Bool) → eq_by_cmp nat_cmp low name ≡ b → (name ≡ low → ⊥) → cond b (Some entry) (get names low) ≡ None
+    apart true same other = absurd (other (sym (key_is low name same)))
+    apart false _ other = free.next
+
+    first : get after next ≡ None
+    first = elim goes [ inl on ↦ on.1.unused | inr still ↦ ap (get after) still.1 ∙ changed low ∙ apart (eq_by_cmp nat_cmp low name) refl still.0 ]
 
     was_there : (q : ℕ) (b : Bool) → cond b false (has gaps q) ≡ true → has gaps q ≡ true
     was_there q true there = absurd (cc there)
@@ -47,8 +51,14 @@ free_put names after gaps fewer low next name entry changed less free goes = rec
     gone q true none = refl
     gone q false none = none
 
+    put : name ≡ low → is_some (get after low) ≡ true
+    put same = ap is_some (ap (get after) (sym same) ∙ changed name) ∙ ap (λ (b : Bool). is_some (cond b (Some entry) (get names name))) (same_key name)
+
     beyond : (q : ℕ) → low ≤ q → q < next → is_some (get after q) ≡ true
-    beyond q more short = elim goes [ inl on ↦ on.1.used q more short | inr still ↦ absurd (omega (arith, still.1, more, short)) ]
+    beyond q more short = elim goes [
+      | inl on ↦ elim (cases_eq q low) [ inl same ↦ ap (λ (k : ℕ). is_some (get after k)) same ∙ put on.0 | inr other ↦ on.1.used q (omega (arith, more, other)) short ]
+      | inr still ↦ absurd (omega (arith, still.1, more, short))
+    ]
 
     below : (q : ℕ) → FIRST_NAME ≤ q → q < next → is_some (get after q) ≡ not (has fewer q)
     below q le short = elim (nat_lt q low) as (λ (b : Bool). nat_lt q low ≡ b → is_some (get after q) ≡ not (has fewer q)) [
@@ -76,15 +86,12 @@ module _ (names : Names) (gaps : Numbers) (low name : ℕ) (former entry : Entry
       go q true same = ap (get gaps) (key_is q name same) ∙ absent (get gaps name) no_gap_of
       go q false other = refl
 
-  pub stays_low : GoesOn (insert names name entry) gaps low low
-  stays_low = elim (cases_eq (len gaps) 0) [
-    | inl none ↦ inl (none, record { from_on = omega arith; used = λ q le below. absurd (omega (arith, le, below)); unused = get-insert nat_cmp_total names name entry low ∙ go (eq_by_cmp nat_cmp low name) refl (free.next none) })
-    | inr some ↦ inr (some, refl)
-  ]
-    where
-      go : (b : Bool) → eq_by_cmp nat_cmp low name ≡ b → get names low ≡ None → cond b (Some entry) (get names low) ≡ None
-      go true same none = absurd (cc (sym used ∙ ap (get names) (sym (key_is low name same)) ∙ none))
-      go false other none = none
+  pub stays_low : GoesOn (insert names name entry) name low low
+  stays_low = inr (λ same. absurd (cc (sym used ∙ ap (get names) same ∙ free.next)), refl)
+
+still_unused : (names : Names) (low : ℕ) (b : Bool) → get names low ≡ None → cond b None (get names low) ≡ None
+still_unused names low true none = refl
+still_unused names low false none = none
 
 -- a name that goes is a gap, where it is below
 pub free_removed : (names after : Names) (gaps more : Numbers) (low name : ℕ) → ((q : ℕ) → get after q ≡ cond (eq_by_cmp nat_cmp q name) None (get names q))
@@ -93,12 +100,9 @@ free_removed names after gaps more low name changed grown le short free = record
   from = free.from;
   below = λ q from under. ap is_some (changed q) ∙ here q (eq_by_cmp nat_cmp q name) (free.below q from under) ∙ ap not (sym (grown q));
   within = λ q there. inside q (eq_by_cmp nat_cmp q name) refl (sym (grown q) ∙ there);
-  next = λ none. absurd (cc (sym (itself none) ∙ (grown name ∙ ap (λ (b : Bool). cond b true (has gaps name)) (same_key name))));
+  next = changed low ∙ still_unused names low (eq_by_cmp nat_cmp low name) free.next;
 }
   where
-    itself : len more ≡ 0 → has more name ≡ false
-    itself none = ap (λ (n : Numbers). has n name) (empty_of_len more none) ∙ ap is_some (get-empty nat_cmp name)
-
     here : (q : ℕ) (b : Bool) → (is_some (get names q) ≡ not (has gaps q)) → is_some (cond b None (get names q)) ≡ not (cond b true (has gaps q))
     here q true was = refl
     here q false was = was
@@ -113,13 +117,9 @@ free_without names after gaps low name changed outside free = record {
   from = free.from;
   below = λ q from under. ap is_some (changed q) ∙ same q (eq_by_cmp nat_cmp q name) refl from under ∙ free.below q from under;
   within = free.within;
-  next = λ none. changed low ∙ unused (eq_by_cmp nat_cmp low name) (free.next none);
+  next = changed low ∙ still_unused names low (eq_by_cmp nat_cmp low name) free.next;
 }
   where
     same : (q : ℕ) (b : Bool) → eq_by_cmp nat_cmp q name ≡ b → FIRST_NAME ≤ q → q < low → is_some (cond b None (get names q)) ≡ is_some (get names q)
     same q true is from under = let at = key_is q name is in absurd (outside (omega (arith, at, from)) (omega (arith, at, under)))
     same q false is from under = refl
-
-    unused : (b : Bool) → get names low ≡ None → cond b None (get names low) ≡ None
-    unused true none = refl
-    unused false none = none

@@ -78,8 +78,8 @@ put_used old new name entry (Some former) free was used names by_port gaps low =
   names = names;
   by_port = by_port ∙ ap (λ (o : Option Entry). with_port (without_port old.by_port.current (option_and_then port_held o) name) (port_held entry) name) was;
   gaps = ap (λ (t : Tracked (Unit {0})). t.current) gaps ∙ no_gap_goes old.names.current old.gaps.current old.low name former entry free (sym was);
-  low = subst (λ (n : ℕ). GoesOn new.names.current new.gaps.current old.low n) (sym low) (subst (λ (n : Names). GoesOn n new.gaps.current old.low old.low) (sym names)
-      (subst (λ (t : Tracked (Unit {0})). GoesOn (insert old.names.current name entry) t.current old.low old.low) (sym gaps) (stays_low old.names.current old.gaps.current old.low name former entry free (sym was))));
+  low = subst (λ (n : ℕ). GoesOn new.names.current name old.low n) (sym low)
+      (subst (λ (n : Names). GoesOn n name old.low old.low) (sym names) (stays_low old.names.current old.gaps.current old.low name former entry free (sym was)));
 }
 
 no_number : (q : ℕ) → has empty q ≡ false
@@ -96,7 +96,7 @@ nothing_stands = record {
     from = omega arith;
     below = λ name from below. absurd (omega (arith, from, below));
     within = λ name there. absurd (cc (sym (no_number name) ∙ there));
-    next = λ _. no_name 256;
+    next = no_name 256;
   };
 }
   where

@@ -25,12 +25,12 @@ holds names serial name = is_number (option_and_then port_held (map.get names na
 abbrev pub AreByPort : Names → Numbers → Type 0
 AreByPort names by_port = (serial name : ℕ) → name < 2 ^ 32 → has by_port (port_key serial name) ≡ holds names serial name
 
--- Below `low` the unused names are the gaps, and where there is no gap `low` is unused.
+-- Below `low`, which is unused, the unused names are the gaps.
 pub record AreFree (names : Names) (gaps : Numbers) (low : ℕ) : Type 0 where
   pub from : FIRST_NAME ≤ low
   pub below : (name : ℕ) → FIRST_NAME ≤ name → name < low → is_some (map.get names name) ≡ not (has gaps name)
   pub within : (name : ℕ) → has gaps name ≡ true → (FIRST_NAME ≤ name) × (name < low)
-  pub next : map.len gaps ≡ 0 → map.get names low ≡ None
+  pub next : map.get names low ≡ None
 
 -- what stands beside the names of a space
 pub record StandBeside (names : Names) (by_port gaps : Numbers) (low : ℕ) : Type 0 where
@@ -53,6 +53,6 @@ pub record IsFirstUnused (names : Names) (from next : ℕ) : Type 0 where
   pub used : (name : ℕ) → from ≤ name → name < next → is_some (map.get names name) ≡ true
   pub unused : map.get names next ≡ None
 
--- where no gap is left, the first unused name is looked for
-abbrev pub GoesOn : Names → Numbers → ℕ → ℕ → Type 0
-GoesOn names gaps low next = ((map.len gaps ≡ 0) × IsFirstUnused names low next) ⊎ ((map.len gaps ≡ 0 → ⊥) × (next ≡ low))
+-- where the name that was put is `low`, the first unused one behind it is looked for
+abbrev pub GoesOn : Names → ℕ → ℕ → ℕ → Type 0
+GoesOn names name low next = ((name ≡ low) × IsFirstUnused names (low + 1) next) ⊎ ((name ≡ low → ⊥) × (next ≡ low))

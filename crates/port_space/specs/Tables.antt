@@ -23,7 +23,7 @@ pub record IsPut (old new : Tables) (name : ℕ) (entry : Entry) : Type 0 where
   pub names : new.names.current ≡ map.insert old.names.current name entry
   pub by_port : new.by_port.current ≡ with_port (without_port old.by_port.current (option_and_then port_held (map.get old.names.current name)) name) (port_held entry) name
   pub gaps : new.gaps.current ≡ map.remove old.gaps.current name
-  pub low : GoesOn new.names.current new.gaps.current old.low new.low
+  pub low : GoesOn new.names.current name old.low new.low
 
 -- a name that goes is a gap, where it is below
 abbrev pub LeavesGap : Tables → Tables → ℕ → Type 0

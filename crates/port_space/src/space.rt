@@ -1,10 +1,9 @@
-ghost use Rattle.std.specs.Prelude.{◌≡◌, ℕ, ◌≤◌, ◌<◌, ◌^◌, ◌↔◌, true, false, OnOk, OnErr, IsSome, IfSome, IsTrue, MatchBool, None, is_some, option_copied};
+ghost use Rattle.std.specs.Prelude.{◌≡◌, ℕ, ◌≤◌, ◌<◌, ◌^◌, ◌↔◌, true, false, IfOk, OnOk, OnErr, IsSome, IfSome, IsTrue, MatchBool, None, is_some, option_copied};
 ghost use Rattle.std.specs.FinMap as map;
 ghost use Rattle.ipc_model.specs.calls.PortCalls.{stands_elsewhere};
 ghost use Rattle.ipc_model.specs.state.State.{IsUnused, name_of_port};
 ghost use Rattle.port_space.specs.Beside.{holds};
 ghost use Rattle.port_space.specs.References.{AreFewReferences};
-ghost use Rattle.port_space.specs.Renaming.{under_other_name};
 ghost use Rattle.port_space.specs.Walking.{IsNextEntry};
 ghost use Rattle.tracked_map.specs.Tracked.{at_rest};
 
@@ -70,15 +69,16 @@ impl PortSpace {
         self.tables.names.get(u128::from(name)).copied()
     }
 
-    /// Has a name stand for this. Where memory is wanted the changes are given up.
-    pub fn put(&mut self, name: u32, entry: Entry) -> Result<(), AllocError>
+    /// Has a name stand for this, and gives what it stood for. Where memory is wanted the changes are given up.
+    pub fn put(&mut self, name: u32, entry: Entry) -> Result<Option<Entry>, AllocError>
         requires room { map.get self.old.current name ≡ None → map.len self.old.current < MAX_NAMES }
         requires few { AreFewReferences entry }
+        ensures former { IfOk result (λ former. former ≡ map.get self.old.current name) }
         ensures ok { OnOk result (self.new ≡ record self.old { current = map.insert self.old.current name entry }) }
         ensures err { OnErr result (self.new ≡ at_rest self.old.before) }
     {
         match self.tables.put(name, entry) {
-            Ok(()) => Ok(()),
+            Ok(former) => Ok(former),
             Err(error) => {
                 self.tables.give_up();
                 Err(error)
@@ -86,32 +86,20 @@ impl PortSpace {
         }
     }
 
-    /// Takes a name out of use. Where memory is wanted the changes are given up.
-    pub fn remove(&mut self, name: u32) -> Result<(), AllocError>
+    /// Takes a name out of use, and gives what it stood for. Where memory is wanted the changes are given up.
+    pub fn remove(&mut self, name: u32) -> Result<Option<Entry>, AllocError>
+        ensures former { IfOk result (λ former. former ≡ map.get self.old.current name) }
+        ensures few { IfOk result (λ former. IfSome former AreFewReferences) }
         ensures ok { OnOk result (self.new ≡ record self.old { current = map.remove self.old.current name }) }
         ensures err { OnErr result (self.new ≡ at_rest self.old.before) }
     {
         match self.tables.remove(name) {
-            Ok(()) => Ok(()),
+            Ok(former) => Ok(former),
             Err(error) => {
                 self.tables.give_up();
                 Err(error)
             }
         }
-    }
-
-    /// Has what stands under one name, if anything does, stand under another. Where memory is wanted the changes are
-    /// given up.
-    pub fn rename(&mut self, from: u32, to: u32) -> Result<(), AllocError>
-        ensures ok { OnOk result (self.new ≡ record self.old { current = under_other_name self.old.current from to }) }
-        ensures err { OnErr result (self.new ≡ at_rest self.old.before) }
-    {
-        let _ = &self.tables;
-        let Some(entry) = self.get(from) else {
-            return Ok(());
-        };
-        self.remove(from)?;
-        self.put(to, entry)
     }
 
     /// The name under which the space holds a send or receive right of a port, the least if there were several.

@@ -1,5 +1,6 @@
 //! The names of a space with what stands beside them, as plain tables.
-ghost use Rattle.std.specs.Prelude.{◌≡◌, ◌≤◌, ◌<◌, ◌^◌, ℕ, true, false, None, Some, OnOk, MatchOption, is_some, option_and_then};
+ghost use Rattle.std.specs.Prelude.{◌≡◌, ◌≤◌, ◌<◌, ◌^◌, ℕ, true, false, None, Some, IfOk, OnOk, MatchOption, is_some, option_and_then};
+ghost use Rattle.std.specs.FinMap as map;
 ghost use Rattle.ipc_model.specs.state.State.{port_held};
 ghost use Rattle.port_space.specs.Beside.{holds, with_port, without_port, port_key, AreByPort, AreFree, GoesOn};
 ghost use Rattle.port_space.specs.Tables.{IsPut, IsRemoved, SameBefore, AreGivenUp, AreKept, AreNew, AreSmall};
@@ -49,10 +50,11 @@ impl Tables {
         Some((key - port_key(port, 0)) as u32)
     }
 
-    /// Has a name stand for this. Where memory is wanted the changes are to be given up.
-    pub(crate) fn put(&mut self, name: u32, entry: Entry) -> Result<(), AllocError>
+    /// Has a name stand for this, and gives what it stood for. Where memory is wanted the changes are to be given up.
+    pub(crate) fn put(&mut self, name: u32, entry: Entry) -> Result<Option<Entry>, AllocError>
         requires small { AreSmall self.old.names.current }
         requires free { AreFree self.old.names.current self.old.gaps.current self.old.low }
+        ensures former { IfOk result (λ former. former ≡ map.get self.old.names.current name) }
         ensures ok { OnOk result (IsPut self.old self.new name entry) }
         ensures before { SameBefore self.old self.new }
     {
@@ -61,15 +63,16 @@ impl Tables {
         change_port(&mut self.by_port, held_by(former), port_held(&entry), name)?;
         // A name in use is no gap, nor the least unused one.
         if former.is_some() {
-            return Ok(());
+            return Ok(former);
         }
         self.gaps.remove(key)?;
-        self.low = next_unused(&self.names, &self.gaps, self.low);
-        Ok(())
+        self.low = next_unused(&self.names, key, self.low);
+        Ok(former)
     }
 
-    /// Takes a name out of use. Where memory is wanted the changes are to be given up.
-    pub(crate) fn remove(&mut self, name: u32) -> Result<(), AllocError>
+    /// Takes a name out of use, and gives what it stood for. Where memory is wanted the changes are to be given up.
+    pub(crate) fn remove(&mut self, name: u32) -> Result<Option<Entry>, AllocError>
+        ensures former { IfOk result (λ former. former ≡ map.get self.old.names.current name) }
         ensures ok { OnOk result (IsRemoved self.old self.new name) }
         ensures before { SameBefore self.old self.new }
     {
@@ -78,7 +81,7 @@ impl Tables {
         if FIRST_NAME <= name && u128::from(name) < self.low {
             self.gaps.set(u128::from(name), ())?;
         }
-        Ok(())
+        Ok(former)
     }
 
     /// Keeps the changes. It takes no memory.
@@ -186,15 +189,16 @@ fn join_port(by_port: &mut TrackedMap<()>, port: Option<u64>, name: u32) -> Resu
     }
 }
 
-/// The first unused name from one on, where there is no gap.
-fn next_unused(names: &TrackedMap<Entry>, gaps: &TrackedMap<()>, low: u128) -> u128
+/// The unused name that no dense one is above: the same, unless this name was it.
+fn next_unused(names: &TrackedMap<Entry>, name: u128, low: u128) -> u128
     requires small { AreSmall names.now.current }
-    ensures { GoesOn names.now.current gaps.now.current low result }
+    requires fits { name < 2 ^ 32 }
+    ensures { GoesOn names.now.current name low result }
 {
-    if gaps.len() != 0 {
+    if name != low {
         return low;
     }
-    let mut next = low;
+    let mut next = low + 1;
     while names.contains_key(next) {
         next += 1;
     }

@@ -1,4 +1,3 @@
 mod Holding
-mod Moving
 mod Telling
 mod Turning

@@ -8,11 +8,20 @@ use Rattle.ipc_model.specs.declared.entry.Entry.{Entry}
 use Rattle.ipc_model.specs.declared.entry.Entry.TheVariants.{Port, SendOnce, Set, Dead}
 use Rattle.ipc_model.specs.state.State.{Names}
 use Rattle.spaces.specs.Laws.{get_names_changed}
-use Rattle.spaces.specs.Slots.{SpaceMap, names_changed}
+use Rattle.spaces.specs.Slots.{SpaceMap, SpaceSlot, SpaceSlots, is, names_changed, stood_at}
+use Rattle.tracked_map.specs.Slots.{get_picked, picked}
 
 -- what a space holds under a name
 abbrev pub entry_in : SpaceMap → ℕ → ℕ → Option Entry
 entry_in spaces space name = option_and_then (λ names. get names name) (get spaces space)
+
+-- what a name stands for, by the slots of the spaces
+pub stood_is : (slots : SpaceSlots) (space name : ℕ) → stood_at slots space name ≡ entry_in (picked is slots) space name
+stood_is slots space name = go (get slots space) ∙ sym (ap (option_and_then (λ (names : Names). get names name)) (get_picked is slots space))
+  where
+    go : (o : Option SpaceSlot) → option_and_then (λ (slot : SpaceSlot). option_and_then (λ (names : Names). get names name) slot.current) o ≡ option_and_then (λ (names : Names). get names name) (option_and_then is o)
+    go None = refl
+    go (Some slot) = refl
 
 -- the port that a name stands for a right to
 abbrev pub port_named : Entry → Option ℕ

@@ -1,11 +1,12 @@
 -- What stands under one name of a space, put under another.
-use Rattle.std.proofs.Common.{◌≡◌, ℕ, ◌-◌, ◌<◌, ◌≤◌, cond, Option, None, Some, is_some, option_and_then, refl, sym, ◌∙◌, ap, subst, arith}
+use Rattle.std.proofs.Common.{◌≡◌, ℕ, ◌-◌, ◌<◌, ◌≤◌, Bool, true, false, cond, Option, None, Some, is_some, option_and_then, refl, sym, ◌∙◌, ap, subst, arith}
 use Rattle.std.specs.Cmp.{nat_cmp_total}
-use Rattle.std.specs.FinMap.{empty, get, insert, remove, len, len-remove}
+use Rattle.std.specs.Ordering.{nat_cmp, eq_by_cmp}
+use Rattle.std.specs.FinMap.{empty, get, insert, remove, len, get-remove, len-remove, same_map, nat_cmp-IsAntisymmetric}
 use Rattle.codes.specs.declared.limits.TheConstants.{MAX_NAMES}
 use Rattle.ipc_laws.specs.ListLaws.{some_same}
 use Rattle.ipc_laws.specs.MapLaws.{get-here}
-use Rattle.ipc_laws.specs.MapSums.{insert-insert, insert-same}
+use Rattle.ipc_laws.specs.MapSums.{insert-insert, insert-same, key_is}
 use Rattle.ipc_model.specs.declared.entry.Entry.{Entry}
 use Rattle.ipc_model.specs.state.State.{Names}
 use Rattle.port_space.specs.Renaming.{under_other_name}
@@ -38,6 +39,23 @@ not_renamed spaces space from to nothing = go (get spaces space) refl
     go (Some names) at =
         let here : get names from ≡ None = sym (ap (option_and_then (λ (n : Names). get n from)) at) ∙ nothing in
         sym (changed_there spaces space (λ names. under_other_name names from to) names at ∙ ap (λ (o : Option Entry). insert spaces space (elim o as (λ _. Names) [ None ↦ names | Some e ↦ insert (remove names from) to e ])) here ∙ insert-same spaces space names at)
+
+-- A name that stands for nothing is taken out of use.
+nothing_removed : (names : Names) (name : ℕ) → get names name ≡ None → remove names name ≡ names
+nothing_removed names name none = same_map nat_cmp_total nat_cmp-IsAntisymmetric _ _ (λ q. get-remove nat_cmp_total names name q ∙ go q (eq_by_cmp nat_cmp q name) refl)
+  where
+    go : (q : ℕ) (b : Bool) → eq_by_cmp nat_cmp q name ≡ b → cond b None (get names q) ≡ get names q
+    go q true same = sym (ap (get names) (key_is q name same) ∙ none)
+    go q false _ = refl
+
+pub none_removed : (spaces : SpaceMap) (space name : ℕ) → entry_in spaces space name ≡ None → names_changed spaces space (λ names. remove names name) ≡ spaces
+none_removed spaces space name nothing = go (get spaces space) refl
+  where
+    go : (o : Option Names) → get spaces space ≡ o → names_changed spaces space (λ names. remove names name) ≡ spaces
+    go None at = changed_absent spaces space (λ names. remove names name) at
+    go (Some names) at =
+        let here : get names name ≡ None = sym (ap (option_and_then (λ (n : Names). get n name)) at) ∙ nothing in
+        changed_there spaces space (λ names. remove names name) names at ∙ ap (insert spaces space) (nothing_removed names name here) ∙ insert-same spaces space names at
 
 -- Where a name is taken out of use, there is room for another.
 pub room_left : (spaces : SpaceMap) (space from : ℕ) (entry : Entry) (names : Names) → entry_in spaces space from ≡ Some entry → get (names_changed spaces space (λ ns. remove ns from)) space ≡ Some names

@@ -1,9 +1,10 @@
 -- The spaces, each in a slot with its names as they were when its changes were last kept or given up, and as they are.
-use Rattle.std.specs.Prelude.{ℕ, Option, None, Some, refl}
+use Rattle.std.specs.Prelude.{ℕ, Option, None, Some, option_and_then, refl}
 use Rattle.std.specs.Coded.{Coded, code_by, coded×, coded_ℕ, coded_option}
 use Rattle.std.specs.Ordering.{nat_cmp}
 use Rattle.std.specs.FinMap as map
 use Rattle.ipc_model.specs.contracts.entry.Entry as entry
+use Rattle.ipc_model.specs.declared.entry.Entry.{Entry}
 use Rattle.ipc_model.specs.state.State.{Names}
 
 abbrev pub names_code : Coded Names
@@ -51,6 +52,10 @@ given_slot slot = slot_at_rest slot.before
 
 abbrev pub SpaceSlots : Type 0
 SpaceSlots = map.FinMap {K = ℕ} nat_cmp SpaceSlot
+
+-- what a name of a slot's space stands for
+abbrev pub stood_at : SpaceSlots → ℕ → ℕ → Option Entry
+stood_at slots space name = option_and_then (λ (slot : SpaceSlot). option_and_then (λ (names : Names). map.get names name) slot.current) (map.get slots space)
 
 -- one slot changed, if there is one of this key
 abbrev pub slot_changed : SpaceSlots → ℕ → (SpaceSlot → SpaceSlot) → SpaceSlots

@@ -71,7 +71,7 @@ impl Spaces {
         let Some(entry) = self.entry(space, name) else {
             return Ok(());
         };
-        self.put_over(space, name, Some(entry), after_death(entry, port))?;
+        self.put_name(space, name, after_death(entry, port))?;
         if tell_of(entry, port, name, effects).is_err() {
             self.give_up();
             return Err(AllocError);

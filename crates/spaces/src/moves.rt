@@ -1,5 +1,5 @@
 // Changes of a space made of several changes of its names.
-ghost use Rattle.std.specs.Prelude.{◌≡◌, ◌≤◌, None, OnOk, OnErr};
+ghost use Rattle.std.specs.Prelude.{◌≡◌, ◌≤◌, None, IfOk, OnOk, OnErr};
 ghost use Rattle.std.specs.FinMap as map;
 ghost use Rattle.codes.specs.declared.limits.TheConstants.{MAX_NAMES};
 ghost use Rattle.port_space.specs.Renaming.{under_other_name};
@@ -8,23 +8,25 @@ ghost use Rattle.spaces.specs.Reading.{names_of};
 ghost use Rattle.spaces.specs.Slots.{names_changed, spaces_at_rest};
 
 use crate::Spaces;
+use ipc_model::Entry;
 use std::alloc::AllocError;
 
 impl Spaces {
-    /// Has what stands under one name of a space, if anything does, stand under another. Where memory is wanted the changes
-    /// are given up.
-    pub fn rename(&mut self, space: u32, from: u32, to: u32) -> Result<(), AllocError>
+    /// Has what stands under one name of a space, if anything does, stand under another, and gives it. Where memory is wanted
+    /// the changes are given up.
+    pub fn rename(&mut self, space: u32, from: u32, to: u32) -> Result<Option<Entry>, AllocError>
         requires unused { entry_in self.old.current space to ≡ None }
+        ensures entry { IfOk result (λ entry. entry ≡ entry_in self.old.current space from) }
         ensures ok { OnOk result (self.new ≡ record self.old { current = names_changed self.old.current space (λ names. under_other_name names from to) }) }
         ensures err { OnErr result (self.new ≡ spaces_at_rest self.old.before) }
     {
         self.are_few(space);
-        let Some(entry) = self.entry(space, from) else {
-            return Ok(());
+        let former = self.remove_name(space, from)?;
+        let Some(entry) = former else {
+            return Ok(None);
         };
-        self.remove_name(space, from)?;
         self.put_name(space, to, entry)?;
-        Ok(())
+        Ok(Some(entry))
     }
 
     /// A space has at most `MAX_NAMES` names. It does nothing but show it.

@@ -1,4 +1,4 @@
-ghost use Rattle.std.specs.Prelude.{◌≡◌, ◌<◌, None, Some, OnOk, OnErr, IsSome, is_some, option_map, option_copied};
+ghost use Rattle.std.specs.Prelude.{◌≡◌, ◌<◌, None, Some, IfOk, OnOk, OnErr, IfSome, IsSome, is_some, option_map, option_and_then, option_copied};
 ghost use Rattle.std.specs.FinMap as map;
 ghost use Rattle.codes.specs.declared.limits.TheConstants.{MAX_NAMES};
 ghost use Rattle.ipc_model.specs.state.State.{Names};
@@ -85,18 +85,20 @@ impl Space {
         self.is_there = false;
     }
 
-    /// Has a name stand for this, where the space is there. Where memory is wanted the changes are given up.
-    pub(crate) fn put(&mut self, name: u32, entry: Entry) -> Result<(), AllocError>
+    /// Has a name stand for this, where the space is there, and gives what it stood for. Where memory is wanted the changes
+    /// are given up.
+    pub(crate) fn put(&mut self, name: u32, entry: Entry) -> Result<Option<Entry>, AllocError>
         requires room { (names : Names) → self.old.current ≡ Some names → map.get names name ≡ None → map.len names < MAX_NAMES }
         requires few { AreFewReferences entry }
+        ensures former { IfOk result (λ former. former ≡ option_and_then (λ names. map.get names name) self.old.current) }
         ensures ok { OnOk result (self.new ≡ record self.old { current = option_map (λ names. map.insert names name entry) self.old.current }) }
         ensures err { OnErr result (self.new ≡ slot_at_rest self.old.before) }
     {
         if !self.is_there {
-            return Ok(());
+            return Ok(None);
         }
         match self.names.put(name, entry) {
-            Ok(()) => Ok(()),
+            Ok(former) => Ok(former),
             Err(error) => {
                 self.is_there = self.was_there;
                 Err(error)
@@ -104,16 +106,18 @@ impl Space {
         }
     }
 
-    /// Takes a name out of use. Where memory is wanted the changes are given up.
-    pub(crate) fn remove(&mut self, name: u32) -> Result<(), AllocError>
+    /// Takes a name out of use, and gives what it stood for. Where memory is wanted the changes are given up.
+    pub(crate) fn remove(&mut self, name: u32) -> Result<Option<Entry>, AllocError>
+        ensures former { IfOk result (λ former. former ≡ option_and_then (λ names. map.get names name) self.old.current) }
+        ensures few { IfOk result (λ former. IfSome former AreFewReferences) }
         ensures ok { OnOk result (self.new ≡ record self.old { current = option_map (λ names. map.remove names name) self.old.current }) }
         ensures err { OnErr result (self.new ≡ slot_at_rest self.old.before) }
     {
         if !self.is_there {
-            return Ok(());
+            return Ok(None);
         }
         match self.names.remove(name) {
-            Ok(()) => Ok(()),
+            Ok(former) => Ok(former),
             Err(error) => {
                 self.is_there = self.was_there;
                 Err(error)

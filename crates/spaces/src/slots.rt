@@ -1,10 +1,10 @@
 // What is done to one slot, or to those that were touched.
-ghost use Rattle.std.specs.Prelude.{◌≡◌, ◌<◌, [], None, Some, OnOk, OnErr, option_map};
+ghost use Rattle.std.specs.Prelude.{◌≡◌, ◌<◌, [], None, Some, IfOk, OnOk, OnErr, IfSome, option_map};
 ghost use Rattle.std.specs.FinMap as map;
 ghost use Rattle.codes.specs.declared.limits.TheConstants.{MAX_NAMES};
 ghost use Rattle.ipc_model.specs.state.State.{Names};
 ghost use Rattle.port_space.specs.References.{AreFewReferences};
-ghost use Rattle.spaces.specs.Slots.{SpaceSlot, slot_at_rest, was, is, kept_slot, given_slot, slot_changed, slot_opened};
+ghost use Rattle.spaces.specs.Slots.{SpaceSlot, slot_at_rest, was, is, kept_slot, given_slot, slot_changed, slot_opened, stood_at};
 ghost use Rattle.tracked_map.specs.Slots.{picked};
 ghost use Rattle.tracked_map.specs.Touched.{AreTouched, turned};
 
@@ -43,36 +43,41 @@ pub(crate) fn close_at(slots: &mut NumberTable<Space>, space: u32)
     }
 }
 
-/// Has a name of a space stand for this. Where memory is wanted the changes of the space are given up.
+/// Has a name of a space stand for this, and gives what it stood for. Where memory is wanted the changes of the space are
+/// given up.
 pub(crate) fn put_at(
     slots: &mut NumberTable<Space>,
     space: u32,
     name: u32,
     entry: Entry,
-) -> Result<(), AllocError>
+) -> Result<Option<Entry>, AllocError>
     requires room { (slot : SpaceSlot) → map.get slots.old space ≡ Some slot → (names : Names) → slot.current ≡ Some names → map.get names name ≡ None → map.len names < MAX_NAMES }
     requires few { AreFewReferences entry }
+    ensures former { IfOk result (λ former. former ≡ stood_at slots.old space name) }
     ensures ok { OnOk result (slots.new ≡ slot_changed slots.old space (λ slot. record slot { current = option_map (λ names. map.insert names name entry) slot.current })) }
     ensures err { OnErr result (slots.new ≡ slot_changed slots.old space (λ slot. slot_at_rest slot.before)) }
 {
     match slots.get_mut(space) {
         Some(slot) => slot.put(name, entry),
-        None => Ok(()),
+        None => Ok(None),
     }
 }
 
-/// Takes a name of a space out of use. Where memory is wanted the changes of the space are given up.
+/// Takes a name of a space out of use, and gives what it stood for. Where memory is wanted the changes of the space are given
+/// up.
 pub(crate) fn remove_at(
     slots: &mut NumberTable<Space>,
     space: u32,
     name: u32,
-) -> Result<(), AllocError>
+) -> Result<Option<Entry>, AllocError>
+    ensures former { IfOk result (λ former. former ≡ stood_at slots.old space name) }
+    ensures few { IfOk result (λ former. IfSome former AreFewReferences) }
     ensures ok { OnOk result (slots.new ≡ slot_changed slots.old space (λ slot. record slot { current = option_map (λ names. map.remove names name) slot.current })) }
     ensures err { OnErr result (slots.new ≡ slot_changed slots.old space (λ slot. slot_at_rest slot.before)) }
 {
     match slots.get_mut(space) {
         Some(slot) => slot.remove(name),
-        None => Ok(()),
+        None => Ok(None),
     }
 }
 

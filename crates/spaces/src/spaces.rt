@@ -1,4 +1,4 @@
-ghost use Rattle.std.specs.Prelude.{◌≡◌, ◌<◌, ◌^◌, true, None, Some, OnOk, OnErr, IfSome, is_some};
+ghost use Rattle.std.specs.Prelude.{◌≡◌, ◌<◌, ◌^◌, None, Some, IfOk, OnOk, OnErr, IfSome, is_some};
 ghost use Rattle.std.specs.FinMap as map;
 ghost use Rattle.codes.specs.declared.limits.TheConstants.{MAX_NAMES, MAX_SPACES};
 ghost use Rattle.ipc_laws.specs.MapSums.{total};
@@ -83,45 +83,25 @@ impl Spaces {
         entry_of(&self.table, space, name)
     }
 
-    /// Has a name of a space stand for this, where the space is there. Where memory is wanted the changes are given up.
-    pub fn put_name(&mut self, space: u32, name: u32, entry: Entry) -> Result<(), AllocError>
+    /// Has a name of a space stand for this, where the space is there, and gives what it stood for. Where memory is wanted
+    /// the changes are given up.
+    pub fn put_name(
+        &mut self,
+        space: u32,
+        name: u32,
+        entry: Entry,
+    ) -> Result<Option<Entry>, AllocError>
         requires room { (names : Names) → map.get self.old.current space ≡ Some names → map.get names name ≡ None → map.len names < MAX_NAMES }
         requires few { AreFewReferences entry }
+        ensures former { IfOk result (λ former. former ≡ entry_in self.old.current space name) }
         ensures ok { OnOk result (self.new ≡ record self.old { current = names_changed self.old.current space (λ names. map.insert names name entry) }) }
         ensures err { OnErr result (self.new ≡ spaces_at_rest self.old.before) }
     {
         if !self.contains(space) {
-            return Ok(());
+            return Ok(None);
         }
-        let former = self.entry(space, name);
-        self.put_over(space, name, former, entry)
-    }
-
-    /// Has a name of a space that is there stand for this in place of what it stood for. Where memory is wanted the
-    /// changes are given up.
-    pub(crate) fn put_over(
-        &mut self,
-        space: u32,
-        name: u32,
-        former: Option<Entry>,
-        entry: Entry,
-    ) -> Result<(), AllocError>
-        requires there { is_some (map.get self.old.current space) ≡ true }
-        requires former { former ≡ entry_in self.old.current space name }
-        requires room { (names : Names) → map.get self.old.current space ≡ Some names → map.get names name ≡ None → map.len names < MAX_NAMES }
-        requires few { AreFewReferences entry }
-        ensures ok { OnOk result (self.new ≡ record self.old { current = names_changed self.old.current space (λ names. map.insert names name entry) }) }
-        ensures err { OnErr result (self.new ≡ spaces_at_rest self.old.before) }
-    {
-        match put_in_both(
-            &mut self.table,
-            &mut self.indexes,
-            space,
-            name,
-            former,
-            entry,
-        ) {
-            Ok(()) => Ok(()),
+        match put_in_both(&mut self.table, &mut self.indexes, space, name, entry) {
+            Ok(former) => Ok(former),
             Err(error) => {
                 self.table.give_up();
                 self.indexes.give_up();
@@ -130,17 +110,18 @@ impl Spaces {
         }
     }
 
-    /// Takes a name of a space out of use. Where memory is wanted the changes are given up.
-    pub fn remove_name(&mut self, space: u32, name: u32) -> Result<(), AllocError>
+    /// Takes a name of a space out of use, and gives what it stood for. Where memory is wanted the changes are given up.
+    pub fn remove_name(&mut self, space: u32, name: u32) -> Result<Option<Entry>, AllocError>
+        ensures former { IfOk result (λ former. former ≡ entry_in self.old.current space name) }
+        ensures few { IfOk result (λ former. IfSome former AreFewReferences) }
         ensures ok { OnOk result (self.new ≡ record self.old { current = names_changed self.old.current space (λ names. map.remove names name) }) }
         ensures err { OnErr result (self.new ≡ spaces_at_rest self.old.before) }
     {
-        let Some(names) = self.table.names(space) else {
-            return Ok(());
-        };
-        let former = names.get(name);
-        match remove_from_both(&mut self.table, &mut self.indexes, space, name, former) {
-            Ok(()) => Ok(()),
+        if !self.contains(space) {
+            return Ok(None);
+        }
+        match remove_from_both(&mut self.table, &mut self.indexes, space, name) {
+            Ok(former) => Ok(former),
             Err(error) => {
                 self.table.give_up();
                 self.indexes.give_up();
@@ -270,41 +251,42 @@ fn entry_of(table: &SpaceTable, space: u32, name: u32) -> Option<Entry>
     }
 }
 
-/// Has a name stand for this in place of what it stood for.
+/// Has a name stand for this, and gives what it stood for.
 fn put_in_both(
     table: &mut SpaceTable,
     indexes: &mut NameIndexes,
     space: u32,
     name: u32,
-    former: Option<Entry>,
     entry: Entry,
-) -> Result<(), AllocError>
-    requires former { former ≡ entry_in table.old.current space name }
+) -> Result<Option<Entry>, AllocError>
     requires room { (names : Names) → map.get table.old.current space ≡ Some names → map.get names name ≡ None → map.len names < MAX_NAMES }
     requires few { AreFewReferences entry }
+    ensures former { IfOk result (λ former. former ≡ entry_in table.old.current space name) }
     ensures table { OnOk result (table.new ≡ record table.old { current = names_changed table.old.current space (λ names. map.insert names name entry) }) }
     ensures indexes { OnOk result (IsMoved indexes.old indexes.new (place space name) (entry_in table.old.current space name) (Some entry)) }
     ensures before { table.new.before ≡ table.old.before }
     ensures indexes_before { SameBefore indexes.old indexes.new }
 {
+    let former = table.put(space, name, entry)?;
     indexes.change(place(space, name), former, Some(entry))?;
-    table.put(space, name, entry)
+    Ok(former)
 }
 
-/// Takes a name out of use that stood for this.
+/// Takes a name out of use, and gives what it stood for.
 fn remove_from_both(
     table: &mut SpaceTable,
     indexes: &mut NameIndexes,
     space: u32,
     name: u32,
-    former: Option<Entry>,
-) -> Result<(), AllocError>
-    requires { former ≡ entry_in table.old.current space name }
+) -> Result<Option<Entry>, AllocError>
+    ensures former { IfOk result (λ former. former ≡ entry_in table.old.current space name) }
+    ensures few { IfOk result (λ former. IfSome former AreFewReferences) }
     ensures table { OnOk result (table.new ≡ record table.old { current = names_changed table.old.current space (λ names. map.remove names name) }) }
     ensures indexes { OnOk result (IsMoved indexes.old indexes.new (place space name) (entry_in table.old.current space name) None) }
     ensures before { table.new.before ≡ table.old.before }
     ensures indexes_before { SameBefore indexes.old indexes.new }
 {
+    let former = table.remove(space, name)?;
     indexes.change(place(space, name), former, None)?;
-    table.remove(space, name)
+    Ok(former)
 }

@@ -1,8 +1,9 @@
-ghost use Rattle.std.specs.Prelude.{◌≡◌, ◌<◌, ◌^◌, None, Some, OnOk, OnErr, is_some, option_map, option_copied};
+ghost use Rattle.std.specs.Prelude.{◌≡◌, ◌<◌, ◌^◌, None, Some, IfOk, OnOk, OnErr, IfSome, is_some, option_map, option_copied};
 ghost use Rattle.std.specs.FinMap as map;
 ghost use Rattle.codes.specs.declared.limits.TheConstants.{MAX_NAMES, MAX_SPACES};
 ghost use Rattle.ipc_model.specs.state.State.{Names};
 ghost use Rattle.port_space.specs.References.{AreFewReferences};
+ghost use Rattle.spaces.specs.Looking.{entry_in};
 ghost use Rattle.spaces.specs.Numbers.{IsFreeNumber};
 ghost use Rattle.spaces.specs.Slots.{spaces_at_rest, names_changed};
 
@@ -121,10 +122,12 @@ impl SpaceTable {
         }
     }
 
-    /// Has a name of a space stand for this, where the space is there. Where memory is wanted the changes are given up.
-    pub fn put(&mut self, space: u32, name: u32, entry: Entry) -> Result<(), AllocError>
+    /// Has a name of a space stand for this, where the space is there, and gives what it stood for. Where memory is wanted
+    /// the changes are given up.
+    pub fn put(&mut self, space: u32, name: u32, entry: Entry) -> Result<Option<Entry>, AllocError>
         requires room { (names : Names) → map.get self.old.current space ≡ Some names → map.get names name ≡ None → map.len names < MAX_NAMES }
         requires few { AreFewReferences entry }
+        ensures former { IfOk result (λ former. former ≡ entry_in self.old.current space name) }
         ensures ok { OnOk result (self.new ≡ record self.old { current = names_changed self.old.current space (λ names. map.insert names name entry) }) }
         ensures err { OnErr result (self.new ≡ spaces_at_rest self.old.before) }
     {
@@ -133,9 +136,9 @@ impl SpaceTable {
             return Err(AllocError);
         }
         match put_at(&mut self.slots, space, name, entry) {
-            Ok(()) => {
+            Ok(former) => {
                 self.touched.push_reserved(space);
-                Ok(())
+                Ok(former)
             }
             Err(error) => {
                 give_slots_up(&mut self.slots, self.touched.as_slice());
@@ -147,8 +150,10 @@ impl SpaceTable {
         }
     }
 
-    /// Takes a name of a space out of use. Where memory is wanted the changes are given up.
-    pub fn remove(&mut self, space: u32, name: u32) -> Result<(), AllocError>
+    /// Takes a name of a space out of use, and gives what it stood for. Where memory is wanted the changes are given up.
+    pub fn remove(&mut self, space: u32, name: u32) -> Result<Option<Entry>, AllocError>
+        ensures former { IfOk result (λ former. former ≡ entry_in self.old.current space name) }
+        ensures few { IfOk result (λ former. IfSome former AreFewReferences) }
         ensures ok { OnOk result (self.new ≡ record self.old { current = names_changed self.old.current space (λ names. map.remove names name) }) }
         ensures err { OnErr result (self.new ≡ spaces_at_rest self.old.before) }
     {
@@ -157,9 +162,9 @@ impl SpaceTable {
             return Err(AllocError);
         }
         match remove_at(&mut self.slots, space, name) {
-            Ok(()) => {
+            Ok(former) => {
                 self.touched.push_reserved(space);
-                Ok(())
+                Ok(former)
             }
             Err(error) => {
                 give_slots_up(&mut self.slots, self.touched.as_slice());

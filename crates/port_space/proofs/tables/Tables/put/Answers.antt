@@ -11,6 +11,7 @@ use Rattle.port_space.proofs.tables.Tables.put.Goals as goal
 pub next_unused-self-requires : goal.next_unused-self-requires
 next_unused-self-requires c = record {
   small = subst (λ (t : Tracked Entry). AreSmall t.current) (sym c.in_ok-former.ensures.ok) (small_insert c.args.self.now.names.current c.from-key.result c.args.entry c.requires.small (omega (arith, c.from-key.ensures)));
+  fits = omega (arith, c.from-key.ensures, c.ranges.name.fits);
 }
 
 pub returns-then-is_some-clause-ok : goal.returns-then-is_some-clause-ok

@@ -1,6 +1,6 @@
-use Rattle.std.proofs.Common.{None, is_some, ap, sym}
+use Rattle.std.proofs.Common.{None, is_some, ap, ◌∙◌}
 use Rattle.std.specs.Cmp.{nat_cmp_total}
-use Rattle.std.specs.FinMap.{remove, get-remove}
+use Rattle.std.specs.FinMap.{get, remove, get-remove}
 use Rattle.ipc_model.specs.state.State.{Names}
 use Rattle.spaces.specs.Indexes.{indexed_before, indexed_after}
 use Rattle.spaces.specs.Slots.{TrackedSpaces}
@@ -10,6 +10,7 @@ pub invariant_of-self : goal.invariant_of-self
 invariant_of-self c =
     let change : Names → Names = λ names. remove names c.args.name in (
       indexed_before c.self.inside.indexes c.remove_from_both.new.indexes c.self.inside.table.before c.remove_from_both.new.table.before c.remove_from_both.ensures.before c.remove_from_both.ensures.indexes_before c.self.invariant.0,
-      indexed_after c.self.inside.indexes c.remove_from_both.new.indexes c.self.inside.table.current c.remove_from_both.new.table.current c.args.space c.args.name change None c.ranges.name.fits c.ranges.space.fits (sym (ap is_some c.in-Some.ensures))
-          (λ names n. get-remove nat_cmp_total names c.args.name n) (ap (λ (t : TrackedSpaces). t.current) c.in-Ok.ensures.table) c.in-Ok.ensures.indexes c.self.invariant.1,
+      indexed_after c.self.inside.indexes c.remove_from_both.new.indexes c.self.inside.table.current c.remove_from_both.new.table.current c.args.space c.args.name change None c.ranges.name.fits c.ranges.space.fits
+          (ap (λ (t : TrackedSpaces). is_some (get t.current c.args.space)) c.self.view_is ∙ cc (c.contains.ensures, c.if-not-contains.ensures, c.if-not-contains.false)) (λ names n. get-remove nat_cmp_total names c.args.name n) (ap (λ (t : TrackedSpaces). t.current) c.in-Ok.ensures.table)
+          c.in-Ok.ensures.indexes c.self.invariant.1,
     )

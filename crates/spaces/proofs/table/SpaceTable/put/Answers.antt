@@ -6,6 +6,7 @@ use Rattle.tracked_map.specs.Touched.{AreTouched, exchanged}
 use Rattle.spaces.specs.Slots.{SpaceSlot, SpaceSlots, TrackedSpaces, was, is, given_slot, names_changed}
 use Rattle.spaces.specs.Numbers.{AreTaken, same_taken}
 use Rattle.spaces.specs.Laws as laws
+use Rattle.spaces.specs.Looking.{entry_in, stood_is}
 use Rattle.spaces.proofs.table.SpaceTable.put.Goals as goal
 
 pub invariant_of-self : goal.invariant_of-self
@@ -55,3 +56,6 @@ returns-in-Err-clause-err c =
     let rest = laws.given_rest c.give_slots_up.new.slots c.clear.new.self.items _ c.clear.ensures.items c.give_slots_up.ensures.rest c.give_slots_up.ensures.shown in
     let former = ap (picked was) c.in-Err.ensures.err ∙ laws.looks_same c.self.inside.slots c.args.space given_slot was (λ (s : SpaceSlot). refl) ∙ ap (λ (t : TrackedSpaces). t.before) c.self.view_is in
     laws.both _ _ _ _ (rest.seen_was ∙ former) (rest.seen_is ∙ former)
+
+pub returns-in-Ok-clause-former : goal.returns-in-Ok-clause-former
+returns-in-Ok-clause-former c = c.in-Ok.ensures.former ∙ stood_is c.self.inside.slots c.args.space c.args.name ∙ ap (λ (t : TrackedSpaces). entry_in t.current c.args.space c.args.name) c.self.view_is
