@@ -6,7 +6,7 @@ use crate::turns::{Machine, Placed, Row, print_row};
 use crate::ways::{CLIENT, HERE, NEXT};
 
 /// The calls that are measured.
-static ROWS: [Row<'static>; 9] = [
+static ROWS: [Row<'static>; 10] = [
     // A new port, and its end.
     Row {
         label: "",
@@ -213,14 +213,18 @@ static ROWS: [Row<'static>; 9] = [
         rounds: 100,
         is_done: false,
     },
-    // The first of these grows as the names do.
+    // This grows as the names do.
     Row {
         label: "",
-        parts: &[
-            ("names of the space", HERE, "names", 0, 1),
-            ("names of 2 names", CLIENT, "names", 0, 1),
-        ],
+        parts: &[("names of the space", HERE, "names", 0, 1)],
         rounds: 20,
+        is_done: true,
+    },
+    // A row of its own, since a walk over 4,096 names leaves little else in the processor's cache.
+    Row {
+        label: "",
+        parts: &[("names of 2 names", CLIENT, "names", 0, 10)],
+        rounds: 100,
         is_done: true,
     },
 ];

@@ -20,7 +20,8 @@ fn put(spaces: &mut Spaces, space: u32, name: u32, entry: Entry) -> Option<()>
     if spaces.name_count(space) >= MAX_NAMES {
         return None;
     }
-    spaces.put_name(space, name, entry).ok()
+    spaces.put_name(space, name, entry).ok()?;
+    Some(())
 }
 
 /// Has a name stand for a send right, with the target of a dead-name request.
@@ -60,5 +61,6 @@ pub(crate) fn rename(spaces: &mut Spaces, space: u32, from: u32, to: u32) -> Opt
     if spaces.entry(space, to).is_some() {
         return None;
     }
-    spaces.rename(space, from, to).ok()
+    spaces.rename(space, from, to).ok()?;
+    Some(())
 }
