@@ -22,7 +22,7 @@ pub(crate) const DEVICE: u64 = FAULT + 1;
 pub(crate) const FAILED: u64 = FAULT + 5;
 
 /// An event of a core, which a table can hold.
-#[derive(Clone, Copy, Debug)]
+#[derive(Clone, Copy)]
 pub(crate) enum Asked {
     /// A receive right is allocated in space 1.
     Allocate,

@@ -49,7 +49,11 @@ fn is_answered<S: Store + Drop>(alloc: Global, list: (&[u8], &[u8])) -> bool {
 
 #[test]
 fn steps_come_in_their_turn(rt: HostRuntime) {
-    let seen = [OUT_OF_TURN, TWICE, BESIDE].map(|list| is_answered::<MemDisk>(rt.alloc(), list));
+    let seen = [
+        is_answered::<MemDisk>(rt.alloc(), OUT_OF_TURN),
+        is_answered::<MemDisk>(rt.alloc(), TWICE),
+        is_answered::<MemDisk>(rt.alloc(), BESIDE),
+    ];
     same(&rt, seen, [true; 3]);
 }
 
@@ -89,8 +93,20 @@ fn openings_keep<S: Store + Drop>(alloc: Global, disk: &S, wanted: u64, torn: To
     false
 }
 
-// Whether a list of events on this disk leaves no fewer ports than it told of and no more than it made, and so does each
-// opening of what it leaves that is stopped; and whether one of its events met a fault.
+// Whether this disk has no fewer ports than were told of and no more than were made, and so has what each opening of it leaves
+// that is stopped.
+fn is_kept<S: Store + Drop>(
+    alloc: Global,
+    disk: &S,
+    bounds: Option<(u64, u64)>,
+    torn: Torn,
+) -> Option<bool> {
+    let (told, applied) = bounds?;
+    let found = ports(alloc, disk.copied(alloc)?)?;
+    Some(told <= found && found <= applied && openings_keep(alloc, disk, found, torn))
+}
+
+// The same of what a list of events on this disk leaves; and whether one of its events met a fault.
 fn is_bounded<S: Store + Drop>(
     alloc: Global,
     disk: S,
@@ -98,10 +114,8 @@ fn is_bounded<S: Store + Drop>(
     torn: Torn,
 ) -> Option<(bool, bool)> {
     let (answers, disk) = play(alloc, disk, letters)?;
-    let (told, applied) = bounds(alloc, letters, &answers)?;
-    let found = ports(alloc, disk.copied(alloc)?)?;
-    let is = told <= found && found <= applied && openings_keep(alloc, &disk, found, torn);
-    Some((is, answers.contains(&b'!')))
+    let is_kept = is_kept(alloc, &disk, bounds(alloc, letters, &answers), torn);
+    Some((is_kept == Some(true), answers.contains(&b'!')))
 }
 
 // How many calls of the device a list makes until none fails that is planned to, where whatever is left of each of them is

@@ -91,10 +91,13 @@ fn add_letters(letters: &mut Vec<u8>, outcomes: &[Outcome]) -> Result<(), AllocE
     Ok(())
 }
 
-/// The letters of outcomes.
-fn letters_of(alloc: Global, outcomes: &[Outcome]) -> Option<Vec<u8>> {
+/// The letters of outcomes, if there are some.
+fn letters_of(alloc: Global, outcomes: Option<Vec<Outcome>>) -> Option<Vec<u8>> {
+    let outcomes = outcomes?;
     let mut letters = Vec::new(alloc);
-    add_letters(&mut letters, outcomes).ok()?;
+    let added = add_letters(&mut letters, &outcomes);
+    drop(outcomes);
+    added.ok()?;
     Some(letters)
 }
 
@@ -105,8 +108,10 @@ pub(crate) fn play_on<D: Disk + Drop>(
     letters: &[u8],
 ) -> Option<(Vec<u8>, D)> {
     let events = events_of(alloc, letters).ok()?;
-    let (outcomes, disk) = played(alloc, disk, &events)?;
-    Some((letters_of(alloc, &outcomes?)?, disk))
+    let run = played(alloc, disk, &events);
+    drop(events);
+    let (outcomes, disk) = run?;
+    Some((letters_of(alloc, outcomes)?, disk))
 }
 
 /// The same, and the disk that a stop then leaves.
@@ -325,9 +330,8 @@ fn unswept_by<S: Store + Drop>(alloc: Global, seed: u64) -> Option<Option<Way>> 
 
 #[test]
 fn a_stop_leaves_what_was_told(rt: HostRuntime) {
-    for (letters, _) in [TWO_CALLS, SEND_SEEN] {
-        same(&rt, unswept::<MemDisk>(rt.alloc(), letters), None);
-    }
+    same(&rt, unswept::<MemDisk>(rt.alloc(), TWO_CALLS.0), None);
+    same(&rt, unswept::<MemDisk>(rt.alloc(), SEND_SEEN.0), None);
     for seed in 1..5 {
         let seen = unswept_by::<MemDisk>(rt.alloc(), seed);
         same_in_row(&rt, seed, seen, Some(None));

@@ -118,18 +118,19 @@ fn is_told(rt: &HostRuntime, bytes: &[u8], status: u8, line: &str) -> bool {
     ends(rt, words.as_deref(), &ALLOCATE, (status, &[], line))
 }
 
+static LINES: [(&'static [u8], u8, &'static str); 6] = [
+    (b"machipcd", 2, "machipcd: command line\n"),
+    (b"machipcd /nowhere", 1, "machipcd: store fault 1: device\n"),
+    (b"machipcd / /", 2, "machipcd: command line\n"),
+    (b"machipcd / / /", 2, "machipcd: command line\n"),
+    (b"machipcd /nowher\xff", 2, "machipcd: command line\n"),
+    (b"machipcd / \xff", 2, "machipcd: command line\n"),
+];
+
 #[test]
 fn words_have_a_status_and_a_line(rt: HostRuntime) {
-    let lines: [(&[u8], u8, &str); 6] = [
-        (b"machipcd", 2, "machipcd: command line\n"),
-        (b"machipcd /nowhere", 1, "machipcd: store fault 1: device\n"),
-        (b"machipcd / /", 2, "machipcd: command line\n"),
-        (b"machipcd / / /", 2, "machipcd: command line\n"),
-        (b"machipcd /nowher\xff", 2, "machipcd: command line\n"),
-        (b"machipcd / \xff", 2, "machipcd: command line\n"),
-    ];
-    for (bytes, status, line) in lines {
-        same_in_row(&rt, bytes, is_told(&rt, bytes, status, line), true);
+    for (bytes, status, line) in &LINES {
+        same_in_row(&rt, *bytes, is_told(&rt, bytes, *status, line), true);
     }
 }
 

@@ -1,4 +1,4 @@
-use crate::expect::{same, same_in_row};
+use crate::expect::same_in_row;
 use crate::frames::{ALLOCATE, ALLOCATED, served};
 use crate::store::Store;
 use disk::{MemDisk, Slot, Torn};
@@ -22,6 +22,8 @@ fn with_tail<S: Store + Drop>(
     let input = behind_allocation(alloc, tail)?;
     let (run, disk) = served(alloc, S::empty(alloc), &input);
     let length = disk.length(Slot::Segment0);
+    drop(disk);
+    drop(input);
     let run = run?;
     Some((
         run.output.as_slice() == ALLOCATED.as_slice(),
@@ -30,16 +32,18 @@ fn with_tail<S: Store + Drop>(
     ))
 }
 
+static BENT: [(&'static [u8], WireFault); 3] = [
+    (&[3, 0, 0, 0], WireFault::Short),
+    (&[253, 255, 0, 0], WireFault::TooLong),
+    (&[8, 0, 0, 0, 2, 0, 0, 0, 0, 1, 0], WireFault::Short),
+];
+
 #[test]
 fn a_wire_fault_ends_behind_whole_replies(rt: HostRuntime) {
-    let bent: [(&[u8], WireFault); 3] = [
-        (&[3, 0, 0, 0], WireFault::Short),
-        (&[253, 255, 0, 0], WireFault::TooLong),
-        (&[8, 0, 0, 0, 2, 0, 0, 0, 0, 1, 0], WireFault::Short),
-    ];
-    for (tail, fault) in bent {
+    for (tail, fault) in &BENT {
         let seen = with_tail::<MemDisk>(rt.alloc(), tail);
-        same(&rt, seen, Some((true, Err(ServeFault::Wire(fault)), 70)));
+        let end = Err(ServeFault::Wire(*fault));
+        same_in_row(&rt, *tail, seen, Some((true, end, 70)));
     }
 }
 
@@ -58,18 +62,23 @@ fn on_failing_disk<S: Store + Drop>(
 ) -> Option<(usize, Result<(), ServeFault>)> {
     let disk = failing::<S>(alloc, fails_at)?;
     let input = behind_allocation(alloc, &ALLOCATE)?;
-    let (run, _) = served(alloc, disk, &input);
+    let (run, disk) = served(alloc, disk, &input);
+    drop(disk);
+    drop(input);
     let run = run?;
     Some((run.output.len(), run.end))
 }
 
+/// Which call of the disk fails, and how many bytes are written. Opening makes thirteen calls: four syncs, four reads of
+/// headers, two of the image, one of the segment, and two that end it. An append makes four, so the seventeenth call is the
+/// first append's last.
+static FAILING: [(u64, usize); 4] = [(14, 0), (17, 0), (18, 16), (21, 16)];
+
 #[test]
 fn a_failing_store_gets_no_reply(rt: HostRuntime) {
-    // Opening makes thirteen calls of the disk: four syncs, four reads of headers, two of the image, one of the segment, and
-    // two that end it. An append makes four, so the seventeenth call is the first append's last.
-    for (fails_at, written) in [(14, 0), (17, 0), (18, 16), (21, 16)] {
-        let seen = on_failing_disk::<MemDisk>(rt.alloc(), fails_at);
+    for (fails_at, written) in &FAILING {
+        let seen = on_failing_disk::<MemDisk>(rt.alloc(), *fails_at);
         let fault = Err(ServeFault::Store(StoreFault::Device));
-        same_in_row(&rt, fails_at, seen, Some((written, fault)));
+        same_in_row(&rt, *fails_at, seen, Some((*written, fault)));
     }
 }

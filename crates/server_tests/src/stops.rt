@@ -48,6 +48,7 @@ fn stopped<S: Store + Drop>(alloc: Global, stop_at: u64, torn: Torn) -> Option<(
         Some(run) => run.output.len() as u64 / 16,
         None => 0,
     };
+    drop(run);
     Some((told, known_again(alloc, disk.stop()?)?))
 }
 

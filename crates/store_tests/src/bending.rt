@@ -1,5 +1,5 @@
 //! Stores of whole slots and bent ones, and what opening them gives.
-use crate::store::{Store, disk_of, is_receive, keeps_all, keeps_first, keeps_second};
+use crate::store::{Store, are_receive, disk_of, keeps};
 use crate::written::{image_of_name, segment_of_name};
 use disk::Slot;
 use journal::{OPEN_GATE, StoreFault};
@@ -47,8 +47,8 @@ fn whole_slot(alloc: Global, slot: Slot, epoch: u64) -> Result<Vec<u8>, AllocErr
     }
 }
 
-// Sets a byte that is there, and was another one.
-fn set(bytes: &mut [u8], at: usize, byte: u8) -> Option<()> {
+/// Sets a byte that is there, and was another one.
+pub(crate) fn set(bytes: &mut [u8], at: usize, byte: u8) -> Option<()> {
     let place = bytes.get_mut(at)?;
     if *place == byte {
         return None;
@@ -107,11 +107,7 @@ fn bent_slots(alloc: Global, epochs: Epochs, bends: &[(Slot, Bend)]) -> Option<[
 fn reopened<S: Store + Drop>(alloc: Global, disk: S) -> (Found, S) {
     let (opening, disk) = disk.open(alloc, &[0x100, 0x101, 0x102, 0x103]);
     let found = match opening {
-        Ok(seen) => {
-            let bits = seen.bits;
-            let names = bits.map(is_receive);
-            Ok((seen.epoch, seen.records, names))
-        }
+        Ok(seen) => Ok((seen.epoch, seen.records, are_receive(seen.bits))),
         Err(fault) => Err(fault),
     };
     (found, disk)
@@ -120,12 +116,13 @@ fn reopened<S: Store + Drop>(alloc: Global, disk: S) -> (Found, S) {
 // Whether an opening left all slots as they were where it refused the store; and else those of the other number than the
 // epoch's, and the epoch's image open.
 fn is_left<S: Store>(found: Found, disk: &S, before: &[Vec<u8>; 4]) -> bool {
+    let [image0, image1, segment0, segment1] = keeps(disk, before);
     match found {
         Ok((epoch, _, _)) if epoch % 2 == 0 => {
-            keeps_second(disk, before) && is_open(disk, Slot::Image0)
+            [image1, segment1, is_open(disk, Slot::Image0)] == [true; 3]
         }
-        Ok(_) => keeps_first(disk, before) && is_open(disk, Slot::Image1),
-        Err(_) => keeps_all(disk, before),
+        Ok(_) => [image0, segment0, is_open(disk, Slot::Image1)] == [true; 3],
+        Err(_) => [image0, image1, segment0, segment1] == [true; 4],
     }
 }
 

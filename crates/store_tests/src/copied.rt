@@ -95,24 +95,6 @@ fn rights_of(copy: &Snapshot) -> Option<[Option<CarriedRight>; 2]> {
     Some([message.reply, message.rights.as_slice().first().copied()])
 }
 
-/// What is compared of a copy.
-#[derive(Clone, Copy)]
-struct Seen {
-    next_serial: u64,
-    names: [NameSeen; 6],
-    ports: [PortSeen; 3],
-    rights: Option<[Option<CarriedRight>; 2]>,
-}
-
-fn seen_of(copy: &Snapshot) -> Seen {
-    Seen {
-        next_serial: copy.next_serial,
-        names: names_of(copy),
-        ports: [port_of(copy, 0), port_of(copy, 1), port_of(copy, 2)],
-        rights: rights_of(copy),
-    }
-}
-
 /// A copy of the machine that is made of that copy.
 fn copied_again<M: Machine + Drop>(alloc: Global) -> Option<Snapshot> {
     let machine = M::of_copy(alloc, copy_after_calls::<M>(alloc)?)?;
@@ -121,33 +103,33 @@ fn copied_again<M: Machine + Drop>(alloc: Global) -> Option<Snapshot> {
     copy
 }
 
-fn receive_right(port: u64) -> Entry {
-    Entry::Port(PortRights {
-        port,
-        receive: true,
-        send: 0,
-        dead_name_target: None,
-    })
-}
+/// The receive right of port 1.
+const FIRST: PortRights = PortRights {
+    port: 1,
+    receive: true,
+    send: 0,
+    dead_name_target: None,
+};
 
-fn expected_names() -> [NameSeen; 6] {
-    [
-        Some((0x100, receive_right(1))),
-        Some((0x101, receive_right(2))),
-        Some((0x102, Entry::Dead { references: 1 })),
-        Some((0x103, Entry::Set)),
-        Some((
-            0x104,
-            Entry::SendOnce {
-                port: 2,
-                dead_name_target: Some(1),
-            },
-        )),
-        None,
-    ]
-}
+/// That of port 2.
+const SECOND: PortRights = PortRights { port: 2, ..FIRST };
 
-const EXPECTED_RIGHTS: [Option<CarriedRight>; 2] = [
+static EXPECTED_NAMES: [NameSeen; 6] = [
+    Some((0x100, Entry::Port(FIRST))),
+    Some((0x101, Entry::Port(SECOND))),
+    Some((0x102, Entry::Dead { references: 1 })),
+    Some((0x103, Entry::Set)),
+    Some((
+        0x104,
+        Entry::SendOnce {
+            port: 2,
+            dead_name_target: Some(1),
+        },
+    )),
+    None,
+];
+
+static EXPECTED_RIGHTS: [Option<CarriedRight>; 2] = [
     Some(CarriedRight {
         kind: RightKind::SendOnce,
         port: PortInMessage::Dead,
@@ -174,17 +156,17 @@ static EXPECTED_PORTS: [PortSeen; 3] = [
     None,
 ];
 
-fn expect_seen(rt: &impl Abort, seen: &Seen) {
-    same(rt, seen.names, expected_names());
-    same(rt, (seen.next_serial, seen.ports), (4, EXPECTED_PORTS));
-    same(rt, seen.rights, Some(EXPECTED_RIGHTS));
+fn expect_seen(rt: &impl Abort, copy: &Snapshot) {
+    let ports = [port_of(copy, 0), port_of(copy, 1), port_of(copy, 2)];
+    same(rt, &names_of(copy), &EXPECTED_NAMES);
+    same(rt, (copy.next_serial, ports), (4, EXPECTED_PORTS));
+    same(rt, rights_of(copy), Some(EXPECTED_RIGHTS));
 }
 
 fn expect_all(rt: &impl Abort, copy: Option<Snapshot>) {
     let Some(copy) = copy else {
         return same(rt, false, true);
     };
-    let seen = seen_of(&copy);
+    expect_seen(rt, &copy);
     drop(copy);
-    expect_seen(rt, &seen);
 }

@@ -1,16 +1,17 @@
 use crate::counted::{CountedFiles, Syncs};
 use crate::expect::{same, same_in_row};
-use crate::store::{Slots, Store};
+use crate::store::{Slots, Store, slots_are};
 use disk::{Disk, DiskFault, FileDisk, MemDisk, Slot, Torn};
 use std::alloc::Global;
 use std::{env, fs};
 
 // The functions that make one call of a disk have no clause, so that a test's proof carries nothing of it.
 
-fn content<D: Disk>(alloc: Global, disk: &mut D, slot: Slot) -> Option<Vec<u8>> {
+// Whether these bytes are read of a slot.
+fn is_read<D: Disk>(disk: &mut D, slot: Slot, wanted: &[u8]) -> Option<bool> {
     let mut buffer = [0; 64];
     let count = disk.read(slot, 0, &mut buffer).ok()?;
-    Vec::from_slice(alloc, buffer.get(..count)?).ok()
+    Some(buffer.get(..count)? == wanted)
 }
 
 fn read<D: Disk>(disk: &mut D, at: u64, buffer: &mut [u8]) -> Result<usize, DiskFault> {
@@ -42,24 +43,9 @@ fn sync<D: Disk>(disk: &mut D, slot: Slot) -> Result<(), DiskFault> {
     disk.sync(slot)
 }
 
-fn failures<D: Disk>(disk: &D) -> u64 {
-    disk.failures()
-}
-
 // The length of a slot, and how many calls have failed.
 fn counts<D: Disk>(disk: &D, slot: Slot) -> (u64, u64) {
     (disk.length(slot), disk.failures())
-}
-
-// Whether the slots hold these bytes, each.
-fn slots_are<S: Store>(disk: &S, wanted: &Slots<'_>) -> [bool; 4] {
-    let [image0, image1, segment0, segment1] = *wanted;
-    [
-        disk.bytes(Slot::Image0) == image0,
-        disk.bytes(Slot::Image1) == image1,
-        disk.bytes(Slot::Segment0) == segment0,
-        disk.bytes(Slot::Segment1) == segment1,
-    ]
 }
 
 // One call that changes a disk.
@@ -94,53 +80,52 @@ static WRITTEN: [Step; 3] = [
     Step::Write(Slot::Image1, 1, b"B"),
 ];
 
-// The counts of the image 1 once that is written, and whether the slots hold it; and once it is cut and synced, and what the
-// image holds then.
-type Read = ((u64, u64), [bool; 4], (u64, u64), bool);
+// The bytes "aBc" of that.
+static SHORTENED: [Step; 2] = [Step::Cut(Slot::Image1, 3), Step::Sync(Slot::Image1)];
 
-fn written_and_read<S: Store + Drop>(alloc: Global) -> Option<Read> {
+static WHOLE: Slots<'static> = [b"", b"aBcdEFG", b"", b""];
+
+// Whether steps were taken, and the counts of the image 1 then.
+type Taken = (Option<()>, (u64, u64));
+
+fn taken<D: Disk>(disk: &mut D, steps: &[Step]) -> Taken {
+    (take(disk, steps), counts(disk, Slot::Image1))
+}
+
+// The same once that is written, and whether the slots hold it; and once it is cut and synced, and whether that is read then.
+fn written_and_read<S: Store + Drop>(alloc: Global) -> (Taken, [bool; 4], Taken, Option<bool>) {
     let mut disk = S::empty(alloc);
-    take(&mut disk, &WRITTEN)?;
-    let whole = counts(&disk, Slot::Image1);
-    let are = slots_are(&disk, &[b"", b"aBcdEFG", b"", b""]);
-    take(
-        &mut disk,
-        &[Step::Cut(Slot::Image1, 3), Step::Sync(Slot::Image1)],
-    )?;
-    let bytes = content(alloc, &mut disk, Slot::Image1)?;
-    Some((
-        whole,
-        are,
-        counts(&disk, Slot::Image1),
-        bytes.as_slice() == b"aBc".as_slice(),
-    ))
+    (
+        taken(&mut disk, &WRITTEN),
+        slots_are(&disk, &WHOLE),
+        taken(&mut disk, &SHORTENED),
+        is_read(&mut disk, Slot::Image1, b"aBc"),
+    )
 }
 
 #[test]
 fn memory_is_read_as_it_was_written(rt: HostRuntime) {
     let seen = written_and_read::<MemDisk>(rt.alloc());
-    same(&rt, seen, Some(((7, 0), [true; 4], (3, 0), true)));
+    let (written, shortened) = ((Some(()), (7, 0)), (Some(()), (3, 0)));
+    same(&rt, seen, (written, [true; 4], shortened, Some(true)));
 }
 
 // How many bytes are read at the end of three, and behind it, and what is in the first one's buffer.
-fn read_at_the_end<S: Store + Drop>(
-    alloc: Global,
-) -> Option<([Result<usize, DiskFault>; 2], [u8; 4])> {
+fn read_at_the_end<S: Store + Drop>(alloc: Global) -> ([Result<usize, DiskFault>; 2], [u8; 4]) {
     let mut disk = S::empty(alloc);
-    take(&mut disk, &WRITTEN)?;
-    take(&mut disk, &[Step::Cut(Slot::Image1, 3)])?;
     let mut buffer = *b"....";
+    let _ = (take(&mut disk, &WRITTEN), take(&mut disk, &SHORTENED));
     let counts = [
         read(&mut disk, 2, &mut buffer),
         read(&mut disk, 9, &mut [0; 4]),
     ];
-    Some((counts, buffer))
+    (counts, buffer)
 }
 
 #[test]
 fn a_read_ends_at_the_end(rt: HostRuntime) {
     let seen = read_at_the_end::<MemDisk>(rt.alloc());
-    same(&rt, seen, Some(([Ok(1), Ok(0)], *b"c...")));
+    same(&rt, seen, ([Ok(1), Ok(0)], *b"c..."));
 }
 
 // A write of 4 bytes over 2 of 3, a cut and a new write, and a synced write.
@@ -152,16 +137,24 @@ static BEGUN: [Step; 5] = [
     Step::Sync(Slot::Segment0),
 ];
 
-// A disk with these, and a write that failed: its sixth call.
+// A disk with these, and a write that failed: its sixth call. That they were done is seen of what it holds and counts then.
 fn begun<S: Store + Drop>(alloc: Global, torn: Torn) -> Option<S> {
     let mut disk = S::holding(alloc, [b"abc", b"abcdef", b"", b"m"])?;
     disk.plan_faults(None, Some(6), torn);
-    take(&mut disk, &BEGUN)?;
-    let _ = write(&mut disk, Slot::Segment1, 1, b"nop")?;
+    let _ = take(&mut disk, &BEGUN);
+    let _ = write(&mut disk, Slot::Segment1, 1, b"nop");
     Some(disk)
 }
 
 static SEEN: Slots<'static> = [b"aWXYZ", b"abW", b"pq", b"m"];
+
+// What a stop leaves of that.
+static LEFT: [(Torn, Slots<'static>); 4] = [
+    (Torn::Old, [b"abc", b"ab", b"pq", b"m"]),
+    (Torn::New, [b"aWXYZ", b"abWdef", b"pq", b"mnop"]),
+    (Torn::Half, [b"aWX\0\0", b"abWdef", b"pq", b"mno\0"]),
+    (Torn::Fill(35), [b"a####", b"ab#def", b"pq", b"m###"]),
+];
 
 // Whether such a disk holds what was written, and how many calls failed; and whether a stop leaves these bytes.
 fn torn_by_a_stop<S: Store + Drop>(
@@ -170,88 +163,91 @@ fn torn_by_a_stop<S: Store + Drop>(
     left: &Slots<'_>,
 ) -> Option<([bool; 4], u64, [bool; 4])> {
     let disk = begun::<S>(alloc, torn)?;
-    let (are, failures) = (slots_are(&disk, &SEEN), failures(&disk));
+    let (are, (_, failures)) = (slots_are(&disk, &SEEN), counts(&disk, Slot::Image0));
     let disk = disk.stop()?;
     Some((are, failures, slots_are(&disk, left)))
 }
 
 #[test]
 fn a_stop_tears_what_was_not_synced(rt: HostRuntime) {
-    let rows: [(Torn, Slots<'_>); 4] = [
-        (Torn::Old, [b"abc", b"ab", b"pq", b"m"]),
-        (Torn::New, [b"aWXYZ", b"abWdef", b"pq", b"mnop"]),
-        (Torn::Half, [b"aWX\0\0", b"abWdef", b"pq", b"mno\0"]),
-        (Torn::Fill(35), [b"a####", b"ab#def", b"pq", b"m###"]),
-    ];
-    for (torn, left) in rows {
-        let seen = torn_by_a_stop::<MemDisk>(rt.alloc(), torn, &left);
+    for (torn, left) in &LEFT {
+        let seen = torn_by_a_stop::<MemDisk>(rt.alloc(), *torn, left);
         same_in_row(&rt, torn, seen, Some(([true; 4], 1, [true; 4])));
     }
 }
 
-// How many calls have failed on what a stop leaves, once it is synced, and whether a second stop leaves these bytes.
-fn left_at_rest<S: Store + Drop>(alloc: Global, torn: Torn, image0: &[u8]) -> Option<(u64, bool)> {
+// What a sync answers on what a stop leaves, and its counts then; and whether a second stop leaves these bytes.
+type AtRest = (Result<(), DiskFault>, (u64, u64), bool);
+
+fn left_at_rest<S: Store + Drop>(alloc: Global, torn: Torn, image0: &[u8]) -> Option<AtRest> {
     let mut left = begun::<S>(alloc, torn)?.stop()?;
-    sync(&mut left, Slot::Image0).ok()?;
-    let failures = failures(&left);
+    let synced = sync(&mut left, Slot::Image0);
+    let counts = counts(&left, Slot::Image0);
     let left = left.stop()?;
-    Some((failures, left.bytes(Slot::Image0) == image0))
+    Some((synced, counts, left.bytes(Slot::Image0) == image0))
 }
 
 // What a stop leaves has no plan, and nothing that a second stop could tear.
 #[test]
 fn a_stop_leaves_a_disk_at_rest(rt: HostRuntime) {
-    let rows: [(Torn, &[u8]); 4] = [
-        (Torn::Old, b"abc"),
-        (Torn::New, b"aWXYZ"),
-        (Torn::Half, b"aWX\0\0"),
-        (Torn::Fill(35), b"a####"),
-    ];
-    for (torn, image0) in rows {
-        let seen = left_at_rest::<MemDisk>(rt.alloc(), torn, image0);
-        same_in_row(&rt, torn, seen, Some((0, true)));
+    for (torn, [image0, ..]) in &LEFT {
+        let seen = left_at_rest::<MemDisk>(rt.alloc(), *torn, image0);
+        let counts = (image0.len() as u64, 0);
+        same_in_row(&rt, torn, seen, Some((Ok(()), counts, true)));
     }
 }
 
-// A disk that is stopped since its second call.
-fn stopped<S: Store + Drop>(alloc: Global) -> Option<S> {
-    let mut disk = S::empty(alloc);
-    take(&mut disk, &[Step::Write(Slot::Image0, 0, b"ab")])?;
+static AB: [Step; 1] = [Step::Write(Slot::Image0, 0, b"ab")];
+
+static A: [Step; 1] = [Step::Write(Slot::Image0, 0, b"A")];
+
+// What a sync, a cut, a write and a read answer.
+type Answers = (
+    Result<(), DiskFault>,
+    [Option<Result<(), DiskFault>>; 2],
+    Result<usize, DiskFault>,
+);
+
+fn answers<D: Disk>(disk: &mut D) -> Answers {
+    (
+        sync(disk, Slot::Image0),
+        [
+            cut(disk, Slot::Image0, 0),
+            write(disk, Slot::Image0, 0, b"xyz"),
+        ],
+        read(disk, 0, &mut [0; 4]),
+    )
+}
+
+// Whether two steps were taken; what the disk answers that is stopped since the second, its counts then, and whether it holds
+// what was written.
+type Stopped = ([Option<()>; 2], Answers, (u64, u64), bool);
+
+fn ask_stopped<S: Store>(disk: &mut S) -> Stopped {
+    let first = take(disk, &AB);
     disk.plan_faults(Some(2), None, Torn::Old);
-    take(&mut disk, &[Step::Write(Slot::Image0, 0, b"A")])?;
-    Some(disk)
+    (
+        [first, take(disk, &A)],
+        answers(disk),
+        counts(disk, Slot::Image0),
+        disk.bytes(Slot::Image0) == b"Ab".as_slice(),
+    )
 }
 
-// The faults of a sync, a cut, a write and a read.
-fn faults<D: Disk>(disk: &mut D) -> Option<[Option<DiskFault>; 4]> {
-    Some([
-        sync(disk, Slot::Image0).err(),
-        cut(disk, Slot::Image0, 0)?.err(),
-        write(disk, Slot::Image0, 0, b"xyz")?.err(),
-        read(disk, 0, &mut [0; 4]).err(),
-    ])
-}
-
-// What such a disk answers, its counts then, and whether it holds what was written, and nothing behind a stop.
-type Stopped = ([Option<DiskFault>; 4], (u64, u64), [bool; 2]);
-
-fn stopped_and_asked<S: Store + Drop>(alloc: Global) -> Option<Stopped> {
-    let mut disk = stopped::<S>(alloc)?;
-    let faults = faults(&mut disk)?;
-    let counts = counts(&disk, Slot::Image0);
-    let is_written = disk.bytes(Slot::Image0) == b"Ab".as_slice();
+// The same, and whether it holds nothing behind a stop.
+fn stopped_and_asked<S: Store + Drop>(alloc: Global) -> Option<(Stopped, bool)> {
+    let mut disk = S::empty(alloc);
+    let seen = ask_stopped(&mut disk);
     let disk = disk.stop()?;
-    Some((
-        faults,
-        counts,
-        [is_written, disk.bytes(Slot::Image0).is_empty()],
-    ))
+    Some((seen, disk.bytes(Slot::Image0).is_empty()))
 }
 
 #[test]
 fn a_plan_stops_all_later_calls(rt: HostRuntime) {
     let seen = stopped_and_asked::<MemDisk>(rt.alloc());
-    same(&rt, seen, Some(([Some(DiskFault); 4], (2, 4), [true; 2])));
+    let answers = (Err(DiskFault), [Some(Err(DiskFault)); 2], Err(DiskFault));
+    let asked = ([Some(()); 2], answers, (2, 4), true);
+    same(&rt, seen, Some((asked, true)));
 }
 
 // How many folders are tried at most until there is one that no other test uses.
@@ -276,6 +272,12 @@ fn remove(rt: &HostRuntime, folder: &str) -> Option<()> {
 // Removes a folder that has to be empty.
 fn remove_empty(rt: &HostRuntime, folder: &str) -> Option<()> {
     fs::remove_dir(rt, folder).ok()
+}
+
+// Removes a folder that has to be empty, and makes it anew.
+fn renew(rt: &HostRuntime, folder: &str) -> Option<()> {
+    remove_empty(rt, folder)?;
+    fs::create_dir(rt, folder).ok()
 }
 
 // Removes a folder with all that is in it, and makes it anew.
@@ -332,36 +334,31 @@ fn write_segment<F: Folder>(folder: &F) -> Option<(u64, u64)> {
 }
 
 // Whether the segment 0 holds what was written, and then its counts and those of the image 0.
-fn read_segment<F: Folder>(alloc: Global, folder: &F) -> Option<(bool, [(u64, u64); 2])> {
+type Held = (Option<bool>, [(u64, u64); 2]);
+
+fn read_segment<F: Folder>(folder: &F) -> Option<Held> {
     let mut disk = folder.files().ok()?;
-    let bytes = content(alloc, &mut disk, Slot::Segment0)?;
-    let seen = [counts(&disk, Slot::Segment0), counts(&disk, Slot::Image0)];
-    Some((bytes.as_slice() == b"abCDe".as_slice(), seen))
+    Some((
+        is_read(&mut disk, Slot::Segment0, b"abCDe"),
+        [counts(&disk, Slot::Segment0), counts(&disk, Slot::Image0)],
+    ))
 }
 
-// What is seen of the segment as it is written, and of files that are opened behind that.
-type Held = ((u64, u64), (bool, [(u64, u64); 2]));
+// Whether a slot is read as an empty one, and what a sync answers then.
+type Empty = (Option<bool>, Result<(), DiskFault>);
 
-fn write_and_read<F: Folder>(alloc: Global, folder: &F) -> Option<Held> {
-    let written = write_segment(folder)?;
-    Some((written, read_segment(alloc, folder)?))
+fn read_and_sync<D: Disk>(disk: &mut D, slot: Slot) -> Empty {
+    (is_read(disk, slot, b""), sync(disk, slot))
 }
 
-// Reads and syncs a slot, and gives how many bytes it holds.
-fn read_and_sync<D: Disk>(alloc: Global, disk: &mut D, slot: Slot) -> Option<usize> {
-    let bytes = content(alloc, disk, slot)?;
-    sync(disk, slot).ok()?;
-    Some(bytes.len())
-}
-
-// Reads and syncs each slot, and gives how many bytes they hold.
-fn read_and_sync_all<F: Folder>(alloc: Global, folder: &F) -> Option<[Option<usize>; 4]> {
+// Reads and syncs each slot.
+fn read_and_sync_all<F: Folder>(folder: &F) -> Option<[Empty; 4]> {
     let mut disk = folder.files().ok()?;
     Some([
-        read_and_sync(alloc, &mut disk, Slot::Image0),
-        read_and_sync(alloc, &mut disk, Slot::Image1),
-        read_and_sync(alloc, &mut disk, Slot::Segment0),
-        read_and_sync(alloc, &mut disk, Slot::Segment1),
+        read_and_sync(&mut disk, Slot::Image0),
+        read_and_sync(&mut disk, Slot::Image1),
+        read_and_sync(&mut disk, Slot::Segment0),
+        read_and_sync(&mut disk, Slot::Segment1),
     ])
 }
 
@@ -383,67 +380,84 @@ fn fault_of_slot(rt: HostRuntime, folder: &str, slot: &str) -> Option<Option<Dis
     Some(fault_at(rt, folder))
 }
 
-// These faults, one behind the other.
-fn refused_in(rt: HostRuntime, folder: &str, slot: &str) -> Option<[Option<DiskFault>; 3]> {
-    let [absent, file] = faults_in_file(rt, slot)?;
-    empty(&rt, folder)?;
-    let inside = fault_of_slot(rt, folder, slot)?;
-    remove(&rt, folder)?;
-    Some([absent, file, inside])
+// These faults, one behind the other, and whether the folder was emptied between them and removed.
+type Refused = (
+    Option<[Option<DiskFault>; 2]>,
+    Option<()>,
+    Option<Option<DiskFault>>,
+    Option<()>,
+);
+
+fn refused_in(rt: HostRuntime, folder: &str, slot: &str) -> Refused {
+    (
+        faults_in_file(rt, slot),
+        empty(&rt, folder),
+        fault_of_slot(rt, folder, slot),
+        remove(&rt, folder),
+    )
 }
 
-fn refused(rt: HostRuntime) -> Option<[Option<DiskFault>; 3]> {
+fn refused(rt: HostRuntime) -> Option<Refused> {
     let folder = fresh_folder(&rt)?;
     let slot = format!(in rt.alloc(); "{folder}/image0").ok()?;
-    refused_in(rt, folder.as_str(), slot.as_str())
+    Some(refused_in(rt, folder.as_str(), slot.as_str()))
 }
 
 #[test]
 fn what_is_no_folder_or_no_file_is_refused(rt: HostRuntime) {
-    same(&rt, refused(rt), Some([Some(DiskFault); 3]));
+    let fault = Some(DiskFault);
+    let wanted = (Some([fault; 2]), Some(()), Some(fault), Some(()));
+    same(&rt, refused(rt), Some(wanted));
 }
 
-// What a write and a cut answer, and how many calls have failed then.
-type Failed = ([Result<(), DiskFault>; 2], u64);
+// Whether what comes before was done, what two calls answer then, and how many have failed behind them.
+type Failed = (Option<()>, [Option<Result<(), DiskFault>>; 2], u64);
 
-fn write_and_cut<D: Disk + Drop>(mut disk: D) -> Option<Failed> {
-    let written = write(&mut disk, Slot::Image0, 0, b"a")?;
-    let cut = cut(&mut disk, Slot::Image0, 0)?;
-    Some(([written, cut], disk.failures()))
-}
-
-// The same on files whose folder is removed.
+// A write and a cut on files whose folder is removed.
 fn write_in_removed<F: Folder>(rt: &HostRuntime, folder: &F, path: &str) -> Option<Failed> {
-    let disk = folder.files().ok()?;
-    remove_empty(rt, path)?;
-    write_and_cut(disk)
+    let mut disk = folder.files().ok()?;
+    let removed = remove_empty(rt, path);
+    let written = write(&mut disk, Slot::Image0, 0, b"a");
+    let cut = cut(&mut disk, Slot::Image0, 0);
+    Some((removed, [written, cut], disk.failures()))
 }
 
-// What is read of a folder that is empty, and still is behind that, or else this gives nothing; what is read of files as they
-// were written; and how calls fail.
-type OnFiles = ([Option<usize>; 4], Held, Failed);
+// What is read of a folder that is empty, and whether it still is behind that; the counts of files as they are written, what
+// is read of them, and whether they are removed; and how calls fail.
+type OnFiles = (
+    Option<[Empty; 4]>,
+    Option<()>,
+    Option<(u64, u64)>,
+    Option<Held>,
+    Option<()>,
+    Option<Failed>,
+);
 
-fn seen_on<F: Folder>(rt: &HostRuntime, folder: &F, path: &str) -> Option<OnFiles> {
-    let lengths = read_and_sync_all(rt.alloc(), folder)?;
-    remove_empty(rt, path)?;
-    fs::create_dir(rt, path).ok()?;
-    let held = write_and_read(rt.alloc(), folder)?;
-    empty(rt, path)?;
-    Some((lengths, held, write_in_removed(rt, folder, path)?))
+fn seen_on<F: Folder>(rt: &HostRuntime, folder: &F, path: &str) -> OnFiles {
+    (
+        read_and_sync_all(folder),
+        renew(rt, path),
+        write_segment(folder),
+        read_segment(folder),
+        empty(rt, path),
+        write_in_removed(rt, folder, path),
+    )
 }
 
 fn seen_on_files(rt: HostRuntime) -> Option<OnFiles> {
     let path = fresh_folder(&rt)?;
     let path = path.as_str();
-    seen_on(&rt, &Plain { rt, path }, path)
+    Some(seen_on(&rt, &Plain { rt, path }, path))
 }
 
 // Reads and syncs make no file, files hold what was written, and a failed call is counted.
 #[test]
 fn files_are_read_written_and_synced(rt: HostRuntime) {
-    let held = ((5, 0), (true, [(5, 0), (0, 0)]));
-    let failed = ([Err(DiskFault); 2], 2);
-    same(&rt, seen_on_files(rt), Some(([Some(0); 4], held, failed)));
+    let empty = Some([(Some(true), Ok(())); 4]);
+    let held = Some((Some(true), [(5, 0), (0, 0)]));
+    let failed = Some((Some(()), [Some(Err(DiskFault)); 2], 2));
+    let wanted = (empty, Some(()), Some((5, 0)), held, Some(()), failed);
+    same(&rt, seen_on_files(rt), Some(wanted));
 }
 
 // The files of a folder, whose syncs are counted.
@@ -467,60 +481,76 @@ fn syncs_behind<D: Disk>(
     Some(syncs.counts())
 }
 
+static FIRST: [Step; 1] = [Step::Write(Slot::Segment0, 0, b"ab")];
+
+static SECOND: [Step; 1] = [Step::Write(Slot::Segment0, 1, b"B")];
+
+static CUT: [Step; 1] = [Step::Cut(Slot::Image0, 0)];
+
 // The same behind each sync of a slot: one without a file, a new one, one that was written again, one that wasn't, and another
 // new one.
 fn count_syncs<F: Folder>(folder: &F, syncs: &Syncs) -> Option<[Option<(u32, u32)>; 5]> {
     let mut disk = folder.files().ok()?;
-    let (first, second) = (
-        [Step::Write(Slot::Segment0, 0, b"ab")],
-        [Step::Write(Slot::Segment0, 1, b"B")],
-    );
-    let cut = [Step::Cut(Slot::Image0, 0)];
     Some([
         syncs_behind(&mut disk, syncs, &[], Slot::Segment0),
-        syncs_behind(&mut disk, syncs, &first, Slot::Segment0),
-        syncs_behind(&mut disk, syncs, &second, Slot::Segment0),
+        syncs_behind(&mut disk, syncs, &FIRST, Slot::Segment0),
+        syncs_behind(&mut disk, syncs, &SECOND, Slot::Segment0),
         syncs_behind(&mut disk, syncs, &[], Slot::Segment0),
-        syncs_behind(&mut disk, syncs, &cut, Slot::Image0),
+        syncs_behind(&mut disk, syncs, &CUT, Slot::Image0),
     ])
 }
 
 // What syncs answer while they fail, and afterwards, and how many calls have failed then.
 fn fail_syncs<F: Folder>(folder: &F, syncs: &Syncs) -> Option<Failed> {
     let mut disk = folder.files().ok()?;
-    take(&mut disk, &[Step::Write(Slot::Segment0, 0, b"ab")])?;
+    let written = take(&mut disk, &FIRST);
     syncs.fails.set(true);
     let while_failing = sync(&mut disk, Slot::Segment0);
     syncs.fails.set(false);
     let afterwards = sync(&mut disk, Slot::Segment0);
-    Some(([while_failing, afterwards], disk.failures()))
+    let answers = [Some(while_failing), Some(afterwards)];
+    Some((written, answers, disk.failures()))
 }
 
-// What syncs answer that fail, and how often was synced then; and how often behind each of those that don't fail.
-type Synced = (Failed, (u32, u32), [Option<(u32, u32)>; 5]);
+// What syncs answer that fail, and how often was synced then; whether the folder is emptied; how often was synced behind each
+// sync that doesn't fail; and whether the folder is removed.
+type Synced = (
+    Option<Failed>,
+    (u32, u32),
+    Option<()>,
+    Option<[Option<(u32, u32)>; 5]>,
+    Option<()>,
+);
 
-fn synced<F: Folder>(rt: &HostRuntime, folder: &F, path: &str, syncs: &Syncs) -> Option<Synced> {
-    let failed = fail_syncs(folder, syncs)?;
-    let counts = syncs.counts();
-    empty(rt, path)?;
-    let counted = count_syncs(folder, syncs)?;
-    remove(rt, path)?;
-    Some((failed, counts, counted))
+fn synced<F: Folder>(rt: &HostRuntime, folder: &F, path: &str, syncs: &Syncs) -> Synced {
+    (
+        fail_syncs(folder, syncs),
+        syncs.counts(),
+        empty(rt, path),
+        count_syncs(folder, syncs),
+        remove(rt, path),
+    )
 }
 
 fn synced_files(rt: HostRuntime) -> Option<Synced> {
     let path = fresh_folder(&rt)?;
     let path = path.as_str();
     let syncs = Syncs::new();
-    synced(&rt, &counted_at(&rt, path, &syncs), path, &syncs)
+    Some(synced(&rt, &counted_at(&rt, path, &syncs), path, &syncs))
 }
 
 // A failed sync isn't made good: what the system could not write it may have dropped, so a later one would tell nothing. A
 // sync syncs the file, and a new one its folder too.
 #[test]
 fn syncs_are_of_files_and_their_folder(rt: HostRuntime) {
-    let failed = ([Err(DiskFault); 2], 2);
-    let counted = [(0, 0), (1, 1), (2, 1), (3, 1), (4, 2)];
-    let wanted = (failed, (0, 0), counted.map(Some));
+    let failed = (Some(()), [Some(Err(DiskFault)); 2], 2);
+    let counted = [
+        Some((0, 0)),
+        Some((1, 1)),
+        Some((2, 1)),
+        Some((3, 1)),
+        Some((4, 2)),
+    ];
+    let wanted = (Some(failed), (0, 0), Some(()), Some(counted), Some(()));
     same(&rt, synced_files(rt), Some(wanted));
 }

@@ -2,13 +2,12 @@
 use crate::expect::{same, same_in_row};
 use crate::looked::looked;
 use crate::making::{SEGMENT, append_allocations, append_from};
-use crate::store::{Opening, Store, disk_of, is_receive, keeps_all};
+use crate::store::{Opening, Store, are_receive, disk_of, keeps};
 use crate::written::{image_of_name, image_of_none, opened_slot};
 use disk::{Disk, MemDisk, Slot, Torn};
 use journal::{Segment, StoreFault, roll_close, roll_head, roll_open};
 use slot_steps::segment_slot;
 use std::alloc::{AllocError, Global};
-use std::test::Fail;
 
 // What opening a store gave: its epoch, how many records its segment holds, and which of the names 0x100 to 0x102 are
 // receive rights.
@@ -17,9 +16,8 @@ type Found = Result<(u64, u64, [bool; 3]), StoreFault>;
 fn found_of(opening: Opening) -> Found {
     match opening {
         Ok(seen) => {
-            let [first, second, third, _] = seen.bits;
-            let names = [first, second, third].map(is_receive);
-            Ok((seen.epoch, seen.records, names))
+            let [first, second, third, _] = are_receive(seen.bits);
+            Ok((seen.epoch, seen.records, [first, second, third]))
         }
         Err(fault) => Err(fault),
     }
@@ -74,35 +72,35 @@ fn look_at<D: Disk>(alloc: Global, disk: &mut D) -> Told {
     Ok((epoch, records))
 }
 
-fn told_of(found: Found) -> Told {
-    match found {
-        Ok((epoch, records, _)) => Ok((epoch, records)),
-        Err(fault) => Err(fault),
-    }
-}
-
 // What is told of a store whose checkpoint was half done: by a look, by its opening, and by a look behind that.
-fn told_of_half_done<S: Store + Drop>(alloc: Global) -> Option<[Told; 3]> {
+fn told_of_half_done<S: Store + Drop>(alloc: Global) -> Option<(Told, Found, Told)> {
     let mut disk = half_done::<S>(alloc)?;
     let first = look_at(alloc, &mut disk);
     let (found, mut disk) = reopened(alloc, disk);
-    Some([first, told_of(found), look_at(alloc, &mut disk)])
+    Some((first, found, look_at(alloc, &mut disk)))
 }
 
 // A store whose first checkpoint was half done is in epoch 1 once it is opened; its second checkpoint is half done then.
 #[test]
 fn checkpoints_are_finished(rt: HostRuntime) {
     let told = told_of_half_done::<MemDisk>(rt.alloc());
-    same(&rt, told, Some([Ok((0, 2)), Ok((1, 1)), Ok((1, 1))]));
+    let found = Ok((1, 1, [true, true, false]));
+    same(&rt, told, Some((Ok((0, 2)), found, Ok((1, 1)))));
 }
 
-// The slots of a store in epoch 1, whose image has the name 0x100, and whose segment has no record.
-fn in_epoch_one(alloc: Global) -> Result<[Vec<u8>; 4], AllocError> {
+// The slots of an epoch and of the next one, each whole: the image of the first has no name, its segment allocates 0x100, and
+// with that name the next epoch begins, whose segment has this content.
+fn in_epochs(
+    alloc: Global,
+    first: u64,
+    next: u64,
+    segment1: &[u8],
+) -> Result<[Vec<u8>; 4], AllocError> {
     Ok([
-        image_of_none(alloc, 0)?,
-        image_of_name(alloc, 1, 0)?,
-        SEGMENT.to_vec(alloc)?,
-        opened_slot(alloc, 1, &[0])?,
+        image_of_none(alloc, first)?,
+        image_of_name(alloc, next, 0)?,
+        opened_slot(alloc, first, &SEGMENT[16..])?,
+        opened_slot(alloc, next, segment1)?,
     ])
 }
 
@@ -111,38 +109,29 @@ fn in_epoch_one(alloc: Global) -> Result<[Vec<u8>; 4], AllocError> {
 fn finished_without_image<S: Store + Drop>(
     alloc: Global,
     wanted: &[Vec<u8>; 4],
-) -> Option<([usize; 2], [(Found, bool); 2])> {
+) -> Option<([usize; 2], [(Found, [bool; 4]); 2])> {
     let (disk, _) = rolled::<S>(alloc)?;
     let lengths = [
         disk.bytes(Slot::Image1).len(),
         disk.bytes(Slot::Segment1).len(),
     ];
     let (first, disk) = reopened(alloc, disk);
-    let is_first = keeps_all(&disk, wanted);
+    let is_first = keeps(&disk, wanted);
     let (second, disk) = reopened(alloc, disk);
-    let is_second = keeps_all(&disk, wanted);
+    let is_second = keeps(&disk, wanted);
     Some((lengths, [(first, is_first), (second, is_second)]))
 }
 
 // The next segment is open, without a record, and the image of epoch 0 is alone.
 #[test]
-fn a_checkpoint_without_its_image_is_finished(rt: HostRuntime) -> Result<(), Fail> {
-    let wanted = in_epoch_one(rt.alloc())?;
+fn a_checkpoint_without_its_image_is_finished(rt: HostRuntime) {
+    let Ok(wanted) = in_epochs(rt.alloc(), 0, 1, &[0]) else {
+        return same(&rt, false, true);
+    };
     let seen = finished_without_image::<MemDisk>(rt.alloc(), &wanted);
-    let found = (Ok((1, 0, [true, false, false])), true);
+    drop(wanted);
+    let found = (Ok((1, 0, [true, false, false])), [true; 4]);
     same(&rt, seen, Some(([0, 17], [found, found])));
-    Ok(())
-}
-
-// The slots of epochs 4 and 5, each whole: the image of epoch 4 has no name, its segment allocates 0x100, and with that name
-// epoch 5 begins.
-fn in_epoch_five(alloc: Global, segment1: &[u8]) -> Result<[Vec<u8>; 4], AllocError> {
-    Ok([
-        image_of_none(alloc, 4)?,
-        image_of_name(alloc, 5, 0)?,
-        opened_slot(alloc, 4, &SEGMENT[16..])?,
-        opened_slot(alloc, 5, segment1)?,
-    ])
 }
 
 // Opens a store, and appends the record of the name 0x101.
@@ -166,26 +155,36 @@ fn gone_on<S: Store + Drop>(
     alloc: Global,
     before: &[Vec<u8>; 4],
     after: &[Vec<u8>; 4],
-) -> Option<[(Found, bool); 2]> {
+) -> Option<[(Found, [bool; 4]); 2]> {
     let disk: S = disk_of(alloc, before)?;
     let (first, disk) = reopened(alloc, disk);
-    let is_first = keeps_all(&disk, before);
+    let is_first = keeps(&disk, before);
     let (second, disk) = reopened(alloc, appended(alloc, disk)?);
-    let is_second = keeps_all(&disk, after);
+    let is_second = keeps(&disk, after);
     Some([(first, is_first), (second, is_second)])
 }
 
+// The same of a store of epochs 4 and 5.
+fn gone_on_in_five<S: Store + Drop>(alloc: Global) -> Option<[(Found, [bool; 4]); 2]> {
+    let before = in_epochs(alloc, 4, 5, &[0]).ok()?;
+    let after = in_epochs(alloc, 4, 5, &second_batch());
+    let seen = match &after {
+        Ok(after) => gone_on::<S>(alloc, &before, after),
+        Err(_) => None,
+    };
+    drop(after);
+    drop(before);
+    seen
+}
+
 #[test]
-fn records_go_to_the_segment_of_the_newest_image(rt: HostRuntime) -> Result<(), Fail> {
-    let before = in_epoch_five(rt.alloc(), &[0])?;
-    let after = in_epoch_five(rt.alloc(), &second_batch())?;
-    let seen = gone_on::<MemDisk>(rt.alloc(), &before, &after);
+fn records_go_to_the_segment_of_the_newest_image(rt: HostRuntime) {
+    let seen = gone_on_in_five::<MemDisk>(rt.alloc());
     let wanted = [
-        (Ok((5, 0, [true, false, false])), true),
-        (Ok((5, 1, [true, true, false])), true),
+        (Ok((5, 0, [true, false, false])), [true; 4]),
+        (Ok((5, 1, [true, true, false])), [true; 4]),
     ];
     same(&rt, seen, Some(wanted));
-    Ok(())
 }
 
 static TORN: [Torn; 6] = [

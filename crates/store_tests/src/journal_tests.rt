@@ -20,18 +20,21 @@ fn append_all<D: Disk>(
     Ok(())
 }
 
-// How many records a new segment has behind batches of so many, and whether it has these bytes.
-fn stored<S: Store + Drop>(alloc: Global, counts: &[u8], wanted: &[u8]) -> Option<(u64, bool)> {
+// What appends answer of batches of so many records, how many a new segment has behind them, and whether it has these bytes.
+type Stored = (Result<(), StoreFault>, u64, bool);
+
+fn stored<S: Store + Drop>(alloc: Global, counts: &[u8], wanted: &[u8]) -> Option<Stored> {
     let mut disk: S = disk_with(alloc, &[], &NEW_SEGMENT)?;
     let mut segment = segment_of(0);
-    append_all(alloc, &mut segment, &mut disk, counts).ok()?;
-    Some((segment.records, disk.bytes(Slot::Segment0) == wanted))
+    let answer = append_all(alloc, &mut segment, &mut disk, counts);
+    let is_wanted = disk.bytes(Slot::Segment0) == wanted;
+    Some((answer, segment.records, is_wanted))
 }
 
 #[test]
 fn a_batch_is_stored(rt: HostRuntime) {
     let seen = stored::<MemDisk>(rt.alloc(), &[1], &SEGMENT);
-    same(&rt, seen, Some((1, true)));
+    same(&rt, seen, Some((Ok(()), 1, true)));
 }
 
 // A segment of epoch 0 with two batches: one of two records, and then one of a single record.
@@ -54,7 +57,7 @@ static TWO_BATCHES: [u8; 163] = [
 #[test]
 fn a_batch_has_one_gate(rt: HostRuntime) {
     let seen = stored::<MemDisk>(rt.alloc(), &[2, 1], &TWO_BATCHES);
-    same(&rt, seen, Some((3, true)));
+    same(&rt, seen, Some((Ok(()), 3, true)));
 }
 
 // What an append answers, and how many records and how many bytes the segment has then.
@@ -68,17 +71,19 @@ fn appended<S: Store + Drop>(alloc: Global, records: u64, count: u8) -> Option<A
     Some((answer, segment.records, disk.bytes(Slot::Segment0).len()))
 }
 
+static APPENDED: [(u64, u8, Appended); 4] = [
+    (65_535, 1, (Ok(()), 65_536, 70)),
+    (65_535, 2, (Err(StoreFault::Full), 65_535, 17)),
+    (65_534, 2, (Ok(()), 65_536, 110)),
+    (65_536, 1, (Err(StoreFault::Full), 65_536, 17)),
+];
+
 // A batch fits as a whole, or nothing of it is stored.
 #[test]
 fn a_segment_holds_65536_records(rt: HostRuntime) {
-    for (records, count, wanted) in [
-        (65_535, 1, (Ok(()), 65_536, 70)),
-        (65_535, 2, (Err(StoreFault::Full), 65_535, 17)),
-        (65_534, 2, (Ok(()), 65_536, 110)),
-        (65_536, 1, (Err(StoreFault::Full), 65_536, 17)),
-    ] {
-        let seen = appended::<MemDisk>(rt.alloc(), records, count);
-        same_in_row(&rt, (records, count), seen, Some(wanted));
+    for (records, count, wanted) in &APPENDED {
+        let seen = appended::<MemDisk>(rt.alloc(), *records, *count);
+        same_in_row(&rt, (*records, *count), seen, Some(*wanted));
     }
 }
 
@@ -132,25 +137,39 @@ fn a_second_batch_has_its_own_number(rt: HostRuntime) {
     same(&rt, fault, Some(Some(StoreFault::Damaged)));
 }
 
-// How many records a long segment is found to have, and where the last one ends.
+// How many records were read, and where the last one ends.
+fn size_of(read: Option<Result<Read, StoreFault>>) -> Option<(usize, u64)> {
+    let read = read?.ok()?;
+    let size = (read.records.len(), read.end);
+    drop(read);
+    Some(size)
+}
+
+// The same of a long segment.
 fn seen_in<S: Store + Drop>(alloc: Global, count: u16, room: usize) -> Option<(usize, u64)> {
     let segment = long_segment(alloc, count).ok()?;
-    let read = read::<S>(alloc, &segment, room)?.ok()?;
-    Some((read.records.len(), read.end))
+    let read = read::<S>(alloc, &segment, room);
+    drop(segment);
+    size_of(read)
 }
+
+// Where a segment of 2,600 records ends.
+const END: u64 = 16 + 2_600 * 53;
+
+static ROOMS: [usize; 5] = [
+    LONGEST_STEP,
+    LONGEST_STEP + 1,
+    LONGEST_STEP + 52,
+    LONGEST_STEP + 1_000,
+    PIECE,
+];
 
 // Records stand across the edges of pieces, and the pieces are of any size that is allowed.
 #[test]
 fn pieces_of_any_size(rt: HostRuntime) {
-    for room in [
-        LONGEST_STEP,
-        LONGEST_STEP + 1,
-        LONGEST_STEP + 52,
-        LONGEST_STEP + 1_000,
-        PIECE,
-    ] {
-        let seen = seen_in::<MemDisk>(rt.alloc(), 2_599, room);
-        same_in_row(&rt, room, seen, Some((2_600, 16 + 2_600 * 53)));
+    for room in &ROOMS {
+        let seen = seen_in::<MemDisk>(rt.alloc(), 2_599, *room);
+        same_in_row(&rt, *room, seen, Some((2_600, END)));
     }
 }
 
@@ -160,17 +179,24 @@ fn is_told(alloc: Global, fault: StoreFault, words: &str) -> Option<bool> {
     Some(told.as_str() == words)
 }
 
+static FAULTS: [(StoreFault, u8, &'static str); 6] = [
+    (StoreFault::Device, 1, "device"),
+    (StoreFault::Full, 2, "full"),
+    (StoreFault::Damaged, 3, "damaged"),
+    (StoreFault::NoMemory, 4, "no memory"),
+    (StoreFault::Failed, 5, "failed"),
+    (StoreFault::Version, 6, "version"),
+];
+
 #[test]
 fn names_of_faults(rt: HostRuntime) {
-    for (fault, number, words) in [
-        (StoreFault::Device, 1, "device"),
-        (StoreFault::Full, 2, "full"),
-        (StoreFault::Damaged, 3, "damaged"),
-        (StoreFault::NoMemory, 4, "no memory"),
-        (StoreFault::Failed, 5, "failed"),
-        (StoreFault::Version, 6, "version"),
-    ] {
-        let is_told = is_told(rt.alloc(), fault, words);
-        same_in_row(&rt, words, (fault.number(), is_told), (number, Some(true)));
+    for (fault, number, words) in &FAULTS {
+        let is_told = is_told(rt.alloc(), *fault, words);
+        same_in_row(
+            &rt,
+            *words,
+            (fault.number(), is_told),
+            (*number, Some(true)),
+        );
     }
 }

@@ -11,7 +11,7 @@ use std::alloc::{AllocError, Global};
 type PortRow = (u64, Option<u32>, Option<u64>, usize);
 
 /// A body of one item, a receive right.
-const BODY: [u8; 8] = [16, 32, 1, 0x10, 0, 0, 0, 0];
+static BODY: [u8; 8] = [16, 32, 1, 0x10, 0, 0, 0, 0];
 
 fn holding(port: u64, receive: bool, send: u32) -> Entry {
     Entry::Port(PortRights {

@@ -11,14 +11,14 @@ use slot_steps::segment_slot;
 use std::alloc::Global;
 
 /// A segment of epoch 0 with one batch: that of the record 0, which is the allocation of the name 0x100.
-pub(crate) const SEGMENT: [u8; 70] = [
+pub(crate) static SEGMENT: [u8; 70] = [
     0x5a, 1, 0, 0, 0, 0, 0, 0, 0, 0, 0, 0, 0, 0, 0, 0, 0x5a, 1, 0, 0, 0, 40, 0, 0, 0, 0, 0, 0, 0,
     0, 0, 0, 0, 0, 0, 0, 0, 1, 0, 0, 0, 8, 0, 0, 0, 5, 0, 0, 0, 1, 0, 0, 0, 12, 0, 0, 0, 5, 0, 0,
     0, 0, 0, 0, 0, 0, 1, 0, 0, 0,
 ];
 
 /// A segment of epoch 0 with no batch.
-pub(crate) const NEW_SEGMENT: [u8; 17] = [0x5a, 1, 0, 0, 0, 0, 0, 0, 0, 0, 0, 0, 0, 0, 0, 0, 0];
+pub(crate) static NEW_SEGMENT: [u8; 17] = [0x5a, 1, 0, 0, 0, 0, 0, 0, 0, 0, 0, 0, 0, 0, 0, 0, 0];
 
 /// The allocation of a name, done.
 #[tactic(auto, unfolding(ipc_model::specs::texts::Texts::call_text, ipc_model::specs::texts::Texts::reply_text))]
@@ -45,12 +45,10 @@ fn add_allocation(
     }
     let [low, ..] = number.to_le_bytes();
     let mut text = Vec::new(alloc);
-    push_record(
-        alloc,
-        &mut text,
-        number,
-        &allocation(0x100 + u32::from(first) + u32::from(low)),
-    )?;
+    let record = allocation(0x100 + u32::from(first) + u32::from(low));
+    let pushed = push_record(alloc, &mut text, number, &record);
+    drop(record);
+    pushed?;
     batch.add(&text)?;
     Ok(())
 }

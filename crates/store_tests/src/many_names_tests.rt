@@ -2,7 +2,6 @@ use crate::expect::same;
 use crate::names::{add_space, hold};
 use codes::MAX_NAMES;
 use spaces::Spaces;
-use std::alloc::Global;
 
 /// How many spaces are filled.
 const SPACES: u32 = 16;
@@ -51,14 +50,10 @@ fn filled(spaces: &mut Spaces) -> Option<(u32, u64)> {
     Some((right, spaces.sends(7)))
 }
 
-fn filled_from_none(alloc: Global) -> Option<(u32, u64)> {
-    let mut spaces = Spaces::new(alloc);
-    let seen = filled(&mut spaces);
-    drop(spaces);
-    seen
-}
-
 #[test]
 fn spaces_are_filled_and_names_handed_out_again(rt: HostRuntime) {
-    same(&rt, filled_from_none(rt.alloc()), Some((SPACES, 65536)));
+    let mut spaces = Spaces::new(rt.alloc());
+    let seen = filled(&mut spaces);
+    drop(spaces);
+    same(&rt, seen, Some((SPACES, 65536)));
 }

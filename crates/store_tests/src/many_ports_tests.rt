@@ -2,7 +2,6 @@ use crate::expect::same;
 use crate::sample::add_port;
 use codes::MAX_PORTS;
 use ports::Ports;
-use std::alloc::Global;
 
 /// Makes as many ports as may live, and gives the first serial.
 fn fill(ports: &mut Ports) -> Option<u64> {
@@ -34,16 +33,11 @@ fn round(ports: &mut Ports) -> Option<Round> {
     Some((first, most, full, ports.len()))
 }
 
-fn two_rounds_from_none(alloc: Global) -> [Option<Round>; 2] {
-    let mut ports = Ports::new(alloc);
-    let seen = [round(&mut ports), round(&mut ports)];
-    drop(ports);
-    seen
-}
-
 #[test]
 fn all_ports_are_made_and_destroyed_twice(rt: HostRuntime) {
-    let seen = two_rounds_from_none(rt.alloc());
+    let mut ports = Ports::new(rt.alloc());
+    let seen = [round(&mut ports), round(&mut ports)];
+    drop(ports);
     let wanted = [Some((1, 16384, true, 0)), Some((16385, 16384, true, 0))];
     same(&rt, seen, wanted);
 }

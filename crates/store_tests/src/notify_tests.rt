@@ -1,6 +1,6 @@
 use crate::expect::same;
 use effects::Notice;
-use ipc_model::{CarriedRight, Message, PortInMessage, RightKind};
+use ipc_model::{CarriedRight, PortInMessage, RightKind};
 use notify::{message, port_destroyed};
 use std::alloc::Global;
 
@@ -37,19 +37,15 @@ fn notices_say_whom_they_tell_of(rt: HostRuntime) {
 /// What is compared of a message with a right: its id, whether it is complex, how many rights it has, and the first.
 type Carried = (u32, bool, usize, Option<CarriedRight>);
 
-fn carried(message: &Message) -> Carried {
-    (
+/// What the notice of a port's destruction carries.
+fn carried_by_notice(alloc: Global, serial: u64) -> Option<Carried> {
+    let message = port_destroyed(alloc, serial).ok()?;
+    let seen = (
         message.id,
         message.complex,
         message.rights.as_slice().len(),
         message.rights.as_slice().first().copied(),
-    )
-}
-
-/// What the notice of a port's destruction carries.
-fn carried_by_notice(alloc: Global, serial: u64) -> Option<Carried> {
-    let message = port_destroyed(alloc, serial).ok()?;
-    let seen = carried(&message);
+    );
     drop(message);
     Some(seen)
 }

@@ -79,148 +79,119 @@ fn body_port(ports: &Ports) -> Option<PortInMessage> {
     Some(ports.seen(*right).port)
 }
 
-/// What is seen of the ports.
-#[derive(Clone, Copy, Debug, PartialEq)]
-struct Picture {
-    /// The send and send-once rights to port 1, the send rights to port 2 and the send-once rights to port 3.
-    counts: [u64; 4],
-    /// The port in whose queue the receive right of port 3 travels.
-    carrier: Option<u64>,
-    /// How many messages port 2 has, and what its oldest has in the places of ports.
-    messages: u32,
-    oldest: [Option<PortInMessage>; 2],
-    /// The target of the request of port 3.
-    target: Option<u64>,
-}
+/// What is seen of the ports: the send and send-once rights to port 1, the send rights to port 2 and the send-once rights to
+/// port 3; the port in whose queue the receive right of port 3 travels; how many messages port 2 has, and what its oldest has
+/// in the places of ports; and the target of the request of port 3.
+type Picture = (
+    [u64; 4],
+    Option<u64>,
+    u32,
+    [Option<PortInMessage>; 2],
+    Option<u64>,
+);
 
 fn target(ports: &Ports) -> Option<u64> {
     ports.numbers(3)?.no_senders_target
 }
 
 fn seen(ports: &Ports) -> Picture {
-    Picture {
-        counts: [
+    (
+        [
             ports.sends(1),
             ports.send_onces(1),
             ports.sends(2),
             ports.send_onces(3),
         ],
-        carrier: ports.carrier(3),
-        messages: ports.message_count(2),
-        oldest: [reply_port(ports), body_port(ports)],
-        target: target(ports),
-    }
+        ports.carrier(3),
+        ports.message_count(2),
+        [reply_port(ports), body_port(ports)],
+        target(ports),
+    )
 }
 
-/// What is seen: at first, once port 1 has died, once port 2 has died too, once all is given up, and once port 1 has died
+/// Which steps were done; and what is seen: at first, once port 1 has died, once port 2 has died too, once all is given up, and once port 1 has died
 /// again and this is kept.
-fn buried(alloc: Global, ports: &mut Ports) -> Option<[Picture; 5]> {
-    fill(alloc, ports)?;
+fn buried(alloc: Global, ports: &mut Ports) -> ([Option<()>; 4], [Picture; 5]) {
+    let filled = fill(alloc, ports);
     let first = seen(ports);
-    ports.bury(1).ok()?;
+    let first_died = ports.bury(1).ok();
     let without_1 = seen(ports);
-    ports.bury(2).ok()?;
+    let second_died = ports.bury(2).ok();
     let without_2 = seen(ports);
     ports.give_up();
     let given_up = seen(ports);
-    ports.bury(1).ok()?;
+    let died_again = ports.bury(1).ok();
     ports.keep();
-    Some([first, without_1, without_2, given_up, seen(ports)])
+    (
+        [filled, first_died, second_died, died_again],
+        [first, without_1, without_2, given_up, seen(ports)],
+    )
 }
 
-fn buried_from_none(alloc: Global) -> Option<[Picture; 5]> {
-    let mut ports = Ports::new(alloc);
-    let seen = buried(alloc, &mut ports);
-    drop(ports);
-    seen
-}
+const AT_FIRST: Picture = (
+    [1, 2, 2, 1],
+    Some(2),
+    2,
+    [Some(PortInMessage::Live(1)); 2],
+    Some(1),
+);
 
-fn at_first() -> Picture {
-    Picture {
-        counts: [1, 2, 2, 1],
-        carrier: Some(2),
-        messages: 2,
-        oldest: [Some(PortInMessage::Live(1)); 2],
-        target: Some(1),
-    }
-}
+const WITHOUT_1: Picture = (
+    [0, 0, 2, 1],
+    Some(2),
+    2,
+    [Some(PortInMessage::Dead); 2],
+    None,
+);
 
-fn without_1() -> Picture {
-    Picture {
-        counts: [0, 0, 2, 1],
-        carrier: Some(2),
-        messages: 2,
-        oldest: [Some(PortInMessage::Dead); 2],
-        target: None,
-    }
-}
+const WITHOUT_2: Picture = ([0; 4], None, 0, [None; 2], None);
 
-fn without_2() -> Picture {
-    Picture {
-        counts: [0; 4],
-        carrier: None,
-        messages: 0,
-        oldest: [None; 2],
-        target: None,
-    }
-}
+static BURIED: [Picture; 5] = [AT_FIRST, WITHOUT_1, WITHOUT_2, AT_FIRST, WITHOUT_1];
 
 #[test]
 fn ports_die_and_live_again(rt: HostRuntime) {
-    let wanted = [
-        at_first(),
-        without_1(),
-        without_2(),
-        at_first(),
-        without_1(),
-    ];
-    same(&rt, buried_from_none(rt.alloc()), Some(wanted));
+    let mut ports = Ports::new(rt.alloc());
+    let (done, seen) = buried(rt.alloc(), &mut ports);
+    drop(ports);
+    same(&rt, done, [Some(()); 4]);
+    same(&rt, seen, BURIED);
 }
 
-/// What is seen: once the oldest message of port 2 is taken, once the other one is taken too, once all is given up, and
+/// Which steps were done; and what is seen: once the oldest message of port 2 is taken, once the other one is taken too, once all is given up, and
 /// once the oldest is taken again and this is kept.
-fn taken(alloc: Global, ports: &mut Ports) -> Option<[Picture; 4]> {
-    fill(alloc, ports)?;
-    ports.take(2).ok()?;
+fn taken(alloc: Global, ports: &mut Ports) -> ([Option<()>; 4], [Picture; 4]) {
+    let filled = fill(alloc, ports);
+    let first_taken = ports.take(2).ok();
     let without_first = seen(ports);
-    ports.take(2).ok()?;
+    let second_taken = ports.take(2).ok();
     let without_both = seen(ports);
     ports.give_up();
     let given_up = seen(ports);
-    ports.take(2).ok()?;
+    let taken_again = ports.take(2).ok();
     ports.keep();
-    Some([without_first, without_both, given_up, seen(ports)])
+    (
+        [filled, first_taken, second_taken, taken_again],
+        [without_first, without_both, given_up, seen(ports)],
+    )
 }
 
-fn taken_from_none(alloc: Global) -> Option<[Picture; 4]> {
-    let mut ports = Ports::new(alloc);
-    let seen = taken(alloc, &mut ports);
-    drop(ports);
-    seen
-}
+const WITHOUT_FIRST: Picture = (
+    [0, 1, 1, 1],
+    Some(2),
+    1,
+    [Some(PortInMessage::Live(3)); 2],
+    Some(1),
+);
 
-fn without_first() -> Picture {
-    Picture {
-        counts: [0, 1, 1, 1],
-        carrier: Some(2),
-        messages: 1,
-        oldest: [Some(PortInMessage::Live(3)); 2],
-        target: Some(1),
-    }
-}
+const WITHOUT_BOTH: Picture = ([0, 1, 0, 0], None, 0, [None; 2], Some(1));
 
-fn without_both() -> Picture {
-    Picture {
-        counts: [0, 1, 0, 0],
-        carrier: None,
-        messages: 0,
-        oldest: [None; 2],
-        target: Some(1),
-    }
-}
+static TAKEN: [Picture; 4] = [WITHOUT_FIRST, WITHOUT_BOTH, AT_FIRST, WITHOUT_FIRST];
 
 #[test]
 fn messages_are_taken_and_put_back(rt: HostRuntime) {
-    let wanted = [without_first(), without_both(), at_first(), without_first()];
-    same(&rt, taken_from_none(rt.alloc()), Some(wanted));
+    let mut ports = Ports::new(rt.alloc());
+    let (done, seen) = taken(rt.alloc(), &mut ports);
+    drop(ports);
+    same(&rt, done, [Some(()); 4]);
+    same(&rt, seen, TAKEN);
 }

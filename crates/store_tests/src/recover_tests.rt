@@ -1,3 +1,4 @@
+use crate::bending::set;
 use crate::expect::{same, same_in_row};
 use crate::making::{NEW_SEGMENT, SEGMENT, append_allocations, segment_of};
 use crate::store::{Store, disk_with};
@@ -5,10 +6,10 @@ use crate::streams::long_segment;
 use disk::{MemDisk, Slot, Torn};
 use journal::{OPEN_GATE, StoreFault};
 use std::alloc::{AllocError, Global};
-use std::test::Fail;
+use std::process::Abort;
 
 // The image of the opening state, epoch 0.
-const IMAGE: [u8; 48] = [
+static IMAGE: [u8; 48] = [
     0x5a, 1, 0, 0, 0, 0, 0, 0, 0, 0, 0, 0, 0, 0, 0, 0, 24, 0, 0, 0, 0, 0, 0, 0, 1, 0, 0, 0, 0, 0,
     0, 0, 1, 0, 0, 0, 1, 0, 0, 0, 0, 0, 0, 0, 0, 0, 0, 0,
 ];
@@ -80,29 +81,35 @@ fn a_new_store_is_made(rt: HostRuntime) {
 fn bent<S: Store + Drop>(alloc: Global, is_image: bool, at: usize, byte: u8) -> Option<Found> {
     let mut image0 = IMAGE;
     let mut segment0 = SEGMENT;
-    if is_image {
-        *image0.get_mut(at)? = byte;
+    let is_set = if is_image {
+        set(&mut image0, at, byte)
     } else {
-        *segment0.get_mut(at)? = byte;
-    }
+        set(&mut segment0, at, byte)
+    };
+    is_set?;
     opened_with::<S>(alloc, &image0, &segment0)
 }
 
+const DAMAGED: Found = Err(StoreFault::Damaged);
+
+const VERSION: Found = Err(StoreFault::Version);
+
+static BENT: [(bool, usize, u8, Found); 8] = [
+    (true, 0, 0, DAMAGED),
+    (true, 1, 9, VERSION),
+    (true, 2, 1, DAMAGED),
+    (true, 8, 1, DAMAGED),
+    (true, 8, 2, DAMAGED),
+    (false, 16, 0, EMPTY),
+    (false, 17, 2, DAMAGED),
+    (false, 69, 0x5a, DAMAGED),
+];
+
 #[test]
 fn bent_bytes(rt: HostRuntime) {
-    let damaged = Err(StoreFault::Damaged);
-    for (is_image, at, byte, found) in [
-        (true, 0, 0, damaged),
-        (true, 1, 9, Err(StoreFault::Version)),
-        (true, 2, 1, damaged),
-        (true, 8, 1, damaged),
-        (true, 8, 2, damaged),
-        (false, 16, 0, EMPTY),
-        (false, 17, 2, damaged),
-        (false, 69, 0x5a, damaged),
-    ] {
-        let seen = bent::<MemDisk>(rt.alloc(), is_image, at, byte);
-        same_in_row(&rt, (byte, at), seen, Some(found));
+    for (is_image, at, byte, found) in &BENT {
+        let seen = bent::<MemDisk>(rt.alloc(), *is_image, *at, *byte);
+        same_in_row(&rt, (*byte, *at), seen, Some(*found));
     }
 }
 
@@ -111,57 +118,88 @@ fn cut<S: Store + Drop>(alloc: Global, length: usize) -> Option<Found> {
     opened_with::<S>(alloc, &IMAGE, SEGMENT.get(..length)?)
 }
 
+static CUT: [(usize, Found); 5] = [
+    (69, STORED),
+    (68, DAMAGED),
+    (17, DAMAGED),
+    (16, EMPTY),
+    (15, DAMAGED),
+];
+
 #[test]
 fn cut_segments(rt: HostRuntime) {
-    let damaged = Err(StoreFault::Damaged);
-    for (length, found) in [
-        (69, STORED),
-        (68, damaged),
-        (17, damaged),
-        (16, EMPTY),
-        (15, damaged),
-    ] {
-        let seen = cut::<MemDisk>(rt.alloc(), length);
-        same_in_row(&rt, length, seen, Some(found));
+    for (length, found) in &CUT {
+        let seen = cut::<MemDisk>(rt.alloc(), *length);
+        same_in_row(&rt, *length, seen, Some(*found));
     }
 }
 
+// Where one of the last records has its number's lowest byte.
+const LATE_NUMBER: usize = 16 + 19_990 * 53 + 13;
+
+// How long a segment of 20,000 records is.
+const LONG: usize = 16 + 20_000 * 53 + 1;
+
 // What opening a store of many records gives, and one in which a record has another number than the last.
-fn many_records<S: Store + Drop>(alloc: Global, segment: &mut Vec<u8>) -> Option<[Found; 2]> {
-    let whole = opened_with::<S>(alloc, &IMAGE, segment)?;
-    *segment.get_mut(16 + 19_990 * 53 + 13)? = 0;
-    Some([whole, opened_with::<S>(alloc, &IMAGE, segment)?])
+fn many_records<S: Store + Drop>(alloc: Global, segment: &mut [u8]) -> [Option<Found>; 2] {
+    let whole = opened_with::<S>(alloc, &IMAGE, segment);
+    if set(segment, LATE_NUMBER, 0).is_none() {
+        return [None; 2];
+    }
+    [whole, opened_with::<S>(alloc, &IMAGE, segment)]
+}
+
+fn many_made<S: Store + Drop>(alloc: Global) -> Option<[Option<Found>; 2]> {
+    let mut segment = long_segment(alloc, 19_999).ok()?;
+    let seen = many_records::<S>(alloc, &mut segment);
+    drop(segment);
+    Some(seen)
 }
 
 // Stores of more bytes than are read at once.
 #[test]
-fn stores_of_many_records(rt: HostRuntime) -> Result<(), Fail> {
-    let mut segment = long_segment(rt.alloc(), 19_999)?;
-    let seen = many_records::<MemDisk>(rt.alloc(), &mut segment);
-    let whole = Ok((20_000, [0x20000, 0, 0], 16 + 20_000 * 53 + 1));
-    same(&rt, seen, Some([whole, Err(StoreFault::Damaged)]));
-    Ok(())
+fn stores_of_many_records(rt: HostRuntime) {
+    let seen = many_made::<MemDisk>(rt.alloc());
+    let whole = Ok((20_000, [0x20000, 0, 0], LONG));
+    same(&rt, seen, Some([Some(whole), Some(DAMAGED)]));
 }
 
-// What opening a store with a stored record gives where the second slots have these bytes.
-fn beside<S: Store + Drop>(alloc: Global, image1: &[u8], segment1: &[u8]) -> Option<Found> {
-    let disk = S::holding(alloc, [&IMAGE, image1, &SEGMENT, segment1])?;
-    Some(reopened(alloc, disk))
+// `SEGMENT` with another version.
+static OTHER: [u8; 70] = [
+    0x5a, 2, 0, 0, 0, 0, 0, 0, 0, 0, 0, 0, 0, 0, 0, 0, 0x5a, 1, 0, 0, 0, 40, 0, 0, 0, 0, 0, 0, 0,
+    0, 0, 0, 0, 0, 0, 0, 0, 1, 0, 0, 0, 8, 0, 0, 0, 5, 0, 0, 0, 1, 0, 0, 0, 12, 0, 0, 0, 5, 0, 0,
+    0, 0, 0, 0, 0, 0, 1, 0, 0, 0,
+];
+
+// How many bytes of an image and a segment the second slots have, whether the segment is of another version, and what opening
+// the store gives.
+type Second = (usize, usize, bool, Found);
+
+// What opening a store with a stored record gives where the second slots have these.
+fn beside<S: Store + Drop>(alloc: Global, row: &Second) -> Option<Found> {
+    let (image1, segment1, is_other, _) = *row;
+    let segment = if is_other { &OTHER } else { &SEGMENT };
+    let slots = [
+        IMAGE.as_slice(),
+        IMAGE.get(..image1)?,
+        SEGMENT.as_slice(),
+        segment.get(..segment1)?,
+    ];
+    Some(reopened(alloc, S::holding(alloc, slots)?))
 }
+
+static SECOND: [Second; 5] = [
+    (24, 0, false, DAMAGED),
+    (23, 0, false, STORED),
+    (0, 16, false, DAMAGED),
+    (0, 15, false, STORED),
+    (24, 70, true, VERSION),
+];
 
 #[test]
 fn second_slots(rt: HostRuntime) {
-    let mut other = SEGMENT;
-    other[1] = 2;
-    for (image1, segment1, found) in [
-        (&IMAGE[..24], &[][..], Err(StoreFault::Damaged)),
-        (&IMAGE[..23], &[][..], STORED),
-        (&[][..], &SEGMENT[..16], Err(StoreFault::Damaged)),
-        (&[][..], &SEGMENT[..15], STORED),
-        (&IMAGE[..24], &other[..], Err(StoreFault::Version)),
-    ] {
-        let seen = beside::<MemDisk>(rt.alloc(), image1, segment1);
-        same(&rt, seen, Some(found));
+    for row in &SECOND {
+        same_in_row(&rt, row, beside::<MemDisk>(rt.alloc(), row), Some(row.3));
     }
 }
 
@@ -188,15 +226,15 @@ fn stops_within_an_append(rt: HostRuntime) {
         for stop_at in 1..6u64 {
             let is_stored = stop_at == 5 || stop_at >= 3 && *opens;
             let wanted = if is_stored {
-                [STORED, PAIR]
+                [Some(STORED), Some(PAIR)]
             } else {
-                [EMPTY, EMPTY]
+                [Some(EMPTY); 2]
             };
             let found = [
                 stopped::<MemDisk>(rt.alloc(), 1, stop_at, *torn),
                 stopped::<MemDisk>(rt.alloc(), 2, stop_at, *torn),
             ];
-            same_in_row(&rt, (torn, stop_at), found, wanted.map(Some));
+            same_in_row(&rt, (torn, stop_at), found, wanted);
         }
     }
 }
@@ -317,13 +355,19 @@ fn failed_opening<S: Store + Drop>(
     Some((found.err(), reopened(alloc, disk)))
 }
 
-#[test]
-fn failures_within_an_opening(rt: HostRuntime) {
-    for store in STORES.iter().chain(&FOREIGN) {
-        for fail_at in 1..store.3 + 1 {
-            let seen = failed_opening::<MemDisk>(rt.alloc(), store, fail_at);
+fn fail_each(rt: &impl Abort, alloc: Global, stores: &[Described]) {
+    for store in stores {
+        for done in 0..store.3 {
+            let fail_at = done + 1;
+            let seen = failed_opening::<MemDisk>(alloc, store, fail_at);
             let wanted = Some((Some(StoreFault::Device), store.4));
-            same_in_row(&rt, (store, fail_at), seen, wanted);
+            same_in_row(rt, (store, fail_at), seen, wanted);
         }
     }
+}
+
+#[test]
+fn failures_within_an_opening(rt: HostRuntime) {
+    fail_each(&rt, rt.alloc(), &STORES);
+    fail_each(&rt, rt.alloc(), &FOREIGN);
 }

@@ -42,32 +42,30 @@ fn rename_and_remove(spaces: &mut Spaces) -> Option<()> {
     hold(spaces, 2, 0x100, 9, None)
 }
 
-/// The names of space 2: at first, once they are changed, once that is given up, and once it is done again and kept.
-fn renamed(alloc: Global, spaces: &mut Spaces) -> Option<[Option<Names>; 4]> {
-    fill(spaces)?;
+/// Which steps were done; and the names of space 2: at first, once they are changed, once that is given up, and once it is done again and kept.
+fn renamed(alloc: Global, spaces: &mut Spaces) -> ([Option<()>; 3], [Option<Names>; 4]) {
+    let filled = fill(spaces);
     let first = names(alloc, spaces);
-    rename_and_remove(spaces)?;
+    let changed = rename_and_remove(spaces);
     let now = names(alloc, spaces);
     spaces.give_up();
     let given_up = names(alloc, spaces);
-    rename_and_remove(spaces)?;
+    let changed_again = rename_and_remove(spaces);
     spaces.keep();
-    Some([first, now, given_up, names(alloc, spaces)])
-}
-
-fn renamed_in_new(alloc: Global) -> Option<[Option<Names>; 4]> {
-    let mut spaces = Spaces::new(alloc);
-    let seen = renamed(alloc, &mut spaces);
-    drop(spaces);
-    seen
+    (
+        [filled, changed, changed_again],
+        [first, now, given_up, names(alloc, spaces)],
+    )
 }
 
 #[test]
 fn names_are_put_renamed_and_removed(rt: HostRuntime) {
+    let mut spaces = Spaces::new(rt.alloc());
+    let seen = renamed(rt.alloc(), &mut spaces);
+    drop(spaces);
     let first = Some([Some(0x102), Some(0x105), None]);
     let now = Some([Some(0x100), Some(0x101), None]);
-    let wanted = [first, now, first, now];
-    same(&rt, renamed_in_new(rt.alloc()), Some(wanted));
+    same(&rt, seen, ([Some(()); 3], [first, now, first, now]));
 }
 
 /// The name and the target of the next dead-name notice.
@@ -104,17 +102,13 @@ fn notices(alloc: Global, spaces: &mut Spaces) -> Option<[NoticeSeen; 4]> {
     seen
 }
 
-fn notices_of_new(alloc: Global) -> Option<[NoticeSeen; 4]> {
-    let mut spaces = Spaces::new(alloc);
-    let seen = notices(alloc, &mut spaces);
-    drop(spaces);
-    seen
-}
-
 #[test]
 fn dead_names_come_by_space_and_name(rt: HostRuntime) {
+    let mut spaces = Spaces::new(rt.alloc());
+    let seen = notices(rt.alloc(), &mut spaces);
+    drop(spaces);
     let wanted = [Some((0x103, 8)), Some((0x102, 9)), Some((0x105, 9)), None];
-    same(&rt, notices_of_new(rt.alloc()), Some(wanted));
+    same(&rt, seen, Some(wanted));
 }
 
 /// What the names stand for; how many send and send-once rights they hold to port 7, and send-once rights to port 9.
@@ -138,24 +132,20 @@ fn die(alloc: Global, spaces: &mut Spaces, port: u64) -> Option<()> {
     done
 }
 
-/// What is held: once port 9 has died, once port 7 has died too, once space 2 is gone, and once all is given up.
-fn buried(alloc: Global, spaces: &mut Spaces) -> Option<[Held; 4]> {
-    fill(spaces)?;
-    die(alloc, spaces, 9)?;
+/// Which steps were done; and what is held: once port 9 has died, once port 7 has died too, once space 2 is gone, and once all is given up.
+fn buried(alloc: Global, spaces: &mut Spaces) -> ([Option<()>; 4], [Held; 4]) {
+    let filled = fill(spaces);
+    let first_died = die(alloc, spaces, 9);
     let without_9 = held(spaces);
-    die(alloc, spaces, 7)?;
+    let second_died = die(alloc, spaces, 7);
     let without_7 = held(spaces);
-    spaces.remove(2).ok()?;
+    let removed = spaces.remove(2).ok();
     let without_space = held(spaces);
     spaces.give_up();
-    Some([without_9, without_7, without_space, held(spaces)])
-}
-
-fn buried_in_new(alloc: Global) -> Option<[Held; 4]> {
-    let mut spaces = Spaces::new(alloc);
-    let seen = buried(alloc, &mut spaces);
-    drop(spaces);
-    seen
+    (
+        [filled, first_died, second_died, removed],
+        [without_9, without_7, without_space, held(spaces)],
+    )
 }
 
 /// A name for a send right to port 7.
@@ -183,11 +173,15 @@ fn dead(references: u32) -> Option<Entry> {
 
 #[test]
 fn names_die_and_a_space_goes(rt: HostRuntime) {
+    let mut spaces = Spaces::new(rt.alloc());
+    let (done, seen) = buried(rt.alloc(), &mut spaces);
+    drop(spaces);
     let wanted = [
         ([send(None), once(None), send(Some(8))], [2, 1, 0]),
         ([dead(1), dead(1), dead(2)], [0, 0, 0]),
         ([None, None, dead(2)], [0, 0, 0]),
         ([send(Some(9)), once(Some(9)), send(Some(8))], [2, 1, 2]),
     ];
-    same(&rt, buried_in_new(rt.alloc()), Some(wanted));
+    same(&rt, done, [Some(()); 4]);
+    same(&rt, seen, wanted);
 }

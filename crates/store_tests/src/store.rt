@@ -17,6 +17,9 @@ pub(crate) struct Seen {
     pub(crate) bits: [u32; 4],
 }
 
+/// The type bits of a receive right.
+const RECEIVE: u32 = 0x2_0000;
+
 /// What opening a store gives.
 pub(crate) type Opening = Result<Seen, StoreFault>;
 
@@ -123,9 +126,15 @@ impl Store for MemDisk {
     }
 }
 
-/// Whether these are the type bits of a receive right.
-pub(crate) fn is_receive(bits: u32) -> bool {
-    bits == 0x2_0000
+/// Which of these are the type bits of a receive right.
+pub(crate) fn are_receive(bits: [u32; 4]) -> [bool; 4] {
+    let [first, second, third, fourth] = bits;
+    [
+        first == RECEIVE,
+        second == RECEIVE,
+        third == RECEIVE,
+        fourth == RECEIVE,
+    ]
 }
 
 /// A disk whose slots hold these bytes.
@@ -139,21 +148,19 @@ pub(crate) fn disk_with<S: Store>(alloc: Global, image0: &[u8], segment0: &[u8])
     S::holding(alloc, [image0, &[], segment0, &[]])
 }
 
-/// Whether a disk's slots of number 0 hold these bytes.
-pub(crate) fn keeps_first<S: Store>(disk: &S, slots: &[Vec<u8>; 4]) -> bool {
-    let [image0, _, segment0, _] = slots;
-    disk.bytes(Slot::Image0) == image0.as_slice()
-        && disk.bytes(Slot::Segment0) == segment0.as_slice()
+/// Whether a disk's slots hold these bytes, each.
+pub(crate) fn slots_are<S: Store>(disk: &S, wanted: &Slots<'_>) -> [bool; 4] {
+    let [image0, image1, segment0, segment1] = *wanted;
+    [
+        disk.bytes(Slot::Image0) == image0,
+        disk.bytes(Slot::Image1) == image1,
+        disk.bytes(Slot::Segment0) == segment0,
+        disk.bytes(Slot::Segment1) == segment1,
+    ]
 }
 
-/// Whether those of number 1 do.
-pub(crate) fn keeps_second<S: Store>(disk: &S, slots: &[Vec<u8>; 4]) -> bool {
-    let [_, image1, _, segment1] = slots;
-    disk.bytes(Slot::Image1) == image1.as_slice()
-        && disk.bytes(Slot::Segment1) == segment1.as_slice()
-}
-
-/// Whether all four do.
-pub(crate) fn keeps_all<S: Store>(disk: &S, slots: &[Vec<u8>; 4]) -> bool {
-    keeps_first(disk, slots) && keeps_second(disk, slots)
+/// The same of slots that were made.
+pub(crate) fn keeps<S: Store>(disk: &S, slots: &[Vec<u8>; 4]) -> [bool; 4] {
+    let [image0, image1, segment0, segment1] = slots;
+    slots_are(disk, &[image0, image1, segment0, segment1])
 }

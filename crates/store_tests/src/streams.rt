@@ -54,7 +54,7 @@ pub(crate) fn records_of<D: Disk>(
 }
 
 /// Behind a record's number and space: a call that sets the limit of the port 0x100's queue to 5, and that it was done.
-const LIMIT_SET: [u8; 28] = [
+static LIMIT_SET: [u8; 28] = [
     12, 0, 0, 0, 10, 0, 0, 0, 0, 1, 0, 0, 5, 0, 0, 0, 8, 0, 0, 0, 10, 0, 0, 0, 0, 0, 0, 0,
 ];
 
