@@ -84,10 +84,12 @@ fn answers_what_has_no_record(rt: HostRuntime) {
     same(&rt, answered, Some(true));
 }
 
-/// Allocates ports under the names from 0x101 to 0x10ff.
-fn nearly_fill<M: Machine>(machine: &mut M, space: u32) -> Option<()> {
-    for _ in 0x101..0x1100 {
-        ask(machine, space, Asked::Allocate(1))?;
+/// Allocates ports under the names from 0x101 to 0x10ff in spaces 1 to 4.
+fn nearly_fill<M: Machine>(machine: &mut M) -> Option<()> {
+    for space in 1..5 {
+        for _ in 0x101..0x1100 {
+            ask(machine, space, Asked::Allocate(1))?;
+        }
     }
     Some(())
 }
@@ -124,22 +126,22 @@ fn is_answered_so<M: Machine>(machine: &mut M, rows: &[Row]) -> bool {
     true
 }
 
-/// Four spaces hold 16,381 ports, and then there are three more and no other: whether the spaces are made, and it is so.
-fn fills_up<M: Machine + Drop>(alloc: Global) -> Option<[bool; 2]> {
+/// Four spaces hold 16,381 ports, and then there are three more and no other: whether the spaces are made and filled, and it is
+/// so.
+fn fills_up<M: Machine + Drop>(alloc: Global) -> Option<(bool, Option<()>, bool)> {
     let mut machine = M::opened(alloc)?;
     let made = is_answered_so(&mut machine, &SPACES_MADE);
-    for space in 1..5 {
-        nearly_fill(&mut machine, space)?;
-    }
+    let filled = nearly_fill(&mut machine);
     let full = is_answered_so(&mut machine, &FULL_OF_PORTS);
     drop(machine);
-    Some([made, full])
+    Some((made, filled, full))
 }
 
 // They are made of a kernel alone: a disk in memory copies a slot at each write.
 #[test]
 fn there_are_16384_ports(rt: HostRuntime) {
-    same(&rt, fills_up::<Kernel>(rt.alloc()), Some([true; 2]));
+    let seen = fills_up::<Kernel>(rt.alloc());
+    same(&rt, seen, Some((true, Some(()), true)));
 }
 
 /// The code of a receipt.
@@ -148,16 +150,20 @@ fn code_of_receipt<M: Machine>(machine: &mut M, name: u32, waited: bool) -> Opti
     Some(code)
 }
 
-/// Receipts that find no port of their own, at first and after a wait: one that is in a set, and one that isn't there.
-fn receipts_without_a_port<M: Machine + Drop>(alloc: Global) -> Option<[Option<u32>; 4]> {
+/// Whether two ports were put in a set; and the codes of receipts that find no port of their own, at first and after a wait:
+/// one that is in the set, and one that isn't there.
+type Receipts = (Option<()>, [Option<u32>; 4]);
+
+fn receipts_without_a_port<M: Machine + Drop>(alloc: Global) -> Option<Receipts> {
     let mut machine = M::opened(alloc)?;
-    ask_all(&mut machine, &PORTS_IN_A_SET)?;
-    Some([
+    let made = ask_all(&mut machine, &PORTS_IN_A_SET);
+    let codes = [
         code_of_receipt(&mut machine, 0x100, false),
         code_of_receipt(&mut machine, 0x100, true),
         code_of_receipt(&mut machine, 0x1ff, false),
         code_of_receipt(&mut machine, 0x1ff, true),
-    ])
+    ];
+    Some((made, codes))
 }
 
 #[test]
@@ -170,5 +176,5 @@ fn a_wait_changes_the_code(rt: HostRuntime) {
         Some(0x1000_4002),
         Some(0x1000_4009),
     ];
-    same(&rt, codes, Some(wanted));
+    same(&rt, codes, Some((Some(()), wanted)));
 }

@@ -23,27 +23,34 @@ fn fill(spaces: &mut Spaces, space: u32) -> Option<()> {
     Some(())
 }
 
-/// Takes two names of a full space out of use, and gives those that are handed out then.
-fn handed_out_again(spaces: &mut Spaces, space: u32) -> Option<[u32; 2]> {
-    spaces.remove_name(space, 0x1000).ok()?;
-    spaces.remove_name(space, 0x800).ok()?;
-    let first = hand_out(spaces, space)?;
-    Some([first, hand_out(spaces, space)?])
+/// Whether two names of a full space were taken out of use, and those that are handed out then.
+type Again = ([Option<()>; 2], [Option<u32>; 2]);
+
+fn handed_out_again(spaces: &mut Spaces, space: u32) -> Again {
+    (
+        [
+            spaces.remove_name(space, 0x1000).ok(),
+            spaces.remove_name(space, 0x800).ok(),
+        ],
+        [hand_out(spaces, space), hand_out(spaces, space)],
+    )
 }
 
 /// Makes a full space, and gives how many names it has and those that are handed out again.
-fn filled_once(spaces: &mut Spaces, space: u32) -> Option<(usize, [u32; 2])> {
+fn filled_once(spaces: &mut Spaces, space: u32) -> Option<(usize, Again)> {
     add_space(spaces, space)?;
     fill(spaces, space)?;
     let most = spaces.name_count(space);
-    Some((most, handed_out_again(spaces, space)?))
+    Some((most, handed_out_again(spaces, space)))
 }
+
+const WANTED: (usize, Again) = (MAX_NAMES, ([Some(()); 2], [Some(0x800), Some(0x1000)]));
 
 /// In how many spaces the least unused names were handed out again, and how many send rights to port 7 there are then.
 fn filled(spaces: &mut Spaces) -> Option<(u32, u64)> {
     let mut right: u32 = 0;
     for space in 1..=SPACES {
-        if filled_once(spaces, space)? == (MAX_NAMES, [0x800, 0x1000]) {
+        if filled_once(spaces, space)? == WANTED {
             right = right.saturating_add(1);
         }
     }

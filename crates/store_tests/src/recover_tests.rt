@@ -179,13 +179,9 @@ type Second = (usize, usize, bool, Found);
 fn beside<S: Store + Drop>(alloc: Global, row: &Second) -> Option<Found> {
     let (image1, segment1, is_other, _) = *row;
     let segment = if is_other { &OTHER } else { &SEGMENT };
-    let slots = [
-        IMAGE.as_slice(),
-        IMAGE.get(..image1)?,
-        SEGMENT.as_slice(),
-        segment.get(..segment1)?,
-    ];
-    Some(reopened(alloc, S::holding(alloc, slots)?))
+    let (image1, segment1) = (IMAGE.get(..image1)?, segment.get(..segment1)?);
+    let disk = S::holding(alloc, [&IMAGE, image1, &SEGMENT, segment1])?;
+    Some(reopened(alloc, disk))
 }
 
 static SECOND: [Second; 5] = [
