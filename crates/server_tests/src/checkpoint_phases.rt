@@ -143,9 +143,12 @@ static BESIDE: [Phase; 18] = [
 /// Whether each event of a list was done, by the letters of what they answer: a ticket, a name, or that it was done. None of
 /// the tables' comes out of turn.
 fn are_done(answers: &[u8]) -> bool {
-    answers
-        .iter()
-        .all(|answer| matches!(*answer, b'#' | b'+' | b'A'..=b'Z'))
+    for answer in answers {
+        if !matches!(*answer, b'#' | b'+' | b'A'..=b'Z') {
+            return false;
+        }
+    }
+    true
 }
 
 /// The disk of a new store behind a list of events, as a read gives it, where all are done.
@@ -154,13 +157,13 @@ fn disk_after<S: Store + Drop>(alloc: Global, letters: &[u8]) -> Option<S> {
     if are_done(&answers) { Some(disk) } else { None }
 }
 
-/// The lines and the drawing of a store, if it could be read, and whether its slots stay as they were.
-type Inspected = (Option<Vec<u8>>, Option<Vec<u8>>, bool);
+/// The lines and the drawing of a store, and whether its slots stay as they were.
+type Inspected = (Vec<u8>, Vec<u8>, bool);
 
 fn inspected<S: Store + Drop>(alloc: Global, disk: &mut S) -> Option<Inspected> {
     let before = disk.copied(alloc)?;
-    let lines = lines_of(alloc, disk);
-    let drawing = drawing_of(alloc, disk);
+    let lines = lines_of(alloc, disk)?;
+    let drawing = drawing_of(alloc, disk)?;
     Some((lines, drawing, are_alike(&before, disk)))
 }
 
@@ -173,9 +176,8 @@ fn inspected_after<S: Store + Drop>(alloc: Global, letters: &[u8]) -> Option<Ins
 /// What is seen as texts. Nothing where a part isn't one.
 fn texts(seen: &Option<Inspected>) -> Option<(&str, &str, bool)> {
     let (lines, drawing, is_same) = seen.as_ref()?;
-    let lines = str::from_utf8(lines.as_ref()?).ok()?;
-    let drawing = str::from_utf8(drawing.as_ref()?).ok()?;
-    Some((lines, drawing, *is_same))
+    let lines = str::from_utf8(lines).ok()?;
+    Some((lines, str::from_utf8(drawing).ok()?, *is_same))
 }
 
 /// Compares what is seen behind each of these phases with what is wanted.

@@ -13,10 +13,13 @@ fn is_alike<S: Store>(one: &S, other: &S, slot: Slot) -> bool {
 
 /// Whether all slots of both disks do.
 pub(crate) fn are_alike<S: Store>(one: &S, other: &S) -> bool {
-    is_alike(one, other, Slot::Image0)
-        && is_alike(one, other, Slot::Image1)
-        && is_alike(one, other, Slot::Segment0)
-        && is_alike(one, other, Slot::Segment1)
+    let are = [
+        is_alike(one, other, Slot::Image0),
+        is_alike(one, other, Slot::Image1),
+        is_alike(one, other, Slot::Segment0),
+        is_alike(one, other, Slot::Segment1),
+    ];
+    are == [true; 4]
 }
 
 /// The lines of a store.

@@ -73,27 +73,21 @@ fn words_have_a_status_and_a_line(rt: HostRuntime) {
     same(&rt, ends_with(&rt, 1, false, NOWHERE), Some(true));
 }
 
-/// Whether an empty folder is listed, which can be removed as one then.
-fn lists_empty(rt: &HostRuntime, name: &str) -> Option<bool> {
+/// Whether an empty folder is listed, and whether it can be removed as one then.
+fn lists_empty(rt: &HostRuntime, name: &str) -> Option<[bool; 2]> {
     let words = folder(rt, name)?;
     let is_listed = ends(rt, Some(&words), false, LISTED);
-    let path = words.first()?;
-    fs::remove_dir(rt, path.as_str()).ok()?;
-    Some(is_listed)
+    let is_removed = match words.as_slice() {
+        [path] => fs::remove_dir(rt, path.as_str()).is_ok(),
+        _ => false,
+    };
+    Some([is_listed, is_removed])
 }
 
 #[test]
 fn an_empty_folder_stays_empty(rt: HostRuntime) {
-    same(&rt, lists_empty(&rt, "machls_empty_folder"), Some(true));
-}
-
-/// Makes a store in the folder that is the only word: a server's run without a call.
-fn make_store(rt: &HostRuntime, words: &[String]) -> Option<()> {
-    if programs::ends(rt, Some(words), &[], (0, &[], "")) {
-        Some(())
-    } else {
-        None
-    }
+    let seen = lists_empty(&rt, "machls_empty_folder");
+    same(&rt, seen, Some([true; 2]));
 }
 
 /// Gives a file a mode.
@@ -107,11 +101,15 @@ fn set_mode_in(rt: &HostRuntime, folder: &str, name: &str, mode: u32) -> Option<
     set_mode(rt, path.as_str(), mode)
 }
 
-/// Gives the two files of a store one mode, and its folder another.
-fn set_modes(rt: &HostRuntime, folder: &str, files: u32, mode: u32) -> Option<()> {
-    set_mode_in(rt, folder, "image0", files)?;
-    set_mode_in(rt, folder, "segment0", files)?;
-    set_mode(rt, folder, mode)
+/// Whether the two files of a store got one mode, and its folder another.
+type Modes = [Option<()>; 3];
+
+fn set_modes(rt: &HostRuntime, folder: &str, files: u32, mode: u32) -> Modes {
+    [
+        set_mode_in(rt, folder, "image0", files),
+        set_mode_in(rt, folder, "segment0", files),
+        set_mode(rt, folder, mode),
+    ]
 }
 
 /// When a file was changed last.
@@ -137,32 +135,37 @@ fn seen_both(rt: &HostRuntime, folder: &str) -> Option<(Seen, Seen)> {
     Some((image, segment))
 }
 
-/// Whether a store is listed, and whether its files and its folder are then as before.
-fn lists_unchanged(rt: &HostRuntime, words: &[String], path: &str) -> Option<[bool; 2]> {
-    let before = seen_both(rt, path)?;
+/// Whether a store's files are there, whether it is listed, and whether its files and its folder are then as before.
+fn lists_unchanged(rt: &HostRuntime, words: &[String], path: &str) -> [bool; 3] {
+    let before = seen_both(rt, path);
     let is_listed = ends(rt, Some(words), false, LISTED);
-    let after = seen_both(rt, path)?;
-    Some([is_listed, before == after])
+    let after = seen_both(rt, path);
+    [before.is_some(), is_listed, before == after]
 }
 
-/// The same of a new store whose files and folder can only be read.
-fn lists_what_can_be_read(rt: &HostRuntime, words: &[String], path: &str) -> Option<[bool; 2]> {
-    make_store(rt, words)?;
-    set_modes(rt, path, 0o444, 0o555)?;
-    let seen = lists_unchanged(rt, words, path);
-    set_modes(rt, path, 0o644, 0o755)?;
-    fs::remove_dir_all(rt, path).ok()?;
-    seen
+/// The same of a new store whose files and folder can only be read: whether it was made, by a server's run without a call, and
+/// they got their modes; and whether they got others behind that, and all was removed.
+type ReadOnly = (bool, Modes, [bool; 3], Modes, bool);
+
+fn lists_what_can_be_read(rt: &HostRuntime, words: &[String], path: &str) -> ReadOnly {
+    (
+        programs::ends(rt, Some(words), &[], (0, &[], "")),
+        set_modes(rt, path, 0o444, 0o555),
+        lists_unchanged(rt, words, path),
+        set_modes(rt, path, 0o644, 0o755),
+        fs::remove_dir_all(rt, path).is_ok(),
+    )
 }
 
-fn lists_read_only(rt: &HostRuntime, name: &str) -> Option<[bool; 2]> {
+fn lists_read_only(rt: &HostRuntime, name: &str) -> Option<ReadOnly> {
     let words = folder(rt, name)?;
     let path = words.first()?;
-    lists_what_can_be_read(rt, &words, path.as_str())
+    Some(lists_what_can_be_read(rt, &words, path.as_str()))
 }
 
 #[test]
 fn a_folder_that_can_only_be_read_is_listed(rt: HostRuntime) {
     let seen = lists_read_only(&rt, "machls_read_only");
-    same(&rt, seen, Some([true; 2]));
+    let modes = [Some(()); 3];
+    same(&rt, seen, Some((true, modes, [true; 3], modes, true)));
 }

@@ -146,27 +146,25 @@ fn write_file(rt: &HostRuntime, words: &[String], file: &str, bytes: &[u8]) -> O
     fs::write(rt, path.as_str(), bytes).ok()
 }
 
-/// What is told of a store whose image's header has a byte that isn't 0 where it has to be.
-fn tells_damage(rt: &HostRuntime, words: &[String]) -> Option<bool> {
-    let mut image = [0; 48];
-    image[0] = 0x5a;
-    image[1] = 1;
-    image[2] = 1;
-    write_file(rt, words, "image0", &image)?;
-    let line = "machipcd: store fault 3: damaged\n";
-    Some(ends(rt, Some(words), &[], (1, &[], line)))
-}
+/// An image whose header has a byte that isn't 0 where it has to be.
+static DAMAGED: [u8; 48] = [
+    0x5a, 1, 1, 0, 0, 0, 0, 0, 0, 0, 0, 0, 0, 0, 0, 0, 0, 0, 0, 0, 0, 0, 0, 0, 0, 0, 0, 0, 0, 0, 0,
+    0, 0, 0, 0, 0, 0, 0, 0, 0, 0, 0, 0, 0, 0, 0, 0, 0,
+];
 
-fn tells_damage_in(rt: &HostRuntime, name: &str) -> Option<(bool, bool)> {
+/// Whether a store gets that image, what is told of it, and whether its folder could be removed.
+fn tells_damage_in(rt: &HostRuntime, name: &str) -> Option<(Option<()>, [bool; 2])> {
     let words = folder(rt, name)?;
-    let told = tells_damage(rt, &words)?;
-    Some((told, removed(rt, &words)))
+    let written = write_file(rt, &words, "image0", &DAMAGED);
+    let line = "machipcd: store fault 3: damaged\n";
+    let told = ends(rt, Some(&words), &[], (1, &[], line));
+    Some((written, [told, removed(rt, &words)]))
 }
 
 #[test]
 fn a_damaged_slot_is_told(rt: HostRuntime) {
     let seen = tells_damage_in(&rt, "machipcd_damaged_store");
-    same(&rt, seen, Some((true, true)));
+    same(&rt, seen, Some((Some(()), [true; 2])));
 }
 
 fn tells_wire_faults_in(rt: &HostRuntime, name: &str) -> Option<[bool; 3]> {
