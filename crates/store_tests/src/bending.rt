@@ -103,8 +103,8 @@ fn bent_slots(alloc: Global, epochs: Epochs, bends: &[(Slot, Bend)]) -> Option<[
     ])
 }
 
-// What opening a store gives, and its disk.
-fn reopened<S: Store + Drop>(alloc: Global, disk: S) -> (Found, S) {
+/// What opening a store gives, and its disk.
+pub(crate) fn reopened<S: Store + Drop>(alloc: Global, disk: S) -> (Found, S) {
     let (opening, disk) = disk.open(alloc, &[0x100, 0x101, 0x102, 0x103]);
     let found = match opening {
         Ok(seen) => Ok((seen.epoch, seen.records, are_receive(seen.bits))),

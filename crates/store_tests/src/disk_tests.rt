@@ -8,10 +8,12 @@ use std::{env, fs};
 // The functions that make one call of a disk have no clause, so that a test's proof carries nothing of it.
 
 // Whether these bytes are read of a slot.
-fn is_read<D: Disk>(disk: &mut D, slot: Slot, wanted: &[u8]) -> Option<bool> {
+fn is_read<D: Disk>(disk: &mut D, slot: Slot, wanted: &[u8]) -> bool {
     let mut buffer = [0; 64];
-    let count = disk.read(slot, 0, &mut buffer).ok()?;
-    Some(buffer.get(..count)? == wanted)
+    match disk.read(slot, 0, &mut buffer) {
+        Ok(count) => buffer.get(..count) == Some(wanted),
+        Err(_) => false,
+    }
 }
 
 fn read<D: Disk>(disk: &mut D, at: u64, buffer: &mut [u8]) -> Result<usize, DiskFault> {
@@ -93,7 +95,7 @@ fn taken<D: Disk>(disk: &mut D, steps: &[Step]) -> Taken {
 }
 
 // The same once that is written, and whether the slots hold it; and once it is cut and synced, and whether that is read then.
-fn written_and_read<S: Store + Drop>(alloc: Global) -> (Taken, [bool; 4], Taken, Option<bool>) {
+fn written_and_read<S: Store + Drop>(alloc: Global) -> (Taken, [bool; 4], Taken, bool) {
     let mut disk = S::empty(alloc);
     (
         taken(&mut disk, &WRITTEN),
@@ -107,7 +109,7 @@ fn written_and_read<S: Store + Drop>(alloc: Global) -> (Taken, [bool; 4], Taken,
 fn memory_is_read_as_it_was_written(rt: HostRuntime) {
     let seen = written_and_read::<MemDisk>(rt.alloc());
     let (written, shortened) = ((Some(()), (7, 0)), (Some(()), (3, 0)));
-    same(&rt, seen, (written, [true; 4], shortened, Some(true)));
+    same(&rt, seen, (written, [true; 4], shortened, true));
 }
 
 // How many bytes are read at the end of three, and behind it, and what is in the first one's buffer.
@@ -334,7 +336,7 @@ fn write_segment<F: Folder>(folder: &F) -> Option<(u64, u64)> {
 }
 
 // Whether the segment 0 holds what was written, and then its counts and those of the image 0.
-type Held = (Option<bool>, [(u64, u64); 2]);
+type Held = (bool, [(u64, u64); 2]);
 
 fn read_segment<F: Folder>(folder: &F) -> Option<Held> {
     let mut disk = folder.files().ok()?;
@@ -345,7 +347,7 @@ fn read_segment<F: Folder>(folder: &F) -> Option<Held> {
 }
 
 // Whether a slot is read as an empty one, and what a sync answers then.
-type Empty = (Option<bool>, Result<(), DiskFault>);
+type Empty = (bool, Result<(), DiskFault>);
 
 fn read_and_sync<D: Disk>(disk: &mut D, slot: Slot) -> Empty {
     (is_read(disk, slot, b""), sync(disk, slot))
@@ -453,8 +455,8 @@ fn seen_on_files(rt: HostRuntime) -> Option<OnFiles> {
 // Reads and syncs make no file, files hold what was written, and a failed call is counted.
 #[test]
 fn files_are_read_written_and_synced(rt: HostRuntime) {
-    let empty = Some([(Some(true), Ok(())); 4]);
-    let held = Some((Some(true), [(5, 0), (0, 0)]));
+    let empty = Some([(true, Ok(())); 4]);
+    let held = Some((true, [(5, 0), (0, 0)]));
     let failed = Some((Some(()), [Some(Err(DiskFault)); 2], 2));
     let wanted = (empty, Some(()), Some((5, 0)), held, Some(()), failed);
     same(&rt, seen_on_files(rt), Some(wanted));
@@ -469,41 +471,45 @@ fn counted_at<'a>(files: &'a HostRuntime, folder: &'a str, syncs: &'a Syncs) -> 
     }
 }
 
-// How often files and their folder were synced behind a step, if there is one, and a sync.
-fn syncs_behind<D: Disk>(
-    disk: &mut D,
-    syncs: &Syncs,
-    steps: &[Step],
-    slot: Slot,
-) -> Option<(u32, u32)> {
+// How often files and their folder were synced behind these steps.
+fn syncs_behind<D: Disk>(disk: &mut D, syncs: &Syncs, steps: &[Step]) -> Option<(u32, u32)> {
     take(disk, steps)?;
-    sync(disk, slot).ok()?;
     Some(syncs.counts())
 }
 
-static FIRST: [Step; 1] = [Step::Write(Slot::Segment0, 0, b"ab")];
+static UNSYNCED: [Step; 1] = [Step::Write(Slot::Segment0, 0, b"ab")];
 
-static SECOND: [Step; 1] = [Step::Write(Slot::Segment0, 1, b"B")];
+static UNCHANGED: [Step; 1] = [Step::Sync(Slot::Segment0)];
 
-static CUT: [Step; 1] = [Step::Cut(Slot::Image0, 0)];
+static FIRST: [Step; 2] = [
+    Step::Write(Slot::Segment0, 0, b"ab"),
+    Step::Sync(Slot::Segment0),
+];
+
+static SECOND: [Step; 2] = [
+    Step::Write(Slot::Segment0, 1, b"B"),
+    Step::Sync(Slot::Segment0),
+];
+
+static CUT: [Step; 2] = [Step::Cut(Slot::Image0, 0), Step::Sync(Slot::Image0)];
 
 // The same behind each sync of a slot: one without a file, a new one, one that was written again, one that wasn't, and another
 // new one.
 fn count_syncs<F: Folder>(folder: &F, syncs: &Syncs) -> Option<[Option<(u32, u32)>; 5]> {
     let mut disk = folder.files().ok()?;
     Some([
-        syncs_behind(&mut disk, syncs, &[], Slot::Segment0),
-        syncs_behind(&mut disk, syncs, &FIRST, Slot::Segment0),
-        syncs_behind(&mut disk, syncs, &SECOND, Slot::Segment0),
-        syncs_behind(&mut disk, syncs, &[], Slot::Segment0),
-        syncs_behind(&mut disk, syncs, &CUT, Slot::Image0),
+        syncs_behind(&mut disk, syncs, &UNCHANGED),
+        syncs_behind(&mut disk, syncs, &FIRST),
+        syncs_behind(&mut disk, syncs, &SECOND),
+        syncs_behind(&mut disk, syncs, &UNCHANGED),
+        syncs_behind(&mut disk, syncs, &CUT),
     ])
 }
 
 // What syncs answer while they fail, and afterwards, and how many calls have failed then.
 fn fail_syncs<F: Folder>(folder: &F, syncs: &Syncs) -> Option<Failed> {
     let mut disk = folder.files().ok()?;
-    let written = take(&mut disk, &FIRST);
+    let written = take(&mut disk, &UNSYNCED);
     syncs.fails.set(true);
     let while_failing = sync(&mut disk, Slot::Segment0);
     syncs.fails.set(false);

@@ -1,33 +1,14 @@
 //! Stores of later epochs, and of a checkpoint that was half done.
+use crate::bending::{Found, reopened};
 use crate::expect::{same, same_in_row};
 use crate::looked::looked;
 use crate::making::{SEGMENT, append_allocations, append_from};
-use crate::store::{Opening, Store, are_receive, disk_of, keeps};
+use crate::store::{Store, disk_of, keeps};
 use crate::written::{image_of_name, image_of_none, opened_slot};
 use disk::{Disk, MemDisk, Slot, Torn};
 use journal::{Segment, StoreFault, roll_close, roll_head, roll_open};
 use slot_steps::segment_slot;
 use std::alloc::{AllocError, Global};
-
-// What opening a store gave: its epoch, how many records its segment holds, and which of the names 0x100 to 0x102 are
-// receive rights.
-type Found = Result<(u64, u64, [bool; 3]), StoreFault>;
-
-fn found_of(opening: Opening) -> Found {
-    match opening {
-        Ok(seen) => {
-            let [first, second, third, _] = are_receive(seen.bits);
-            Ok((seen.epoch, seen.records, [first, second, third]))
-        }
-        Err(fault) => Err(fault),
-    }
-}
-
-// What opening a store gives, and its disk.
-fn reopened<S: Store + Drop>(alloc: Global, disk: S) -> (Found, S) {
-    let (opening, disk) = disk.open(alloc, &[0x100, 0x101, 0x102, 0x102]);
-    (found_of(opening), disk)
-}
 
 // An epoch's segment. Its slot isn't empty once it is closed.
 fn next_segment<D: Disk>(disk: &mut D, epoch: u64) -> Result<Segment, StoreFault> {
@@ -84,7 +65,7 @@ fn told_of_half_done<S: Store + Drop>(alloc: Global) -> Option<(Told, Found, Tol
 #[test]
 fn checkpoints_are_finished(rt: HostRuntime) {
     let told = told_of_half_done::<MemDisk>(rt.alloc());
-    let found = Ok((1, 1, [true, true, false]));
+    let found = Ok((1, 1, [true, true, false, false]));
     same(&rt, told, Some((Ok((0, 2)), found, Ok((1, 1)))));
 }
 
@@ -130,7 +111,7 @@ fn a_checkpoint_without_its_image_is_finished(rt: HostRuntime) {
     };
     let seen = finished_without_image::<MemDisk>(rt.alloc(), &wanted);
     drop(wanted);
-    let found = (Ok((1, 0, [true, false, false])), [true; 4]);
+    let found = (Ok((1, 0, [true, false, false, false])), [true; 4]);
     same(&rt, seen, Some(([0, 17], [found, found])));
 }
 
@@ -181,8 +162,8 @@ fn gone_on_in_five<S: Store + Drop>(alloc: Global) -> Option<[(Found, [bool; 4])
 fn records_go_to_the_segment_of_the_newest_image(rt: HostRuntime) {
     let seen = gone_on_in_five::<MemDisk>(rt.alloc());
     let wanted = [
-        (Ok((5, 0, [true, false, false])), [true; 4]),
-        (Ok((5, 1, [true, true, false])), [true; 4]),
+        (Ok((5, 0, [true, false, false, false])), [true; 4]),
+        (Ok((5, 1, [true, true, false, false])), [true; 4]),
     ];
     same(&rt, seen, Some(wanted));
 }
@@ -228,7 +209,7 @@ fn stops_while_a_checkpoint_is_finished(rt: HostRuntime) {
                 &rt,
                 (torn, stop_at),
                 stopped::<MemDisk>(rt.alloc(), stop_at, *torn),
-                Some((fault, Ok((1, 1, [true, true, false])))),
+                Some((fault, Ok((1, 1, [true, true, false, false])))),
             );
         }
     }

@@ -6,12 +6,15 @@ use kernel::lawful;
 use snapshot::{LivePort, NamedEntry, Snapshot, Space};
 use std::alloc::{AllocError, Global};
 
-/// A port's serial and its set; the port whose receive right the one message in its queue carries, if it has one; and how many
-/// bytes too many that message has.
-type PortRow = (u64, Option<u32>, Option<u64>, usize);
+/// A port's serial and its set; the port whose receive right the one message in its queue carries, if it has one; and whether
+/// that message has a byte too many.
+type PortRow = (u64, Option<u32>, Option<u64>, bool);
 
 /// A body of one item, a receive right.
 static BODY: [u8; 8] = [16, 32, 1, 0x10, 0, 0, 0, 0];
+
+/// The same with a byte behind it.
+static ODD_BODY: [u8; 9] = [16, 32, 1, 0x10, 0, 0, 0, 0, 0];
 
 fn holding(port: u64, receive: bool, send: u32) -> Entry {
     Entry::Port(PortRights {
@@ -22,28 +25,27 @@ fn holding(port: u64, receive: bool, send: u32) -> Entry {
     })
 }
 
-fn message(alloc: Global, carried: u64, odd: usize) -> Result<Message, AllocError> {
+fn message(alloc: Global, carried: u64, is_odd: bool) -> Result<Message, AllocError> {
     let right = CarriedRight {
         kind: RightKind::Receive,
         port: PortInMessage::Live(carried),
     };
-    let mut body = Vec::from_slice(alloc, &BODY)?;
-    body.resize(BODY.len().saturating_add(odd), 0)?;
+    let body: &[u8] = if is_odd { &ODD_BODY } else { &BODY };
     Ok(Message {
         destination: RightKind::Send,
         reply: None,
         id: 7,
         complex: true,
         rights: Sequence::new(Vec::from_slice(alloc, &[right])?),
-        body: Sequence::new(body),
+        body: Sequence::new(Vec::from_slice(alloc, body)?),
     })
 }
 
 fn live_port(alloc: Global, row: &PortRow) -> Result<LivePort, AllocError> {
-    let (serial, set, carried, odd) = *row;
+    let (serial, set, carried, is_odd) = *row;
     let mut messages = Vec::new(alloc);
     if let Some(carried) = carried {
-        messages.push(message(alloc, carried, odd)?)?;
+        messages.push(message(alloc, carried, is_odd)?)?;
     }
     Ok(LivePort {
         serial,
@@ -122,7 +124,7 @@ fn verdict(alloc: Global, third: Option<Entry>, ports: &[PortRow]) -> Option<boo
 }
 
 /// Port 1 is in the set, and the receive right of port 2 is in its queue.
-static USUAL: [PortRow; 2] = [(1, Some(0x101), Some(2), 0), (2, None, None, 0)];
+static USUAL: [PortRow; 2] = [(1, Some(0x101), Some(2), false), (2, None, None, false)];
 
 /// Whether the usual ports are lawful beside what 0x102 stands for.
 fn usual(alloc: Global, third: Option<Entry>) -> Option<bool> {
@@ -146,14 +148,14 @@ fn names_are_looked_at(rt: HostRuntime) {
 /// A port without a receive right, one in a set that isn't there, two that carry each other, and a message of odd size: each
 /// is refused.
 static PORTS: [&'static [PortRow]; 4] = [
-    &[(1, None, None, 0), (2, None, None, 0)],
-    &[(1, Some(0x105), Some(2), 0), (2, None, None, 0)],
+    &[(1, None, None, false), (2, None, None, false)],
+    &[(1, Some(0x105), Some(2), false), (2, None, None, false)],
     &[
-        (1, None, None, 0),
-        (2, None, Some(3), 0),
-        (3, None, Some(2), 0),
+        (1, None, None, false),
+        (2, None, Some(3), false),
+        (3, None, Some(2), false),
     ],
-    &[(1, None, Some(2), 1), (2, None, None, 0)],
+    &[(1, None, Some(2), true), (2, None, None, false)],
 ];
 
 #[test]
