@@ -252,11 +252,15 @@ fn found<S: Store + Drop>(alloc: Global, disk: S) -> Option<(u64, u64)> {
 /// after them; and whether one of them met a fault.
 fn is_bounded<S: Store + Drop>(alloc: Global, disk: S, letters: &[u8]) -> Option<(bool, bool)> {
     let (answers, disk) = play(alloc, disk, letters)?;
-    let (records, ports) = found(alloc, disk)?;
-    let (told, applied) = bounds(alloc, letters, &answers)?;
-    let is = told <= records
-        && records <= applied
-        && ports == allocations(letters, &answers, records);
+    let found = found(alloc, disk);
+    let is = match (found, bounds(alloc, letters, &answers)) {
+        (Some((records, ports)), Some((told, applied))) => {
+            told <= records
+                && records <= applied
+                && ports == allocations(letters, &answers, records)
+        }
+        _ => false,
+    };
     Some((is, answers.contains(&b'!')))
 }
 

@@ -24,7 +24,9 @@ fn with_tail<S: Store + Drop>(
     let length = disk.length(Slot::Segment0);
     drop(disk);
     drop(input);
-    let run = run?;
+    let Some(run) = run else {
+        return None;
+    };
     Some((
         run.output.as_slice() == ALLOCATED.as_slice(),
         run.end,
@@ -65,7 +67,9 @@ fn on_failing_disk<S: Store + Drop>(
     let (run, disk) = served(alloc, disk, &input);
     drop(disk);
     drop(input);
-    let run = run?;
+    let Some(run) = run else {
+        return None;
+    };
     Some((run.output.len(), run.end))
 }
 

@@ -40,7 +40,7 @@ fn known_again<D: Disk + Drop>(alloc: Global, disk: D) -> Option<Known> {
 
 /// Three calls on a new store, up to a planned stop: how many of them were answered, each with 16 bytes, and what a store that
 /// the stop left knows again.
-fn stopped<S: Store + Drop>(alloc: Global, stop_at: u64, torn: Torn) -> Option<(u64, Known)> {
+fn stopped<S: Store + Drop>(alloc: Global, stop_at: u64, torn: Torn) -> (u64, Option<Known>) {
     let mut disk = S::empty(alloc);
     disk.plan_faults(Some(stop_at), None, torn);
     let (run, disk) = served(alloc, disk, &three_calls());
@@ -49,12 +49,15 @@ fn stopped<S: Store + Drop>(alloc: Global, stop_at: u64, torn: Torn) -> Option<(
         None => 0,
     };
     drop(run);
-    Some((told, known_again(alloc, disk.stop()?)?))
+    match disk.stop() {
+        Some(disk) => (told, known_again(alloc, disk)),
+        None => (told, None),
+    }
 }
 
 /// Whether a stop at this call of the disk left what was answered.
-fn is_left(stop_at: u64, seen: Option<(u64, Known)>) -> bool {
-    let Some((told, (found, port, set))) = seen else {
+fn is_left(stop_at: u64, seen: (u64, Option<Known>)) -> bool {
+    let (told, Some((found, port, set))) = seen else {
         return false;
     };
     // The call after the last answered one was being made; the third has no record.
