@@ -7,15 +7,20 @@ use std::alloc::Global;
 
 /// Makes spaces 2 and 1, and keeps them. The names 0x102 and 0x105 of space 2 and 0x103 of space 1 stand for rights to
 /// port 7, each with a request.
-fn fill(spaces: &mut Spaces) -> Option<()> {
-    add_space(spaces, 2)?;
-    add_space(spaces, 1)?;
-    hold(spaces, 2, 0x105, 7, Some(9))?;
-    hold_once(spaces, 2, 0x102, 7, Some(9))?;
-    hold(spaces, 1, 0x103, 7, Some(8))?;
+fn fill(spaces: &mut Spaces) -> [Option<()>; 5] {
+    let filled = [
+        add_space(spaces, 2),
+        add_space(spaces, 1),
+        hold(spaces, 2, 0x105, 7, Some(9)),
+        hold_once(spaces, 2, 0x102, 7, Some(9)),
+        hold(spaces, 1, 0x103, 7, Some(8)),
+    ];
     spaces.keep();
-    Some(())
+    filled
 }
+
+/// All of that was done.
+const FILLED: [Option<()>; 5] = [Some(()); 5];
 
 fn name_at(entries: &[(u32, Entry)], index: usize) -> Option<u32> {
     Some(entries.get(index)?.0)
@@ -36,14 +41,19 @@ fn names(alloc: Global, spaces: &Spaces) -> Option<Names> {
 }
 
 /// One name of space 2 is renamed, one removed, and one put.
-fn rename_and_remove(spaces: &mut Spaces) -> Option<()> {
-    rename(spaces, 2, 0x105, 0x101)?;
-    spaces.remove_name(2, 0x102).ok()?;
-    hold(spaces, 2, 0x100, 9, None)
+fn rename_and_remove(spaces: &mut Spaces) -> [Option<()>; 3] {
+    [
+        rename(spaces, 2, 0x105, 0x101),
+        spaces.remove_name(2, 0x102).ok(),
+        hold(spaces, 2, 0x100, 9, None),
+    ]
 }
 
+/// Whether the space was filled and twice changed; and its names.
+type Renamed = ([Option<()>; 5], [[Option<()>; 3]; 2], [Option<Names>; 4]);
+
 /// Which steps were done; and the names of space 2: at first, once they are changed, once that is given up, and once it is done again and kept.
-fn renamed(alloc: Global, spaces: &mut Spaces) -> ([Option<()>; 3], [Option<Names>; 4]) {
+fn renamed(alloc: Global, spaces: &mut Spaces) -> Renamed {
     let filled = fill(spaces);
     let first = names(alloc, spaces);
     let changed = rename_and_remove(spaces);
@@ -53,7 +63,8 @@ fn renamed(alloc: Global, spaces: &mut Spaces) -> ([Option<()>; 3], [Option<Name
     let changed_again = rename_and_remove(spaces);
     spaces.keep();
     (
-        [filled, changed, changed_again],
+        filled,
+        [changed, changed_again],
         [first, now, given_up, names(alloc, spaces)],
     )
 }
@@ -65,7 +76,8 @@ fn names_are_put_renamed_and_removed(rt: HostRuntime) {
     drop(spaces);
     let first = Some([Some(0x102), Some(0x105), None]);
     let now = Some([Some(0x100), Some(0x101), None]);
-    same(&rt, seen, ([Some(()); 3], [first, now, first, now]));
+    let changed = [[Some(()); 3]; 2];
+    same(&rt, seen, (FILLED, changed, [first, now, first, now]));
 }
 
 /// The name and the target of the next dead-name notice.
@@ -94,12 +106,12 @@ fn told(spaces: &mut Spaces, effects: &mut Effects) -> Option<[NoticeSeen; 4]> {
     ])
 }
 
-fn notices(alloc: Global, spaces: &mut Spaces) -> Option<[NoticeSeen; 4]> {
-    fill(spaces)?;
+fn notices(alloc: Global, spaces: &mut Spaces) -> ([Option<()>; 5], Option<[NoticeSeen; 4]>) {
+    let filled = fill(spaces);
     let mut effects = Effects::new(alloc);
     let seen = told(spaces, &mut effects);
     drop(effects);
-    seen
+    (filled, seen)
 }
 
 #[test]
@@ -108,7 +120,7 @@ fn dead_names_come_by_space_and_name(rt: HostRuntime) {
     let seen = notices(rt.alloc(), &mut spaces);
     drop(spaces);
     let wanted = [Some((0x103, 8)), Some((0x102, 9)), Some((0x105, 9)), None];
-    same(&rt, seen, Some(wanted));
+    same(&rt, seen, (FILLED, Some(wanted)));
 }
 
 /// What the names stand for; how many send and send-once rights they hold to port 7, and send-once rights to port 9.
@@ -133,7 +145,7 @@ fn die(alloc: Global, spaces: &mut Spaces, port: u64) -> Option<()> {
 }
 
 /// Which steps were done; and what is held: once port 9 has died, once port 7 has died too, once space 2 is gone, and once all is given up.
-fn buried(alloc: Global, spaces: &mut Spaces) -> ([Option<()>; 4], [Held; 4]) {
+fn buried(alloc: Global, spaces: &mut Spaces) -> ([Option<()>; 5], [Option<()>; 3], [Held; 4]) {
     let filled = fill(spaces);
     let first_died = die(alloc, spaces, 9);
     let without_9 = held(spaces);
@@ -143,7 +155,8 @@ fn buried(alloc: Global, spaces: &mut Spaces) -> ([Option<()>; 4], [Held; 4]) {
     let without_space = held(spaces);
     spaces.give_up();
     (
-        [filled, first_died, second_died, removed],
+        filled,
+        [first_died, second_died, removed],
         [without_9, without_7, without_space, held(spaces)],
     )
 }
@@ -174,7 +187,7 @@ fn dead(references: u32) -> Option<Entry> {
 #[test]
 fn names_die_and_a_space_goes(rt: HostRuntime) {
     let mut spaces = Spaces::new(rt.alloc());
-    let (done, seen) = buried(rt.alloc(), &mut spaces);
+    let (filled, done, seen) = buried(rt.alloc(), &mut spaces);
     drop(spaces);
     let wanted = [
         ([send(None), once(None), send(Some(8))], [2, 1, 0]),
@@ -182,6 +195,6 @@ fn names_die_and_a_space_goes(rt: HostRuntime) {
         ([None, None, dead(2)], [0, 0, 0]),
         ([send(Some(9)), once(Some(9)), send(Some(8))], [2, 1, 2]),
     ];
-    same(&rt, done, [Some(()); 4]);
+    same(&rt, (filled, done), (FILLED, [Some(()); 3]));
     same(&rt, seen, wanted);
 }
