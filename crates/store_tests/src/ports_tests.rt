@@ -54,16 +54,23 @@ fn request(ports: &mut Ports) -> Option<()> {
 }
 
 /// Makes ports 1 to 3, and keeps them. In the queue of port 2 travel rights to port 1, and the receive right of port 3.
-fn fill(alloc: Global, ports: &mut Ports) -> Option<()> {
-    for _port in 0..3 {
-        add_port(ports)?;
-    }
-    send(alloc, ports, 2, RightKind::Send, 1).ok()?;
-    send(alloc, ports, 2, RightKind::Receive, 3).ok()?;
-    request(ports)?;
+fn fill(alloc: Global, ports: &mut Ports) -> [Option<()>; 6] {
+    let filled = [
+        add_port(ports),
+        add_port(ports),
+        add_port(ports),
+        send(alloc, ports, 2, RightKind::Send, 1).ok(),
+        send(alloc, ports, 2, RightKind::Receive, 3).ok(),
+        request(ports),
+    ];
     ports.keep();
-    Some(())
+    filled
 }
+
+/// Whether all of that was done, and three steps behind it.
+type Done = ([Option<()>; 6], [Option<()>; 3]);
+
+const DONE: Done = ([Some(()); 6], [Some(()); 3]);
 
 /// What stands in the place of the reply right's port in a port's oldest message.
 fn reply_port(ports: &Ports) -> Option<PortInMessage> {
@@ -111,7 +118,7 @@ fn seen(ports: &Ports) -> Picture {
 
 /// Which steps were done; and what is seen: at first, once port 1 has died, once port 2 has died too, once all is given up, and once port 1 has died
 /// again and this is kept.
-fn buried(alloc: Global, ports: &mut Ports) -> ([Option<()>; 4], [Picture; 5]) {
+fn buried(alloc: Global, ports: &mut Ports) -> (Done, [Picture; 5]) {
     let filled = fill(alloc, ports);
     let first = seen(ports);
     let first_died = ports.bury(1).ok();
@@ -123,7 +130,7 @@ fn buried(alloc: Global, ports: &mut Ports) -> ([Option<()>; 4], [Picture; 5]) {
     let died_again = ports.bury(1).ok();
     ports.keep();
     (
-        [filled, first_died, second_died, died_again],
+        (filled, [first_died, second_died, died_again]),
         [first, without_1, without_2, given_up, seen(ports)],
     )
 }
@@ -153,13 +160,13 @@ fn ports_die_and_live_again(rt: HostRuntime) {
     let mut ports = Ports::new(rt.alloc());
     let (done, seen) = buried(rt.alloc(), &mut ports);
     drop(ports);
-    same(&rt, done, [Some(()); 4]);
+    same(&rt, done, DONE);
     same(&rt, seen, BURIED);
 }
 
 /// Which steps were done; and what is seen: once the oldest message of port 2 is taken, once the other one is taken too, once all is given up, and
 /// once the oldest is taken again and this is kept.
-fn taken(alloc: Global, ports: &mut Ports) -> ([Option<()>; 4], [Picture; 4]) {
+fn taken(alloc: Global, ports: &mut Ports) -> (Done, [Picture; 4]) {
     let filled = fill(alloc, ports);
     let first_taken = ports.take(2).ok();
     let without_first = seen(ports);
@@ -170,7 +177,7 @@ fn taken(alloc: Global, ports: &mut Ports) -> ([Option<()>; 4], [Picture; 4]) {
     let taken_again = ports.take(2).ok();
     ports.keep();
     (
-        [filled, first_taken, second_taken, taken_again],
+        (filled, [first_taken, second_taken, taken_again]),
         [without_first, without_both, given_up, seen(ports)],
     )
 }
@@ -192,6 +199,6 @@ fn messages_are_taken_and_put_back(rt: HostRuntime) {
     let mut ports = Ports::new(rt.alloc());
     let (done, seen) = taken(rt.alloc(), &mut ports);
     drop(ports);
-    same(&rt, done, [Some(()); 4]);
+    same(&rt, done, DONE);
     same(&rt, seen, TAKEN);
 }
