@@ -27,8 +27,8 @@ fn count_fewer(counts: &mut PairCounts) -> ([Option<()>; 2], OfFive) {
     ([fewer, cleared], of_five(counts))
 }
 
-/// Which steps were done; and what stands with 5: at first, with one (5, 9) less and no (5, 7), with no (5, 9) either, once all is given up, and once
-/// the first change is made again and kept.
+/// Which steps were done; and what stands with 5: at first, with one (5, 9) less and no (5, 7), with no (5, 9) either, once
+/// all is given up, and once the first change is made again and kept.
 fn changed(counts: &mut PairCounts) -> ([Option<()>; 6], [OfFive; 5]) {
     let counted = count(counts);
     let first = of_five(counts);

@@ -116,8 +116,8 @@ fn seen(ports: &Ports) -> Picture {
     )
 }
 
-/// Which steps were done; and what is seen: at first, once port 1 has died, once port 2 has died too, once all is given up, and once port 1 has died
-/// again and this is kept.
+/// Which steps were done; and what is seen: at first, once port 1 has died, once port 2 has died too, once all is given up,
+/// and once port 1 has died again and this is kept.
 fn buried(alloc: Global, ports: &mut Ports) -> (Done, [Picture; 5]) {
     let filled = fill(alloc, ports);
     let first = seen(ports);
@@ -164,8 +164,8 @@ fn ports_die_and_live_again(rt: HostRuntime) {
     same(&rt, seen, BURIED);
 }
 
-/// Which steps were done; and what is seen: once the oldest message of port 2 is taken, once the other one is taken too, once all is given up, and
-/// once the oldest is taken again and this is kept.
+/// Which steps were done; and what is seen: once the oldest message of port 2 is taken, once the other one is taken too, once
+/// all is given up, and once the oldest is taken again and this is kept.
 fn taken(alloc: Global, ports: &mut Ports) -> (Done, [Picture; 4]) {
     let filled = fill(alloc, ports);
     let first_taken = ports.take(2).ok();

@@ -55,8 +55,8 @@ fn take_and_push(alloc: Global, queue: &mut Queue) -> Option<()> {
     queue.push_forced(empty(alloc, 3)).ok()
 }
 
-/// Which steps were done; and the ids of messages of which one was taken and one pushed: so far, once it is given up, and once it is done again and
-/// kept.
+/// Which steps were done; and the ids of messages of which one was taken and one pushed: so far, once it is given up, and once
+/// it is done again and kept.
 fn changed(alloc: Global, queue: &mut Queue) -> ([Option<()>; 3], [Ids; 3]) {
     let filled = fill(alloc, queue, &[1, 2]);
     let pushed = take_and_push(alloc, queue);

@@ -52,7 +52,8 @@ fn rename_and_remove(spaces: &mut Spaces) -> [Option<()>; 3] {
 /// Whether the space was filled and twice changed; and its names.
 type Renamed = ([Option<()>; 5], [[Option<()>; 3]; 2], [Option<Names>; 4]);
 
-/// Which steps were done; and the names of space 2: at first, once they are changed, once that is given up, and once it is done again and kept.
+/// Which steps were done; and the names of space 2: at first, once they are changed, once that is given up, and once it is
+/// done again and kept.
 fn renamed(alloc: Global, spaces: &mut Spaces) -> Renamed {
     let filled = fill(spaces);
     let first = names(alloc, spaces);
@@ -144,7 +145,8 @@ fn die(alloc: Global, spaces: &mut Spaces, port: u64) -> Option<()> {
     done
 }
 
-/// Which steps were done; and what is held: once port 9 has died, once port 7 has died too, once space 2 is gone, and once all is given up.
+/// Which steps were done; and what is held: once port 9 has died, once port 7 has died too, once space 2 is gone, and once all
+/// is given up.
 fn buried(alloc: Global, spaces: &mut Spaces) -> ([Option<()>; 5], [Option<()>; 3], [Held; 4]) {
     let filled = fill(spaces);
     let first_died = die(alloc, spaces, 9);
