@@ -1,5 +1,5 @@
 use crate::expect::same;
-use crate::names::{add_space, hold};
+use crate::names::{add_space, hold, remove};
 use codes::MAX_NAMES;
 use spaces::Spaces;
 
@@ -28,10 +28,7 @@ type Again = ([Option<()>; 2], [Option<u32>; 2]);
 
 fn handed_out_again(spaces: &mut Spaces, space: u32) -> Again {
     (
-        [
-            spaces.remove_name(space, 0x1000).ok(),
-            spaces.remove_name(space, 0x800).ok(),
-        ],
+        [remove(spaces, space, 0x1000), remove(spaces, space, 0x800)],
         [hand_out(spaces, space), hand_out(spaces, space)],
     )
 }

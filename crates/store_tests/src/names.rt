@@ -56,6 +56,12 @@ pub(crate) fn hold_once(
     put(spaces, space, name, once)
 }
 
+/// Takes a name out of use.
+pub(crate) fn remove(spaces: &mut Spaces, space: u32, name: u32) -> Option<()> {
+    spaces.remove_name(space, name).ok()?;
+    Some(())
+}
+
 /// Has what stands under one name stand under another.
 pub(crate) fn rename(spaces: &mut Spaces, space: u32, from: u32, to: u32) -> Option<()> {
     if spaces.entry(space, to).is_some() {

@@ -1,5 +1,5 @@
 use crate::expect::same;
-use crate::names::{add_space, hold, hold_once, rename};
+use crate::names::{add_space, hold, hold_once, remove, rename};
 use effects::{Effect, Effects, Notice};
 use ipc_model::{Entry, PortRights};
 use spaces::Spaces;
@@ -44,7 +44,7 @@ fn names(alloc: Global, spaces: &Spaces) -> Option<Names> {
 fn rename_and_remove(spaces: &mut Spaces) -> [Option<()>; 3] {
     [
         rename(spaces, 2, 0x105, 0x101),
-        spaces.remove_name(2, 0x102).ok(),
+        remove(spaces, 2, 0x102),
         hold(spaces, 2, 0x100, 9, None),
     ]
 }
