@@ -1,6 +1,6 @@
 ghost use Rattle.std.specs.Prelude.{◌≡◌, ◌++◌, ◌∷◌, [], OnOk};
 ghost use Rattle.ipc_model.specs.declared.call.Call.TheVariants as call_variants;
-ghost use Rattle.script.specs.Calls.{verb_of, receive_words, pair_words, argument_words, receive_at, send_at, behind_at, call_at};
+ghost use Rattle.script.specs.Calls.{verb_of, receive_words, pair_words, argument_words, receive_at, behind_at, call_at};
 ghost use Rattle.script.specs.Kinds.{value_word};
 ghost use Rattle.script.specs.Reading.{Gives};
 ghost use Rattle.script.specs.Spaced.{words_of, spaced};
@@ -118,20 +118,6 @@ fn push_pair(line: &mut Vec<u8>, call: &Call) -> Result<(), AllocError>
 }
 
 #[tactic(auto, using(crate::proofs::WordsOf::spaced_laws))]
-/// Adds the words of the arguments of an insertion of a right.
-fn push_insertion(
-    line: &mut Vec<u8>,
-    name: u32,
-    right_name: u32,
-    disposition: u32,
-) -> Result<(), AllocError>
-    ensures { OnOk result (line.new.items ≡ line.old.items ++ spaced (argument_words (call_variants.InsertRight name right_name disposition))) }
-{
-    push_name_and(line, name, Kind::Hexadecimal, right_name)?;
-    push_value(line, Kind::Disposition, disposition)
-}
-
-#[tactic(auto, using(crate::proofs::WordsOf::spaced_laws))]
 /// Adds the words of a call's arguments.
 fn push_arguments(line: &mut Vec<u8>, call: &Call) -> Result<(), AllocError>
     ensures { OnOk result (line.new.items ≡ line.old.items ++ spaced (argument_words call.now)) }
@@ -148,10 +134,12 @@ fn push_arguments(line: &mut Vec<u8>, call: &Call) -> Result<(), AllocError>
         Call::AllocateName { right, name } => {
             push_two(line, (Kind::Right, *right), (Kind::Hexadecimal, *name))
         }
-        Call::ModRefs { name, right, delta } => {
-            push_name_and(line, *name, Kind::Right, *right)?;
-            push_value(line, Kind::Signed, *delta)
-        }
+        Call::ModRefs { name, right, delta } => push_three(
+            line,
+            (Kind::Hexadecimal, *name),
+            (Kind::Right, *right),
+            (Kind::Signed, *delta),
+        ),
         Call::RequestNotification {
             name,
             variant,
@@ -163,7 +151,12 @@ fn push_arguments(line: &mut Vec<u8>, call: &Call) -> Result<(), AllocError>
             name,
             right_name,
             disposition,
-        } => push_insertion(line, *name, *right_name, *disposition),
+        } => push_three(
+            line,
+            (Kind::Hexadecimal, *name),
+            (Kind::Hexadecimal, *right_name),
+            (Kind::Disposition, *disposition),
+        ),
         Call::Send { message } => push_message(line, message.as_slice()),
         Call::Receive {
             limit,
@@ -202,23 +195,17 @@ fn read_receive(text: &[u8]) -> Result<(Call, &[u8]), Fault>
     Ok((call, rest))
 }
 
-#[tactic(auto, unfolding(crate::specs::Calls::send_at))]
-/// The send whose message is in front.
-fn read_send(alloc: Global, text: &[u8]) -> Result<(Call, &[u8]), Fault>
-    ensures { Gives (λ r. (r.0, words_of r.1.now)) result (send_at (words_of text.now)) }
-{
-    let (message, rest) = read_message(alloc, text)?;
-    let message = Sequence::new(message);
-    Ok((Call::Send { message }, rest))
-}
-
-#[tactic(auto, unfolding(crate::specs::Calls::behind_at))]
+#[tactic(auto, unfolding(crate::specs::Calls::behind_at, crate::specs::Calls::send_at))]
 /// The call of a verb whose arguments are in front.
 fn read_behind(alloc: Global, verb: Verb, text: &[u8]) -> Result<(Call, &[u8]), Fault>
     ensures { Gives (λ r. (r.0, words_of r.1.now)) result (behind_at verb (words_of text.now)) }
 {
     match verb {
-        Verb::Send => read_send(alloc, text),
+        Verb::Send => {
+            let (message, rest) = read_message(alloc, text)?;
+            let message = Sequence::new(message);
+            Ok((Call::Send { message }, rest))
+        }
         Verb::Receive => read_receive(text),
         _ => read_plain(verb, text),
     }

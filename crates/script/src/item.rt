@@ -2,7 +2,7 @@ ghost use Rattle.std.specs.Prelude.{◌≡◌, ◌<◌, ◌≤◌, ◌++◌, ◌
 ghost use Rattle.std.specs.Option.{option_map};
 ghost use Rattle.ipc_model.specs.messages.Items.{item_text};
 ghost use Rattle.script.specs.Bytes.{optional_bytes_at};
-ghost use Rattle.script.specs.Items.{words_item, bytes_item, zeros, element_kind, words_item_words, bytes_item_words, word_front, split_front, descriptor, number_told, numbers_in, words_front, bytes_front, item_front, body_words, numbers_at, words_item_at, bytes_item_at, item_at, behind_bytes, body_at, AddsItem};
+ghost use Rattle.script.specs.Items.{words_item, bytes_item, zeros, element_kind, words_item_words, word_front, split_front, descriptor, number_told, numbers_in, words_front, bytes_front, item_front, body_words, numbers_at, words_item_at, bytes_item_at, item_at, behind_bytes, body_at, AddsItem};
 ghost use Rattle.script.specs.Kinds.{value_word};
 ghost use Rattle.script.specs.Reading.{Gives};
 ghost use Rattle.script.specs.Spaced.{words_of, spaced};
@@ -149,17 +149,7 @@ fn push_words_item(line: &mut Vec<u8>, type_name: u32, bytes: &[u8]) -> Result<(
     push_numbers(line, element_kind(type_name), bytes)
 }
 
-#[tactic(auto, using(crate::proofs::WordsOf::spaced_laws), unfolding(crate::specs::Items::bytes_item_words))]
-/// Adds an item of bytes.
-fn push_bytes_item(line: &mut Vec<u8>, bytes: &[u8]) -> Result<(), AllocError>
-    ensures { OnOk result (line.new.items ≡ line.old.items ++ spaced (bytes_item_words bytes.now)) }
-{
-    push_spaced(line, b"item")?;
-    push_spaced(line, b"bytes")?;
-    push_bytes(line, bytes)
-}
-
-#[tactic(auto, unfolding(crate::specs::Items::item_front))]
+#[tactic(auto, using(crate::proofs::WordsOf::spaced_laws), unfolding(crate::specs::Items::item_front, crate::specs::Items::bytes_item_words))]
 /// Adds the item that a body begins with, if it has a form, and gives the bytes behind it.
 fn push_item<'a>(line: &mut Vec<u8>, body: &'a [u8]) -> Result<Option<&'a [u8]>, AllocError>
     ensures { IfOk result (λ told. AddsItem line.old.items line.new.items (option_map (λ behind. behind.now) told) (item_front body.now)) }
@@ -169,7 +159,9 @@ fn push_item<'a>(line: &mut Vec<u8>, body: &'a [u8]) -> Result<Option<&'a [u8]>,
         return Ok(Some(behind));
     }
     if let Some((bytes, behind)) = bytes_front(body) {
-        push_bytes_item(line, bytes)?;
+        push_spaced(line, b"item")?;
+        push_spaced(line, b"bytes")?;
+        push_bytes(line, bytes)?;
         return Ok(Some(behind));
     }
     Ok(None)

@@ -1,6 +1,5 @@
 ghost use Rattle.std.specs.Prelude.{◌≡◌, ◌+◌, ◌≤◌, ◌<◌, ◌++◌, [], ◌∷◌, length, drop, OnOk, IfOk, codes};
 ghost use Rattle.byteorder.specs.Endian.{little_number};
-ghost use Rattle.script.specs.Bytes.{bytes_word};
 ghost use Rattle.script.specs.Items.{body_words};
 ghost use Rattle.script.specs.Kinds.{value_word};
 ghost use Rattle.script.specs.Messages.{header_of, header_text, message_words, header_words, local_words, optional_words, flag_words, further_at, rights_at, local_at, bits_of, message_at, header_at};
@@ -74,22 +73,14 @@ fn push_whole(line: &mut Vec<u8>, message: &[u8]) -> Result<(), AllocError>
     push_body(line, &message[HEADER_LENGTH..])
 }
 
-#[tactic(auto, using(crate::proofs::WordsOf::spaced_laws))]
-/// Adds all bytes of a message.
-fn push_short(line: &mut Vec<u8>, message: &[u8]) -> Result<(), AllocError>
-    ensures { OnOk result (line.new.items ≡ line.old.items ++ spaced (codes "bytes" ∷ bytes_word message.now ∷ [])) }
-{
-    push_spaced(line, b"bytes")?;
-    push_bytes(line, message)
-}
-
-#[tactic(auto, unfolding(crate::specs::Messages::message_words))]
+#[tactic(auto, using(crate::proofs::WordsOf::spaced_laws), unfolding(crate::specs::Messages::message_words))]
 /// Adds the words of a message. Where memory is wanted some may have been added.
 pub(crate) fn push_message(line: &mut Vec<u8>, message: &[u8]) -> Result<(), AllocError>
     ensures { OnOk result (line.new.items ≡ line.old.items ++ spaced (message_words message.now)) }
 {
     if message.len() < HEADER_LENGTH {
-        push_short(line, message)
+        push_spaced(line, b"bytes")?;
+        push_bytes(line, message)
     } else {
         push_whole(line, message)
     }

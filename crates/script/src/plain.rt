@@ -1,5 +1,5 @@
 ghost use Rattle.std.specs.Prelude.{◌≡◌};
-ghost use Rattle.script.specs.Plain.{three_kinds, kinds_of, short_call, pair_call, long_call, plain_call, arguments_at, plain_at};
+ghost use Rattle.script.specs.Plain.{kinds_of, short_call, pair_call, long_call, plain_call, arguments_at, plain_at};
 ghost use Rattle.script.specs.Reading.{Gives};
 ghost use Rattle.script.specs.Spaced.{words_of};
 
@@ -29,36 +29,20 @@ pub(crate) struct Arguments {
     pub(crate) fifth: u32,
 }
 
-fn three_kinds(first: Kind, second: Kind, third: Kind) -> Kinds
-    ensures { result ≡ three_kinds first second third }
-{
-    Kinds {
-        first,
-        second,
-        third,
-        fourth: Kind::Absent,
-        fifth: Kind::Absent,
-    }
-}
-
-fn kinds_of_notification() -> Kinds
-    ensures { result ≡ kinds_of Verb.RequestNotification }
-{
-    Kinds {
-        first: Kind::Hexadecimal,
-        second: Kind::Notification,
-        third: Kind::Decimal,
-        fourth: Kind::Hexadecimal,
-        fifth: Kind::Disposition,
-    }
-}
-
 /// The kinds of a call's arguments, of each but those of `mach_msg`.
 fn kinds_of(verb: Verb) -> Kinds
     ensures { result ≡ kinds_of verb }
 {
     let (first, second, third) = match verb {
-        Verb::RequestNotification => return kinds_of_notification(),
+        Verb::RequestNotification => {
+            return Kinds {
+                first: Kind::Hexadecimal,
+                second: Kind::Notification,
+                third: Kind::Decimal,
+                fourth: Kind::Hexadecimal,
+                fifth: Kind::Disposition,
+            };
+        }
         Verb::Attach => (Kind::Decimal, Kind::Absent, Kind::Absent),
         Verb::Allocate => (Kind::Right, Kind::Absent, Kind::Absent),
         Verb::Type
@@ -81,7 +65,13 @@ fn kinds_of(verb: Verb) -> Kinds
             (Kind::Absent, Kind::Absent, Kind::Absent)
         }
     };
-    three_kinds(first, second, third)
+    Kinds {
+        first,
+        second,
+        third,
+        fourth: Kind::Absent,
+        fifth: Kind::Absent,
+    }
 }
 
 #[tactic(auto, unfolding(crate::specs::Plain::arguments_at))]

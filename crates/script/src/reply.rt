@@ -1,7 +1,7 @@
 ghost use Rattle.std.specs.Prelude.{◌≡◌, ◌++◌, [], ◌∷◌, ◌||◌, ◌==◌, OnOk, codes};
 ghost use Rattle.std.specs.Option.{option_map};
 ghost use Rattle.script.specs.Reading.{Gives, last};
-ghost use Rattle.script.specs.Replies.{yes_or_no, kind_word, place_words, queue_words, answers_words, status_words, names_words, members_words, outcome_words, message_reply_words, reply_words, result_words, yes_or_no_at, answer_at, kind_at, counts_at, status_at, named_at, member_at, names_at, members_at, received_at, message_reply_at, extracted_at, space_created_at, last_value, last_status_at, results_at, has_results, silence, refusal_at, reply_at};
+ghost use Rattle.script.specs.Replies.{yes_or_no, kind_word, status_words, names_words, members_words, outcome_words, message_reply_words, reply_words, result_words, answer_at, kind_at, counts_at, status_at, named_at, member_at, names_at, members_at, received_at, message_reply_at, extracted_at, last_value, results_at, silence, refusal_at, reply_at};
 ghost use Rattle.script.specs.Spaced.{words_of, spaced};
 
 use crate::bytes::push_bytes;
@@ -15,13 +15,6 @@ use codes::{KernReturn, MACH_MSG};
 use ipc_model::{NamedType, ReceiveStatus, Reply, RightKind, Sequence};
 use std::alloc::{AllocError, Global};
 
-#[tactic(auto, unfolding(crate::specs::Replies::yes_or_no))]
-fn yes_or_no(holds: bool) -> &'static [u8]
-    ensures { result.now ≡ yes_or_no holds }
-{
-    if holds { b"yes" } else { b"no" }
-}
-
 fn kind_word(kind: RightKind) -> &'static [u8]
     ensures { result.now ≡ kind_word kind }
 {
@@ -32,42 +25,16 @@ fn kind_word(kind: RightKind) -> &'static [u8]
     }
 }
 
-#[tactic(auto, using(crate::proofs::WordsOf::spaced_laws))]
+#[tactic(auto, using(crate::proofs::WordsOf::spaced_laws), unfolding(crate::specs::Replies::yes_or_no))]
 fn push_answer(line: &mut Vec<u8>, label: &[u8], holds: bool) -> Result<(), AllocError>
     ensures { OnOk result (line.new.items ≡ line.old.items ++ spaced (label.now ∷ yes_or_no holds ∷ [])) }
 {
     push_spaced(line, label)?;
-    push_spaced(line, yes_or_no(holds))
-}
-
-#[tactic(auto, using(crate::proofs::WordsOf::spaced_laws))]
-/// Adds what a port's state tells of its right.
-fn push_place(line: &mut Vec<u8>, status: &ReceiveStatus) -> Result<(), AllocError>
-    ensures { OnOk result (line.new.items ≡ line.old.items ++ spaced (place_words status.now)) }
-{
-    push_labelled(line, b"set", Kind::Hexadecimal, status.set)?;
-    push_labelled(line, b"seqno", Kind::Decimal, status.sequence_number)?;
-    push_labelled(line, b"mscount", Kind::Decimal, status.make_send_count)
-}
-
-#[tactic(auto, using(crate::proofs::WordsOf::spaced_laws))]
-/// Adds what a port's state tells of its queue.
-fn push_queue(line: &mut Vec<u8>, status: &ReceiveStatus) -> Result<(), AllocError>
-    ensures { OnOk result (line.new.items ≡ line.old.items ++ spaced (queue_words status.now)) }
-{
-    push_labelled(line, b"qlimit", Kind::Decimal, status.limit)?;
-    push_labelled(line, b"messages", Kind::Decimal, status.messages)?;
-    push_labelled(line, b"send_once", Kind::Decimal, status.send_once_count)
-}
-
-#[tactic(auto, using(crate::proofs::WordsOf::spaced_laws))]
-/// Adds what a port's state tells of its other rights.
-fn push_answers(line: &mut Vec<u8>, status: &ReceiveStatus) -> Result<(), AllocError>
-    ensures { OnOk result (line.new.items ≡ line.old.items ++ spaced (answers_words status.now)) }
-{
-    push_answer(line, b"senders", status.has_senders)?;
-    push_answer(line, b"port_destroyed", status.has_port_destroyed_request)?;
-    push_answer(line, b"no_senders", status.has_no_senders_request)
+    if holds {
+        push_spaced(line, b"yes")
+    } else {
+        push_spaced(line, b"no")
+    }
 }
 
 #[tactic(auto, using(crate::proofs::WordsOf::spaced_laws), unfolding(crate::specs::Replies::status_words, crate::specs::Replies::count_words))]
@@ -75,9 +42,15 @@ fn push_answers(line: &mut Vec<u8>, status: &ReceiveStatus) -> Result<(), AllocE
 fn push_status(line: &mut Vec<u8>, status: &ReceiveStatus) -> Result<(), AllocError>
     ensures { OnOk result (line.new.items ≡ line.old.items ++ spaced (status_words status.now)) }
 {
-    push_place(line, status)?;
-    push_queue(line, status)?;
-    push_answers(line, status)
+    push_labelled(line, b"set", Kind::Hexadecimal, status.set)?;
+    push_labelled(line, b"seqno", Kind::Decimal, status.sequence_number)?;
+    push_labelled(line, b"mscount", Kind::Decimal, status.make_send_count)?;
+    push_labelled(line, b"qlimit", Kind::Decimal, status.limit)?;
+    push_labelled(line, b"messages", Kind::Decimal, status.messages)?;
+    push_labelled(line, b"send_once", Kind::Decimal, status.send_once_count)?;
+    push_answer(line, b"senders", status.has_senders)?;
+    push_answer(line, b"port_destroyed", status.has_port_destroyed_request)?;
+    push_answer(line, b"no_senders", status.has_no_senders_request)
 }
 
 #[tactic(auto, using(crate::proofs::WordsOf::spaced_laws), unfolding(crate::specs::Replies::names_words))]
@@ -206,26 +179,19 @@ fn last<X: Drop>(found: X, text: &[u8]) -> Result<X, Fault>
     }
 }
 
-#[tactic(auto, unfolding(crate::specs::Replies::yes_or_no_at))]
-fn read_yes_or_no(text: &[u8]) -> Result<(bool, &[u8]), Fault>
-    ensures { Gives (λ r. (r.0, words_of r.1.now)) result (yes_or_no_at (words_of text.now)) }
-{
-    if let Some(rest) = behind_label(b"yes", text) {
-        return Ok((true, rest));
-    }
-    match behind_label(b"no", text) {
-        Some(rest) => Ok((false, rest)),
-        None => Err(Fault::expected(Expected::YesOrNo, text)),
-    }
-}
-
-#[tactic(auto, unfolding(crate::specs::Replies::answer_at))]
+#[tactic(auto, unfolding(crate::specs::Replies::answer_at, crate::specs::Replies::yes_or_no_at))]
 fn read_answer<'a>(label: &[u8], text: &'a [u8]) -> Result<(bool, &'a [u8]), Fault>
     ensures { Gives (λ r. (r.0, words_of r.1.now)) result (answer_at label.now (words_of text.now)) }
 {
-    match behind_label(label, text) {
-        Some(rest) => read_yes_or_no(rest),
-        None => Err(Fault::expected(Expected::Label, text)),
+    let Some(answer) = behind_label(label, text) else {
+        return Err(Fault::expected(Expected::Label, text));
+    };
+    if let Some(rest) = behind_label(b"yes", answer) {
+        return Ok((true, rest));
+    }
+    match behind_label(b"no", answer) {
+        Some(rest) => Ok((false, rest)),
+        None => Err(Fault::expected(Expected::YesOrNo, answer)),
     }
 }
 
@@ -386,15 +352,6 @@ fn read_extracted(text: &[u8]) -> Result<Reply, Fault>
     last(Reply::Extracted { name, kind }, rest)
 }
 
-#[tactic(auto, unfolding(crate::specs::Replies::space_created_at))]
-fn read_space_created(text: &[u8]) -> Result<Reply, Fault>
-    ensures { Gives (λ r. r) result (space_created_at (words_of text.now)) }
-{
-    let (space, rest) = read_labelled(b"space", Kind::Decimal, text)?;
-    let (name, rest) = read_labelled(b"name", Kind::Hexadecimal, rest)?;
-    last(Reply::SpaceCreated { space, name }, rest)
-}
-
 #[tactic(auto, unfolding(crate::specs::Replies::last_value))]
 /// The one number that is left.
 fn read_last(kind: Kind, text: &[u8]) -> Result<u32, Fault>
@@ -404,15 +361,7 @@ fn read_last(kind: Kind, text: &[u8]) -> Result<u32, Fault>
     last(number, rest)
 }
 
-#[tactic(auto, unfolding(crate::specs::Replies::last_status_at))]
-fn read_last_status(text: &[u8]) -> Result<Reply, Fault>
-    ensures { Gives (λ r. r) result (last_status_at (words_of text.now)) }
-{
-    let (status, rest) = read_status(text)?;
-    last(Reply::ReceiveStatus { status }, rest)
-}
-
-#[tactic(auto, unfolding(crate::specs::Replies::results_at))]
+#[tactic(auto, unfolding(crate::specs::Replies::results_at, crate::specs::Replies::last_status_at, crate::specs::Replies::space_created_at))]
 /// The results of a call of this number.
 fn read_results(alloc: Global, number: u32, text: &[u8]) -> Result<Reply, Fault>
     ensures { Gives (λ r. r) result (results_at number (words_of text.now)) }
@@ -434,7 +383,10 @@ fn read_results(alloc: Global, number: u32, text: &[u8]) -> Result<Reply, Fault>
             let count = read_last(Kind::Decimal, text)?;
             Ok(Reply::References { count })
         }
-        13 => read_last_status(text),
+        13 => {
+            let (status, rest) = read_status(text)?;
+            last(Reply::ReceiveStatus { status }, rest)
+        }
         14 => {
             let members = read_members(alloc, text)?;
             Ok(Reply::SetStatus { members })
@@ -445,16 +397,13 @@ fn read_results(alloc: Global, number: u32, text: &[u8]) -> Result<Reply, Fault>
         }
         18 => read_extracted(text),
         MACH_MSG => read_message_reply(alloc, KernReturn::Success, text),
-        20 => read_space_created(text),
+        20 => {
+            let (space, rest) = read_labelled(b"space", Kind::Decimal, text)?;
+            let (name, rest) = read_labelled(b"name", Kind::Hexadecimal, rest)?;
+            last(Reply::SpaceCreated { space, name }, rest)
+        }
         _ => Err(Fault::expected(Expected::End, text)),
     }
-}
-
-/// Whether a call of this number has results, or may have some.
-fn may_tell(number: u32) -> bool
-    ensures { result ≡ (has_results number || number == 19) }
-{
-    matches!(number, 1 | 2 | 5 | 8 | 13 | 14 | 16 | 18 | 20 | MACH_MSG)
 }
 
 #[tactic(auto, unfolding(crate::specs::Replies::silence))]
@@ -495,10 +444,10 @@ pub(crate) fn read_reply(alloc: Global, number: u32, text: &[u8]) -> Result<Repl
         return read_silence(alloc, number, text);
     };
     if word == b"=".as_slice() {
-        if !may_tell(number) {
-            return Err(Fault::expected(Expected::End, text));
-        }
-        return read_results(alloc, number, rest);
+        return match number {
+            1 | 2 | 5 | 8 | 13 | 14 | 16 | 18 | 20 | MACH_MSG => read_results(alloc, number, rest),
+            _ => Err(Fault::expected(Expected::End, text)),
+        };
     }
     if word == b"!".as_slice() {
         return read_refusal(alloc, number, rest);

@@ -1,0 +1,10 @@
+-- A search through a table, one row after another.
+use Rattle.std.proofs.Common.{◌≡◌, ◌+◌, ◌<◌, ℕ, Bool, false, List, length, drop, find, cond, sym, ap, ◌∙◌, slice_index_or}
+use Rattle.std.specs.Prelude.{Option, Some}
+use Rattle.std.proofs.lemmas.List.{drop_more}
+
+-- a row that isn't looked for is passed
+pub row_passed : {A : Type 0} (f : A → Bool) (rows : List A) (place : ℕ) (default : A) (found : Option A) → place < length rows → f (slice_index_or rows place default) ≡ false
+    → find f (drop place rows) ≡ found → find f (drop (place + 1) rows) ≡ found
+row_passed f rows place default found within other is =
+    ap (λ (b : Bool). cond b (Some (slice_index_or rows place default)) (find f (drop (place + 1) rows))) (sym other) ∙ ap (find f) (sym (drop_more rows place default within)) ∙ is
