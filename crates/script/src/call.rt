@@ -182,17 +182,17 @@ pub(crate) fn push_call_words(line: &mut Vec<u8>, call: &Call) -> Result<(), All
 fn read_receive(text: &[u8]) -> Result<(Call, &[u8]), Fault>
     ensures { Gives (λ r. (r.0, words_of r.1.now)) result (receive_at (words_of text.now)) }
 {
-    let (name, rest) = read_value(Kind::Hexadecimal, text)?;
-    let (limit, rest) = read_labelled(b"limit", Kind::Decimal, rest)?;
-    let (large, rest) = read_flag(b"large", rest);
-    let (waited, rest) = read_flag(b"waited", rest);
+    let name = read_value(Kind::Hexadecimal, text)?;
+    let limit = read_labelled(b"limit", Kind::Decimal, name.1)?;
+    let large = read_flag(b"large", limit.1);
+    let waited = read_flag(b"waited", large.1);
     let call = Call::Receive {
-        limit,
-        large,
-        name,
-        waited,
+        limit: limit.0,
+        large: large.0,
+        name: name.0,
+        waited: waited.0,
     };
-    Ok((call, rest))
+    Ok((call, waited.1))
 }
 
 #[tactic(auto, unfolding(crate::specs::Calls::behind_at, crate::specs::Calls::send_at))]

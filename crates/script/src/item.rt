@@ -96,14 +96,14 @@ fn split_front(bytes: &[u8], count: usize) -> Option<(&[u8], &[u8])>
 fn words_front(body: &[u8]) -> Option<(u32, &[u8], &[u8])>
     ensures { MatchOption result (words_front body.now ≡ None) (λ r. words_front body.now ≡ Some (r.0, r.1.now, r.2.now)) }
 {
-    let (word, behind) = word_front(body)?;
-    let type_name = word % 0x100;
-    let number = number_told(word);
-    if word != descriptor(type_name, WORD_BITS, number) {
+    let front = word_front(body)?;
+    let type_name = front.0 % 0x100;
+    let number = number_told(front.0);
+    if front.0 != descriptor(type_name, WORD_BITS, number) {
         return None;
     }
-    let (content, behind) = split_front(behind, 4 * number as usize)?;
-    Some((type_name, content, behind))
+    let content = split_front(front.1, 4 * number as usize)?;
+    Some((type_name, content.0, content.1))
 }
 
 #[tactic(auto, unfolding(crate::specs::Items::bytes_front))]
@@ -111,16 +111,16 @@ fn words_front(body: &[u8]) -> Option<(u32, &[u8], &[u8])>
 fn bytes_front(body: &[u8]) -> Option<(&[u8], &[u8])>
     ensures { MatchOption result (bytes_front body.now ≡ None) (λ r. bytes_front body.now ≡ Some (r.0.now, r.1.now)) }
 {
-    let (word, behind) = word_front(body)?;
-    let number = number_told(word);
-    if word != descriptor(BYTE_TYPE, BYTE_BITS, number) {
+    let front = word_front(body)?;
+    let number = number_told(front.0);
+    if front.0 != descriptor(BYTE_TYPE, BYTE_BITS, number) {
         return None;
     }
-    let (bytes, behind) = split_front(behind, number as usize)?;
+    let bytes = split_front(front.1, number as usize)?;
     let zeros = zeros(number as usize);
-    let (tail, behind) = split_front(behind, zeros.len())?;
-    if tail == zeros {
-        Some((bytes, behind))
+    let tail = split_front(bytes.1, zeros.len())?;
+    if tail.0 == zeros {
+        Some((bytes.0, tail.1))
     } else {
         None
     }
@@ -199,7 +199,7 @@ fn read_numbers(alloc: Global, text: &[u8]) -> Result<(Vec<u32>, &[u8]), Fault>
 }
 
 /// Adds numbers, four bytes each.
-fn push_words(out: &mut Vec<u8>, numbers: &[u32]) -> Result<(), AllocError>
+pub(crate) fn push_words(out: &mut Vec<u8>, numbers: &[u32]) -> Result<(), AllocError>
     ensures { OnOk result (out.new.items ≡ out.old.items ++ flat_map word numbers.now) }
 {
     let mut rest = numbers;

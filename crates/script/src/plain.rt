@@ -78,19 +78,19 @@ fn kinds_of(verb: Verb) -> Kinds
 fn read_arguments(kinds: Kinds, text: &[u8]) -> Result<(Arguments, &[u8]), Fault>
     ensures { Gives (λ r. (r.0, words_of r.1.now)) result (arguments_at kinds (words_of text.now)) }
 {
-    let (first, rest) = read_value(kinds.first, text)?;
-    let (second, rest) = read_value(kinds.second, rest)?;
-    let (third, rest) = read_value(kinds.third, rest)?;
-    let (fourth, rest) = read_value(kinds.fourth, rest)?;
-    let (fifth, rest) = read_value(kinds.fifth, rest)?;
+    let first = read_value(kinds.first, text)?;
+    let second = read_value(kinds.second, first.1)?;
+    let third = read_value(kinds.third, second.1)?;
+    let fourth = read_value(kinds.fourth, third.1)?;
+    let fifth = read_value(kinds.fifth, fourth.1)?;
     let arguments = Arguments {
-        first,
-        second,
-        third,
-        fourth,
-        fifth,
+        first: first.0,
+        second: second.0,
+        third: third.0,
+        fourth: fourth.0,
+        fifth: fifth.0,
     };
-    Ok((arguments, rest))
+    Ok((arguments, fifth.1))
 }
 
 /// The call of one argument or none.

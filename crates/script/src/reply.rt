@@ -216,41 +216,41 @@ fn read_kind(text: &[u8]) -> Result<(RightKind, &[u8]), Fault>
 fn read_counts(text: &[u8]) -> Result<(ReceiveStatus, &[u8]), Fault>
     ensures { Gives (λ r. (r.0, words_of r.1.now)) result (counts_at (words_of text.now)) }
 {
-    let (set, rest) = read_labelled(b"set", Kind::Hexadecimal, text)?;
-    let (sequence_number, rest) = read_labelled(b"seqno", Kind::Decimal, rest)?;
-    let (make_send_count, rest) = read_labelled(b"mscount", Kind::Decimal, rest)?;
-    let (limit, rest) = read_labelled(b"qlimit", Kind::Decimal, rest)?;
-    let (messages, rest) = read_labelled(b"messages", Kind::Decimal, rest)?;
-    let (send_once_count, rest) = read_labelled(b"send_once", Kind::Decimal, rest)?;
+    let set = read_labelled(b"set", Kind::Hexadecimal, text)?;
+    let seqno = read_labelled(b"seqno", Kind::Decimal, set.1)?;
+    let mscount = read_labelled(b"mscount", Kind::Decimal, seqno.1)?;
+    let qlimit = read_labelled(b"qlimit", Kind::Decimal, mscount.1)?;
+    let messages = read_labelled(b"messages", Kind::Decimal, qlimit.1)?;
+    let send_once = read_labelled(b"send_once", Kind::Decimal, messages.1)?;
     let status = ReceiveStatus {
-        set,
-        sequence_number,
-        make_send_count,
-        limit,
-        messages,
-        send_once_count,
+        set: set.0,
+        sequence_number: seqno.0,
+        make_send_count: mscount.0,
+        limit: qlimit.0,
+        messages: messages.0,
+        send_once_count: send_once.0,
         has_senders: false,
         has_port_destroyed_request: false,
         has_no_senders_request: false,
     };
-    Ok((status, rest))
+    Ok((status, send_once.1))
 }
 
 #[tactic(auto, unfolding(crate::specs::Replies::status_at))]
 fn read_status(text: &[u8]) -> Result<(ReceiveStatus, &[u8]), Fault>
     ensures { Gives (λ r. (r.0, words_of r.1.now)) result (status_at (words_of text.now)) }
 {
-    let (counts, rest) = read_counts(text)?;
-    let (has_senders, rest) = read_answer(b"senders", rest)?;
-    let (has_port_destroyed_request, rest) = read_answer(b"port_destroyed", rest)?;
-    let (has_no_senders_request, rest) = read_answer(b"no_senders", rest)?;
+    let counts = read_counts(text)?;
+    let senders = read_answer(b"senders", counts.1)?;
+    let port_destroyed = read_answer(b"port_destroyed", senders.1)?;
+    let no_senders = read_answer(b"no_senders", port_destroyed.1)?;
     let status = ReceiveStatus {
-        has_senders,
-        has_port_destroyed_request,
-        has_no_senders_request,
-        ..counts
+        has_senders: senders.0,
+        has_port_destroyed_request: port_destroyed.0,
+        has_no_senders_request: no_senders.0,
+        ..counts.0
     };
-    Ok((status, rest))
+    Ok((status, no_senders.1))
 }
 
 #[tactic(auto, unfolding(crate::specs::Replies::named_at))]
@@ -261,9 +261,13 @@ fn read_named(text: &[u8]) -> Result<Option<(NamedType, &[u8])>, Fault>
     if take_word(text).is_none() {
         return Ok(None);
     }
-    let (name, rest) = read_value(Kind::Hexadecimal, text)?;
-    let (bits, rest) = read_value(Kind::Hexadecimal, rest)?;
-    Ok(Some((NamedType { name, bits }, rest)))
+    let name = read_value(Kind::Hexadecimal, text)?;
+    let bits = read_value(Kind::Hexadecimal, name.1)?;
+    let named = NamedType {
+        name: name.0,
+        bits: bits.0,
+    };
+    Ok(Some((named, bits.1)))
 }
 
 #[tactic(auto, unfolding(crate::specs::Replies::member_at))]
@@ -274,8 +278,8 @@ fn read_member(text: &[u8]) -> Result<Option<(u32, &[u8])>, Fault>
     if take_word(text).is_none() {
         return Ok(None);
     }
-    let (member, rest) = read_value(Kind::Hexadecimal, text)?;
-    Ok(Some((member, rest)))
+    let member = read_value(Kind::Hexadecimal, text)?;
+    Ok(Some(member))
 }
 
 /// Names with their types up to the end.
@@ -330,15 +334,14 @@ fn read_received(alloc: Global, text: &[u8]) -> Result<(Vec<u8>, &[u8]), Fault>
 fn read_message_reply(alloc: Global, code: KernReturn, text: &[u8]) -> Result<Reply, Fault>
     ensures { Gives (λ r. r) result (message_reply_at code (words_of text.now)) }
 {
-    let (size, rest) = read_optional(b"size", Kind::Decimal, text)?;
-    let (member, rest) = read_optional(b"member", Kind::Hexadecimal, rest)?;
-    let (message, rest) = read_received(alloc, rest)?;
-    let message = Sequence::new(message);
+    let size = read_optional(b"size", Kind::Decimal, text)?;
+    let member = read_optional(b"member", Kind::Hexadecimal, size.1)?;
+    let (message, rest) = read_received(alloc, member.1)?;
     let reply = Reply::Message {
         code,
-        size,
-        member,
-        message,
+        size: size.0,
+        member: member.0,
+        message: Sequence::new(message),
     };
     last(reply, rest)
 }
@@ -347,9 +350,13 @@ fn read_message_reply(alloc: Global, code: KernReturn, text: &[u8]) -> Result<Re
 fn read_extracted(text: &[u8]) -> Result<Reply, Fault>
     ensures { Gives (λ r. r) result (extracted_at (words_of text.now)) }
 {
-    let (name, rest) = read_value(Kind::Hexadecimal, text)?;
-    let (kind, rest) = read_kind(rest)?;
-    last(Reply::Extracted { name, kind }, rest)
+    let name = read_value(Kind::Hexadecimal, text)?;
+    let kind = read_kind(name.1)?;
+    let reply = Reply::Extracted {
+        name: name.0,
+        kind: kind.0,
+    };
+    last(reply, kind.1)
 }
 
 #[tactic(auto, unfolding(crate::specs::Replies::last_value))]
@@ -357,8 +364,8 @@ fn read_extracted(text: &[u8]) -> Result<Reply, Fault>
 fn read_last(kind: Kind, text: &[u8]) -> Result<u32, Fault>
     ensures { Gives (λ r. r) result (last_value kind (words_of text.now)) }
 {
-    let (number, rest) = read_value(kind, text)?;
-    last(number, rest)
+    let number = read_value(kind, text)?;
+    last(number.0, number.1)
 }
 
 #[tactic(auto, unfolding(crate::specs::Replies::results_at, crate::specs::Replies::last_status_at, crate::specs::Replies::space_created_at))]
@@ -384,8 +391,8 @@ fn read_results(alloc: Global, number: u32, text: &[u8]) -> Result<Reply, Fault>
             Ok(Reply::References { count })
         }
         13 => {
-            let (status, rest) = read_status(text)?;
-            last(Reply::ReceiveStatus { status }, rest)
+            let status = read_status(text)?;
+            last(Reply::ReceiveStatus { status: status.0 }, status.1)
         }
         14 => {
             let members = read_members(alloc, text)?;
@@ -398,9 +405,13 @@ fn read_results(alloc: Global, number: u32, text: &[u8]) -> Result<Reply, Fault>
         18 => read_extracted(text),
         MACH_MSG => read_message_reply(alloc, KernReturn::Success, text),
         20 => {
-            let (space, rest) = read_labelled(b"space", Kind::Decimal, text)?;
-            let (name, rest) = read_labelled(b"name", Kind::Hexadecimal, rest)?;
-            last(Reply::SpaceCreated { space, name }, rest)
+            let space = read_labelled(b"space", Kind::Decimal, text)?;
+            let name = read_labelled(b"name", Kind::Hexadecimal, space.1)?;
+            let reply = Reply::SpaceCreated {
+                space: space.0,
+                name: name.0,
+            };
+            last(reply, name.1)
         }
         _ => Err(Fault::expected(Expected::End, text)),
     }
