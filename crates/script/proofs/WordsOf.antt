@@ -147,10 +147,6 @@ pub pushed_three : {E : Type 0} (r : Result ⊤ E) (old first second third : Lis
     → OnOk r (third ≡ second ++ spaced c) → OnOk r (third ≡ old ++ spaced ((a ++ b) ++ c))
 pushed_three r old first second third a b c one two three = pushed_two r old second third (a ++ b) c (two ∙ ap (λ (l : List ℕ). l ++ spaced b) one ∙ spaced_more old a b) three
 
-pub three_added : (old first second third : List ℕ) (a b c : List (List ℕ)) → first ≡ old ++ spaced a → second ≡ first ++ spaced b → third ≡ second ++ spaced c
-    → third ≡ old ++ spaced ((a ++ b) ++ c)
-three_added old first second third a b c one two three = three ∙ ap (λ (l : List ℕ). l ++ spaced c) (two ∙ ap (λ (l : List ℕ). l ++ spaced b) one ∙ spaced_more old a b) ∙ spaced_more old (a ++ b) c
-
 -- nothing is left to add
 pub rest_none : (line old : List ℕ) (rest all : List (List ℕ)) → rest ≡ [] → line ++ spaced rest ≡ old ++ spaced all → line ≡ old ++ spaced all
 rest_none line old rest all none is = sym (spaced_none line) ∙ ap (λ (l : List (List ℕ)). line ++ spaced l) (sym none) ∙ is

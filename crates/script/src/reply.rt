@@ -1,7 +1,7 @@
 ghost use Rattle.std.specs.Prelude.{◌≡◌, ◌++◌, [], ◌∷◌, ◌||◌, ◌==◌, OnOk, codes};
 ghost use Rattle.std.specs.Option.{option_map};
 ghost use Rattle.script.specs.Reading.{Gives, last};
-ghost use Rattle.script.specs.Replies.{yes_or_no, kind_word, status_words, names_words, members_words, outcome_words, message_reply_words, reply_words, result_words, answer_at, kind_at, counts_at, status_at, named_at, member_at, names_at, members_at, received_at, message_reply_at, extracted_at, last_value, results_at, silence, refusal_at, reply_at};
+ghost use Rattle.script.specs.Replies.{yes_or_no, kind_word, place_words, queue_words, answers_words, status_words, names_words, members_words, outcome_words, message_reply_words, reply_words, result_words, answer_at, kind_at, counts_at, status_at, named_at, member_at, names_at, members_at, received_at, message_reply_at, extracted_at, last_value, results_at, silence, refusal_at, reply_at};
 ghost use Rattle.script.specs.Spaced.{words_of, spaced};
 
 use crate::bytes::push_bytes;
@@ -37,20 +37,44 @@ fn push_answer(line: &mut Vec<u8>, label: &[u8], holds: bool) -> Result<(), Allo
     }
 }
 
+#[tactic(auto, using(crate::proofs::WordsOf::spaced_laws))]
+/// Adds what a port's state tells of its right.
+fn push_place(line: &mut Vec<u8>, status: &ReceiveStatus) -> Result<(), AllocError>
+    ensures { OnOk result (line.new.items ≡ line.old.items ++ spaced (place_words status.now)) }
+{
+    push_labelled(line, b"set", Kind::Hexadecimal, status.set)?;
+    push_labelled(line, b"seqno", Kind::Decimal, status.sequence_number)?;
+    push_labelled(line, b"mscount", Kind::Decimal, status.make_send_count)
+}
+
+#[tactic(auto, using(crate::proofs::WordsOf::spaced_laws))]
+/// Adds what a port's state tells of its queue.
+fn push_queue(line: &mut Vec<u8>, status: &ReceiveStatus) -> Result<(), AllocError>
+    ensures { OnOk result (line.new.items ≡ line.old.items ++ spaced (queue_words status.now)) }
+{
+    push_labelled(line, b"qlimit", Kind::Decimal, status.limit)?;
+    push_labelled(line, b"messages", Kind::Decimal, status.messages)?;
+    push_labelled(line, b"send_once", Kind::Decimal, status.send_once_count)
+}
+
+#[tactic(auto, using(crate::proofs::WordsOf::spaced_laws))]
+/// Adds what a port's state tells of its other rights.
+fn push_answers(line: &mut Vec<u8>, status: &ReceiveStatus) -> Result<(), AllocError>
+    ensures { OnOk result (line.new.items ≡ line.old.items ++ spaced (answers_words status.now)) }
+{
+    push_answer(line, b"senders", status.has_senders)?;
+    push_answer(line, b"port_destroyed", status.has_port_destroyed_request)?;
+    push_answer(line, b"no_senders", status.has_no_senders_request)
+}
+
 #[tactic(auto, using(crate::proofs::WordsOf::spaced_laws), unfolding(crate::specs::Replies::status_words, crate::specs::Replies::count_words))]
 /// Adds the state of a port.
 fn push_status(line: &mut Vec<u8>, status: &ReceiveStatus) -> Result<(), AllocError>
     ensures { OnOk result (line.new.items ≡ line.old.items ++ spaced (status_words status.now)) }
 {
-    push_labelled(line, b"set", Kind::Hexadecimal, status.set)?;
-    push_labelled(line, b"seqno", Kind::Decimal, status.sequence_number)?;
-    push_labelled(line, b"mscount", Kind::Decimal, status.make_send_count)?;
-    push_labelled(line, b"qlimit", Kind::Decimal, status.limit)?;
-    push_labelled(line, b"messages", Kind::Decimal, status.messages)?;
-    push_labelled(line, b"send_once", Kind::Decimal, status.send_once_count)?;
-    push_answer(line, b"senders", status.has_senders)?;
-    push_answer(line, b"port_destroyed", status.has_port_destroyed_request)?;
-    push_answer(line, b"no_senders", status.has_no_senders_request)
+    push_place(line, status)?;
+    push_queue(line, status)?;
+    push_answers(line, status)
 }
 
 #[tactic(auto, using(crate::proofs::WordsOf::spaced_laws), unfolding(crate::specs::Replies::names_words))]
