@@ -245,12 +245,12 @@ fn bytes_item(alloc: Global, bytes: &[u8]) -> Result<Vec<u8>, AllocError>
 fn read_words_item(alloc: Global, text: &[u8]) -> Result<(Vec<u8>, &[u8]), Fault>
     ensures { Gives (λ r. (r.0.items, words_of r.1.now)) result (words_item_at (words_of text.now)) }
 {
-    let (type_name, rest) = read_bounded(Expected::Item, Kind::Element, 0x100, text)?;
-    let (numbers, rest) = read_numbers(alloc, rest)?;
+    let type_name = read_bounded(Expected::Item, Kind::Element, 0x100, text)?;
+    let (numbers, rest) = read_numbers(alloc, type_name.1)?;
     if numbers.len() >= ELEMENTS_END {
         return Err(Fault::expected(Expected::Item, text));
     }
-    match words_item(alloc, type_name, numbers.as_slice()) {
+    match words_item(alloc, type_name.0, numbers.as_slice()) {
         Ok(item) => Ok((item, rest)),
         Err(_) => Err(Fault::NoMemory),
     }

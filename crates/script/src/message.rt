@@ -92,8 +92,11 @@ fn push_header(line: &mut Vec<u8>, header: &Header) -> Result<(), AllocError>
     ensures { OnOk result (line.new.items ≡ line.old.items ++ spaced (header_words header.now)) }
 {
     let bits = header.bits;
-    push_value(line, Kind::Disposition, bits % 0x100)?;
-    push_value(line, Kind::Hexadecimal, header.remote)?;
+    push_two(
+        line,
+        (Kind::Disposition, bits % 0x100),
+        (Kind::Hexadecimal, header.remote),
+    )?;
     push_local(line, bits / 0x100 % 0x100, header.local)?;
     push_labelled(line, b"id", Kind::Decimal, header.id)?;
     push_flag(line, b"complex", bits >= 0x8000_0000)?;
