@@ -1,4 +1,4 @@
-ghost use Rattle.std.specs.Prelude.{◌≡◌, ◌++◌, ◌∷◌, [], OnOk};
+ghost use Rattle.std.specs.Prelude.{◌≡◌, ◌++◌, ◌∷◌, [], OnOk, MatchOption};
 ghost use Rattle.ipc_model.specs.declared.call.Call.TheVariants as call_variants;
 ghost use Rattle.script.specs.Calls.{verb_of, receive_words, pair_words, argument_words, receive_at, behind_at, call_at};
 ghost use Rattle.script.specs.Kinds.{value_word};
@@ -89,11 +89,22 @@ fn push_notification(
     )
 }
 
-/// Adds a name and another number.
-fn push_name_and(line: &mut Vec<u8>, name: u32, kind: Kind, number: u32) -> Result<(), AllocError>
-    ensures { OnOk result (line.new.items ≡ line.old.items ++ spaced (value_word Kind.Hexadecimal name ∷ value_word kind number ∷ [])) }
+/// The arguments of a call that has two, a name in front: the name, and how the other is spelled.
+fn pair_of(call: &Call) -> Option<(u32, Kind, u32)>
+    ensures { MatchOption result (pair_words call.now ≡ []) (λ r. pair_words call.now ≡ value_word Kind.Hexadecimal r.0 ∷ value_word r.1 r.2 ∷ []) }
 {
-    push_two(line, (Kind::Hexadecimal, name), (kind, number))
+    Some(match call {
+        Call::Rename { from, to } => (*from, Kind::Hexadecimal, *to),
+        Call::GetRefs { name, right } => (*name, Kind::Right, *right),
+        Call::SetQlimit { name, limit } => (*name, Kind::Decimal, *limit),
+        Call::SetMscount { name, count } => (*name, Kind::Decimal, *count),
+        Call::SetSeqno { name, seqno } => (*name, Kind::Decimal, *seqno),
+        Call::MoveMember { member, after } => (*member, Kind::Hexadecimal, *after),
+        Call::ExtractRight { name, disposition } | Call::SpaceCreate { name, disposition } => {
+            (*name, Kind::Disposition, *disposition)
+        }
+        _ => return None,
+    })
 }
 
 #[tactic(auto, using(crate::proofs::WordsOf::spaced_laws))]
@@ -101,19 +112,9 @@ fn push_name_and(line: &mut Vec<u8>, name: u32, kind: Kind, number: u32) -> Resu
 fn push_pair(line: &mut Vec<u8>, call: &Call) -> Result<(), AllocError>
     ensures { OnOk result (line.new.items ≡ line.old.items ++ spaced (pair_words call.now)) }
 {
-    match call {
-        Call::Rename { from, to } => push_name_and(line, *from, Kind::Hexadecimal, *to),
-        Call::GetRefs { name, right } => push_name_and(line, *name, Kind::Right, *right),
-        Call::SetQlimit { name, limit } => push_name_and(line, *name, Kind::Decimal, *limit),
-        Call::SetMscount { name, count } => push_name_and(line, *name, Kind::Decimal, *count),
-        Call::SetSeqno { name, seqno } => push_name_and(line, *name, Kind::Decimal, *seqno),
-        Call::MoveMember { member, after } => {
-            push_name_and(line, *member, Kind::Hexadecimal, *after)
-        }
-        Call::ExtractRight { name, disposition } | Call::SpaceCreate { name, disposition } => {
-            push_name_and(line, *name, Kind::Disposition, *disposition)
-        }
-        _ => Ok(()),
+    match pair_of(call) {
+        Some((name, kind, number)) => push_two(line, (Kind::Hexadecimal, name), (kind, number)),
+        None => Ok(()),
     }
 }
 
