@@ -2,7 +2,7 @@ ghost use Rattle.std.specs.Prelude.{◌≡◌, ◌<◌, ◌≤◌, ◌++◌, ◌
 ghost use Rattle.std.specs.Option.{option_map};
 ghost use Rattle.ipc_model.specs.messages.Items.{item_text};
 ghost use Rattle.script.specs.Bytes.{optional_bytes_at};
-ghost use Rattle.script.specs.Items.{words_item, bytes_item, zeros, element_kind, words_item_words, word_front, split_front, descriptor, number_told, numbers_in, words_front, bytes_front, item_front, body_words, numbers_at, words_item_at, bytes_item_at, item_at, behind_bytes, body_at, AddsItem};
+ghost use Rattle.script.specs.Items.{words_item, bytes_item, zeros, element_kind, words_item_words, word_front, split_front, padded_front, descriptor, number_told, numbers_in, words_front, bytes_front, item_front, body_words, numbers_at, words_item_at, bytes_item_at, item_at, behind_bytes, body_at, AddsItem};
 ghost use Rattle.script.specs.Kinds.{value_word};
 ghost use Rattle.script.specs.Reading.{Gives};
 ghost use Rattle.script.specs.Spaced.{words_of, spaced};
@@ -106,7 +106,22 @@ fn words_front(body: &[u8]) -> Option<(u32, &[u8], &[u8])>
     Some((type_name, content.0, content.1))
 }
 
-#[tactic(auto, unfolding(crate::specs::Items::bytes_front))]
+#[tactic(auto, unfolding(crate::specs::Items::padded_front))]
+/// So many bytes in front, and what stands behind their zeros.
+fn padded_front(bytes: &[u8], count: usize) -> Option<(&[u8], &[u8])>
+    ensures { MatchOption result (padded_front count bytes.now ≡ None) (λ r. padded_front count bytes.now ≡ Some (r.0.now, r.1.now)) }
+{
+    let front = split_front(bytes, count)?;
+    let zeros = zeros(count);
+    let tail = split_front(front.1, zeros.len())?;
+    if tail.0 == zeros {
+        Some((front.0, tail.1))
+    } else {
+        None
+    }
+}
+
+#[tactic(auto, unfolding(crate::specs::Items::bytes_front, crate::specs::Items::padded_front))]
 /// The item of bytes that a body begins with: they, and the bytes behind it.
 fn bytes_front(body: &[u8]) -> Option<(&[u8], &[u8])>
     ensures { MatchOption result (bytes_front body.now ≡ None) (λ r. bytes_front body.now ≡ Some (r.0.now, r.1.now)) }
@@ -116,14 +131,7 @@ fn bytes_front(body: &[u8]) -> Option<(&[u8], &[u8])>
     if front.0 != descriptor(BYTE_TYPE, BYTE_BITS, number) {
         return None;
     }
-    let bytes = split_front(front.1, number as usize)?;
-    let zeros = zeros(number as usize);
-    let tail = split_front(bytes.1, zeros.len())?;
-    if tail.0 == zeros {
-        Some((bytes.0, tail.1))
-    } else {
-        None
-    }
+    padded_front(front.1, number as usize)
 }
 
 #[tactic(auto, using(crate::proofs::WordsOf::spaced_laws))]

@@ -1,5 +1,5 @@
 ghost use Rattle.std.specs.Prelude.{◌≡◌, ◌<◌, ◌≤◌, ◌^◌};
-ghost use Rattle.script.specs.Numbers.{natural, with_digit, number_of_word};
+ghost use Rattle.script.specs.Numbers.{natural, number_from, with_digit, number_of_word};
 
 /// The number that digits spell, if they are some and it has four bytes.
 fn natural(radix: u32, digits: &[u8]) -> Option<u32>
@@ -10,11 +10,7 @@ fn natural(radix: u32, digits: &[u8]) -> Option<u32>
     if digits.is_empty() {
         return None;
     }
-    let mut number = 0u32;
-    for byte in digits {
-        number = with_digit(radix, number, *byte)?;
-    }
-    Some(number)
+    number_from(radix, digits)
 }
 
 /// A number with one digit more.
@@ -25,6 +21,18 @@ fn with_digit(radix: u32, number: u32, byte: u8) -> Option<u32>
 {
     let digit = char::from(byte).to_digit(radix)?;
     number.checked_mul(radix)?.checked_add(digit)
+}
+
+fn number_from(radix: u32, digits: &[u8]) -> Option<u32>
+    requires low { 2 ≤ radix }
+    requires high { radix ≤ 36 }
+    ensures { result ≡ number_from radix 0 digits.now }
+{
+    let mut number = 0u32;
+    for byte in digits {
+        number = with_digit(radix, number, *byte)?;
+    }
+    Some(number)
 }
 
 /// The number that a word spells: hexadecimal digits behind `0x`, or decimal ones, which may have a `-` in front and
