@@ -1,7 +1,7 @@
 ghost use Rattle.std.specs.Prelude.{◌≡◌, ◌++◌, [], ◌∷◌, ◌||◌, ◌==◌, OnOk, codes};
 ghost use Rattle.std.specs.Option.{option_map};
 ghost use Rattle.script.specs.Reading.{Gives, last};
-ghost use Rattle.script.specs.Replies.{yes_or_no, kind_word, place_words, queue_words, answers_words, status_words, names_words, members_words, outcome_words, message_reply_words, reply_words, result_words, answer_at, kind_at, counts_at, status_at, named_at, member_at, names_at, members_at, received_at, message_reply_at, extracted_at, last_value, results_at, silence, refusal_at, reply_at};
+ghost use Rattle.script.specs.Replies.{yes_or_no, kind_word, place_words, queue_words, answers_words, status_words, names_words, members_words, outcome_words, message_reply_words, reply_words, result_words, answer_at, kind_at, queue_at, counts_at, status_at, named_at, member_at, names_at, members_at, received_at, message_reply_at, extracted_at, last_value, results_at, silence, refusal_at, reply_at};
 ghost use Rattle.script.specs.Spaced.{words_of, spaced};
 
 use crate::bytes::push_bytes;
@@ -235,21 +235,23 @@ fn read_kind(text: &[u8]) -> Result<(RightKind, &[u8]), Fault>
     }
 }
 
-#[tactic(auto, unfolding(crate::specs::Replies::counts_at))]
-/// The state of a port of which the last three answers are still to be read.
-fn read_counts(text: &[u8]) -> Result<(ReceiveStatus, &[u8]), Fault>
-    ensures { Gives (λ r. (r.0, words_of r.1.now)) result (counts_at (words_of text.now)) }
+#[tactic(auto, unfolding(crate::specs::Replies::queue_at))]
+/// The state of a port behind what it tells of its right, its last three answers still to be read.
+fn read_queue(
+    set: u32,
+    sequence_number: u32,
+    make_send_count: u32,
+    text: &[u8],
+) -> Result<(ReceiveStatus, &[u8]), Fault>
+    ensures { Gives (λ r. (r.0, words_of r.1.now)) result (queue_at set sequence_number make_send_count (words_of text.now)) }
 {
-    let set = read_labelled(b"set", Kind::Hexadecimal, text)?;
-    let seqno = read_labelled(b"seqno", Kind::Decimal, set.1)?;
-    let mscount = read_labelled(b"mscount", Kind::Decimal, seqno.1)?;
-    let qlimit = read_labelled(b"qlimit", Kind::Decimal, mscount.1)?;
+    let qlimit = read_labelled(b"qlimit", Kind::Decimal, text)?;
     let messages = read_labelled(b"messages", Kind::Decimal, qlimit.1)?;
     let send_once = read_labelled(b"send_once", Kind::Decimal, messages.1)?;
     let status = ReceiveStatus {
-        set: set.0,
-        sequence_number: seqno.0,
-        make_send_count: mscount.0,
+        set,
+        sequence_number,
+        make_send_count,
         limit: qlimit.0,
         messages: messages.0,
         send_once_count: send_once.0,
@@ -258,6 +260,17 @@ fn read_counts(text: &[u8]) -> Result<(ReceiveStatus, &[u8]), Fault>
         has_no_senders_request: false,
     };
     Ok((status, send_once.1))
+}
+
+#[tactic(auto, unfolding(crate::specs::Replies::counts_at, crate::specs::Replies::queue_at))]
+/// The state of a port of which the last three answers are still to be read.
+fn read_counts(text: &[u8]) -> Result<(ReceiveStatus, &[u8]), Fault>
+    ensures { Gives (λ r. (r.0, words_of r.1.now)) result (counts_at (words_of text.now)) }
+{
+    let set = read_labelled(b"set", Kind::Hexadecimal, text)?;
+    let seqno = read_labelled(b"seqno", Kind::Decimal, set.1)?;
+    let mscount = read_labelled(b"mscount", Kind::Decimal, seqno.1)?;
+    read_queue(set.0, seqno.0, mscount.0, mscount.1)
 }
 
 #[tactic(auto, unfolding(crate::specs::Replies::status_at))]
