@@ -1,4 +1,4 @@
-ghost use Rattle.std.specs.Prelude.{◌≡◌, ◌+◌, ◌≤◌, ◌<◌, ◌++◌, [], ◌∷◌, length, drop, OnOk, IfOk, codes};
+ghost use Rattle.std.specs.Prelude.{◌≡◌, ◌+◌, ◌≤◌, ◌<◌, ◌++◌, [], ◌∷◌, length, drop, OnOk, IfOk};
 ghost use Rattle.byteorder.specs.Endian.{little_number};
 ghost use Rattle.script.specs.Items.{body_words};
 ghost use Rattle.script.specs.Kinds.{value_word};
