@@ -9,7 +9,6 @@ pub mod ReadingAgain
 pub mod RepliesAgain
 pub mod Rows
 pub mod ScriptsAgain
-pub mod Searched
 pub mod Spelled
 pub mod ValuesAgain
 pub mod WordsOf

@@ -170,11 +170,6 @@ words_fit (c ∷ cs) = elim (is_space c) as (λ (b : Bool). length (cond b (word
   ]
 ]
 
--- so many of the bytes in front were counted, which are all before this place
-pub record Counted (p : ℕ → Bool) (count place : ℕ) (text : List ℕ) : Type 0 where
-  pub is : count + prefix_len p (drop place text) ≡ prefix_len p text
-  pub so_far : count ≡ place
-
 -- one word more is passed
 pub column_next : (column left : ℕ) (rest : List ℕ) → 0 < left → (column + word_end rest) + column_of (left - 1) (drop (word_end rest) rest) ≡ column + column_of left rest
 unfolding column_of

@@ -63,11 +63,6 @@ words_front body = word_front body >>? λ w.
     if w.0 == descriptor (w.0 % 0x100) 32 (number_told w.0) then (split_front (4 * number_told w.0) w.1 >>? λ c. Some (w.0 % 0x100, c.0, c.1))
     else None
 
--- so many bytes in front, and what stands behind the zeros that follow them
-unfoldable pub padded_front : ℕ → List ℕ → Option (List ℕ × List ℕ)
-padded_front n bytes =
-    split_front n bytes >>? λ b. split_front (length (zeros n)) b.1 >>? λ z. if bytes_eq z.0 (zeros n) then Some (b.0, z.1) else None
-
 -- an item of bytes: they, and the bytes behind it
 unfoldable pub bytes_front : List ℕ → Option (List ℕ × List ℕ)
 bytes_front body = word_front body >>? λ w.

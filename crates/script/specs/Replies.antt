@@ -99,27 +99,6 @@ kind_at words = elim (label_at (codes "receive") words) [
   ]
 ]
 
--- the state of a port behind what it tells of its right
-unfoldable pub queue_at : ℕ → ℕ → ℕ → List (List ℕ) → Reading (ReceiveStatus × List (List ℕ))
-queue_at set sequence_number make_send_count words = do
-  qlimit ← labelled_at (codes "qlimit") Decimal words
-  messages ← labelled_at (codes "messages") Decimal qlimit.1
-  send_once ← labelled_at (codes "send_once") Decimal messages.1
-  Ok (
-    record {
-      set = set;
-      sequence_number = sequence_number;
-      make_send_count = make_send_count;
-      limit = qlimit.0;
-      messages = messages.0;
-      send_once_count = send_once.0;
-      has_senders = false;
-      has_port_destroyed_request = false;
-      has_no_senders_request = false;
-    },
-    send_once.1,
-  )
-
 unfoldable pub counts_at : List (List ℕ) → Reading (ReceiveStatus × List (List ℕ))
 counts_at words = do
   set ← labelled_at (codes "set") Hexadecimal words

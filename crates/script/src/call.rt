@@ -1,6 +1,6 @@
-ghost use Rattle.std.specs.Prelude.{◌≡◌, ◌++◌, ◌∷◌, [], OnOk, MatchOption};
+ghost use Rattle.std.specs.Prelude.{◌≡◌, ◌++◌, ◌∷◌, [], OnOk};
 ghost use Rattle.ipc_model.specs.declared.call.Call.TheVariants as call_variants;
-ghost use Rattle.script.specs.Calls.{verb_of, receive_words, pair_words, argument_words, receive_at, behind_at, call_at};
+ghost use Rattle.script.specs.Calls.{verb_of, receive_words, pair_words, argument_words, receive_at, send_at, behind_at, call_at};
 ghost use Rattle.script.specs.Kinds.{value_word};
 ghost use Rattle.script.specs.Reading.{Gives};
 ghost use Rattle.script.specs.Spaced.{words_of, spaced};
@@ -89,22 +89,11 @@ fn push_notification(
     )
 }
 
-/// The arguments of a call that has two, a name in front: the name, and how the other is spelled.
-fn pair_of(call: &Call) -> Option<(u32, Kind, u32)>
-    ensures { MatchOption result (pair_words call.now ≡ []) (λ r. pair_words call.now ≡ value_word Kind.Hexadecimal r.0 ∷ value_word r.1 r.2 ∷ []) }
+/// Adds a name and another number.
+fn push_name_and(line: &mut Vec<u8>, name: u32, kind: Kind, number: u32) -> Result<(), AllocError>
+    ensures { OnOk result (line.new.items ≡ line.old.items ++ spaced (value_word Kind.Hexadecimal name ∷ value_word kind number ∷ [])) }
 {
-    Some(match call {
-        Call::Rename { from, to } => (*from, Kind::Hexadecimal, *to),
-        Call::GetRefs { name, right } => (*name, Kind::Right, *right),
-        Call::SetQlimit { name, limit } => (*name, Kind::Decimal, *limit),
-        Call::SetMscount { name, count } => (*name, Kind::Decimal, *count),
-        Call::SetSeqno { name, seqno } => (*name, Kind::Decimal, *seqno),
-        Call::MoveMember { member, after } => (*member, Kind::Hexadecimal, *after),
-        Call::ExtractRight { name, disposition } | Call::SpaceCreate { name, disposition } => {
-            (*name, Kind::Disposition, *disposition)
-        }
-        _ => return None,
-    })
+    push_two(line, (Kind::Hexadecimal, name), (kind, number))
 }
 
 #[tactic(auto, using(crate::proofs::WordsOf::spaced_laws))]
@@ -112,10 +101,34 @@ fn pair_of(call: &Call) -> Option<(u32, Kind, u32)>
 fn push_pair(line: &mut Vec<u8>, call: &Call) -> Result<(), AllocError>
     ensures { OnOk result (line.new.items ≡ line.old.items ++ spaced (pair_words call.now)) }
 {
-    match pair_of(call) {
-        Some((name, kind, number)) => push_two(line, (Kind::Hexadecimal, name), (kind, number)),
-        None => Ok(()),
+    match call {
+        Call::Rename { from, to } => push_name_and(line, *from, Kind::Hexadecimal, *to),
+        Call::GetRefs { name, right } => push_name_and(line, *name, Kind::Right, *right),
+        Call::SetQlimit { name, limit } => push_name_and(line, *name, Kind::Decimal, *limit),
+        Call::SetMscount { name, count } => push_name_and(line, *name, Kind::Decimal, *count),
+        Call::SetSeqno { name, seqno } => push_name_and(line, *name, Kind::Decimal, *seqno),
+        Call::MoveMember { member, after } => {
+            push_name_and(line, *member, Kind::Hexadecimal, *after)
+        }
+        Call::ExtractRight { name, disposition } | Call::SpaceCreate { name, disposition } => {
+            push_name_and(line, *name, Kind::Disposition, *disposition)
+        }
+        _ => Ok(()),
     }
+}
+
+#[tactic(auto, using(crate::proofs::WordsOf::spaced_laws))]
+/// Adds the words of the arguments of an insertion of a right.
+fn push_insertion(
+    line: &mut Vec<u8>,
+    name: u32,
+    right_name: u32,
+    disposition: u32,
+) -> Result<(), AllocError>
+    ensures { OnOk result (line.new.items ≡ line.old.items ++ spaced (argument_words (call_variants.InsertRight name right_name disposition))) }
+{
+    push_name_and(line, name, Kind::Hexadecimal, right_name)?;
+    push_value(line, Kind::Disposition, disposition)
 }
 
 #[tactic(auto, using(crate::proofs::WordsOf::spaced_laws))]
@@ -135,12 +148,10 @@ fn push_arguments(line: &mut Vec<u8>, call: &Call) -> Result<(), AllocError>
         Call::AllocateName { right, name } => {
             push_two(line, (Kind::Right, *right), (Kind::Hexadecimal, *name))
         }
-        Call::ModRefs { name, right, delta } => push_three(
-            line,
-            (Kind::Hexadecimal, *name),
-            (Kind::Right, *right),
-            (Kind::Signed, *delta),
-        ),
+        Call::ModRefs { name, right, delta } => {
+            push_name_and(line, *name, Kind::Right, *right)?;
+            push_value(line, Kind::Signed, *delta)
+        }
         Call::RequestNotification {
             name,
             variant,
@@ -152,12 +163,7 @@ fn push_arguments(line: &mut Vec<u8>, call: &Call) -> Result<(), AllocError>
             name,
             right_name,
             disposition,
-        } => push_three(
-            line,
-            (Kind::Hexadecimal, *name),
-            (Kind::Hexadecimal, *right_name),
-            (Kind::Disposition, *disposition),
-        ),
+        } => push_insertion(line, *name, *right_name, *disposition),
         Call::Send { message } => push_message(line, message.as_slice()),
         Call::Receive {
             limit,
@@ -183,30 +189,36 @@ pub(crate) fn push_call_words(line: &mut Vec<u8>, call: &Call) -> Result<(), All
 fn read_receive(text: &[u8]) -> Result<(Call, &[u8]), Fault>
     ensures { Gives (λ r. (r.0, words_of r.1.now)) result (receive_at (words_of text.now)) }
 {
-    let name = read_value(Kind::Hexadecimal, text)?;
-    let limit = read_labelled(b"limit", Kind::Decimal, name.1)?;
-    let large = read_flag(b"large", limit.1);
-    let waited = read_flag(b"waited", large.1);
+    let (name, rest) = read_value(Kind::Hexadecimal, text)?;
+    let (limit, rest) = read_labelled(b"limit", Kind::Decimal, rest)?;
+    let (large, rest) = read_flag(b"large", rest);
+    let (waited, rest) = read_flag(b"waited", rest);
     let call = Call::Receive {
-        limit: limit.0,
-        large: large.0,
-        name: name.0,
-        waited: waited.0,
+        limit,
+        large,
+        name,
+        waited,
     };
-    Ok((call, waited.1))
+    Ok((call, rest))
 }
 
-#[tactic(auto, unfolding(crate::specs::Calls::behind_at, crate::specs::Calls::send_at))]
+#[tactic(auto, unfolding(crate::specs::Calls::send_at))]
+/// The send whose message is in front.
+fn read_send(alloc: Global, text: &[u8]) -> Result<(Call, &[u8]), Fault>
+    ensures { Gives (λ r. (r.0, words_of r.1.now)) result (send_at (words_of text.now)) }
+{
+    let (message, rest) = read_message(alloc, text)?;
+    let message = Sequence::new(message);
+    Ok((Call::Send { message }, rest))
+}
+
+#[tactic(auto, unfolding(crate::specs::Calls::behind_at))]
 /// The call of a verb whose arguments are in front.
 fn read_behind(alloc: Global, verb: Verb, text: &[u8]) -> Result<(Call, &[u8]), Fault>
     ensures { Gives (λ r. (r.0, words_of r.1.now)) result (behind_at verb (words_of text.now)) }
 {
     match verb {
-        Verb::Send => {
-            let (message, rest) = read_message(alloc, text)?;
-            let message = Sequence::new(message);
-            Ok((Call::Send { message }, rest))
-        }
+        Verb::Send => read_send(alloc, text),
         Verb::Receive => read_receive(text),
         _ => read_plain(verb, text),
     }

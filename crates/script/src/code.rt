@@ -4,7 +4,7 @@ ghost use Rattle.script.specs.Codes.{code_word, all_codes};
 
 use codes::KernReturn;
 
-static ALL_CODES: [KernReturn; 31] = [
+const ALL_CODES: [KernReturn; 31] = [
     KernReturn::Success,
     KernReturn::NoSpace,
     KernReturn::InvalidArgument,
@@ -81,10 +81,8 @@ pub(crate) fn code_word(code: KernReturn) -> &'static [u8]
 pub(crate) fn code_of_word(word: &[u8]) -> Option<KernReturn>
     ensures { result ≡ find (λ code. bytes_eq (code_word code) word.now) all_codes }
 {
-    for code in &ALL_CODES {
-        if code_word(*code) == word {
-            return Some(*code);
-        }
-    }
-    None
+    ALL_CODES
+        .iter()
+        .copied()
+        .find(|code| code_word(*code) == word)
 }

@@ -52,7 +52,7 @@ impl fmt::Display for Expected {
 }
 
 /// Why a line can't be read.
-#[derive(Clone, Copy, Debug)]
+#[derive(Clone, Copy, Debug, PartialEq, Eq)]
 pub enum LineFault {
     /// Behind so many bytes of the line something else was expected.
     Unreadable {
@@ -79,7 +79,7 @@ impl fmt::Display for LineFault {
 impl Error for LineFault {}
 
 /// Why a script can't be read.
-#[derive(Clone, Copy, Debug)]
+#[derive(Clone, Copy, Debug, PartialEq, Eq)]
 pub struct ScriptFault {
     /// The number of the line, from 1.
     pub line: usize,

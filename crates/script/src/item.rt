@@ -2,7 +2,7 @@ ghost use Rattle.std.specs.Prelude.{◌≡◌, ◌<◌, ◌≤◌, ◌++◌, ◌
 ghost use Rattle.std.specs.Option.{option_map};
 ghost use Rattle.ipc_model.specs.messages.Items.{item_text};
 ghost use Rattle.script.specs.Bytes.{optional_bytes_at};
-ghost use Rattle.script.specs.Items.{words_item, bytes_item, zeros, element_kind, words_item_words, word_front, split_front, padded_front, descriptor, number_told, numbers_in, words_front, bytes_front, item_front, body_words, numbers_at, words_item_at, bytes_item_at, item_at, behind_bytes, body_at, AddsItem};
+ghost use Rattle.script.specs.Items.{words_item, bytes_item, zeros, element_kind, words_item_words, bytes_item_words, word_front, split_front, descriptor, number_told, numbers_in, words_front, bytes_front, item_front, body_words, numbers_at, words_item_at, bytes_item_at, item_at, behind_bytes, body_at, AddsItem};
 ghost use Rattle.script.specs.Kinds.{value_word};
 ghost use Rattle.script.specs.Reading.{Gives};
 ghost use Rattle.script.specs.Spaced.{words_of, spaced};
@@ -96,42 +96,34 @@ fn split_front(bytes: &[u8], count: usize) -> Option<(&[u8], &[u8])>
 fn words_front(body: &[u8]) -> Option<(u32, &[u8], &[u8])>
     ensures { MatchOption result (words_front body.now ≡ None) (λ r. words_front body.now ≡ Some (r.0, r.1.now, r.2.now)) }
 {
-    let front = word_front(body)?;
-    let type_name = front.0 % 0x100;
-    let number = number_told(front.0);
-    if front.0 != descriptor(type_name, WORD_BITS, number) {
+    let (word, behind) = word_front(body)?;
+    let type_name = word % 0x100;
+    let number = number_told(word);
+    if word != descriptor(type_name, WORD_BITS, number) {
         return None;
     }
-    let content = split_front(front.1, 4 * number as usize)?;
-    Some((type_name, content.0, content.1))
+    let (content, behind) = split_front(behind, 4 * number as usize)?;
+    Some((type_name, content, behind))
 }
 
-#[tactic(auto, unfolding(crate::specs::Items::padded_front))]
-/// So many bytes in front, and what stands behind their zeros.
-fn padded_front(bytes: &[u8], count: usize) -> Option<(&[u8], &[u8])>
-    ensures { MatchOption result (padded_front count bytes.now ≡ None) (λ r. padded_front count bytes.now ≡ Some (r.0.now, r.1.now)) }
-{
-    let front = split_front(bytes, count)?;
-    let zeros = zeros(count);
-    let tail = split_front(front.1, zeros.len())?;
-    if tail.0 == zeros {
-        Some((front.0, tail.1))
-    } else {
-        None
-    }
-}
-
-#[tactic(auto, unfolding(crate::specs::Items::bytes_front, crate::specs::Items::padded_front))]
+#[tactic(auto, unfolding(crate::specs::Items::bytes_front))]
 /// The item of bytes that a body begins with: they, and the bytes behind it.
 fn bytes_front(body: &[u8]) -> Option<(&[u8], &[u8])>
     ensures { MatchOption result (bytes_front body.now ≡ None) (λ r. bytes_front body.now ≡ Some (r.0.now, r.1.now)) }
 {
-    let front = word_front(body)?;
-    let number = number_told(front.0);
-    if front.0 != descriptor(BYTE_TYPE, BYTE_BITS, number) {
+    let (word, behind) = word_front(body)?;
+    let number = number_told(word);
+    if word != descriptor(BYTE_TYPE, BYTE_BITS, number) {
         return None;
     }
-    padded_front(front.1, number as usize)
+    let (bytes, behind) = split_front(behind, number as usize)?;
+    let zeros = zeros(number as usize);
+    let (tail, behind) = split_front(behind, zeros.len())?;
+    if tail == zeros {
+        Some((bytes, behind))
+    } else {
+        None
+    }
 }
 
 #[tactic(auto, using(crate::proofs::WordsOf::spaced_laws))]
@@ -157,7 +149,17 @@ fn push_words_item(line: &mut Vec<u8>, type_name: u32, bytes: &[u8]) -> Result<(
     push_numbers(line, element_kind(type_name), bytes)
 }
 
-#[tactic(auto, using(crate::proofs::WordsOf::spaced_laws), unfolding(crate::specs::Items::item_front, crate::specs::Items::bytes_item_words))]
+#[tactic(auto, using(crate::proofs::WordsOf::spaced_laws), unfolding(crate::specs::Items::bytes_item_words))]
+/// Adds an item of bytes.
+fn push_bytes_item(line: &mut Vec<u8>, bytes: &[u8]) -> Result<(), AllocError>
+    ensures { OnOk result (line.new.items ≡ line.old.items ++ spaced (bytes_item_words bytes.now)) }
+{
+    push_spaced(line, b"item")?;
+    push_spaced(line, b"bytes")?;
+    push_bytes(line, bytes)
+}
+
+#[tactic(auto, unfolding(crate::specs::Items::item_front))]
 /// Adds the item that a body begins with, if it has a form, and gives the bytes behind it.
 fn push_item<'a>(line: &mut Vec<u8>, body: &'a [u8]) -> Result<Option<&'a [u8]>, AllocError>
     ensures { IfOk result (λ told. AddsItem line.old.items line.new.items (option_map (λ behind. behind.now) told) (item_front body.now)) }
@@ -167,9 +169,7 @@ fn push_item<'a>(line: &mut Vec<u8>, body: &'a [u8]) -> Result<Option<&'a [u8]>,
         return Ok(Some(behind));
     }
     if let Some((bytes, behind)) = bytes_front(body) {
-        push_spaced(line, b"item")?;
-        push_spaced(line, b"bytes")?;
-        push_bytes(line, bytes)?;
+        push_bytes_item(line, bytes)?;
         return Ok(Some(behind));
     }
     Ok(None)
@@ -207,7 +207,7 @@ fn read_numbers(alloc: Global, text: &[u8]) -> Result<(Vec<u32>, &[u8]), Fault>
 }
 
 /// Adds numbers, four bytes each.
-pub(crate) fn push_words(out: &mut Vec<u8>, numbers: &[u32]) -> Result<(), AllocError>
+fn push_words(out: &mut Vec<u8>, numbers: &[u32]) -> Result<(), AllocError>
     ensures { OnOk result (out.new.items ≡ out.old.items ++ flat_map word numbers.now) }
 {
     let mut rest = numbers;
@@ -253,12 +253,12 @@ fn bytes_item(alloc: Global, bytes: &[u8]) -> Result<Vec<u8>, AllocError>
 fn read_words_item(alloc: Global, text: &[u8]) -> Result<(Vec<u8>, &[u8]), Fault>
     ensures { Gives (λ r. (r.0.items, words_of r.1.now)) result (words_item_at (words_of text.now)) }
 {
-    let type_name = read_bounded(Expected::Item, Kind::Element, 0x100, text)?;
-    let (numbers, rest) = read_numbers(alloc, type_name.1)?;
+    let (type_name, rest) = read_bounded(Expected::Item, Kind::Element, 0x100, text)?;
+    let (numbers, rest) = read_numbers(alloc, rest)?;
     if numbers.len() >= ELEMENTS_END {
         return Err(Fault::expected(Expected::Item, text));
     }
-    match words_item(alloc, type_name.0, numbers.as_slice()) {
+    match words_item(alloc, type_name, numbers.as_slice()) {
         Ok(item) => Ok((item, rest)),
         Err(_) => Err(Fault::NoMemory),
     }

@@ -1,7 +1,7 @@
 ghost use Rattle.std.specs.Prelude.{◌≡◌, ◌∷◌, [], ◌++◌, ◌<◌, ◌^◌, find, OnOk, IfOk, map};
 ghost use Rattle.std.specs.Option.{option_copied};
 ghost use Rattle.std.specs.String.{string_bytes};
-ghost use Rattle.script.specs.Kinds.{is_name, name_of, number_text, all_named, value_word, read_word};
+ghost use Rattle.script.specs.Kinds.{begins_with_letter, is_name, name_of, number_text, all_named, value_word, read_word};
 ghost use Rattle.script.specs.Spaced.{spaced};
 
 use crate::number::number_of_word;
@@ -30,7 +30,7 @@ pub(crate) enum Kind {
 }
 
 /// Each number that a word stands for, of any kind.
-static ALL_NAMED: [u32; 14] = [0, 1, 2, 3, 4, 16, 17, 18, 19, 20, 21, 69, 70, 72];
+const ALL_NAMED: [u32; 14] = [0, 1, 2, 3, 4, 16, 17, 18, 19, 20, 21, 69, 70, 72];
 
 impl Kind {
     /// The word that stands for a number.
@@ -38,25 +38,10 @@ impl Kind {
         ensures { option_copied result ≡ name_of self number }
     {
         match self {
-            Kind::Right => match number {
-                0 => Some(b"send"),
-                1 => Some(b"receive"),
-                2 => Some(b"send_once"),
-                3 => Some(b"port_set"),
-                4 => Some(b"dead_name"),
-                _ => None,
-            },
+            Kind::Right => right_name(number),
             Kind::Disposition => disposition_name(number),
-            Kind::Notification => match number {
-                69 => Some(b"port_destroyed"),
-                70 => Some(b"no_senders"),
-                72 => Some(b"dead_name"),
-                _ => None,
-            },
-            Kind::Element => match number {
-                2 => Some(b"words"),
-                _ => disposition_name(number),
-            },
+            Kind::Notification => notification_name(number),
+            Kind::Element => element_name(number),
             _ => None,
         }
     }
@@ -75,12 +60,10 @@ impl Kind {
     fn number_named(self, word: &[u8]) -> Option<u32>
         ensures { result ≡ find (λ number. is_name self word.now number) all_named }
     {
-        for number in &ALL_NAMED {
-            if self.is_name(*number, word) {
-                return Some(*number);
-            }
-        }
-        None
+        ALL_NAMED
+            .iter()
+            .copied()
+            .find(|number| self.is_name(*number, word))
     }
 
     #[tactic(auto, unfolding(crate::specs::Kinds::read_word))]
@@ -88,14 +71,10 @@ impl Kind {
     pub(crate) fn read_word(self, word: &[u8]) -> Option<u32>
         ensures { result ≡ read_word self word.now }
     {
-        match word {
-            [first, ..] => {
-                if *first < b'a' {
-                    return number_of_word(word);
-                }
-                self.number_named(word)
-            }
-            [] => None,
+        if begins_with_letter(word) {
+            self.number_named(word)
+        } else {
+            number_of_word(word)
         }
     }
 
@@ -111,6 +90,19 @@ impl Kind {
     }
 }
 
+fn right_name(number: u32) -> Option<&'static [u8]>
+    ensures { option_copied result ≡ name_of Kind.Right number }
+{
+    match number {
+        0 => Some(b"send"),
+        1 => Some(b"receive"),
+        2 => Some(b"send_once"),
+        3 => Some(b"port_set"),
+        4 => Some(b"dead_name"),
+        _ => None,
+    }
+}
+
 fn disposition_name(number: u32) -> Option<&'static [u8]>
     ensures { option_copied result ≡ name_of Kind.Disposition number }
 {
@@ -122,6 +114,41 @@ fn disposition_name(number: u32) -> Option<&'static [u8]>
         20 => Some(b"make_send"),
         21 => Some(b"make_send_once"),
         _ => None,
+    }
+}
+
+fn element_name(number: u32) -> Option<&'static [u8]>
+    ensures { option_copied result ≡ name_of Kind.Element number }
+{
+    match number {
+        2 => Some(b"words"),
+        16 => Some(b"move_receive"),
+        17 => Some(b"move_send"),
+        18 => Some(b"move_send_once"),
+        19 => Some(b"copy_send"),
+        20 => Some(b"make_send"),
+        21 => Some(b"make_send_once"),
+        _ => None,
+    }
+}
+
+fn notification_name(number: u32) -> Option<&'static [u8]>
+    ensures { option_copied result ≡ name_of Kind.Notification number }
+{
+    match number {
+        69 => Some(b"port_destroyed"),
+        70 => Some(b"no_senders"),
+        72 => Some(b"dead_name"),
+        _ => None,
+    }
+}
+
+fn begins_with_letter(word: &[u8]) -> bool
+    ensures { result ≡ begins_with_letter word.now }
+{
+    match word {
+        [first, ..] => *first >= b'a',
+        [] => false,
     }
 }
 

@@ -1,5 +1,6 @@
-ghost use Rattle.std.specs.Prelude.{◌≡◌, ◌+◌, ◌≤◌, ◌<◌, ◌++◌, [], ◌∷◌, length, drop, OnOk, IfOk};
+ghost use Rattle.std.specs.Prelude.{◌≡◌, ◌+◌, ◌≤◌, ◌<◌, ◌++◌, [], ◌∷◌, length, drop, OnOk, IfOk, codes};
 ghost use Rattle.byteorder.specs.Endian.{little_number};
+ghost use Rattle.script.specs.Bytes.{bytes_word};
 ghost use Rattle.script.specs.Items.{body_words};
 ghost use Rattle.script.specs.Kinds.{value_word};
 ghost use Rattle.script.specs.Messages.{header_of, header_text, message_words, header_words, local_words, optional_words, flag_words, further_at, rights_at, local_at, bits_of, message_at, header_at};
@@ -8,7 +9,7 @@ ghost use Rattle.script.specs.Spaced.{words_of, spaced};
 
 use crate::bytes::{push_bytes, read_bytes};
 use crate::fault::{Expected, Fault};
-use crate::item::{push_body, push_words, read_body};
+use crate::item::{push_body, read_body};
 use crate::kind::{Kind, push_value};
 use crate::spaced::push_spaced;
 use crate::values::{
@@ -17,6 +18,7 @@ use crate::values::{
 use byteorder::{ByteOrder, LittleEndian};
 use codes::HEADER_LENGTH;
 use std::alloc::{AllocError, Global};
+use words::push_word;
 
 /// The words of a message's header.
 #[derive(Clone, Copy)]
@@ -68,19 +70,26 @@ fn push_whole(line: &mut Vec<u8>, message: &[u8]) -> Result<(), AllocError>
     ensures { OnOk result (line.new.items ≡ line.old.items ++ spaced (header_words (header_of message.now) ++ body_words (drop 24 message.now))) }
 {
     let header = header_of(message);
-    let (_, body) = message.split_at(HEADER_LENGTH);
     push_header(line, &header)?;
-    push_body(line, body)
+    push_body(line, &message[HEADER_LENGTH..])
 }
 
-#[tactic(auto, using(crate::proofs::WordsOf::spaced_laws), unfolding(crate::specs::Messages::message_words))]
+#[tactic(auto, using(crate::proofs::WordsOf::spaced_laws))]
+/// Adds all bytes of a message.
+fn push_short(line: &mut Vec<u8>, message: &[u8]) -> Result<(), AllocError>
+    ensures { OnOk result (line.new.items ≡ line.old.items ++ spaced (codes "bytes" ∷ bytes_word message.now ∷ [])) }
+{
+    push_spaced(line, b"bytes")?;
+    push_bytes(line, message)
+}
+
+#[tactic(auto, unfolding(crate::specs::Messages::message_words))]
 /// Adds the words of a message. Where memory is wanted some may have been added.
 pub(crate) fn push_message(line: &mut Vec<u8>, message: &[u8]) -> Result<(), AllocError>
     ensures { OnOk result (line.new.items ≡ line.old.items ++ spaced (message_words message.now)) }
 {
     if message.len() < HEADER_LENGTH {
-        push_spaced(line, b"bytes")?;
-        push_bytes(line, message)
+        push_short(line, message)
     } else {
         push_whole(line, message)
     }
@@ -92,11 +101,8 @@ fn push_header(line: &mut Vec<u8>, header: &Header) -> Result<(), AllocError>
     ensures { OnOk result (line.new.items ≡ line.old.items ++ spaced (header_words header.now)) }
 {
     let bits = header.bits;
-    push_two(
-        line,
-        (Kind::Disposition, bits % 0x100),
-        (Kind::Hexadecimal, header.remote),
-    )?;
+    push_value(line, Kind::Disposition, bits % 0x100)?;
+    push_value(line, Kind::Hexadecimal, header.remote)?;
     push_local(line, bits / 0x100 % 0x100, header.local)?;
     push_labelled(line, b"id", Kind::Decimal, header.id)?;
     push_flag(line, b"complex", bits >= 0x8000_0000)?;
@@ -183,9 +189,9 @@ fn read_local(text: &[u8]) -> Result<(u32, u32, &[u8]), Fault>
     let Some(text) = behind_label(b"local", text) else {
         return Ok((0, 0, text));
     };
-    let disposition = read_bounded(Expected::Number, Kind::Disposition, 0x100, text)?;
-    let name = read_value(Kind::Hexadecimal, disposition.1)?;
-    Ok((disposition.0, name.0, name.1))
+    let (disposition, rest) = read_bounded(Expected::Number, Kind::Disposition, 0x100, text)?;
+    let (name, rest) = read_value(Kind::Hexadecimal, rest)?;
+    Ok((disposition, name, rest))
 }
 
 #[tactic(auto, unfolding(crate::specs::Messages::rights_at))]
@@ -194,16 +200,21 @@ fn read_rights(text: &[u8]) -> Result<(Rights, &[u8]), Fault>
     ensures read { Gives (λ r. (r.0, words_of r.1.now)) result (rights_at (words_of text.now)) }
     ensures small { IfOk result (λ r. (r.0.remote_disposition < 0x100) × (r.0.local_disposition < 0x100)) }
 {
-    let disposition = read_bounded(Expected::Message, Kind::Disposition, 0x100, text)?;
-    let remote = read_value(Kind::Hexadecimal, disposition.1)?;
-    let local = read_local(remote.1)?;
+    let (remote_disposition, rest) = read_bounded(
+        Expected::Message,
+        Kind::Disposition,
+        0x100,
+        text,
+    )?;
+    let (remote, rest) = read_value(Kind::Hexadecimal, rest)?;
+    let (local_disposition, local, rest) = read_local(rest)?;
     let rights = Rights {
-        remote_disposition: disposition.0,
-        remote: remote.0,
-        local_disposition: local.0,
-        local: local.1,
+        remote_disposition,
+        remote,
+        local_disposition,
+        local,
     };
-    Ok((rights, local.2))
+    Ok((rights, rest))
 }
 
 /// The bits of a header.
@@ -223,20 +234,20 @@ fn read_header(text: &[u8]) -> Result<(Header, &[u8]), Fault>
     ensures { Gives (λ r. (r.0, words_of r.1.now)) result (header_at (words_of text.now)) }
 {
     let (rights, rest) = read_rights(text)?;
-    let id = read_labelled(b"id", Kind::Decimal, rest)?;
-    let complex = read_flag(b"complex", id.1);
-    let further = read_further(complex.1)?;
-    let size = read_optional(b"size", Kind::Decimal, further.1)?;
-    let seqno = read_optional(b"seqno", Kind::Decimal, size.1)?;
+    let (id, rest) = read_labelled(b"id", Kind::Decimal, rest)?;
+    let (complex, rest) = read_flag(b"complex", rest);
+    let (further, rest) = read_further(rest)?;
+    let (size, rest) = read_optional(b"size", Kind::Decimal, rest)?;
+    let (seqno, rest) = read_optional(b"seqno", Kind::Decimal, rest)?;
     let header = Header {
-        bits: bits_of(rights, further.0, complex.0),
-        size: size.0,
+        bits: bits_of(rights, further, complex),
+        size,
         remote: rights.remote,
         local: rights.local,
-        seqno: seqno.0,
-        id: id.0,
+        seqno,
+        id,
     };
-    Ok((header, seqno.1))
+    Ok((header, rest))
 }
 
 #[tactic(auto, unfolding(crate::specs::Messages::header_text))]
@@ -245,17 +256,12 @@ fn message_of(alloc: Global, header: &Header, body: &[u8]) -> Result<Vec<u8>, Al
     ensures { IfOk result (λ message. message.items ≡ header_text header.now body.now) }
 {
     let mut message = Vec::new(alloc);
-    push_words(
-        &mut message,
-        &[
-            header.bits,
-            header.size,
-            header.remote,
-            header.local,
-            header.seqno,
-            header.id,
-        ],
-    )?;
+    push_word(&mut message, header.bits)?;
+    push_word(&mut message, header.size)?;
+    push_word(&mut message, header.remote)?;
+    push_word(&mut message, header.local)?;
+    push_word(&mut message, header.seqno)?;
+    push_word(&mut message, header.id)?;
     message.extend_from_slice(body)?;
     Ok(message)
 }

@@ -40,14 +40,12 @@ fn number_from(radix: u32, digits: &[u8]) -> Option<u32>
 pub(crate) fn number_of_word(word: &[u8]) -> Option<u32>
     ensures { result ≡ number_of_word word.now }
 {
-    if let Some(digits) = word.strip_prefix(b"0x") {
-        return natural(16, digits);
-    }
-    match word.strip_prefix(b"-") {
-        Some(digits) => {
-            let below = natural(10, digits)?;
-            Some(below.wrapping_neg())
-        }
-        None => natural(10, word),
+    if word.starts_with(b"0x") {
+        natural(16, &word[2..])
+    } else if word.starts_with(b"-") {
+        let below = natural(10, &word[1..])?;
+        Some(below.wrapping_neg())
+    } else {
+        natural(10, word)
     }
 }

@@ -1,5 +1,5 @@
 ghost use Rattle.std.specs.Prelude.{◌≡◌};
-ghost use Rattle.script.specs.Plain.{kinds_of, short_call, pair_call, long_call, plain_call, arguments_at, plain_at};
+ghost use Rattle.script.specs.Plain.{three_kinds, kinds_of, short_call, pair_call, long_call, plain_call, arguments_at, plain_at};
 ghost use Rattle.script.specs.Reading.{Gives};
 ghost use Rattle.script.specs.Spaced.{words_of};
 
@@ -29,20 +29,36 @@ pub(crate) struct Arguments {
     pub(crate) fifth: u32,
 }
 
+fn three_kinds(first: Kind, second: Kind, third: Kind) -> Kinds
+    ensures { result ≡ three_kinds first second third }
+{
+    Kinds {
+        first,
+        second,
+        third,
+        fourth: Kind::Absent,
+        fifth: Kind::Absent,
+    }
+}
+
+fn kinds_of_notification() -> Kinds
+    ensures { result ≡ kinds_of Verb.RequestNotification }
+{
+    Kinds {
+        first: Kind::Hexadecimal,
+        second: Kind::Notification,
+        third: Kind::Decimal,
+        fourth: Kind::Hexadecimal,
+        fifth: Kind::Disposition,
+    }
+}
+
 /// The kinds of a call's arguments, of each but those of `mach_msg`.
 fn kinds_of(verb: Verb) -> Kinds
     ensures { result ≡ kinds_of verb }
 {
     let (first, second, third) = match verb {
-        Verb::RequestNotification => {
-            return Kinds {
-                first: Kind::Hexadecimal,
-                second: Kind::Notification,
-                third: Kind::Decimal,
-                fourth: Kind::Hexadecimal,
-                fifth: Kind::Disposition,
-            };
-        }
+        Verb::RequestNotification => return kinds_of_notification(),
         Verb::Attach => (Kind::Decimal, Kind::Absent, Kind::Absent),
         Verb::Allocate => (Kind::Right, Kind::Absent, Kind::Absent),
         Verb::Type
@@ -65,32 +81,26 @@ fn kinds_of(verb: Verb) -> Kinds
             (Kind::Absent, Kind::Absent, Kind::Absent)
         }
     };
-    Kinds {
-        first,
-        second,
-        third,
-        fourth: Kind::Absent,
-        fifth: Kind::Absent,
-    }
+    three_kinds(first, second, third)
 }
 
 #[tactic(auto, unfolding(crate::specs::Plain::arguments_at))]
 fn read_arguments(kinds: Kinds, text: &[u8]) -> Result<(Arguments, &[u8]), Fault>
     ensures { Gives (λ r. (r.0, words_of r.1.now)) result (arguments_at kinds (words_of text.now)) }
 {
-    let first = read_value(kinds.first, text)?;
-    let second = read_value(kinds.second, first.1)?;
-    let third = read_value(kinds.third, second.1)?;
-    let fourth = read_value(kinds.fourth, third.1)?;
-    let fifth = read_value(kinds.fifth, fourth.1)?;
+    let (first, rest) = read_value(kinds.first, text)?;
+    let (second, rest) = read_value(kinds.second, rest)?;
+    let (third, rest) = read_value(kinds.third, rest)?;
+    let (fourth, rest) = read_value(kinds.fourth, rest)?;
+    let (fifth, rest) = read_value(kinds.fifth, rest)?;
     let arguments = Arguments {
-        first: first.0,
-        second: second.0,
-        third: third.0,
-        fourth: fourth.0,
-        fifth: fifth.0,
+        first,
+        second,
+        third,
+        fourth,
+        fifth,
     };
-    Ok((arguments, fifth.1))
+    Ok((arguments, rest))
 }
 
 /// The call of one argument or none.

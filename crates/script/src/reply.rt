@@ -1,7 +1,7 @@
-ghost use Rattle.std.specs.Prelude.{◌≡◌, ◌++◌, [], ◌∷◌, OnOk, codes};
+ghost use Rattle.std.specs.Prelude.{◌≡◌, ◌++◌, [], ◌∷◌, ◌||◌, ◌==◌, OnOk, codes};
 ghost use Rattle.std.specs.Option.{option_map};
 ghost use Rattle.script.specs.Reading.{Gives, last};
-ghost use Rattle.script.specs.Replies.{yes_or_no, kind_word, place_words, queue_words, answers_words, status_words, names_words, members_words, outcome_words, message_reply_words, reply_words, result_words, answer_at, kind_at, queue_at, counts_at, status_at, named_at, member_at, names_at, members_at, received_at, message_reply_at, extracted_at, last_value, results_at, silence, refusal_at, reply_at};
+ghost use Rattle.script.specs.Replies.{yes_or_no, kind_word, place_words, queue_words, answers_words, status_words, names_words, members_words, outcome_words, message_reply_words, reply_words, result_words, yes_or_no_at, answer_at, kind_at, counts_at, status_at, named_at, member_at, names_at, members_at, received_at, message_reply_at, extracted_at, space_created_at, last_value, last_status_at, results_at, has_results, silence, refusal_at, reply_at};
 ghost use Rattle.script.specs.Spaced.{words_of, spaced};
 
 use crate::bytes::push_bytes;
@@ -15,6 +15,13 @@ use codes::{KernReturn, MACH_MSG};
 use ipc_model::{NamedType, ReceiveStatus, Reply, RightKind, Sequence};
 use std::alloc::{AllocError, Global};
 
+#[tactic(auto, unfolding(crate::specs::Replies::yes_or_no))]
+fn yes_or_no(holds: bool) -> &'static [u8]
+    ensures { result.now ≡ yes_or_no holds }
+{
+    if holds { b"yes" } else { b"no" }
+}
+
 fn kind_word(kind: RightKind) -> &'static [u8]
     ensures { result.now ≡ kind_word kind }
 {
@@ -25,16 +32,12 @@ fn kind_word(kind: RightKind) -> &'static [u8]
     }
 }
 
-#[tactic(auto, using(crate::proofs::WordsOf::spaced_laws), unfolding(crate::specs::Replies::yes_or_no))]
+#[tactic(auto, using(crate::proofs::WordsOf::spaced_laws))]
 fn push_answer(line: &mut Vec<u8>, label: &[u8], holds: bool) -> Result<(), AllocError>
     ensures { OnOk result (line.new.items ≡ line.old.items ++ spaced (label.now ∷ yes_or_no holds ∷ [])) }
 {
     push_spaced(line, label)?;
-    if holds {
-        push_spaced(line, b"yes")
-    } else {
-        push_spaced(line, b"no")
-    }
+    push_spaced(line, yes_or_no(holds))
 }
 
 #[tactic(auto, using(crate::proofs::WordsOf::spaced_laws))]
@@ -203,19 +206,26 @@ fn last<X: Drop>(found: X, text: &[u8]) -> Result<X, Fault>
     }
 }
 
-#[tactic(auto, unfolding(crate::specs::Replies::answer_at, crate::specs::Replies::yes_or_no_at))]
+#[tactic(auto, unfolding(crate::specs::Replies::yes_or_no_at))]
+fn read_yes_or_no(text: &[u8]) -> Result<(bool, &[u8]), Fault>
+    ensures { Gives (λ r. (r.0, words_of r.1.now)) result (yes_or_no_at (words_of text.now)) }
+{
+    if let Some(rest) = behind_label(b"yes", text) {
+        return Ok((true, rest));
+    }
+    match behind_label(b"no", text) {
+        Some(rest) => Ok((false, rest)),
+        None => Err(Fault::expected(Expected::YesOrNo, text)),
+    }
+}
+
+#[tactic(auto, unfolding(crate::specs::Replies::answer_at))]
 fn read_answer<'a>(label: &[u8], text: &'a [u8]) -> Result<(bool, &'a [u8]), Fault>
     ensures { Gives (λ r. (r.0, words_of r.1.now)) result (answer_at label.now (words_of text.now)) }
 {
-    let Some(answer) = behind_label(label, text) else {
-        return Err(Fault::expected(Expected::Label, text));
-    };
-    if let Some(rest) = behind_label(b"yes", answer) {
-        return Ok((true, rest));
-    }
-    match behind_label(b"no", answer) {
-        Some(rest) => Ok((false, rest)),
-        None => Err(Fault::expected(Expected::YesOrNo, answer)),
+    match behind_label(label, text) {
+        Some(rest) => read_yes_or_no(rest),
+        None => Err(Fault::expected(Expected::Label, text)),
     }
 }
 
@@ -235,59 +245,46 @@ fn read_kind(text: &[u8]) -> Result<(RightKind, &[u8]), Fault>
     }
 }
 
-#[tactic(auto, unfolding(crate::specs::Replies::queue_at))]
-/// The state of a port behind what it tells of its right, its last three answers still to be read.
-fn read_queue(
-    set: u32,
-    sequence_number: u32,
-    make_send_count: u32,
-    text: &[u8],
-) -> Result<(ReceiveStatus, &[u8]), Fault>
-    ensures { Gives (λ r. (r.0, words_of r.1.now)) result (queue_at set sequence_number make_send_count (words_of text.now)) }
-{
-    let qlimit = read_labelled(b"qlimit", Kind::Decimal, text)?;
-    let messages = read_labelled(b"messages", Kind::Decimal, qlimit.1)?;
-    let send_once = read_labelled(b"send_once", Kind::Decimal, messages.1)?;
-    let status = ReceiveStatus {
-        set,
-        sequence_number,
-        make_send_count,
-        limit: qlimit.0,
-        messages: messages.0,
-        send_once_count: send_once.0,
-        has_senders: false,
-        has_port_destroyed_request: false,
-        has_no_senders_request: false,
-    };
-    Ok((status, send_once.1))
-}
-
-#[tactic(auto, unfolding(crate::specs::Replies::counts_at, crate::specs::Replies::queue_at))]
+#[tactic(auto, unfolding(crate::specs::Replies::counts_at))]
 /// The state of a port of which the last three answers are still to be read.
 fn read_counts(text: &[u8]) -> Result<(ReceiveStatus, &[u8]), Fault>
     ensures { Gives (λ r. (r.0, words_of r.1.now)) result (counts_at (words_of text.now)) }
 {
-    let set = read_labelled(b"set", Kind::Hexadecimal, text)?;
-    let seqno = read_labelled(b"seqno", Kind::Decimal, set.1)?;
-    let mscount = read_labelled(b"mscount", Kind::Decimal, seqno.1)?;
-    read_queue(set.0, seqno.0, mscount.0, mscount.1)
+    let (set, rest) = read_labelled(b"set", Kind::Hexadecimal, text)?;
+    let (sequence_number, rest) = read_labelled(b"seqno", Kind::Decimal, rest)?;
+    let (make_send_count, rest) = read_labelled(b"mscount", Kind::Decimal, rest)?;
+    let (limit, rest) = read_labelled(b"qlimit", Kind::Decimal, rest)?;
+    let (messages, rest) = read_labelled(b"messages", Kind::Decimal, rest)?;
+    let (send_once_count, rest) = read_labelled(b"send_once", Kind::Decimal, rest)?;
+    let status = ReceiveStatus {
+        set,
+        sequence_number,
+        make_send_count,
+        limit,
+        messages,
+        send_once_count,
+        has_senders: false,
+        has_port_destroyed_request: false,
+        has_no_senders_request: false,
+    };
+    Ok((status, rest))
 }
 
 #[tactic(auto, unfolding(crate::specs::Replies::status_at))]
 fn read_status(text: &[u8]) -> Result<(ReceiveStatus, &[u8]), Fault>
     ensures { Gives (λ r. (r.0, words_of r.1.now)) result (status_at (words_of text.now)) }
 {
-    let counts = read_counts(text)?;
-    let senders = read_answer(b"senders", counts.1)?;
-    let port_destroyed = read_answer(b"port_destroyed", senders.1)?;
-    let no_senders = read_answer(b"no_senders", port_destroyed.1)?;
+    let (counts, rest) = read_counts(text)?;
+    let (has_senders, rest) = read_answer(b"senders", rest)?;
+    let (has_port_destroyed_request, rest) = read_answer(b"port_destroyed", rest)?;
+    let (has_no_senders_request, rest) = read_answer(b"no_senders", rest)?;
     let status = ReceiveStatus {
-        has_senders: senders.0,
-        has_port_destroyed_request: port_destroyed.0,
-        has_no_senders_request: no_senders.0,
-        ..counts.0
+        has_senders,
+        has_port_destroyed_request,
+        has_no_senders_request,
+        ..counts
     };
-    Ok((status, no_senders.1))
+    Ok((status, rest))
 }
 
 #[tactic(auto, unfolding(crate::specs::Replies::named_at))]
@@ -298,13 +295,9 @@ fn read_named(text: &[u8]) -> Result<Option<(NamedType, &[u8])>, Fault>
     if take_word(text).is_none() {
         return Ok(None);
     }
-    let name = read_value(Kind::Hexadecimal, text)?;
-    let bits = read_value(Kind::Hexadecimal, name.1)?;
-    let named = NamedType {
-        name: name.0,
-        bits: bits.0,
-    };
-    Ok(Some((named, bits.1)))
+    let (name, rest) = read_value(Kind::Hexadecimal, text)?;
+    let (bits, rest) = read_value(Kind::Hexadecimal, rest)?;
+    Ok(Some((NamedType { name, bits }, rest)))
 }
 
 #[tactic(auto, unfolding(crate::specs::Replies::member_at))]
@@ -315,8 +308,8 @@ fn read_member(text: &[u8]) -> Result<Option<(u32, &[u8])>, Fault>
     if take_word(text).is_none() {
         return Ok(None);
     }
-    let member = read_value(Kind::Hexadecimal, text)?;
-    Ok(Some(member))
+    let (member, rest) = read_value(Kind::Hexadecimal, text)?;
+    Ok(Some((member, rest)))
 }
 
 /// Names with their types up to the end.
@@ -371,14 +364,15 @@ fn read_received(alloc: Global, text: &[u8]) -> Result<(Vec<u8>, &[u8]), Fault>
 fn read_message_reply(alloc: Global, code: KernReturn, text: &[u8]) -> Result<Reply, Fault>
     ensures { Gives (λ r. r) result (message_reply_at code (words_of text.now)) }
 {
-    let size = read_optional(b"size", Kind::Decimal, text)?;
-    let member = read_optional(b"member", Kind::Hexadecimal, size.1)?;
-    let (message, rest) = read_received(alloc, member.1)?;
+    let (size, rest) = read_optional(b"size", Kind::Decimal, text)?;
+    let (member, rest) = read_optional(b"member", Kind::Hexadecimal, rest)?;
+    let (message, rest) = read_received(alloc, rest)?;
+    let message = Sequence::new(message);
     let reply = Reply::Message {
         code,
-        size: size.0,
-        member: member.0,
-        message: Sequence::new(message),
+        size,
+        member,
+        message,
     };
     last(reply, rest)
 }
@@ -387,13 +381,18 @@ fn read_message_reply(alloc: Global, code: KernReturn, text: &[u8]) -> Result<Re
 fn read_extracted(text: &[u8]) -> Result<Reply, Fault>
     ensures { Gives (λ r. r) result (extracted_at (words_of text.now)) }
 {
-    let name = read_value(Kind::Hexadecimal, text)?;
-    let kind = read_kind(name.1)?;
-    let reply = Reply::Extracted {
-        name: name.0,
-        kind: kind.0,
-    };
-    last(reply, kind.1)
+    let (name, rest) = read_value(Kind::Hexadecimal, text)?;
+    let (kind, rest) = read_kind(rest)?;
+    last(Reply::Extracted { name, kind }, rest)
+}
+
+#[tactic(auto, unfolding(crate::specs::Replies::space_created_at))]
+fn read_space_created(text: &[u8]) -> Result<Reply, Fault>
+    ensures { Gives (λ r. r) result (space_created_at (words_of text.now)) }
+{
+    let (space, rest) = read_labelled(b"space", Kind::Decimal, text)?;
+    let (name, rest) = read_labelled(b"name", Kind::Hexadecimal, rest)?;
+    last(Reply::SpaceCreated { space, name }, rest)
 }
 
 #[tactic(auto, unfolding(crate::specs::Replies::last_value))]
@@ -401,11 +400,19 @@ fn read_extracted(text: &[u8]) -> Result<Reply, Fault>
 fn read_last(kind: Kind, text: &[u8]) -> Result<u32, Fault>
     ensures { Gives (λ r. r) result (last_value kind (words_of text.now)) }
 {
-    let number = read_value(kind, text)?;
-    last(number.0, number.1)
+    let (number, rest) = read_value(kind, text)?;
+    last(number, rest)
 }
 
-#[tactic(auto, unfolding(crate::specs::Replies::results_at, crate::specs::Replies::last_status_at, crate::specs::Replies::space_created_at))]
+#[tactic(auto, unfolding(crate::specs::Replies::last_status_at))]
+fn read_last_status(text: &[u8]) -> Result<Reply, Fault>
+    ensures { Gives (λ r. r) result (last_status_at (words_of text.now)) }
+{
+    let (status, rest) = read_status(text)?;
+    last(Reply::ReceiveStatus { status }, rest)
+}
+
+#[tactic(auto, unfolding(crate::specs::Replies::results_at))]
 /// The results of a call of this number.
 fn read_results(alloc: Global, number: u32, text: &[u8]) -> Result<Reply, Fault>
     ensures { Gives (λ r. r) result (results_at number (words_of text.now)) }
@@ -427,10 +434,7 @@ fn read_results(alloc: Global, number: u32, text: &[u8]) -> Result<Reply, Fault>
             let count = read_last(Kind::Decimal, text)?;
             Ok(Reply::References { count })
         }
-        13 => {
-            let status = read_status(text)?;
-            last(Reply::ReceiveStatus { status: status.0 }, status.1)
-        }
+        13 => read_last_status(text),
         14 => {
             let members = read_members(alloc, text)?;
             Ok(Reply::SetStatus { members })
@@ -441,17 +445,16 @@ fn read_results(alloc: Global, number: u32, text: &[u8]) -> Result<Reply, Fault>
         }
         18 => read_extracted(text),
         MACH_MSG => read_message_reply(alloc, KernReturn::Success, text),
-        20 => {
-            let space = read_labelled(b"space", Kind::Decimal, text)?;
-            let name = read_labelled(b"name", Kind::Hexadecimal, space.1)?;
-            let reply = Reply::SpaceCreated {
-                space: space.0,
-                name: name.0,
-            };
-            last(reply, name.1)
-        }
+        20 => read_space_created(text),
         _ => Err(Fault::expected(Expected::End, text)),
     }
+}
+
+/// Whether a call of this number has results, or may have some.
+fn may_tell(number: u32) -> bool
+    ensures { result ≡ (has_results number || number == 19) }
+{
+    matches!(number, 1 | 2 | 5 | 8 | 13 | 14 | 16 | 18 | 20 | MACH_MSG)
 }
 
 #[tactic(auto, unfolding(crate::specs::Replies::silence))]
@@ -492,10 +495,10 @@ pub(crate) fn read_reply(alloc: Global, number: u32, text: &[u8]) -> Result<Repl
         return read_silence(alloc, number, text);
     };
     if word == b"=".as_slice() {
-        return match number {
-            1 | 2 | 5 | 8 | 13 | 14 | 16 | 18 | 20 | MACH_MSG => read_results(alloc, number, rest),
-            _ => Err(Fault::expected(Expected::End, text)),
-        };
+        if !may_tell(number) {
+            return Err(Fault::expected(Expected::End, text));
+        }
+        return read_results(alloc, number, rest);
     }
     if word == b"!".as_slice() {
         return read_refusal(alloc, number, rest);

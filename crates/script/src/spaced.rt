@@ -8,31 +8,16 @@ use std::alloc::AllocError;
 fn count_spaces(text: &[u8]) -> usize
     ensures { result ≡ prefix_len is_space text.now }
 {
-    let mut count = 0;
-    for byte in text {
-        if *byte > b' ' {
-            return count;
-        }
-        count += 1;
-    }
-    count
+    text.iter().take_while(|byte| **byte <= b' ').count()
 }
 
 /// How many bytes in front are of a word.
 fn count_word_bytes(text: &[u8]) -> usize
     ensures { result ≡ prefix_len is_word_byte text.now }
 {
-    let mut count = 0;
-    for byte in text {
-        if *byte <= b' ' {
-            return count;
-        }
-        if *byte == b'#' {
-            return count;
-        }
-        count += 1;
-    }
-    count
+    text.iter()
+        .take_while(|byte| **byte > b' ' && **byte != b'#')
+        .count()
 }
 
 /// The first word of a text, and what stands behind it. There is none in front of a `#` or the end.

@@ -21,14 +21,17 @@ pub struct Line {
 fn count_line_bytes(text: &[u8]) -> usize
     ensures { result ≡ prefix_len in_line text.now }
 {
-    let mut count = 0;
-    for byte in text {
-        if *byte == b'\n' {
-            return count;
-        }
-        count += 1;
+    text.iter().take_while(|byte| **byte != b'\n').count()
+}
+
+/// What stands behind the first byte.
+fn behind_first(text: &[u8]) -> &[u8]
+    ensures { result.now ≡ drop 1 text.now }
+{
+    match text.split_first() {
+        Some((_, behind)) => behind,
+        None => text,
     }
-    count
 }
 
 /// The first line of a text without its end, and what stands behind it.
@@ -37,10 +40,7 @@ fn first_line(text: &[u8]) -> (&[u8], &[u8])
     ensures rest { result.1.now ≡ drop 1 (drop (prefix_len in_line text.now) text.now) }
 {
     let (line, rest) = text.split_at(count_line_bytes(text));
-    match rest.split_first() {
-        Some((_, behind)) => (line, behind),
-        None => (line, rest),
-    }
+    (line, behind_first(rest))
 }
 
 /// Adds the call of a line, if it holds one.

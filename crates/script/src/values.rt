@@ -17,9 +17,9 @@ pub(crate) fn take_number(kind: Kind, text: &[u8]) -> Option<(u32, &[u8])>
     if let Kind::Absent = kind {
         return Some((0, text));
     }
-    let front = take_word(text)?;
-    let number = kind.read_word(front.0)?;
-    Some((number, front.1))
+    let (word, rest) = take_word(text)?;
+    let number = kind.read_word(word)?;
+    Some((number, rest))
 }
 
 #[tactic(auto, unfolding(crate::specs::Reading::value_at))]
@@ -60,12 +60,8 @@ pub(crate) fn behind_label<'a>(label: &[u8], text: &'a [u8]) -> Option<&'a [u8]>
     ensures { MatchOption result (label_at label.now (words_of text.now) ≡ None)
         (λ rest. label_at label.now (words_of text.now) ≡ Some (words_of rest.now)) }
 {
-    let front = take_word(text)?;
-    if front.0 == label {
-        Some(front.1)
-    } else {
-        None
-    }
+    let (word, rest) = take_word(text)?;
+    if word == label { Some(rest) } else { None }
 }
 
 #[tactic(auto, unfolding(crate::specs::Reading::labelled_at))]

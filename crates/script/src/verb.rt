@@ -30,7 +30,7 @@ pub(crate) enum Verb {
     SpaceDestroy,
 }
 
-static ALL_VERBS: [Verb; 23] = [
+const ALL_VERBS: [Verb; 23] = [
     Verb::Attach,
     Verb::Names,
     Verb::Type,
@@ -92,11 +92,6 @@ impl Verb {
     pub(crate) fn of_word(word: &[u8]) -> Option<Verb>
         ensures { result ≡ find (λ verb. bytes_eq (verb_word verb) word.now) all_verbs }
     {
-        for verb in &ALL_VERBS {
-            if verb.word() == word {
-                return Some(*verb);
-            }
-        }
-        None
+        ALL_VERBS.iter().copied().find(|verb| verb.word() == word)
     }
 }
