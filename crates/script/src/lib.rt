@@ -1,22 +1,10 @@
-//! Calls and what they answered as lines of text, in the words of Mach's headers.
+//! Calls and what they answered as lines of text, in the words of Mach's headers, and scripts of such lines.
 #![tactic(auto)]
 
-mod bytes;
-mod call;
-mod code;
 mod fault;
-mod item;
-mod kind;
 mod line;
-mod message;
-mod number;
-mod plain;
-mod reply;
-mod spaced;
 mod text;
-mod values;
-mod verb;
 
-pub use fault::{Expected, LineFault, ScriptFault};
+pub use fault::{LineFault, ScriptFault};
 pub use line::{Exchange, push_call, push_exchange, push_reply, read_line, read_request_line};
 pub use text::{Line, read_script};

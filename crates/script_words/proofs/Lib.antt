@@ -1,0 +1,11 @@
+pub mod CallsAgain
+pub mod ItemLoops
+pub mod ItemsAgain
+pub mod MessagesAgain
+pub mod NumbersAgain
+pub mod ReadingAgain
+pub mod RepliesAgain
+pub mod Rows
+pub mod Spelled
+pub mod ValuesAgain
+pub mod WordsOf

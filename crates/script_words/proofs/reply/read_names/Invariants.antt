@@ -1,0 +1,11 @@
+use Rattle.std.proofs.Common.{◌≡◌, length}
+use Rattle.script_words.specs.Replies.{names_at}
+use Rattle.script_words.specs.Spaced.{words_of}
+use Rattle.script_words.proofs.Rows.{behind_all}
+use Rattle.script_words.proofs.reply.read_names.Given as goal
+
+abbrev pub invariant-loop-names : goal.invariant-loop-names
+invariant-loop-names l = behind_all l.names.items (names_at (words_of l.rest)) ≡ names_at (words_of l.fn.text)
+
+abbrev pub decreases-loop-names : goal.decreases-loop-names
+decreases-loop-names l = length (words_of l.rest)
