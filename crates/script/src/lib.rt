@@ -7,4 +7,5 @@ mod text;
 
 pub use fault::{LineFault, ScriptFault};
 pub use line::{Exchange, push_call, push_exchange, push_reply, read_line, read_request_line};
+pub use script_words::Expected;
 pub use text::{Line, read_script};
