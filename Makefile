@@ -1,4 +1,4 @@
-.PHONY: demo test bin bench load
+.PHONY: demo test bin bench load stress
 
 # The main job on a new folder, with its bytes explained. It proves nothing: the program runs checked, and where bin/ has
 # the proved one, that.
@@ -24,3 +24,8 @@ bench:
 # in a new folder: it proves the programs first.
 load: bin
 	@demo/load
+
+# Calls at random, to servers that are killed amid them, compared with the machine written down a second time. It proves the
+# programs first.
+stress: bin
+	@stress/run
