@@ -10,7 +10,6 @@ from machine import (
     FOR_HEADERS,
     LAST_WORD,
     MACH_MSG,
-    MAKE_SEND,
     MAKE_SEND_ONCE,
     MOVE_RECEIVE,
     MOVE_SEND,

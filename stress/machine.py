@@ -42,7 +42,7 @@ MACH_SEND_NO_BUFFER, MACH_SEND_INVALID_TYPE = 0x1000000D, 0x1000000F
 MACH_SEND_INVALID_HEADER = 0x10000010
 MACH_RCV_INVALID_NAME, MACH_RCV_TIMED_OUT = 0x10004002, 0x10004003
 MACH_RCV_TOO_LARGE, MACH_RCV_IN_SET = 0x10004004, 0x1000400A
-MACH_RCV_NO_NAMES = 0x1000600B
+MACH_RCV_HEADER_ERROR, MACH_MSG_IPC_SPACE = 0x1000400B, 0x2000
 
 SEND_MSG, RCV_MSG, SEND_TIMEOUT, RCV_TIMEOUT, RCV_LARGE = 1, 2, 0x10, 0x100, 0x800
 OPTIONS = SEND_MSG | RCV_MSG | SEND_TIMEOUT | RCV_TIMEOUT | RCV_LARGE
@@ -60,7 +60,7 @@ WITHOUT_RECORD = {0, 1, 2, 8, 13, 14}
 class Refused(Exception):
     """A call's refusal: its code."""
 
-    def __init__(self, code=None):
+    def __init__(self, code):
         super().__init__(code)
         self.code = code
 
@@ -238,37 +238,35 @@ class Machine:
     # Rights in and out.
 
     def copy_in(self, space, name, disposition):
+        """The right that a name gives up or lends, or None where it can't, and then nothing changed."""
         held = self.spaces[space].get(name)
-        refuse_if(held is None, None)
+        if held is None:
+            return None
         type_ = RECEIVED_TYPE[disposition]
-        if disposition in (MOVE_RECEIVE, MAKE_SEND, MAKE_SEND_ONCE):
-            refuse_if(not held.holds(RECEIVE), None)
-            port = self.ports[held.port]
-            if disposition == MAKE_SEND:
-                port.made = port.made + 1 & LAST_WORD
-            if disposition == MOVE_RECEIVE:
-                port.set_name = port.sequence = port.made = 0
-                held.receive = False
-                self.take_references(space, name, 0)
-            return Right(type_, held.port)
-        if held.kind == "dead":
+        if held.kind == "dead" and disposition in (MOVE_SEND, MOVE_SEND_ONCE, COPY_SEND):
             if disposition != COPY_SEND:
                 self.take_references(space, name, 1)
             return Right(type_, "dead")
-        refuse_if(not held.holds(SEND_ONCE if disposition == MOVE_SEND_ONCE else SEND), None)
-        if disposition == MOVE_SEND:
+        wanted = {MOVE_SEND: SEND, COPY_SEND: SEND, MOVE_SEND_ONCE: SEND_ONCE}.get(disposition, RECEIVE)
+        if not held.holds(wanted):
+            return None
+        port = self.ports[held.port]
+        if disposition == MAKE_SEND:
+            port.made = port.made + 1 & LAST_WORD
+        elif disposition == MOVE_RECEIVE:
+            port.set_name = port.sequence = port.made = 0
+            held.receive = False
+            self.take_references(space, name, 0)
+        elif disposition == MOVE_SEND:
             self.take_references(space, name, 1)
-        if disposition == MOVE_SEND_ONCE:
+        elif disposition == MOVE_SEND_ONCE:
             self.end_name(space, name)
         return Right(type_, held.port)
 
     def copy_in_live(self, space, name, disposition, code):
-        """The same, where a dead name is refused too."""
-        try:
-            right = self.copy_in(space, name, disposition)
-        except Refused:
-            right = Right(0, "dead")
-        refuse_if(right.port == "dead", code)
+        """The same, refused with this code where it can't and where the name is dead."""
+        right = self.copy_in(space, name, disposition)
+        refuse_if(right is None or right.port == "dead", code)
         return right
 
     def copy_out(self, space, right):
@@ -580,10 +578,9 @@ class Machine:
                 return Right(RECEIVED_TYPE.get(back, 0))
             if local == DEAD:
                 return Right(RECEIVED_TYPE[back], "dead")
-            try:
-                return self.copy_in(space, local, back)
-            except Refused:
-                raise Refused(MACH_SEND_INVALID_REPLY) from None
+            right = self.copy_in(space, local, back)
+            refuse_if(right is None, MACH_SEND_INVALID_REPLY)
+            return right
 
         refuse_if(remote in (NULL, DEAD), MACH_SEND_INVALID_DEST)
         if to in (MOVE_SEND, MOVE_SEND_ONCE) and back in (COPY_SEND, MAKE_SEND, MAKE_SEND_ONCE):
@@ -597,12 +594,11 @@ class Machine:
         for place, length, type_, count, data in items:
             for at in range(data, data + 4 * count, 4):
                 (name,) = struct.unpack_from("<I", body, at)
-                right = Right(RECEIVED_TYPE[type_], "dead" if name == DEAD else None)
-                if name not in (NULL, DEAD):
-                    try:
-                        right = self.copy_in(space, name, type_)
-                    except Refused:
-                        raise Refused(MACH_SEND_INVALID_RIGHT) from None
+                if name in (NULL, DEAD):
+                    right = Right(RECEIVED_TYPE[type_], "dead" if name == DEAD else None)
+                else:
+                    right = self.copy_in(space, name, type_)
+                    refuse_if(right is None, MACH_SEND_INVALID_RIGHT)
                 rights.append(right)
                 struct.pack_into("<I", body, at, 0)
             if length == 4:
@@ -652,7 +648,7 @@ class Machine:
         if is_too_large and is_large_kept:
             return MACH_RCV_TOO_LARGE, message.size, member, b""
         if not is_too_large and self.names_wanted(space, message) + len(self.spaces[space]) > MOST_NAMES:
-            return MACH_RCV_NO_NAMES, 0, 0, b""
+            return MACH_RCV_HEADER_ERROR | MACH_MSG_IPC_SPACE, 0, 0, b""
         port.queue.pop(0)
         sequence, port.sequence = port.sequence, port.sequence + 1 & LAST_WORD
         self.records += 1
