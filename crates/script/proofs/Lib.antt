@@ -1,3 +1,14 @@
+pub mod CallsAgain
 pub mod Examples
+pub mod ItemLoops
+pub mod ItemsAgain
 pub mod LinesAgain
+pub mod MessagesAgain
+pub mod NumbersAgain
+pub mod ReadingAgain
+pub mod RepliesAgain
+pub mod Rows
 pub mod ScriptsAgain
+pub mod Spelled
+pub mod ValuesAgain
+pub mod WordsOf

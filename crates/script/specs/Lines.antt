@@ -3,18 +3,18 @@ use Rattle.std.specs.Prelude.{◌≡◌, ℕ, ◌-◌, List, [], ◌∷◌, ◌+
 use Rattle.ipc_model.specs.calls.Step.{number_of_call}
 use Rattle.ipc_model.specs.texts.Texts.{number_of_reply, FitsReply}
 use Rattle.ipc_model.specs.declared.call.Call.{Call}
-use Rattle.script_words.specs.declared.fault.Expected.TheVariants.{End}
-use Rattle.script_words.specs.declared.fault.Fault.{Fault}
-use Rattle.script_words.specs.declared.fault.Fault.TheVariants as fault
+use Rattle.script.specs.declared.fault.Expected.TheVariants.{End}
+use Rattle.script.specs.declared.fault.Fault.{Fault}
+use Rattle.script.specs.declared.fault.Fault.TheVariants as fault
 use Rattle.script.specs.declared.fault.LineFault.{LineFault}
 use Rattle.script.specs.declared.fault.LineFault.TheVariants as line_fault
 use Rattle.ipc_model.specs.declared.call.Reply.{Reply}
-use Rattle.script_words.specs.declared.fault.Stop.{Stop}
+use Rattle.script.specs.declared.fault.Stop.{Stop}
 use Rattle.script.specs.declared.line.Exchange.{Exchange}
-use Rattle.script_words.specs.Calls.{call_words, call_at, HasLine}
-use Rattle.script_words.specs.Reading.{Reading, ◌>>=◌, stop}
-use Rattle.script_words.specs.Replies.{reply_words, reply_at, IsOwn}
-use Rattle.script_words.specs.Spaced.{words_of, column_of, line_of, spaced}
+use Rattle.script.specs.Calls.{call_words, call_at, HasLine}
+use Rattle.script.specs.Reading.{Reading, ◌>>=◌, stop}
+use Rattle.script.specs.Replies.{reply_words, reply_at, IsOwn}
+use Rattle.script.specs.Spaced.{words_of, column_of, line_of, spaced}
 
 -- A call and what it answered have a line.
 pub record IsExchange (x : Exchange) : Type 0 where

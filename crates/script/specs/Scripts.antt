@@ -6,8 +6,8 @@ use Rattle.script.specs.declared.fault.ScriptFault.{ScriptFault}
 use Rattle.script.specs.declared.line.Exchange.{Exchange}
 use Rattle.script.specs.declared.text.Line.{Line}
 use Rattle.script.specs.Lines.{exchange_line, line_read, IsExchange}
-use Rattle.script_words.specs.Reading.{◌>>=◌}
-use Rattle.script_words.specs.Spaced.{in_front}
+use Rattle.script.specs.Reading.{◌>>=◌}
+use Rattle.script.specs.Spaced.{in_front}
 
 -- a byte of a line
 abbrev pub in_line : ℕ → Bool

@@ -1,6 +1,55 @@
-use script_words::Expected;
+ghost use Rattle.std.specs.Prelude.{◌≡◌};
+ghost use Rattle.script.specs.Reading.{stop_at};
+ghost use Rattle.script.specs.Spaced.{words_of};
+
+use crate::spaced::count_words;
 use std::error::Error;
 use std::fmt;
+
+/// What was expected where a line can't be read.
+#[derive(Clone, Copy, Debug, PartialEq, Eq)]
+pub enum Expected {
+    /// The name of a call.
+    CallName,
+    /// A number, or a word that stands for one there.
+    Number,
+    /// The bytes of a message, two hexadecimal digits each, or `none`.
+    Bytes,
+    /// A message: the disposition of its remote right, or `bytes`.
+    Message,
+    /// An item of at most 4095 elements: its type, or `bytes`.
+    Item,
+    /// The name of a return code.
+    Code,
+    /// `=` and the results of the call, or `!` and a return code.
+    Results,
+    /// The word that tells which result or which argument follows.
+    Label,
+    /// `yes` or `no`.
+    YesOrNo,
+    /// `receive`, `send` or `send_once`.
+    RightKind,
+    /// The end of the line.
+    End,
+}
+
+impl fmt::Display for Expected {
+    fn fmt<W: fmt::Write>(&self, f: &mut fmt::Formatter<W>) -> fmt::Result {
+        f.write_str(match self {
+            Expected::CallName => "the name of a call",
+            Expected::Number => "a number or a word for one",
+            Expected::Bytes => "bytes, two hexadecimal digits each, or none",
+            Expected::Message => "a message",
+            Expected::Item => "an item of at most 4095 elements",
+            Expected::Code => "a return code",
+            Expected::Results => "what the call answered",
+            Expected::Label => "the word for what follows",
+            Expected::YesOrNo => "yes or no",
+            Expected::RightKind => "receive, send or send_once",
+            Expected::End => "the end of the line",
+        })
+    }
+}
 
 /// Why a line can't be read.
 #[derive(Clone, Copy, Debug, PartialEq, Eq)]
@@ -47,3 +96,33 @@ impl fmt::Display for ScriptFault {
 }
 
 impl Error for ScriptFault {}
+
+/// Where words can't be read.
+#[derive(Clone, Copy)]
+pub(crate) struct Stop {
+    /// How many words of the line are left there.
+    pub(crate) left: usize,
+    /// What was expected in front of them.
+    pub(crate) expected: Expected,
+}
+
+/// Why words can't be read.
+#[derive(Clone, Copy)]
+pub(crate) enum Fault {
+    /// Something else was expected.
+    Unreadable(Stop),
+    /// No memory for what is read.
+    NoMemory,
+}
+
+impl Fault {
+    /// That something else was expected in front of this text.
+    pub(crate) fn expected(expected: Expected, text: &[u8]) -> Fault
+        ensures { result ≡ Fault.Unreadable (stop_at expected (words_of text.now)) }
+    {
+        Fault::Unreadable(Stop {
+            left: count_words(text),
+            expected,
+        })
+    }
+}

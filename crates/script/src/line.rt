@@ -1,17 +1,16 @@
 ghost use Rattle.std.specs.Prelude.{◌≡◌, ◌++◌, [], None, Some, OnOk, OnErr};
 ghost use Rattle.ipc_model.specs.declared.call.Call.{Call};
 ghost use Rattle.script.specs.declared.line.Exchange.{Exchange};
-ghost use Rattle.script_words.specs.Calls.{call_words, call_line, HasLine};
+ghost use Rattle.script.specs.Calls.{call_words, call_line, HasLine};
 ghost use Rattle.script.specs.Lines.{exchange_words, exchange_line, exchange_at, request_at, fault_of, line_read, request_read, reply_line, IsExchange, IsRead, UnlessMemory};
-ghost use Rattle.script_words.specs.Reading.{Gives};
-ghost use Rattle.script_words.specs.Spaced.{words_of};
+ghost use Rattle.script.specs.Reading.{Gives};
+ghost use Rattle.script.specs.Spaced.{words_of};
 
-use crate::fault::LineFault;
+use crate::call::{push_call_words, read_call};
+use crate::fault::{Expected, Fault, LineFault};
+use crate::reply::{push_reply_words, read_reply};
+use crate::spaced::{column_of, count_words, take_word};
 use ipc_model::{Call, Reply};
-use script_words::{
-    Expected, Fault, column_of, count_words, push_call_words, push_reply_words, read_call,
-    read_reply, take_word,
-};
 use std::alloc::{AllocError, Global};
 
 /// A call, and what it answered.
@@ -90,7 +89,7 @@ pub fn read_request_line(alloc: Global, line: &[u8]) -> Result<Call, LineFault>
     }
 }
 
-#[tactic(auto, using(script_words::proofs::WordsOf::spaced_laws), unfolding(script_words::specs::Calls::call_line, script_words::specs::Calls::call_words))]
+#[tactic(auto, using(crate::proofs::WordsOf::spaced_laws), unfolding(crate::specs::Calls::call_line, crate::specs::Calls::call_words))]
 /// Adds the line of a call, without its answer or an end of line. An `Err` changes nothing.
 pub fn push_call(out: &mut Vec<u8>, call: &Call) -> Result<(), AllocError>
     ensures ok { OnOk result (out.new.items ≡ out.old.items ++ call_line call.now) }
@@ -101,7 +100,7 @@ pub fn push_call(out: &mut Vec<u8>, call: &Call) -> Result<(), AllocError>
     out.extend_from_slice(line.as_slice())
 }
 
-#[tactic(auto, using(script_words::proofs::WordsOf::spaced_laws))]
+#[tactic(auto, using(crate::proofs::WordsOf::spaced_laws))]
 /// Adds what a call answered, as it stands behind the call in a line: each word has a space in front, and there is
 /// none where the call was done and has no results. An `Err` changes nothing.
 pub fn push_reply(out: &mut Vec<u8>, reply: &Reply) -> Result<(), AllocError>
@@ -113,7 +112,7 @@ pub fn push_reply(out: &mut Vec<u8>, reply: &Reply) -> Result<(), AllocError>
     out.extend_from_slice(line.as_slice())
 }
 
-#[tactic(auto, using(script_words::proofs::WordsOf::spaced_laws), unfolding(crate::specs::Lines::exchange_line, script_words::specs::Calls::call_words))]
+#[tactic(auto, using(crate::proofs::WordsOf::spaced_laws), unfolding(crate::specs::Lines::exchange_line, crate::specs::Calls::call_words))]
 /// Adds the line of a call and what it answered, without an end of line. An `Err` changes nothing.
 pub fn push_exchange(out: &mut Vec<u8>, exchange: &Exchange) -> Result<(), AllocError>
     ensures ok { OnOk result (out.new.items ≡ out.old.items ++ exchange_line exchange.now) }

@@ -1,0 +1,153 @@
+-- Bodies item by item.
+use Rattle.std.proofs.Common.{◌≡◌, ℕ, zero, suc, ◌-◌, ◌<◌, ◌^◌, List, [], ◌∷◌, ◌++◌, length, refl, sym, ap, ◌∙◌, arith, Option, Some, None, Ok, Err, append_assoc}
+use Rattle.std.specs.Prelude.{codes, map, OnOk, Result, ⊤}
+use Rattle.std.proofs.lemmas.List.{append-nil}
+use Rattle.words.specs.WordLaws.{little_number-word}
+use Rattle.words.specs.Words.{word}
+use Rattle.script.specs.declared.fault.Fault.{Fault}
+use Rattle.script.specs.declared.fault.Fault.TheVariants as fault
+use Rattle.script.specs.declared.kind.Kind.{Kind}
+use Rattle.script.specs.declared.kind.Kind.TheVariants.{Hexadecimal}
+use Rattle.script.specs.Bytes.{optional_bytes, optional_bytes_at}
+use Rattle.script.specs.Items.{numbers_in, numbers_at, item_front, body_within, body_words, item_at, behind_bytes, parts_at, body_at, AddsItem}
+use Rattle.script.specs.Kinds.{value_word, read_word}
+use Rattle.script.specs.Reading.{Reading, ◌>>=◌, number_at, label_at, Fails}
+use Rattle.script.specs.Spaced.{spaced}
+use Rattle.script.proofs.WordsOf.{spaced_more, spaced_none}
+
+-- a number in front of others
+pub numbers_front : (n : ℕ) (rest : List ℕ) → n < 2 ^ 32 → numbers_in (word n ++ rest) ≡ n ∷ numbers_in rest
+numbers_front n rest fits = ap (λ (m : ℕ). m ∷ numbers_in rest) (little_number-word n [] fits)
+
+pub numbers_none : (bytes : List ℕ) → length bytes < 4 → numbers_in bytes ≡ []
+numbers_none [] few = refl
+numbers_none (a ∷ []) few = refl
+numbers_none (a ∷ b ∷ []) few = refl
+numbers_none (a ∷ b ∷ c ∷ []) few = refl
+numbers_none (a ∷ b ∷ c ∷ d ∷ bytes) few = absurd (omega (arith, few))
+
+pub shorter : (n : ℕ) (bytes rest : List ℕ) → bytes ≡ word n ++ rest → length rest < length bytes
+shorter n bytes rest is = omega (arith, ap length is)
+
+pub number_pushed : (k : Kind) (old line bytes behind : List ℕ) (n : ℕ) → n < 2 ^ 32 → bytes ≡ word n ++ behind → line ≡ old ++ spaced (value_word k n ∷ [])
+    → line ++ spaced (map (value_word k) (numbers_in behind)) ≡ old ++ spaced (map (value_word k) (numbers_in bytes))
+number_pushed k old line bytes behind n fits is pushed =
+    ap (λ (l : List ℕ). l ++ spaced (map (value_word k) (numbers_in behind))) pushed
+    ∙ spaced_more old (value_word k n ∷ []) (map (value_word k) (numbers_in behind))
+    ∙ ap (λ (l : List ℕ). old ++ spaced (map (value_word k) l)) (sym (ap numbers_in is ∙ numbers_front n behind fits))
+
+pub numbers_pushed : (k : Kind) (line bytes : List ℕ) → length bytes < 4 → line ≡ line ++ spaced (map (value_word k) (numbers_in bytes))
+numbers_pushed k line bytes few = sym (ap (λ (l : List ℕ). line ++ spaced (map (value_word k) l)) (numbers_none bytes few) ∙ spaced_none line)
+
+-- a number is read behind others
+abbrev with_done : List ℕ → List ℕ × List (List ℕ) → List ℕ × List (List ℕ)
+with_done done p = (done ++ p.0, p.1)
+
+abbrev or_number : List ℕ → List (List ℕ) → Option ℕ → List ℕ × List (List ℕ)
+or_number w words o = elim o as (λ _. List ℕ × List (List ℕ)) [ None ↦ ([], w ∷ words) | Some m ↦ (m ∷ (numbers_at words).0, (numbers_at words).1) ]
+
+pub number_read : (done : List ℕ) (words rest : List (List ℕ)) (n : ℕ) → number_at Hexadecimal words ≡ Some (n, rest)
+    → with_done (done ++ n ∷ []) (numbers_at rest) ≡ with_done done (numbers_at words)
+unfolding number_at numbers_at
+number_read done [] rest n is = absurd (cc)
+number_read done (w ∷ words) rest n is = elim (read_word Hexadecimal w) as (λ (o : Option ℕ). elim o as (λ _. Option (ℕ × List (List ℕ))) [ None ↦ None | Some m ↦ Some (m, words) ] ≡ Some (n, rest)
+    → with_done (done ++ n ∷ []) (numbers_at rest) ≡ with_done done (or_number w words o)) [
+      | None ↦ λ (wrong : _). absurd (cc)
+      | Some m ↦ λ (same : _).
+          let pair : (m, words) ≡ (n, rest) = cc in
+          ap (λ (l : List ℕ). with_done [] (l, (numbers_at rest).1)) (append_assoc done (n ∷ []) (numbers_at rest).0)
+          ∙ sym (ap (λ (q : ℕ × List (List ℕ)). with_done done (q.0 ∷ (numbers_at q.1).0, (numbers_at q.1).1)) pair)
+    ] is
+
+pub numbers_stop : (words : List (List ℕ)) → number_at Hexadecimal words ≡ None → numbers_at words ≡ ([], words)
+unfolding number_at numbers_at
+numbers_stop [] is = refl
+numbers_stop (w ∷ words) is = elim (read_word Hexadecimal w) as (λ (o : Option ℕ). elim o as (λ _. Option (ℕ × List (List ℕ))) [ None ↦ None | Some m ↦ Some (m, words) ] ≡ None
+    → elim o as (λ _. List ℕ × List (List ℕ)) [ None ↦ ([], w ∷ words) | Some m ↦ (m ∷ (numbers_at words).0, (numbers_at words).1) ] ≡ ([], w ∷ words)) [
+      | None ↦ λ (_ : _). refl
+      | Some m ↦ λ (wrong : _). absurd (cc)
+    ] is
+
+pub numbers_done : (done : List ℕ) (words : List (List ℕ)) (all : List ℕ × List (List ℕ)) → number_at Hexadecimal words ≡ None
+    → (done ++ (numbers_at words).0, (numbers_at words).1) ≡ all → all ≡ (done, words)
+numbers_done done words all none is =
+    sym is ∙ ap (λ (p : List ℕ × List (List ℕ)). (done ++ p.0, p.1)) (numbers_stop words none) ∙ ap (λ (l : List ℕ). (l, words)) (append-nil done)
+
+-- an item more is printed
+pub item_pushed : (old line body behind : List ℕ) (left : ℕ) (words : List (List ℕ)) → item_front body ≡ Some (words, behind) → 0 < left → line ≡ old ++ spaced words
+    → line ++ spaced (body_within (left - 1) behind) ≡ old ++ spaced (body_within left body)
+unfolding body_within
+item_pushed old line body behind zero words is some pushed = absurd (omega arith)
+item_pushed old line body behind (suc n) words is some pushed =
+    let e : suc n - 1 ≡ n = omega arith in
+    ap (λ (k : ℕ). line ++ spaced (body_within k behind)) e
+    ∙ ap (λ (l : List ℕ). l ++ spaced (body_within n behind)) pushed
+    ∙ spaced_more old words (body_within n behind)
+    ∙ ap (λ (front : Option (List (List ℕ) × List ℕ)). old ++ spaced (elim front as (λ _. List (List ℕ)) [ None ↦ optional_bytes (codes "data") body | Some i ↦ i.0 ++ body_within n i.1 ])) (sym is)
+
+pub no_item_left : (body : List ℕ) (left : ℕ) → item_front body ≡ None → body_within left body ≡ optional_bytes (codes "data") body
+unfolding body_within
+no_item_left body zero none = refl
+no_item_left body (suc n) none = rw (none, body_within) refl
+
+pub none_left : (body : List ℕ) (left : ℕ) → left ≡ 0 → body_within left body ≡ optional_bytes (codes "data") body
+unfolding body_within
+none_left body left none = rw none refl
+
+pub rest_pushed : {E : Type 0} (r : Result ⊤ E) (old line new : List ℕ) (words rest all : List (List ℕ)) → words ≡ rest → line ++ spaced words ≡ old ++ spaced all
+    → OnOk r (new ≡ line ++ spaced rest) → OnOk r (new ≡ old ++ spaced all)
+rest_pushed (Ok done) old line new words rest all is same pushed = pushed ∙ sym (ap (λ (l : List (List ℕ)). line ++ spaced l) is) ∙ same
+rest_pushed (Err e) old line new words rest all is same pushed = tt
+
+-- an item more is read
+more_bytes : (done item : List ℕ) (read : Reading (List ℕ × List (List ℕ))) → behind_bytes (done ++ item) read ≡ behind_bytes done (behind_bytes item read)
+more_bytes done item (Err place) = refl
+more_bytes done item (Ok b) = ap (λ (l : List ℕ). Ok (l, b.1)) (append_assoc done item b.0)
+
+one_more : (n : ℕ) (words rest : List (List ℕ)) → label_at (codes "item") words ≡ Some rest → parts_at (suc n) words ≡ (item_at rest >>= λ i. behind_bytes i.0 (parts_at n i.1))
+unfolding parts_at
+one_more n words rest is = rw (is, parts_at) refl
+
+pub item_read : (done item : List ℕ) (left : ℕ) (words rest more : List (List ℕ)) → label_at (codes "item") words ≡ Some rest → item_at rest ≡ Ok (item, more) → 0 < left
+    → behind_bytes (done ++ item) (parts_at (left - 1) more) ≡ behind_bytes done (parts_at left words)
+item_read done item zero words rest more label read some = absurd (omega arith)
+item_read done item (suc n) words rest more label read some =
+    let e : suc n - 1 ≡ n = omega arith in
+    ap (λ (k : ℕ). behind_bytes (done ++ item) (parts_at k more)) e ∙ more_bytes done item (parts_at n more)
+    ∙ sym (ap (behind_bytes done) (one_more n words rest label ∙ ap (λ (r : Reading (List ℕ × List (List ℕ))). r >>= λ i. behind_bytes i.0 (parts_at n i.1)) read))
+
+pub item_fault : (f : Fault) (done : List ℕ) (left : ℕ) (words rest : List (List ℕ)) (all : Reading (List ℕ × List (List ℕ))) → label_at (codes "item") words ≡ Some rest → Fails f (item_at rest) → 0 < left
+    → behind_bytes done (parts_at left words) ≡ all → Fails f all
+item_fault fault.NoMemory done left words rest all label fails some is = tt
+item_fault (fault.Unreadable place) done zero words rest all label fails some is = absurd (omega arith)
+item_fault (fault.Unreadable place) done (suc n) words rest all label fails some is =
+    sym is ∙ ap (behind_bytes done) (one_more n words rest label ∙ ap (λ (r : Reading (List ℕ × List (List ℕ))). r >>= λ i. behind_bytes i.0 (parts_at n i.1)) fails)
+
+pub no_item_read : (left : ℕ) (words : List (List ℕ)) → label_at (codes "item") words ≡ None → parts_at left words ≡ optional_bytes_at (codes "data") words
+unfolding parts_at
+no_item_read zero words none = refl
+no_item_read (suc n) words none = rw (none, parts_at) refl
+
+pub none_to_read : (left : ℕ) (words : List (List ℕ)) → left ≡ 0 → parts_at left words ≡ optional_bytes_at (codes "data") words
+unfolding parts_at
+none_to_read left words none = rw none refl
+
+-- what was added of an item
+pub added_some : (old new behind : List ℕ) (front : Option (List (List ℕ) × List ℕ)) → AddsItem old new (Some behind) front
+    → (words : List (List ℕ)) × (front ≡ Some (words, behind)) × (new ≡ old ++ spaced words)
+added_some old new behind (Some i) added = (i.0, ap (λ (b : List ℕ). Some (i.0, b)) (sym added.1), added.0)
+added_some old new behind None added = absurd added
+
+pub added_none : (old new : List ℕ) (front : Option (List (List ℕ) × List ℕ)) → AddsItem old new None front → (front ≡ None) × (new ≡ old)
+added_none old new None added = (refl, added)
+added_none old new (Some i) added = absurd added
+
+pub all_pushed : (line body : List ℕ) → line ++ spaced (body_within (length body) body) ≡ line ++ spaced (body_words body)
+unfolding body_words
+all_pushed line body = refl
+
+pub all_read : (body : List ℕ) (n : ℕ) (words : List (List ℕ)) → body ≡ [] → n ≡ length words → behind_bytes body (parts_at n words) ≡ body_at words
+unfolding body_at
+all_read body n words none count =
+    ap (λ (l : List ℕ). behind_bytes l (parts_at n words)) none ∙ ap (λ (k : ℕ). behind_bytes [] (parts_at k words)) count
+    ∙ elim (parts_at (length words) words) as (λ (r : Reading (List ℕ × List (List ℕ))). behind_bytes [] r ≡ r) [ Ok b ↦ refl | Err place ↦ refl ]

@@ -1,0 +1,222 @@
+-- What calls answered, in words.
+use Rattle.std.specs.Prelude.{◌≢◌, ℕ, Bool, true, false, ◌==◌, ◌&&◌, ◌||◌, not, IsTrue, List, [], ◌∷◌, ◌++◌, length, flat_map, map, find, Option, None, Some, Ok, codes, if◌then◌else◌}
+use Rattle.std.specs.Str.{bytes_eq}
+use Rattle.codes.specs.declared.kern_return.KernReturn.{KernReturn}
+use Rattle.codes.specs.declared.kern_return.KernReturn.TheVariants.{Success}
+use Rattle.ipc_model.specs.declared.call.NamedType.{NamedType}
+use Rattle.ipc_model.specs.declared.call.ReceiveStatus.{ReceiveStatus}
+use Rattle.ipc_model.specs.declared.call.Reply.{Reply}
+use Rattle.ipc_model.specs.declared.call.Reply.TheVariants as reply
+use Rattle.ipc_model.specs.declared.message.RightKind.{RightKind}
+use Rattle.ipc_model.specs.declared.message.RightKind.TheVariants as right
+use Rattle.script.specs.declared.kind.Kind.{Kind}
+use Rattle.script.specs.declared.kind.Kind.TheVariants.{Hexadecimal, Decimal}
+use Rattle.script.specs.Calls.{name_word, count_word}
+use Rattle.script.specs.Codes.{code_word, all_codes}
+use Rattle.script.specs.Messages.{message_words, message_at, optional_words}
+use Rattle.script.specs.declared.fault.Expected.TheVariants as expected
+use Rattle.script.specs.Reading.{Reading, ◌>>=◌, stop, wanted, value_at, label_at, labelled_at, optional_at, last}
+
+unfoldable pub yes_or_no : Bool → List ℕ
+yes_or_no b = if b then codes "yes" else codes "no"
+
+abbrev pub kind_word : RightKind → List ℕ
+kind_word right.Receive = codes "receive"
+kind_word right.Send = codes "send"
+kind_word right.SendOnce = codes "send_once"
+
+abbrev pub place_words : ReceiveStatus → List (List ℕ)
+place_words s = codes "set" ∷ name_word s.set ∷ codes "seqno" ∷ count_word s.sequence_number ∷ codes "mscount" ∷ count_word s.make_send_count ∷ []
+
+abbrev pub queue_words : ReceiveStatus → List (List ℕ)
+queue_words s = codes "qlimit" ∷ count_word s.limit ∷ codes "messages" ∷ count_word s.messages ∷ codes "send_once" ∷ count_word s.send_once_count ∷ []
+
+unfoldable pub count_words : ReceiveStatus → List (List ℕ)
+count_words s = place_words s ++ queue_words s
+
+abbrev pub answers_words : ReceiveStatus → List (List ℕ)
+answers_words s =
+    codes "senders" ∷ yes_or_no s.has_senders ∷ codes "port_destroyed" ∷ yes_or_no s.has_port_destroyed_request ∷ codes "no_senders" ∷ yes_or_no s.has_no_senders_request ∷ []
+
+unfoldable pub status_words : ReceiveStatus → List (List ℕ)
+status_words s = count_words s ++ answers_words s
+
+unfoldable pub names_words : List NamedType → List (List ℕ)
+names_words names = flat_map (λ (n : NamedType). name_word n.name ∷ name_word n.bits ∷ []) names
+
+unfoldable pub members_words : List ℕ → List (List ℕ)
+members_words members = map name_word members
+
+-- how a mach_msg went: nothing where it was done and nothing more is told
+unfoldable pub outcome_words : KernReturn → Bool → List (List ℕ)
+outcome_words Success silent = if silent then [] else codes "=" ∷ []
+outcome_words code silent = codes "!" ∷ code_word code ∷ []
+
+unfoldable pub received_words : List ℕ → List (List ℕ)
+received_words [] = []
+received_words (b ∷ message) = codes "message" ∷ message_words (b ∷ message)
+
+unfoldable pub message_reply_words : KernReturn → ℕ → ℕ → List ℕ → List (List ℕ)
+message_reply_words code size member message =
+    outcome_words code (size == 0 && member == 0 && length message == 0) ++ optional_words (codes "size") Decimal size
+    ++ optional_words (codes "member") Hexadecimal member ++ received_words message
+
+-- the results of a call that was done and has some
+abbrev pub result_words : Reply → List (List ℕ)
+result_words (reply.Names names) = names_words names
+result_words (reply.Type bits) = name_word bits ∷ []
+result_words (reply.Allocate name) = name_word name ∷ []
+result_words (reply.References count) = count_word count ∷ []
+result_words (reply.ReceiveStatus status) = status_words status
+result_words (reply.SetStatus members) = members_words members
+result_words (reply.PreviousTarget name) = name_word name ∷ []
+result_words (reply.Extracted name kind) = name_word name ∷ kind_word kind ∷ []
+result_words (reply.SpaceCreated space name) = codes "space" ∷ count_word space ∷ codes "name" ∷ name_word name ∷ []
+result_words answer = []
+
+-- what stands behind a call
+abbrev pub reply_words : Reply → List (List ℕ)
+reply_words (reply.Refused number code) = codes "!" ∷ code_word code ∷ []
+reply_words (reply.Done number) = []
+reply_words (reply.Message code size member message) = message_reply_words code size member message
+reply_words answer = codes "=" ∷ result_words answer
+
+unfoldable pub yes_or_no_at : List (List ℕ) → Reading (Bool × List (List ℕ))
+yes_or_no_at words = elim (label_at (codes "yes") words) [
+  | Some rest ↦ Ok (true, rest)
+  | None ↦ wanted expected.YesOrNo words (label_at (codes "no") words) >>= λ rest. Ok (false, rest)
+]
+
+unfoldable pub answer_at : List ℕ → List (List ℕ) → Reading (Bool × List (List ℕ))
+answer_at label words = wanted expected.Label words (label_at label words) >>= λ rest. yes_or_no_at rest
+
+unfoldable pub kind_at : List (List ℕ) → Reading (RightKind × List (List ℕ))
+kind_at words = elim (label_at (codes "receive") words) [
+  | Some rest ↦ Ok (right.Receive, rest)
+  | None ↦ elim (label_at (codes "send") words) [
+    | Some rest ↦ Ok (right.Send, rest)
+    | None ↦ wanted expected.RightKind words (label_at (codes "send_once") words) >>= λ rest. Ok (right.SendOnce, rest)
+  ]
+]
+
+unfoldable pub counts_at : List (List ℕ) → Reading (ReceiveStatus × List (List ℕ))
+counts_at words = do
+  set ← labelled_at (codes "set") Hexadecimal words
+  seqno ← labelled_at (codes "seqno") Decimal set.1
+  mscount ← labelled_at (codes "mscount") Decimal seqno.1
+  qlimit ← labelled_at (codes "qlimit") Decimal mscount.1
+  messages ← labelled_at (codes "messages") Decimal qlimit.1
+  send_once ← labelled_at (codes "send_once") Decimal messages.1
+  Ok (
+    record {
+      set = set.0;
+      sequence_number = seqno.0;
+      make_send_count = mscount.0;
+      limit = qlimit.0;
+      messages = messages.0;
+      send_once_count = send_once.0;
+      has_senders = false;
+      has_port_destroyed_request = false;
+      has_no_senders_request = false;
+    },
+    send_once.1,
+  )
+
+unfoldable pub status_at : List (List ℕ) → Reading (ReceiveStatus × List (List ℕ))
+status_at words = do
+  counts ← counts_at words
+  senders ← answer_at (codes "senders") counts.1
+  port_destroyed ← answer_at (codes "port_destroyed") senders.1
+  no_senders ← answer_at (codes "no_senders") port_destroyed.1
+  Ok (record counts.0 { has_senders = senders.0; has_port_destroyed_request = port_destroyed.0; has_no_senders_request = no_senders.0 }, no_senders.1)
+
+abbrev pub in_front_of : {X : Type 0} → X → Reading (List X) → Reading (List X)
+in_front_of x read = read >>= λ xs. Ok (x ∷ xs)
+
+-- a name and its type, if a word is left
+unfoldable pub named_at : List (List ℕ) → Reading (Option (NamedType × List (List ℕ)))
+named_at [] = Ok None
+named_at (word ∷ words) = value_at Hexadecimal (word ∷ words) >>= λ n. value_at Hexadecimal n.1 >>= λ b. Ok (Some (record { name = n.0; bits = b.0 }, b.1))
+
+unfoldable pub member_at : List (List ℕ) → Reading (Option (ℕ × List (List ℕ)))
+member_at [] = Ok None
+member_at (word ∷ words) = value_at Hexadecimal (word ∷ words) >>= λ n. Ok (Some (n.0, n.1))
+
+-- all words, in pairs
+unfoldable pub names_at : List (List ℕ) → Reading (List NamedType)
+names_at [] = Ok []
+names_at (word ∷ []) = value_at Hexadecimal (word ∷ []) >>= λ n. stop expected.Number []
+names_at (word ∷ second ∷ words) = value_at Hexadecimal (word ∷ second ∷ words) >>= λ n. value_at Hexadecimal (second ∷ words) >>= λ b. in_front_of (record { name = n.0; bits = b.0 }) (names_at words)
+
+unfoldable pub members_at : List (List ℕ) → Reading (List ℕ)
+members_at [] = Ok []
+members_at (word ∷ words) = value_at Hexadecimal (word ∷ words) >>= λ n. in_front_of n.0 (members_at words)
+
+unfoldable pub received_at : List (List ℕ) → Reading (List ℕ × List (List ℕ))
+received_at words = elim (label_at (codes "message") words) [ None ↦ Ok ([], words) | Some rest ↦ message_at rest ]
+
+unfoldable pub message_reply_at : KernReturn → List (List ℕ) → Reading Reply
+message_reply_at code words = do
+  size ← optional_at (codes "size") Decimal words
+  member ← optional_at (codes "member") Hexadecimal size.1
+  message ← received_at member.1
+  last (reply.Message code size.0 member.0 message.0, message.1)
+
+unfoldable pub last_value : Kind → List (List ℕ) → Reading ℕ
+last_value k words = value_at k words >>= λ n. last n
+
+unfoldable pub extracted_at : List (List ℕ) → Reading Reply
+extracted_at words = do
+  name ← value_at Hexadecimal words
+  kind ← kind_at name.1
+  last (reply.Extracted name.0 kind.0, kind.1)
+
+unfoldable pub space_created_at : List (List ℕ) → Reading Reply
+space_created_at words = do
+  space ← labelled_at (codes "space") Decimal words
+  name ← labelled_at (codes "name") Hexadecimal space.1
+  last (reply.SpaceCreated space.0 name.0, name.1)
+
+unfoldable pub last_status_at : List (List ℕ) → Reading Reply
+last_status_at words = status_at words >>= λ status. last (reply.ReceiveStatus status.0, status.1)
+
+-- the results of a call of this number
+unfoldable pub results_at : ℕ → List (List ℕ) → Reading Reply
+results_at n words =
+    if n == 1 then (names_at words >>= λ names. Ok (reply.Names names))
+    else if n == 2 then (last_value Hexadecimal words >>= λ bits. Ok (reply.Type bits))
+    else if n == 5 then (last_value Hexadecimal words >>= λ name. Ok (reply.Allocate name))
+    else if n == 8 then (last_value Decimal words >>= λ count. Ok (reply.References count))
+    else if n == 13 then last_status_at words
+    else if n == 14 then (members_at words >>= λ members. Ok (reply.SetStatus members))
+    else if n == 16 then (last_value Hexadecimal words >>= λ name. Ok (reply.PreviousTarget name))
+    else if n == 18 then extracted_at words
+    else if n == 19 then message_reply_at Success words
+    else if n == 20 then space_created_at words
+    else stop expected.End words
+
+-- a call of this number has results that have to be told
+abbrev pub has_results : ℕ → Bool
+has_results n = n == 1 || n == 2 || n == 5 || n == 8 || n == 13 || n == 14 || n == 16 || n == 18 || n == 20
+
+-- what it is to tell nothing
+unfoldable pub silence : ℕ → List (List ℕ) → Reading Reply
+silence n words = if has_results n then stop expected.Results words else if n == 19 then Ok (reply.Message Success 0 0 []) else Ok (reply.Done n)
+
+unfoldable pub refusal_at : ℕ → List (List ℕ) → Reading Reply
+refusal_at n [] = stop expected.Code []
+refusal_at n (word ∷ words) = wanted expected.Code (word ∷ words) (find (λ code. bytes_eq (code_word code) word) all_codes) >>= λ code. if n == 19 then message_reply_at code words else last (reply.Refused n code, words)
+
+-- what a call of this number answered: `=` stands behind none that has no results
+unfoldable pub reply_at : ℕ → List (List ℕ) → Reading Reply
+reply_at n [] = silence n []
+reply_at n (word ∷ words) =
+    if bytes_eq word (codes "=") then (if has_results n || n == 19 then results_at n words else stop expected.End (word ∷ words))
+    else if bytes_eq word (codes "!") then refusal_at n words
+    else stop expected.Results (word ∷ words)
+
+-- the reply is one of a call of its own number
+abbrev pub IsOwn : Reply → Type 0
+IsOwn (reply.Refused number code) = number ≢ 19
+IsOwn (reply.Done number) = IsTrue (not (has_results number || number == 19))
+IsOwn answer = Unit {0}

@@ -1,0 +1,239 @@
+ghost use Rattle.std.specs.Prelude.{◌≡◌, ◌++◌, ◌∷◌, [], OnOk};
+ghost use Rattle.ipc_model.specs.declared.call.Call.TheVariants as call_variants;
+ghost use Rattle.script.specs.Calls.{verb_of, receive_words, pair_words, argument_words, receive_at, send_at, behind_at, call_at};
+ghost use Rattle.script.specs.Kinds.{value_word};
+ghost use Rattle.script.specs.Reading.{Gives};
+ghost use Rattle.script.specs.Spaced.{words_of, spaced};
+ghost use Rattle.script.specs.Verbs.{verb_word};
+
+use crate::fault::{Expected, Fault};
+use crate::kind::{Kind, push_value};
+use crate::message::{push_flag, push_labelled, push_message, read_message};
+use crate::plain::read_plain;
+use crate::spaced::take_word;
+use crate::values::{push_three, push_two, read_flag, read_labelled, read_value};
+use crate::verb::Verb;
+use ipc_model::{Call, Sequence};
+use std::alloc::{AllocError, Global};
+
+/// The verb of a call.
+fn verb_of(call: &Call) -> Verb
+    ensures { result ≡ verb_of call.now }
+{
+    match call {
+        Call::Attach { .. } => Verb::Attach,
+        Call::Names => Verb::Names,
+        Call::Type { .. } => Verb::Type,
+        Call::Rename { .. } => Verb::Rename,
+        Call::AllocateName { .. } => Verb::AllocateName,
+        Call::Allocate { .. } => Verb::Allocate,
+        Call::Destroy { .. } => Verb::Destroy,
+        Call::Deallocate { .. } => Verb::Deallocate,
+        Call::GetRefs { .. } => Verb::GetRefs,
+        Call::ModRefs { .. } => Verb::ModRefs,
+        Call::SetQlimit { .. } => Verb::SetQlimit,
+        Call::SetMscount { .. } => Verb::SetMscount,
+        Call::SetSeqno { .. } => Verb::SetSeqno,
+        Call::GetReceiveStatus { .. } => Verb::GetReceiveStatus,
+        Call::GetSetStatus { .. } => Verb::GetSetStatus,
+        Call::MoveMember { .. } => Verb::MoveMember,
+        Call::RequestNotification { .. } => Verb::RequestNotification,
+        Call::InsertRight { .. } => Verb::InsertRight,
+        Call::ExtractRight { .. } => Verb::ExtractRight,
+        Call::Send { .. } => Verb::Send,
+        Call::Receive { .. } => Verb::Receive,
+        Call::SpaceCreate { .. } => Verb::SpaceCreate,
+        Call::SpaceDestroy => Verb::SpaceDestroy,
+    }
+}
+
+#[tactic(auto, using(crate::proofs::WordsOf::spaced_laws))]
+/// Adds the words of a receipt's arguments.
+fn push_receive(
+    line: &mut Vec<u8>,
+    limit: u32,
+    large: bool,
+    name: u32,
+    waited: bool,
+) -> Result<(), AllocError>
+    ensures { OnOk result (line.new.items ≡ line.old.items ++ spaced (receive_words limit large name waited)) }
+{
+    push_value(line, Kind::Hexadecimal, name)?;
+    push_labelled(line, b"limit", Kind::Decimal, limit)?;
+    push_flag(line, b"large", large)?;
+    push_flag(line, b"waited", waited)
+}
+
+#[tactic(auto, using(crate::proofs::WordsOf::spaced_laws))]
+/// Adds the words of the arguments of a request for a notification.
+fn push_notification(
+    line: &mut Vec<u8>,
+    name: u32,
+    variant: u32,
+    sync: u32,
+    notify: u32,
+    disposition: u32,
+) -> Result<(), AllocError>
+    ensures { OnOk result (line.new.items ≡ line.old.items ++ spaced (argument_words (call_variants.RequestNotification name variant sync notify disposition))) }
+{
+    push_three(
+        line,
+        (Kind::Hexadecimal, name),
+        (Kind::Notification, variant),
+        (Kind::Decimal, sync),
+    )?;
+    push_two(
+        line,
+        (Kind::Hexadecimal, notify),
+        (Kind::Disposition, disposition),
+    )
+}
+
+/// Adds a name and another number.
+fn push_name_and(line: &mut Vec<u8>, name: u32, kind: Kind, number: u32) -> Result<(), AllocError>
+    ensures { OnOk result (line.new.items ≡ line.old.items ++ spaced (value_word Kind.Hexadecimal name ∷ value_word kind number ∷ [])) }
+{
+    push_two(line, (Kind::Hexadecimal, name), (kind, number))
+}
+
+#[tactic(auto, using(crate::proofs::WordsOf::spaced_laws))]
+/// Adds the words of the arguments of a call that has two, a name in front.
+fn push_pair(line: &mut Vec<u8>, call: &Call) -> Result<(), AllocError>
+    ensures { OnOk result (line.new.items ≡ line.old.items ++ spaced (pair_words call.now)) }
+{
+    match call {
+        Call::Rename { from, to } => push_name_and(line, *from, Kind::Hexadecimal, *to),
+        Call::GetRefs { name, right } => push_name_and(line, *name, Kind::Right, *right),
+        Call::SetQlimit { name, limit } => push_name_and(line, *name, Kind::Decimal, *limit),
+        Call::SetMscount { name, count } => push_name_and(line, *name, Kind::Decimal, *count),
+        Call::SetSeqno { name, seqno } => push_name_and(line, *name, Kind::Decimal, *seqno),
+        Call::MoveMember { member, after } => {
+            push_name_and(line, *member, Kind::Hexadecimal, *after)
+        }
+        Call::ExtractRight { name, disposition } | Call::SpaceCreate { name, disposition } => {
+            push_name_and(line, *name, Kind::Disposition, *disposition)
+        }
+        _ => Ok(()),
+    }
+}
+
+#[tactic(auto, using(crate::proofs::WordsOf::spaced_laws))]
+/// Adds the words of the arguments of an insertion of a right.
+fn push_insertion(
+    line: &mut Vec<u8>,
+    name: u32,
+    right_name: u32,
+    disposition: u32,
+) -> Result<(), AllocError>
+    ensures { OnOk result (line.new.items ≡ line.old.items ++ spaced (argument_words (call_variants.InsertRight name right_name disposition))) }
+{
+    push_name_and(line, name, Kind::Hexadecimal, right_name)?;
+    push_value(line, Kind::Disposition, disposition)
+}
+
+#[tactic(auto, using(crate::proofs::WordsOf::spaced_laws))]
+/// Adds the words of a call's arguments.
+fn push_arguments(line: &mut Vec<u8>, call: &Call) -> Result<(), AllocError>
+    ensures { OnOk result (line.new.items ≡ line.old.items ++ spaced (argument_words call.now)) }
+{
+    match call {
+        Call::Names | Call::SpaceDestroy => Ok(()),
+        Call::Attach { space } => push_value(line, Kind::Decimal, *space),
+        Call::Allocate { right } => push_value(line, Kind::Right, *right),
+        Call::Type { name }
+        | Call::Destroy { name }
+        | Call::Deallocate { name }
+        | Call::GetReceiveStatus { name }
+        | Call::GetSetStatus { name } => push_value(line, Kind::Hexadecimal, *name),
+        Call::AllocateName { right, name } => {
+            push_two(line, (Kind::Right, *right), (Kind::Hexadecimal, *name))
+        }
+        Call::ModRefs { name, right, delta } => {
+            push_name_and(line, *name, Kind::Right, *right)?;
+            push_value(line, Kind::Signed, *delta)
+        }
+        Call::RequestNotification {
+            name,
+            variant,
+            sync,
+            notify,
+            disposition,
+        } => push_notification(line, *name, *variant, *sync, *notify, *disposition),
+        Call::InsertRight {
+            name,
+            right_name,
+            disposition,
+        } => push_insertion(line, *name, *right_name, *disposition),
+        Call::Send { message } => push_message(line, message.as_slice()),
+        Call::Receive {
+            limit,
+            large,
+            name,
+            waited,
+        } => push_receive(line, *limit, *large, *name, *waited),
+        _ => push_pair(line, call),
+    }
+}
+
+#[tactic(auto, using(crate::proofs::WordsOf::spaced_laws))]
+/// Adds the words of a call, the first without a space in front.
+pub(crate) fn push_call_words(line: &mut Vec<u8>, call: &Call) -> Result<(), AllocError>
+    ensures { OnOk result (line.new.items ≡ (line.old.items ++ verb_word (verb_of call.now)) ++ spaced (argument_words call.now)) }
+{
+    line.extend_from_slice(verb_of(call).word())?;
+    push_arguments(line, call)
+}
+
+#[tactic(auto, unfolding(crate::specs::Calls::receive_at))]
+/// The receipt whose arguments are in front.
+fn read_receive(text: &[u8]) -> Result<(Call, &[u8]), Fault>
+    ensures { Gives (λ r. (r.0, words_of r.1.now)) result (receive_at (words_of text.now)) }
+{
+    let (name, rest) = read_value(Kind::Hexadecimal, text)?;
+    let (limit, rest) = read_labelled(b"limit", Kind::Decimal, rest)?;
+    let (large, rest) = read_flag(b"large", rest);
+    let (waited, rest) = read_flag(b"waited", rest);
+    let call = Call::Receive {
+        limit,
+        large,
+        name,
+        waited,
+    };
+    Ok((call, rest))
+}
+
+#[tactic(auto, unfolding(crate::specs::Calls::send_at))]
+/// The send whose message is in front.
+fn read_send(alloc: Global, text: &[u8]) -> Result<(Call, &[u8]), Fault>
+    ensures { Gives (λ r. (r.0, words_of r.1.now)) result (send_at (words_of text.now)) }
+{
+    let (message, rest) = read_message(alloc, text)?;
+    let message = Sequence::new(message);
+    Ok((Call::Send { message }, rest))
+}
+
+#[tactic(auto, unfolding(crate::specs::Calls::behind_at))]
+/// The call of a verb whose arguments are in front.
+fn read_behind(alloc: Global, verb: Verb, text: &[u8]) -> Result<(Call, &[u8]), Fault>
+    ensures { Gives (λ r. (r.0, words_of r.1.now)) result (behind_at verb (words_of text.now)) }
+{
+    match verb {
+        Verb::Send => read_send(alloc, text),
+        Verb::Receive => read_receive(text),
+        _ => read_plain(verb, text),
+    }
+}
+
+#[tactic(auto, unfolding(crate::specs::Calls::call_at))]
+/// The call in front, and the text behind it.
+pub(crate) fn read_call(alloc: Global, text: &[u8]) -> Result<(Call, &[u8]), Fault>
+    ensures { Gives (λ r. (r.0, words_of r.1.now)) result (call_at (words_of text.now)) }
+{
+    let Some((word, rest)) = take_word(text) else {
+        return Err(Fault::expected(Expected::CallName, text));
+    };
+    match Verb::of_word(word) {
+        Some(verb) => read_behind(alloc, verb, rest),
+        None => Err(Fault::expected(Expected::CallName, text)),
+    }
+}

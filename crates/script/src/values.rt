@@ -1,0 +1,133 @@
+ghost use Rattle.std.specs.Prelude.{◌≡◌, ◌<◌, ◌^◌, MatchOption, None, Some, OnOk, IfOk, ◌++◌, ◌∷◌, []};
+ghost use Rattle.script.specs.Kinds.{value_word};
+ghost use Rattle.script.specs.Reading.{Gives, number_at, bounded_at, value_at, label_at, labelled_at, optional_at, flag_at};
+ghost use Rattle.script.specs.Spaced.{words_of, spaced};
+
+use crate::fault::{Expected, Fault};
+use crate::kind::{Kind, push_value};
+use crate::spaced::take_word;
+use std::alloc::AllocError;
+
+#[tactic(auto, unfolding(crate::specs::Reading::number_at))]
+/// The number in front and the text behind it, if there is one.
+pub(crate) fn take_number(kind: Kind, text: &[u8]) -> Option<(u32, &[u8])>
+    ensures { MatchOption result (number_at kind (words_of text.now) ≡ None)
+        (λ r. number_at kind (words_of text.now) ≡ Some (r.0, words_of r.1.now)) }
+{
+    if let Kind::Absent = kind {
+        return Some((0, text));
+    }
+    let (word, rest) = take_word(text)?;
+    let number = kind.read_word(word)?;
+    Some((number, rest))
+}
+
+#[tactic(auto, unfolding(crate::specs::Reading::value_at))]
+/// The number in front, and the text behind it.
+pub(crate) fn read_value(kind: Kind, text: &[u8]) -> Result<(u32, &[u8]), Fault>
+    ensures { Gives (λ r. (r.0, words_of r.1.now)) result (value_at kind (words_of text.now)) }
+{
+    match take_number(kind, text) {
+        Some(found) => Ok(found),
+        None => Err(Fault::expected(Expected::Number, text)),
+    }
+}
+
+#[tactic(auto, unfolding(crate::specs::Reading::bounded_at))]
+/// The number in front, which is below a bound, and the text behind it.
+pub(crate) fn read_bounded(
+    expected: Expected,
+    kind: Kind,
+    bound: u32,
+    text: &[u8],
+) -> Result<(u32, &[u8]), Fault>
+    ensures read { Gives (λ r. (r.0, words_of r.1.now)) result (bounded_at expected kind bound (words_of text.now)) }
+    ensures small { IfOk result (λ r. r.0 < bound) }
+{
+    let Some((number, rest)) = take_number(kind, text) else {
+        return Err(Fault::expected(expected, text));
+    };
+    if number < bound {
+        Ok((number, rest))
+    } else {
+        Err(Fault::expected(expected, text))
+    }
+}
+
+#[tactic(auto, unfolding(crate::specs::Reading::label_at))]
+/// The text behind a word, if it is the first.
+pub(crate) fn behind_label<'a>(label: &[u8], text: &'a [u8]) -> Option<&'a [u8]>
+    ensures { MatchOption result (label_at label.now (words_of text.now) ≡ None)
+        (λ rest. label_at label.now (words_of text.now) ≡ Some (words_of rest.now)) }
+{
+    let (word, rest) = take_word(text)?;
+    if word == label { Some(rest) } else { None }
+}
+
+#[tactic(auto, unfolding(crate::specs::Reading::labelled_at))]
+/// The number behind this word, which is the first.
+pub(crate) fn read_labelled<'a>(
+    label: &[u8],
+    kind: Kind,
+    text: &'a [u8],
+) -> Result<(u32, &'a [u8]), Fault>
+    ensures { Gives (λ r. (r.0, words_of r.1.now)) result (labelled_at label.now kind (words_of text.now)) }
+{
+    match behind_label(label, text) {
+        Some(rest) => read_value(kind, rest),
+        None => Err(Fault::expected(Expected::Label, text)),
+    }
+}
+
+#[tactic(auto, unfolding(crate::specs::Reading::optional_at))]
+/// The number behind this word if it is the first, else 0.
+pub(crate) fn read_optional<'a>(
+    label: &[u8],
+    kind: Kind,
+    text: &'a [u8],
+) -> Result<(u32, &'a [u8]), Fault>
+    ensures { Gives (λ r. (r.0, words_of r.1.now)) result (optional_at label.now kind (words_of text.now)) }
+{
+    match behind_label(label, text) {
+        Some(rest) => read_value(kind, rest),
+        None => Ok((0, text)),
+    }
+}
+
+#[tactic(auto, unfolding(crate::specs::Reading::flag_at))]
+/// Whether this word is the first, and the text behind it.
+pub(crate) fn read_flag<'a>(label: &[u8], text: &'a [u8]) -> (bool, &'a [u8])
+    ensures { flag_at label.now (words_of text.now) ≡ (result.0, words_of result.1.now) }
+{
+    match behind_label(label, text) {
+        Some(rest) => (true, rest),
+        None => (false, text),
+    }
+}
+
+#[tactic(auto, using(crate::proofs::WordsOf::spaced_laws))]
+/// Adds two numbers, each as a word. Where memory is wanted some may have been added.
+pub(crate) fn push_two(
+    line: &mut Vec<u8>,
+    first: (Kind, u32),
+    second: (Kind, u32),
+) -> Result<(), AllocError>
+    ensures { OnOk result (line.new.items ≡ line.old.items ++ spaced (value_word first.0 first.1 ∷ value_word second.0 second.1 ∷ [])) }
+{
+    push_value(line, first.0, first.1)?;
+    push_value(line, second.0, second.1)
+}
+
+#[tactic(auto, using(crate::proofs::WordsOf::spaced_laws))]
+/// Adds three numbers, each as a word. Where memory is wanted some may have been added.
+pub(crate) fn push_three(
+    line: &mut Vec<u8>,
+    first: (Kind, u32),
+    second: (Kind, u32),
+    third: (Kind, u32),
+) -> Result<(), AllocError>
+    ensures { OnOk result (line.new.items ≡ line.old.items ++ spaced (value_word first.0 first.1 ∷ value_word second.0 second.1 ∷ value_word third.0 third.1 ∷ [])) }
+{
+    push_two(line, first, second)?;
+    push_value(line, third.0, third.1)
+}
