@@ -2,11 +2,6 @@
 use Rattle.std.proofs.Common.{◌≡◌, ℕ, zero, suc, ◌+◌, ◌<◌, ◌≤◌, min, List, [], ◌∷◌, length, take, drop, get_or, set, slice_index, bit_and, refl, ap, ◌∙◌, arith}
 use Rattle.ipc_model.specs.messages.Kept.{masked}
 
-pub length-masked : (masks bytes : List ℕ) → length (masked masks bytes) ≡ length bytes
-length-masked [] bytes = refl
-length-masked (m ∷ masks) [] = refl
-length-masked (m ∷ masks) (b ∷ bytes) = let others = length-masked masks bytes in omega (arith, others)
-
 -- one mask more
 masked_more : (masks bytes : List ℕ) (i v : ℕ) → i < length masks → i < length bytes
     → set (masked (take i masks) bytes) i (bit_and (get_or (masked (take i masks) bytes) i v) (get_or masks i 0)) ≡ masked (take (suc i) masks) bytes

@@ -1,5 +1,5 @@
 -- An image's text behind its header's place, and then the whole image.
-use Rattle.std.proofs.Common.{◌≡◌, ℕ, ◌<◌, ◌≤◌, List, [], ◌∷◌, ◌++◌, length, take, drop, sym, ap, subst, ◌∙◌, arith, append_assoc, length-append}
+use Rattle.std.proofs.Common.{◌≡◌, ℕ, ◌<◌, ◌≤◌, List, [], ◌∷◌, ◌++◌, length, take, drop, sym, ap, ◌∙◌, arith, append_assoc, length-append}
 use Rattle.std.proofs.lemmas.List.{append-nil, drop_at}
 use Rattle.disk.specs.declared.slot.Slot.{Slot}
 use Rattle.disk.specs.Slots.{Slots, slot_of, with_slot}
@@ -7,7 +7,7 @@ use Rattle.ipc_model.specs.store.Store.{IsClosed, epoch_text, image_content, ope
 use Rattle.words.specs.Words.{long_word}
 use Rattle.checkpoint.specs.Images.{HoldsBehind, open_image}
 use Rattle.slot_steps.proofs.Gates.{behind_first}
-use Rattle.slot_steps.proofs.Lengths.{closed_cut, closed_front, cut_length, own_of}
+use Rattle.slot_steps.proofs.Lengths.{closed_cut, cut_length, own_of}
 use Rattle.slot_steps.proofs.Moments.{with_twice}
 
 -- a slot that was cut to the place of a header, behind a gate that isn't open
@@ -38,10 +38,6 @@ pub gate_written : (slot : Slot) (old mid new : Slots) (epoch : ℕ) (text bytes
     → new ≡ with_slot mid slot (open_gate ∷ drop 1 (slot_of mid slot)) → new ≡ with_slot old slot (open_image epoch text)
 gate_written slot old mid new epoch text bytes before behind is =
     is ∙ (λ i. with_slot (before i) slot (open_gate ∷ behind i)) ∙ with_twice slot old bytes (open_gate ∷ image_content epoch text)
-
--- a gate that isn't open still stands in front
-pub holds_shut : (bytes text : List ℕ) → HoldsBehind bytes text → IsClosed bytes
-holds_shut bytes text holds = subst IsClosed (sym holds.whole) (closed_front holds.head text (omega (arith, holds.long)) holds.shut)
 
 -- more of the text was written behind what stood there
 pub held_more : (slot : Slot) (old new : Slots) (text more whole : List ℕ) → HoldsBehind (slot_of old slot) text → new ≡ with_slot old slot (slot_of old slot ++ more) → text ++ more ≡ whole → HoldsBehind (slot_of new slot) whole

@@ -2,12 +2,8 @@
 #![tactic(auto)]
 
 mod bound;
-mod connected;
-mod patience;
 mod program;
 mod threads;
 
-pub use connected::Connected;
-pub use patience::{Patience, Peer, SocketPeer};
 pub use program::serve_opened;
 pub use server::SocketEnd;

@@ -1,7 +1,6 @@
 //! The threads: one that stores, one that makes images, one for each connection.
 
-use crate::connected::Connected;
-use crate::patience::SocketPeer;
+use connection::{Connected, SocketPeer};
 use disk::Disk;
 use journal::StoreFault;
 use serving::serve_asked;

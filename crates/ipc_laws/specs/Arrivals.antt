@@ -101,10 +101,6 @@ reference_weighs w rights =
           ≤ (if rights.receive then w kind.Receive rights.port else 0) + ((if b then 0 else w kind.Send rights.port) + target_weigh w rights.dead_name_target) + w kind.Send rights.port) [ true ↦ omega arith | false ↦ omega arith ]
     ]
 
-no_target_here : (q : ℕ) (target : Option ℕ) → target_weigh (receive_of q) target ≡ 0
-no_target_here q None = refl
-no_target_here q (Some serial) = refl
-
 send_none : (q : ℕ) (b : Bool) (serial : ℕ) → (if b then 0 else receive_of q kind.Send serial) ≡ 0
 send_none q true serial = refl
 send_none q false serial = refl

@@ -2,13 +2,12 @@
 use Rattle.std.specs.Prelude.{◌≡◌, ℕ, zero, suc, ◌+◌, ◌*◌, ◌^◌, ◌<◌, ◌≤◌, List, [], ◌∷◌, ◌++◌, length, drop, All}
 use Rattle.std.proofs.Common.{refl, sym, ap, ◌∙◌, subst, arith, append_assoc, length-append}
 use Rattle.codes.specs.declared.limits.TheConstants.{MAX_RECORDS}
-use Rattle.ipc_model.specs.declared.call.Call.{Call}
 use Rattle.ipc_model.specs.declared.record.Record.{Record}
 use Rattle.ipc_laws.specs.ListLaws.{same_back}
 use Rattle.ipc_model.specs.store.Store.{open_gate, batch_text, batches_text, all_records, segment_header, IsClosed, AreRecords, SpellsBatches, SpellsSegment}
 use Rattle.ipc_laws.specs.TextLaws.{word_once, long_word_once, records_once}
-use Rattle.ipc_laws.specs.KeptLaws.{kept_call_again, kept_call_long}
-use Rattle.ipc_model.specs.texts.Texts.{call_text, kept_call, kept_record, reply_text, record_text, records_text, IsRecord}
+use Rattle.ipc_laws.specs.KeptLaws.{kept_call_long}
+use Rattle.ipc_model.specs.texts.Texts.{call_text, kept_call, reply_text, record_text, records_text, IsRecord}
 use Rattle.words.specs.WordLaws.{length-word, length-long_word}
 use Rattle.words.specs.Words.{word, long_word, frame_text}
 
@@ -61,15 +60,6 @@ pub each_is_record : (records : List Record) → AreRecords records → All IsRe
 each_is_record [] are k d less = absurd (omega (arith, less))
 each_is_record (first ∷ records) are zero d less = are.0
 each_is_record (first ∷ records) are (suc k) d less = each_is_record records are.1 k d (omega (arith, less))
-
--- what is kept of a record has its text
-kept_text : (n : ℕ) (entry : Record) → record_text n (kept_record entry) ≡ record_text n entry
-unfolding record_text
-kept_text n entry = ap (λ (c : Call). long_word n ++ (word entry.space ++ (frame_text (call_text c) ++ frame_text (reply_text entry.reply)))) (kept_call_again entry.call)
-
-pub kept_batch : (n : ℕ) (entry : Record) → batch_text n (kept_record entry ∷ []) ≡ batch_text n (entry ∷ [])
-unfolding batch_text
-kept_batch n entry = ap (λ (text : List ℕ). word 1 ++ (long_word (length (text ++ [])) ++ (text ++ []))) (kept_text n entry)
 
 -- equal texts that begin with as many records
 pub same_records : (n : ℕ) (more more_too : List Record) (x y : List ℕ) → AreRecords more → AreRecords more_too → length more ≡ length more_too → n + length more < 2 ^ 64

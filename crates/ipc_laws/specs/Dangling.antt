@@ -81,10 +81,6 @@ notice_carries w target (notice.NoSenders count) waits = refl
 notice_carries w target notice.SendOnce waits = refl
 notice_carries w target (notice.DeadName name) waits = refl
 
--- what is asked of one effect, for one port that is dead after it
-abbrev Leaves : State → State → Type 0
-Leaves old new = (q : ℕ) → lives new q ≡ false → state_weigh (any_of q) new ≡ 0
-
 notified_leaves : (state : State) (target : ℕ) (what : Notice) → IsWaiting (notify target what) → NoneDangles state → NoneDangles (notified state target what)
 notified_leaves state target what waits none q dead =
     let before : lives state q ≡ false = dead_before state target q (λ (p : PortState). record p { messages = p.messages ++ notice_message what ∷ [] }) dead in
@@ -241,9 +237,6 @@ gone_after_death state serial =
     )
 
 -- of another port it leaves no more rights than there were
-
-if_le : (b : Bool) (m : ℕ) → (if b then m else 0) ≤ (if b then m else 0)
-if_le b m = omega arith
 
 fewer_targets : (w : Weight) (serial : ℕ) (target : Option ℕ) → target_weigh w (without_target serial target) ≤ target_weigh w target
 fewer_targets w serial None = omega arith

@@ -77,9 +77,6 @@ any_changed_parts state serial change keeps parts =
 
 -- the notices are lawful messages
 
-all_none : {X : Type 0} (P : X → Type 0) → All P []
-all_none P k d less = absurd (omega (arith, less))
-
 no_bytes : AreBytes []
 no_bytes i = omega arith
 

@@ -1,7 +1,6 @@
 -- Effects keep a state lawful, where the rights that wait among them count as placed; so what settles is lawful.
 use Rattle.std.specs.Prelude.{◌≡◌, ◌≢◌, ◌⊎◌, ℕ, zero, suc, ◌+◌, ◌≤◌, Bool, true, false, cond, ◌==◌, ◌&&◌, not, Contains, List, [], ◌∷◌, ◌++◌, flat_map, Option, None, Some, is_some, option_map, if◌then◌else◌, refl}
 use Rattle.std.proofs.Common.{sym, ◌∙◌, ap, subst, inl, inr, arith}
-use Rattle.std.specs.Ordering.{nat_cmp}
 use Rattle.std.proofs.lemmas.Bool.{eq-eqb}
 use Rattle.std.specs.FinMap as finmap
 use Rattle.ipc_model.specs.declared.entry.Entry.{Entry}
@@ -141,9 +140,6 @@ without_first state first rest other members serial set port there is = elim (me
     | inr later ↦ inr later
   ]
 ]
-
-held_there : (old new : State) (serial set : ℕ) → new.spaces ≡ old.spaces → IsHeldBesideSet old serial set → IsHeldBesideSet new serial set
-held_there old new serial set same held = subst (λ (s : finmap.FinMap nat_cmp Names). IsHeldBesideSet (record old { spaces = s }) serial set) (sym same) held
 
 -- what a port keeps changes, but for its set
 port_members : (state : State) (serial : ℕ) (change : PortState → PortState) (effects : List Effect) → ((p : PortState) → (change p).set ≡ p.set) → Members state effects → Members (with_port state serial change) effects

@@ -82,12 +82,6 @@ recorded_calls (looked ∷ operations) = recorded_calls operations
 abbrev pub call_at : List Record → ℕ → Option (Call × Reply)
 call_at history place = option_map (λ (entry : Record). (entry.call, entry.reply)) (slice_get history place)
 
-call_of : Option Record → Option (Call × Reply)
-call_of o = option_map (λ (entry : Record). (entry.call, entry.reply)) o
-
-abbrev Holds : List Record → List ℕ → List (Call × Reply) → Type 0
-Holds history places calls = map (call_at history) places ≡ map (λ (c : Call × Reply). Some c) calls
-
 abbrev some_calls : List (Call × Reply) → List (Option (Call × Reply))
 some_calls calls = map (λ (c : Call × Reply). Some c) calls
 

@@ -4,9 +4,8 @@ use Rattle.std.proofs.Common.{sym, ◌∙◌, ap, subst, arith, length-append}
 use Rattle.std.proofs.lemmas.Bool.{leb-true, eqb-true, eqb-false}
 use Rattle.std.proofs.lemmas.List.{length-replicate}
 use Rattle.std.proofs.lemmas.List.Elements.{All-replicate, All-cons, All-nil}
-use Rattle.ipc_model.specs.declared.message.RightKind.{RightKind}
 use Rattle.ipc_model.specs.declared.message.RightKind.TheVariants as kind
-use Rattle.ipc_model.specs.rights.Dispositions.{Disposition, MoveReceive, MoveSend, MoveSendOnce, CopySend, MakeSend, MakeSendOnce, disposition_of, received_kind, number_of_kind}
+use Rattle.ipc_model.specs.rights.Dispositions.{Disposition, MoveReceive, MoveSend, MoveSendOnce, CopySend, MakeSend, MakeSendOnce, disposition_of, received_kind}
 use Rattle.ipc_model.specs.messages.Items.{Item, item_text, items_text, as_stored, is_port_type, is_port_item, received_type, padded}
 use Rattle.ipc_laws.specs.ItemLaws.{ItemFits, AllFit, name_bound, item_length}
 use Rattle.ipc_model.specs.state.Lawful.{IsStoredItem, kinds_of_item, kind_of_number}
@@ -135,11 +134,6 @@ all_stored [] fits = All-nil IsStoredItem
 all_stored (item ∷ items) fits = All-cons IsStoredItem (as_stored item) (map as_stored items) (is_kept item fits.0).stored (all_stored items fits.1)
 
 -- the kinds of a stored port item's rights are those that its disposition brings
-
-kind_back : (what : RightKind) → kind_of_number (number_of_kind what) ≡ what
-kind_back kind.Receive = refl
-kind_back kind.Send = refl
-kind_back kind.SendOnce = refl
 
 pub record KindsOf (n : ℕ) : Type 0 where
   pub some : (by : Disposition) → disposition_of n ≡ Some by → (is_port_type n ≡ true) × (kind_of_number (received_type n) ≡ received_kind by)

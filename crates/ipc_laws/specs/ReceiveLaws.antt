@@ -111,9 +111,6 @@ same_message_of old space names receipt answer one other effects others here the
       same_message = ap (first_or here.message) (sym here.first ∙ ap (λ (p : PortState). p.messages) port ∙ there.first);
     }
 
-codes_differ : (answer : Reply) (one other : ℕ) → code_shown answer ≡ one → code_shown answer ≡ other → (one ≡ other → ⊥) → ⊥
-codes_differ answer one other here there differ = differ (sym here ∙ there)
-
 same_large_of : (old : State) (space : ℕ) (names : Names) (receipt : Receipt) (answer : Reply) (one other : State) (effects others : List Effect)
     (here : Taking old space names receipt answer one effects) (there : Taking old space names receipt answer other others)
     → TooLarge old here.member here.serial here.message receipt.large answer one effects → TooLarge old there.member there.serial there.message receipt.large answer other others

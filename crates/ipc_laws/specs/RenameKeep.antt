@@ -1,5 +1,5 @@
 -- mach_port_rename leaves lawful and grounded states: an entry goes under another name, and a set takes its members along.
-use Rattle.std.specs.Prelude.{◌≡◌, ◌≢◌, ◌⊎◌, ℕ, ◌-◌, ◌^◌, ◌<◌, ◌≤◌, Bool, true, false, cond, T, List, [], ◌∷◌, Option, None, Some, is_some, filter, filter_map, refl}
+use Rattle.std.specs.Prelude.{◌≡◌, ◌≢◌, ◌⊎◌, ℕ, ◌-◌, ◌^◌, ◌<◌, Bool, true, false, cond, T, List, [], ◌∷◌, Option, None, Some, is_some, filter, filter_map, refl}
 use Rattle.std.proofs.Common.{sym, ◌∙◌, ap, subst, inl, inr, arith}
 use Rattle.std.specs.Cmp.{nat_cmp_total}
 use Rattle.std.specs.List.{cons_option}
@@ -8,7 +8,6 @@ use Rattle.std.specs.FinMap as finmap
 use Rattle.std.specs.FinMap.{find, get-entries, len-remove, entries_sorted, is_sorted}
 use Rattle.std.specs.FinMap.Entries.{below_all}
 use Rattle.codes.specs.declared.kern_return.KernReturn.TheVariants.{InvalidName, InvalidValue, NameExists}
-use Rattle.codes.specs.declared.limits.TheConstants.{MAX_NAMES}
 use Rattle.ipc_model.specs.declared.call.Call.TheVariants as call
 use Rattle.ipc_model.specs.declared.call.Reply.{Reply}
 use Rattle.ipc_model.specs.declared.entry.Entry.{Entry}
@@ -49,9 +48,6 @@ other_name names from to entry at free same = cc (sym free ∙ ap (finmap.get na
 
 still_free : (names : Names) (from to : ℕ) (entry : Entry) → finmap.get names from ≡ Some entry → finmap.get names to ≡ None → finmap.get (finmap.remove names from) to ≡ None
 still_free names from to entry at free = get-left names from to (other_name names from to entry at free) ∙ free
-
-one_less : (n : ℕ) → n ≤ MAX_NAMES → n - 1 < MAX_NAMES
-one_less n few = omega (arith, few)
 
 moved_lawful : (names : Names) (from to : ℕ) (entry : Entry) → LawfulNames names → finmap.get names from ≡ Some entry → IsUnused names to → LawfulNames (moved_names names from to entry)
 moved_lawful names from to entry lawful at unused =

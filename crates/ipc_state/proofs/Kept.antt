@@ -1,10 +1,9 @@
 -- The members are found where their places say, after each change.
-use Rattle.std.proofs.Common.{◌≡◌, ℕ, ◌+◌, ◌-◌, ◌^◌, ◌||◌, ◌≤◌, nat_le, nat_lt, arith, ◌<◌, ◌/◌, ◌%◌, ◌==◌, Bool, true, false, cond, Option, None, Some, is_some, option_map, option_and_then, refl, sym, ◌∙◌, ap, subst}
-use Rattle.std.proofs.lemmas.Bool.{eqb-true, eqb-false, eq-eqb, ltb-false, ltb-true}
+use Rattle.std.proofs.Common.{◌≡◌, ℕ, ◌+◌, ◌-◌, ◌^◌, ◌≤◌, nat_lt, arith, ◌<◌, ◌/◌, ◌%◌, ◌==◌, Bool, true, false, cond, Option, None, Some, is_some, option_map, option_and_then, refl, sym, ◌∙◌, ap, subst}
+use Rattle.std.proofs.lemmas.Bool.{eqb-true, eq-eqb, ltb-false, ltb-true}
 use Rattle.std.specs.Cmp.{nat_cmp_total}
 use Rattle.std.specs.Ordering.{nat_cmp, eq_by_cmp}
-use Rattle.std.specs.FinMap.{get, insert, remove, empty, len, get-empty, get-insert, get-remove, same_map, nat_cmp-IsAntisymmetric}
-use Rattle.codes.specs.declared.limits.TheConstants.{MAX_PORTS}
+use Rattle.std.specs.FinMap.{get, insert, remove, empty, get-empty, get-insert, get-remove, same_map, nat_cmp-IsAntisymmetric}
 use Rattle.ipc_laws.specs.ListLaws.{some_same}
 use Rattle.ipc_laws.specs.MapLaws.{get-map_values}
 use Rattle.ipc_laws.specs.MapSums.{insert-insert, key_is, same_key}
@@ -12,10 +11,10 @@ use Rattle.ipc_model.specs.declared.entry.Entry.{Entry}
 use Rattle.ipc_model.specs.declared.entry.Entry.TheVariants.{Port, SendOnce, Set, Dead}
 use Rattle.ipc_model.specs.declared.port.PortState.{PortState}
 use Rattle.ipc_model.specs.effects.Effects.{after_death, entry_after_death, map_values, one_more_if, port_after_death, without_target}
-use Rattle.ipc_model.specs.state.State.{State, Names, new_port, ports_are_used_up, received_port, with_names, with_port, without_name}
+use Rattle.ipc_model.specs.state.State.{State, Names, new_port, received_port, with_names, with_port, without_name}
 use Rattle.ipc_model.specs.calls.PortCalls.{names_in}
-use Rattle.ipc_state.specs.Members.{AreMembers, AreMoving, ArePlacesRenamed, DifferAt, one_moved, changed_members, same_members, set_in, set_place, set_place_of, state_of}
-use Rattle.ports.specs.Passed.{changed, numbers_of, with_numbers, PortNumbers, PortTable, TrackedPorts, Ports}
+use Rattle.ipc_state.specs.Members.{AreMembers, AreMoving, ArePlacesRenamed, DifferAt, one_moved, changed_members, same_members, set_in, set_place, set_place_of}
+use Rattle.ports.specs.Passed.{changed, numbers_of, with_numbers, PortNumbers, TrackedPorts, Ports}
 use Rattle.spaces.specs.Passed.{alike_indexed, Numbers, moved, under_other_name, Tracked}
 use Rattle.spaces.specs.Indexes.{IsNextAt, opened_alike, closed_alike}
 use Rattle.spaces.specs.Laws.{get_names_changed}
@@ -181,15 +180,6 @@ numbers_replaced spaces ports serial former numbers start now there moves are =
     is : (o : Option PortState) → option_map numbers_of o ≡ Some former → set_of (option_map (with_numbers numbers) o) ≡ numbers.set
     is None none = absurd (cc none)
     is (Some port) some = refl
-
--- the serials aren't used up
-pub serials_left : (spaces : SpaceMap) (ports : PortTable) (next : ℕ) → next < 2 ^ 64 → ports.next ≡ next → ports_are_used_up (state_of spaces ports) ≡ false → ports.next < 2 ^ 64 - 1
-serials_left spaces ports next small same left = go (ports.next == 2 ^ 64 - 1) refl (nat_le MAX_PORTS (len ports.ports)) left
-  where
-    go : (b : Bool) → (ports.next == 2 ^ 64 - 1) ≡ b → (full : Bool) → (full || b) ≡ false → ports.next < 2 ^ 64 - 1
-    go true is true e = absurd (cc e)
-    go true is false e = absurd (cc e)
-    go false is full e = omega (arith, small, same, eqb-false ports.next (2 ^ 64 - 1) is)
 
 abbrev in_no_set : State → ℕ → State
 in_no_set state serial = with_port state serial (λ port. record port { set = None })

@@ -1,5 +1,5 @@
 -- What a front of bytes tells of all of them.
-use Rattle.std.proofs.Common.{◌≡◌, ◌⊎◌, inl, inr, ℕ, ◌+◌, ◌-◌, ◌≤◌, List, [], ◌++◌, length, take, drop, refl, sym, ap, ◌∙◌, subst, arith, append_assoc, take-append-drop, length-append, length-drop, length-take}
+use Rattle.std.proofs.Common.{◌≡◌, ◌⊎◌, inl, inr, ℕ, ◌+◌, ◌-◌, ◌≤◌, List, ◌++◌, length, take, drop, refl, sym, ap, ◌∙◌, subst, arith, append_assoc, take-append-drop, length-append, length-drop, length-take}
 use Rattle.std.proofs.lemmas.List.{take_all, take_at, take-take, drop_at, drop-drop, drop-take}
 use Rattle.journal.specs.declared.window.TheConstants.{LONGEST_STEP}
 use Rattle.journal.specs.Windows.{WindowValue, IsOver, IsFull}
@@ -66,15 +66,6 @@ window_on bytes old new count over fits moved left room end =
           ∙ drop-take count (length new.front) (drop old.at bytes) ∙ ap (take (length new.front)) (sym from);
       room = subst (λ n. (LONGEST_STEP ≤ n) ⊎ (length bytes ≤ n)) (sym room) over.room;
     }
-
--- a window that shows nothing
-pub window_opens : (bytes : List ℕ) (window : WindowValue) → window.end ≡ length bytes → window.front ≡ [] → window.at ≤ length bytes → (LONGEST_STEP ≤ window.room) ⊎ (length bytes ≤ window.room) → IsOver bytes window
-window_opens bytes window end none inside room = record {
-  ended = end;
-  inside = omega (arith, ap length none);
-  shown = none ∙ sym (ap (λ (l : List ℕ). take (length l) (drop window.at bytes)) none);
-  room = room;
-}
 
 -- what is left of the front of a buffer
 front_long : (from to : ℕ) (buffer : List ℕ) → to ≤ length buffer → length (drop from (take to buffer)) ≡ to - from

@@ -4,7 +4,7 @@ use Rattle.std.proofs.lemmas.List.{take_at, take-append-drop}
 use Rattle.ipc_model.specs.store.Store.{closed_gate}
 use Rattle.words.specs.Words.{word, long_word}
 use Rattle.words.specs.WordLaws.{same_word}
-use Rattle.journal.specs.Batch.{BatchValue, body_of, content_of, empty_batch, padded, value_of, with_text, without_last, IsWhole}
+use Rattle.journal.specs.Batch.{BatchValue, body_of, content_of, padded, value_of, with_text, without_last, IsWhole}
 
 -- what stands before the last element
 front_of_one : (all front last : List ℕ) → all ≡ front ++ last → length last ≡ 1 → take (length all - 1) all ≡ front
@@ -85,9 +85,6 @@ none_text = refl
 -- where there are no bytes is a batch of no records
 pub none_whole : (text : List ℕ) → text ≡ [] → IsWhole 0 (padded text)
 none_whole text is = whole_of 0 [] (padded text) (ap padded is ∙ none_text)
-
-pub none_value : (text : List ℕ) → text ≡ [] → value_of 0 (padded text) ≡ empty_batch
-none_value text is = ap (λ (l : List ℕ). value_of 0 (padded l)) is
 
 -- bytes are there
 pub padded_some : (text : List ℕ) → 0 < length text → padded text ≡ text

@@ -22,7 +22,6 @@ use Rattle.ipc_model.specs.calls.Tests.{first_failing}
 use Rattle.ipc_model.specs.messages.Receiving.{without_message}
 use Rattle.ipc_model.specs.messages.Sending.{Ready, ready_to_send, sent}
 use Rattle.kernel.specs.declared.choices.Shown.{Shown}
-use Rattle.ipc_laws.specs.PortCallLaws.{is_port_call}
 use Rattle.receiving.specs.ShownNames.{names_shown}
 use Rattle.receiving.specs.Shows.{preferred_by, text_in}
 use Rattle.receiving.specs.declared.asked.Preference.{Preference}
@@ -119,10 +118,6 @@ prefers_told old space c shown answer new effects closed acts =
 
 name_of : Shown → Option ℕ
 name_of shown = shown.name
-
-abbrev PrefersDone : Option KernReturn → State → ℕ → Names → Call → Shown → Reply → Type 0
-PrefersDone refusal old space names c shown answer =
-    (other : Reply) (new : State) (effects : List Effect) → shown ≡ shown_by other → Called refusal old space names c other new effects → answer ≡ other
 
 -- a new right
 pub prefers_allocate : (old : State) (space kind : ℕ) (shown : Shown) (answer : Reply) (new : State) (effects : List Effect) → ActsIn old space (names_in old space) (call.Allocate kind) answer new effects
@@ -266,12 +261,6 @@ hands_over (call.InsertRight name right_name disposition) = true
 hands_over (call.ExtractRight name disposition) = true
 hands_over (call.SpaceCreate name disposition) = true
 hands_over c = false
-
--- Sends and receipts are the rest.
-pub others_are_messages : (c : Call) → is_port_call c ≡ true → only_reads c ≡ false → sets_nothing_off c ≡ false → gives_up c ≡ false → hands_over c ≡ false → ⊥
-others_are_messages (call.Send message) port a b d e = cc port
-others_are_messages (call.Receive limit large name waited) port a b d e = cc port
-others_are_messages c port a b d e = cc (a, b, d, e)
 
 -- what gives rights up leaves nothing open
 pub giving_told : (c : Call) → gives_up c ≡ true → is_open c ≡ false

@@ -1,7 +1,7 @@
 -- The table of places, where a place or a key changes.
-use Rattle.std.proofs.Common.{◌≡◌, ◌<◌, ◌≤◌, ℕ, Bool, true, false, cond, [], Option, None, Some, IfSome, is_some, length, replicate, slice_set, arith, refl, sym, ◌∙◌, ap, inl, inr}
+use Rattle.std.proofs.Common.{◌≡◌, ◌≤◌, ℕ, Bool, true, false, cond, [], Option, None, Some, IfSome, is_some, replicate, arith, refl, sym, ◌∙◌, ap, inl, inr}
 use Rattle.std.proofs.lemmas.Bool.{cases_eq, cases_lt}
-use Rattle.std.proofs.lemmas.List.{get_or-replicate, get_or_past, get_or-set_same, get_or-set_other, length-replicate}
+use Rattle.std.proofs.lemmas.List.{get_or-replicate, get_or_past, length-replicate}
 use Rattle.std.specs.Cmp.{nat_cmp_total}
 use Rattle.std.specs.Ordering.{nat_cmp, eq_by_cmp}
 use Rattle.std.specs.FinMap.{empty, get, insert, remove, get-empty, get-insert, get-remove}
@@ -83,26 +83,6 @@ removed_last last serial keys is = record { bound = λ other there. go other (eq
     go : (other : ℕ) (b : Bool) → is_some (cond b None (get keys other)) ≡ true → other ≤ last
     go other true there = absurd (cc there)
     go other false there = is.bound other there
-
-pub none_above : (last serial : ℕ) (keys : Keys) → IsLast last keys → last < serial → None ≡ get keys serial
-none_above last serial keys is above = go (get keys serial) refl
-  where
-    go : (o : Option ℕ) → get keys serial ≡ o → None ≡ o
-    go None at = refl
-    go (Some key) at = absurd (omega (arith, above, is.bound serial (ap is_some at)))
-
--- a place that is written, and one that isn't there
-pub set_noted : (old : Places) (place : ℕ) (content : Option (ℕ × ℕ)) → place < length old → IsNoted content place old (slice_set old place content)
-set_noted old place content low = record {
-  here = λ noted is. sym (get_or-set_same old place content None low) ∙ is;
-  others = λ other apart. get_or-set_other old place other content None apart;
-}
-
-pub absent_noted : (old : Places) (place : ℕ) (content : Option (ℕ × ℕ)) → length old ≤ place → IsNoted content place old old
-absent_noted old place content past = record {
-  here = λ noted is. absurd (cc (sym is ∙ get_or_past old place None past));
-  others = λ other apart. refl;
-}
 
 pub all_free : (count place : ℕ) → at (replicate count None) place ≡ None
 all_free count place =

@@ -1,6 +1,6 @@
 -- What a change of the slab or of the keys does to what stands under the serials.
-use Rattle.std.proofs.Common.{◌≡◌, ◌≢◌, ◌⊎◌, ℕ, ◌+◌, ◌<◌, ◌≤◌, List, [], nat_lt, slice_index_or, arith, cond, true, false, Bool, Option, None, Some, is_some, MatchOption, option_map, option_and_then, refl, sym, ◌∙◌, ap, inl, inr}
-use Rattle.std.proofs.lemmas.Bool.{cases_eq, ltb-false, ltb-true}
+use Rattle.std.proofs.Common.{◌≡◌, ◌≢◌, ◌⊎◌, ℕ, List, [], slice_index_or, cond, true, false, Bool, Option, None, Some, is_some, option_map, option_and_then, refl, sym, ◌∙◌, ap, inl, inr}
+use Rattle.std.proofs.lemmas.Bool.{cases_eq}
 use Rattle.std.specs.Cmp.{nat_cmp_total}
 use Rattle.std.specs.Ordering.{nat_cmp, eq_by_cmp}
 use Rattle.std.specs.FinMap.{empty, get, insert, remove, get-empty, get-insert, get-remove, same_map, nat_cmp-IsAntisymmetric}
@@ -74,17 +74,6 @@ replaced_is port slots serial some = go (get slots serial) some
     go : (o : Option PortSlot) → is_some o ≡ true → ◌≡◌ {A = Slots} (elim o as (λ _. Slots) [ None ↦ slots | Some slot ↦ insert slots serial port ]) (insert slots serial port)
     go None e = absurd (cc e)
     go (Some slot) e = refl
-
-pub unchanged_is : (slots : Slots) (serial : ℕ) → slot_changed slots serial (λ slot. slot) ≡ slots
-unchanged_is slots serial = same _ _ (λ q. get_slot slots serial (λ slot. slot) q ∙ go q (eq_by_cmp nat_cmp q serial) refl)
-  where
-    as_is : (o : Option PortSlot) → option_map (λ slot. slot) o ≡ o
-    as_is None = refl
-    as_is (Some slot) = refl
-
-    go : (q : ℕ) (b : Bool) → eq_by_cmp nat_cmp q serial ≡ b → cond b (option_map (λ slot. slot) (get slots serial)) (get slots q) ≡ get slots q
-    go q true is = as_is (get slots serial) ∙ ap (get slots) (sym (key_is q serial is))
-    go q false is = refl
 
 -- a port more
 module _ (old new : Slab PortSlot) (keys : Keys) (serial key : ℕ) (port : PortSlot) (keyed : AreKeyed old keys) (none : get keys serial ≡ None) (vacant : slab.get old key ≡ None) (updates : Updates old new key (Some port)) where

@@ -1,19 +1,18 @@
 -- What a change of one slot does to the ports of both states.
-use Rattle.std.proofs.Common.{OnOk, IfSome, ◌<◌, ◌≤◌, ◌-◌, ◌^◌, ◌≡◌, ℕ, cond, true, false, Bool, List, [], ◌∷◌, ◌++◌, length, Option, None, Some, is_some, option_map, OnErr, MutBor, Result, Ok, Err, refl, sym, ◌∙◌, ap, subst, arith}
-use Rattle.std.specs.Option.{option_copied_mut}
+use Rattle.std.proofs.Common.{OnOk, IfSome, ◌<◌, ◌≤◌, ◌-◌, ◌^◌, ◌≡◌, ℕ, cond, true, false, Bool, List, [], ◌∷◌, ◌++◌, length, Option, None, Some, option_map, OnErr, Result, Ok, Err, refl, sym, ◌∙◌, ap, subst, arith}
 use Rattle.std.specs.Prelude.{option_and_then}
 use Rattle.std.specs.Cmp.{nat_cmp_total}
 use Rattle.std.specs.Ordering.{nat_cmp, eq_by_cmp}
 use Rattle.std.specs.FinMap.{empty, get, insert, remove, get-empty, get-insert, get-remove, same_map, nat_cmp-IsAntisymmetric}
 use Rattle.ipc_model.specs.declared.port.PortState.{PortState}
-use Rattle.ipc_laws.specs.MapSums.{key_is, insert-same}
+use Rattle.ipc_laws.specs.MapSums.{key_is}
 use Rattle.tracked_map.specs.Slots.{picked, get_picked, picked_put}
 use Rattle.live_ports.specs.Changed.{changed, messages_in}
 use Rattle.live_ports.specs.PortSlot.{PortSlot}
 use Rattle.live_ports.specs.Seen.{Ports}
 use Rattle.live_ports.specs.SeenLaws.{get_changed}
 use Rattle.live_ports.specs.Tables.{Slots, before_of, current_of, former_ports, present_ports, slot_changed, present_changed, buried, kept_slot, given_up_slot, AreMarked}
-use Rattle.live_ports.specs.Touched.{IsSettling, worked_off, touched_more, touched_none, touched_put}
+use Rattle.live_ports.specs.Touched.{IsSettling, touched_more, touched_none, touched_put}
 
 same : (m n : Ports) → ((q : ℕ) → get m q ≡ get n q) → m ≡ n
 same m n alike = same_map nat_cmp_total nat_cmp-IsAntisymmetric m n alike
@@ -21,23 +20,6 @@ same m n alike = same_map nat_cmp_total nat_cmp-IsAntisymmetric m n alike
 -- what stands under a serial
 pub present_at : (slots : Slots) (k : ℕ) (found : Option PortSlot) → found ≡ get slots k → option_and_then current_of found ≡ get (present_ports slots) k
 present_at slots k found is = ap (option_and_then current_of) is ∙ sym (get_picked current_of slots k)
-
--- the slot that was lent is the one of the serial
-pub lent_is : (slots : Slots) (k : ℕ) (lent : Option (MutBor PortSlot)) (port : MutBor PortSlot) → option_copied_mut lent ≡ get slots k → lent ≡ Some port → get slots k ≡ Some port.now
-lent_is slots k lent port value is = sym value ∙ ap option_copied_mut is
-
--- with an error the slot came back as it was, and so are all
-pub nothing_done : {A B : Type 0} (result : Result A B) (slots : Slots) (k : ℕ) (port back : PortSlot) → get slots k ≡ Some port → back ≡ port → OnErr result (insert slots k back ≡ slots)
-nothing_done (Ok x) slots k port back there is = tt
-nothing_done (Err e) slots k port back there is = ap (insert slots k) is ∙ insert-same slots k port there
-
--- a slot in which nothing is to stand goes
-pub slot_gone : (look : PortSlot → Option PortState) (settle : PortSlot → PortSlot) (slots next : Slots) (k : ℕ) (port : PortSlot) (there : Bool) → get slots k ≡ Some port → there ≡ is_some (look port) → there ≡ false → next ≡ remove (insert slots k port) k
-    → next ≡ worked_off look settle slots k
-slot_gone look settle slots next k port there here is none at =
-    at ∙ ap (λ (m : Slots). remove m k) (insert-same slots k port here)
-    ∙ sym (ap (λ (o : Option PortSlot). elim o as (λ _. Slots) [ None ↦ slots | Some slot ↦ cond (is_some (look slot)) (insert slots k (settle slot)) (remove slots k) ]) here
-    ∙ ap (λ (b : Bool). cond b (insert slots k (settle port)) (remove slots k)) (sym is ∙ none))
 
 pub settles_kept : IsSettling before_of current_of current_of kept_slot
 settles_kept = record { was = λ _. refl; is = λ _. refl; seen = λ _. refl }

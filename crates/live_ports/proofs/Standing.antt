@@ -15,7 +15,7 @@ use Rattle.live_ports.specs.Changed.{changed, with_message, with_numbers, withou
 use Rattle.live_ports.specs.PortTable.{TrackedPorts, ports_at_rest}
 use Rattle.live_ports.specs.Seen.{Ports, lives_in, seen, seen_message, as_seen, mentions, AreLive, IsBelow}
 use Rattle.live_ports.specs.SeenLaws.{get_changed, get_seen, length_mapped, lives_seen}
-use Rattle.live_ports.specs.Tables.{Slots, former_ports, present_ports, AreMarked, SameBefore, AreNow, AreAtRest, AreSound, AreStanding}
+use Rattle.live_ports.specs.Tables.{former_ports, present_ports, SameBefore, AreNow, AreAtRest, AreSound, AreStanding}
 use Rattle.live_ports.specs.declared.port.PortNumbers.{PortNumbers}
 use Rattle.live_ports.specs.declared.tables.Tables.{Tables}
 
@@ -39,14 +39,6 @@ rest_view new raw many serial rest = λ i. record { before = record { ports = as
 -- what was there is sound still
 pub former_sound : (old mid : Tables) → AreStanding old → SameBefore old mid → AreSound (former_ports mid.slots) mid.count_before mid.next_before
 former_sound old mid stands before = same_sound _ _ _ _ _ _ before.ports before.count before.next stands.before
-
-pub given_up_stands : (old mid new : Tables) → AreStanding old → SameBefore old mid → AreAtRest new (former_ports mid.slots) mid.count_before mid.next_before → AreStanding new
-given_up_stands old mid new stands before rest = rest_stands new _ _ _ rest (former_sound old mid stands before)
-
-pub given_up_view : (old mid new : Tables) → SameBefore old mid → AreAtRest new (former_ports mid.slots) mid.count_before mid.next_before
-    → ◌≡◌ {A = TrackedPorts} (record { before = record { ports = as_seen (former_ports new.slots); next = new.next_before }; current = record { ports = as_seen (present_ports new.slots); next = new.next } })
-    (ports_at_rest (record { ports = as_seen (former_ports old.slots); next = old.next_before }))
-given_up_view old mid new before rest = rest_view new _ _ _ rest ∙ (λ i. ports_at_rest (record { ports = as_seen (before.ports i); next = before.next i }))
 
 pub now_stands : (old new : Tables) (raw : Ports) (many serial : ℕ) → AreStanding old → SameBefore old new → AreNow new raw many serial → AreSound raw many serial → old.next ≤ serial → AreStanding new
 now_stands old new raw many serial stands before now sound rises = record {

@@ -1,5 +1,5 @@
 -- The text of a header, with a body behind it, is the message's, and is read again.
-use Rattle.std.specs.Prelude.{◌≡◌, ℕ, ◌+◌, ◌*◌, ◌/◌, ◌%◌, ◌^◌, ◌<◌, Bool, true, false, ◌==◌, List, ◌++◌, length, refl}
+use Rattle.std.specs.Prelude.{◌≡◌, ℕ, ◌+◌, ◌*◌, ◌/◌, ◌%◌, ◌^◌, ◌<◌, Bool, true, false, ◌==◌, List, ◌++◌, length}
 use Rattle.std.proofs.Common.{sym, ◌∙◌, ap, arith}
 use Rattle.std.proofs.lemmas.Bool.{eq-eqb}
 use Rattle.byteorder.specs.Endian.{little_number}
@@ -23,10 +23,6 @@ header_and_body header seqno body whole =
 abbrev pub WrittenHeadersAreRead : Type 0
 WrittenHeadersAreRead = (header : Header) (seqno : ℕ) (body : List ℕ) → HeaderFits header → header.size ≡ header_length + length body
     → IsMessage (header_text header seqno ++ body) (parts_by header body)
-
-pub length-header_text : (header : Header) (seqno : ℕ) → length (header_text header seqno) ≡ header_length
-unfolding header_text
-length-header_text header seqno = refl
 
 complex_back : (remote local : ℕ) (complex : Bool) → remote < 2 ^ 8 → local < 2 ^ 8 → is_complex (remote + local * 2 ^ 8 + complex_bit complex) ≡ complex
 complex_back remote local true r l = eq-eqb (((remote + local * 2 ^ 8 + 2 ^ 31) / 2 ^ 31) % 2) 1 (omega (arith, r, l))

@@ -5,7 +5,7 @@ use Rattle.std.specs.Prelude.{is_none, not, option_and_then, if◌then◌else◌
 use Rattle.std.specs.Cmp.{nat_cmp_total}
 use Rattle.std.specs.Ordering.{nat_cmp}
 use Rattle.std.specs.FinMap as finmap
-use Rattle.std.specs.FinMap.{FinMap, get-empty, len-insert}
+use Rattle.std.specs.FinMap.{FinMap, len-insert}
 use Rattle.codes.specs.declared.kern_return.KernReturn.{KernReturn}
 use Rattle.codes.specs.declared.kern_return.KernReturn.TheVariants.{NoSpace, InvalidCapability, InvalidValue, InvalidName}
 use Rattle.codes.specs.declared.limits.TheConstants.{MAX_NAMES}
@@ -55,12 +55,6 @@ none_fails (test ∷ xs) ys passes =
       | true ↦ λ (here : _). absurd (cc here)
       | false ↦ λ (later : _). none_fails xs ys later
     ] passes
-
-entry_in : (state : State) (space name : ℕ) → entry_at state space name ≡ finmap.get (names_in state space) name
-entry_in state space name = elim (finmap.get state.spaces space) as (λ (o : Option Names). option_and_then (λ names. finmap.get names name) o ≡ finmap.get (or_empty o) name) [
-  | None ↦ sym (get-empty nat_cmp name)
-  | Some names ↦ refl
-]
 
 module _ (state : State) (space name variant sync : ℕ) (cancels : Bool) (passes : first_failing (tests_of_request state space name variant sync cancels) ≡ None) where
   named_tests : first_failing (tests_of_variant (names_in state space) name variant sync cancels ++ ((is_some (target_under state (names_in state space) variant name) && names_are_used_up (names_in state space), NoSpace) ∷ [])) ≡ None

@@ -132,10 +132,6 @@ free_where names name few from none used =
       least = used;
     }
 
-not_false : (a : Bool) → not a ≡ false → a ≡ true
-not_false true e = refl
-not_false false e = absurd (cc e)
-
 no_value : (o : Option Entry) → is_some o ≡ false → o ≡ None
 no_value None e = refl
 no_value (Some entry) e = absurd (cc e)

@@ -1,23 +1,19 @@
 -- Requests that have a port for their target, worked off one after another.
-use Rattle.std.proofs.Common.{◌≡◌, ℕ, ◌+◌, ◌-◌, ◌^◌, ◌<◌, ◌≤◌, ◌==◌, Bool, true, false, cond, nat_lt, Option, None, Some, MatchOption, is_some, option_map, option_and_then, refl, sym, ◌∙◌, ap, arith}
+use Rattle.std.proofs.Common.{◌≡◌, ℕ, ◌+◌, ◌-◌, ◌<◌, ◌≤◌, ◌==◌, Bool, true, false, cond, nat_lt, Option, None, Some, MatchOption, option_map, option_and_then, refl, sym, ◌∙◌, ap, arith}
 use Rattle.std.proofs.lemmas.Bool.{ltb-false, ltb-true}
 use Rattle.std.specs.Cmp.{nat_cmp_total}
 use Rattle.std.specs.Ordering.{nat_cmp, eq_by_cmp}
 use Rattle.std.specs.FinMap.{get, insert, remove, get-remove, same_map, nat_cmp-IsAntisymmetric}
-use Rattle.ipc_laws.specs.ListLaws.{some_same}
 use Rattle.ipc_laws.specs.MapLaws.{get-map_values}
 use Rattle.ipc_laws.specs.MapSums.{key_is, same_key, weight, total, total-insert}
 use Rattle.ipc_model.specs.declared.port.PortState.{PortState}
 use Rattle.ipc_model.specs.effects.Effects.{map_values, port_after_death, without_target}
 use Rattle.ipc_model.specs.state.State.{is_number}
-use Rattle.live_ports.specs.Changed.{changed, numbers_of, with_numbers}
-use Rattle.live_ports.specs.declared.port.PortNumbers.{PortNumbers}
-use Rattle.live_ports.specs.PortTable.{PortTable, TrackedPorts}
+use Rattle.live_ports.specs.Changed.{changed}
+use Rattle.live_ports.specs.PortTable.{TrackedPorts}
 use Rattle.live_ports.specs.Seen.{Ports, queue_after_death}
 use Rattle.live_ports.specs.SeenLaws.{get_changed}
-use Rattle.place_index.specs.Places.{Numbers, IsNext}
-use Rattle.place_index.specs.Indexed.{IsIndexed}
-use Rattle.ports.specs.Indexes.{AreSmall, no_senders_of, destroyed_of, target_at}
+use Rattle.ports.specs.Indexes.{no_senders_of, destroyed_of, target_at}
 
 -- a port without its requests
 abbrev pub no_senders_cleared : PortState → PortState
@@ -50,43 +46,6 @@ pub record IsUntargeted (serial : ℕ) (ports : Ports) : Type 0 where
 
 same : (m n : Ports) → ((q : ℕ) → get m q ≡ get n q) → m ≡ n
 same m n alike = same_map nat_cmp_total nat_cmp-IsAntisymmetric m n alike
-
--- what the index finds
-pub requester_is : (look : PortState → Option ℕ) (table : PortTable) (places : Numbers) (target from : ℕ) (found : Option ℕ) → AreSmall table → IsIndexed (target_at look table.ports) places → IsNext places target from found
-    → IsNextRequester look table.ports target from found
-requester_is look table places target from None small indexed none = λ q more. by q more (get table.ports q) refl
-  where
-    by : (q : ℕ) → from ≤ q → (o : Option PortState) → get table.ports q ≡ o → is_number (option_and_then look o) target ≡ false
-    by q more None absent = refl
-    by q more (Some port) there =
-        let fits : q < 2 ^ 64 = omega (arith, small.below q (ap is_some there), small.fits) in
-        ap (λ (o : Option PortState). is_number (option_and_then look o) target) (sym there) ∙ sym (indexed target q fits) ∙ none q more fits
-requester_is look table places target from (Some first) small indexed is =
-    (sym (indexed target first is.1) ∙ is.2, λ q more less. sym (indexed target q (omega (arith, less, is.1))) ∙ is.3 q more less)
-
--- its serial isn't the last that there may be
-pub requester_fits : (look : PortState → Option ℕ) (table : PortTable) (places : Numbers) (target from first : ℕ) → AreSmall table → IsIndexed (target_at look table.ports) places → IsNext places target from (Some first) → first < 2 ^ 64 - 1
-requester_fits look table places target from first small indexed is = by (get table.ports first) refl (sym (indexed target first is.1) ∙ is.2)
-  where
-    by : (o : Option PortState) → get table.ports first ≡ o → is_number (option_and_then look o) target ≡ true → first < 2 ^ 64 - 1
-    by None absent e = absurd (cc e)
-    by (Some port) there e = omega (arith, small.below first (ap is_some there), small.fits)
-
--- other numbers of a port that has these
-pub numbers_changed : (ports : Ports) (serial : ℕ) (numbers : PortNumbers) (f : PortNumbers → PortNumbers) (g : PortState → PortState) → ((port : PortState) → with_numbers (f (numbers_of port)) port ≡ g port)
-    → Some numbers ≡ option_map numbers_of (get ports serial) → changed ports serial (with_numbers (f numbers)) ≡ changed ports serial g
-numbers_changed ports serial numbers f g alike has = by (get ports serial) has
-  where
-    by : (o : Option PortState) → Some numbers ≡ option_map numbers_of o → ◌≡◌ {A = Ports} (elim o as (λ _. Ports) [ None ↦ ports | Some port ↦ insert ports serial (with_numbers (f numbers) port) ]) (elim o as (λ _. Ports) [ None ↦ ports | Some port ↦ insert ports serial (g port) ])
-    by None is = absurd (cc is)
-    by (Some port) is = ap (insert ports serial) (ap (λ (n : PortNumbers). with_numbers (f n) port) (some_same numbers (numbers_of port) is) ∙ alike port)
-
-pub nothing_changed : (ports : Ports) (serial : ℕ) (g : PortState → PortState) → None ≡ option_map numbers_of (get ports serial) → ports ≡ changed ports serial g
-nothing_changed ports serial g none = by (get ports serial) none
-  where
-    by : (o : Option PortState) → None ≡ option_map numbers_of o → ports ≡ elim o as (λ _. Ports) [ None ↦ ports | Some port ↦ insert ports serial (g port) ]
-    by None is = refl
-    by (Some port) is = absurd (cc is)
 
 -- what is forgotten of a request that has the target is that it is there
 pub record IsForgetting (look : PortState → Option ℕ) (clear forget : PortState → PortState) (target : ℕ) : Type 0 where

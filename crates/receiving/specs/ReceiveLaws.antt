@@ -11,7 +11,7 @@ use Rattle.ipc_model.specs.declared.call.Reply.TheVariants as reply
 use Rattle.ipc_model.specs.declared.message.Message.{Message}
 use Rattle.ipc_model.specs.declared.port.PortState.{PortState}
 use Rattle.ipc_model.specs.effects.Effects.{Effect}
-use Rattle.ipc_model.specs.messages.Receiving.{HoldsReceiveRight, Receipt, Received, Receives, TakesOut, TooLarge, lacks_names, message_size, oldest, received_text, receive_refusal, without_message}
+use Rattle.ipc_model.specs.messages.Receiving.{HoldsReceiveRight, Receipt, Received, Receives, TakesOut, TooLarge, lacks_names, message_size, oldest, received_text, without_message}
 use Rattle.ipc_model.specs.state.State.{Names, State}
 use Rattle.rights.specs.Passed.{messages_at}
 use Rattle.receiving.specs.Shows.{preferred_by}
@@ -57,17 +57,6 @@ receives_found old space names receipt member serial answer new effects source t
     let is = found old serial source.has in
     subst (λ (refusal : Option KernReturn). ReceivesBy refusal old space names receipt answer new effects) (sym source.passes)
     (member, serial, is.port, is.message, is.later, source.among, source.holds, is.live, is.first, takes is.port is.message is.later is.live is.first)
-
-pub receives_refused : (old : State) (space : ℕ) (names : Names) (receipt : Receipt) (code : KernReturn) (answer : Reply) (new : State) (effects : List Effect) → receive_refusal old names receipt ≡ Some code → answer ≡ without_message code 0 MACH_PORT_NULL → new ≡ old → effects ≡ []
-    → Receives old space names receipt answer new effects
-receives_refused old space names receipt code answer new effects refused is same none =
-    subst (λ (refusal : Option KernReturn). ReceivesBy refusal old space names receipt answer new effects) (sym refused) (is, same, none)
-
-pub refused_told : (old : State) (space : ℕ) (names : Names) (receipt : Receipt) (code : KernReturn) (answer other : Reply) (last : State) (others : List Effect) → receive_refusal old names receipt ≡ Some code → answer ≡ without_message code 0 MACH_PORT_NULL
-    → Receives old space names receipt other last others → answer ≡ other
-refused_told old space names receipt code answer other last others refused is may =
-    let told : (other ≡ without_message code 0 MACH_PORT_NULL) × (last ≡ old) × (others ≡ []) = subst (λ (refusal : Option KernReturn). ReceivesBy refusal old space names receipt other last others) refused may in
-    is ∙ sym told.0
 
 -- The member of a reply that shows it is the one that was found.
 shown_member : (old : State) (names : Names) (receipt : Receipt) (wanted : Preference) (member serial other port : ℕ) → IsPreferred old names receipt wanted member serial → wanted ≡ preference.Member other

@@ -5,8 +5,7 @@ use Rattle.std.specs.Ordering.{nat_cmp}
 use Rattle.std.specs.FinMap as finmap
 use Rattle.std.specs.FinMap.{entries_sorted, get-entries, is_sorted}
 use Rattle.std.specs.FinMap.Entries.{below_all}
-use Rattle.codes.specs.declared.kern_return.KernReturn.{KernReturn}
-use Rattle.codes.specs.declared.kern_return.KernReturn.TheVariants.{RcvTimedOut, RcvPortChanged, RcvInSet, RcvPortDied, RcvInvalidName}
+use Rattle.codes.specs.declared.kern_return.KernReturn.TheVariants.{RcvTimedOut, RcvPortChanged, RcvInSet}
 use Rattle.ipc_model.specs.declared.entry.Entry.{Entry}
 use Rattle.ipc_model.specs.declared.entry.Entry.TheVariants.{Port, SendOnce, Set, Dead}
 use Rattle.ipc_model.specs.declared.message.Message.{Message}
@@ -122,10 +121,6 @@ named_pair state names set member serial at holds =
 
 -- the message that a port under a name gives is the port's oldest
 
-oldest_of : (o : Option PortState) → option_and_then (λ (port : PortState). oldest port.messages) o ≡ oldest (elim o as (λ _. List Message) [ None ↦ [] | Some port ↦ port.messages ])
-oldest_of None = refl
-oldest_of (Some port) = refl
-
 under_held : (state : State) (names : Names) (member serial : ℕ) → HoldsReceiveRight names member serial → port_under state names member ≡ finmap.get state.ports serial
 under_held state names member serial holds =
     ap (λ (o : Option Entry). option_and_then (λ (s : ℕ). finmap.get state.ports s) (option_and_then received_port o)) holds.1
@@ -161,20 +156,6 @@ every_empty state names (name ∷ others) each =
 
 -- by what the name gives messages
 
-no_sources : (state : State) (names : Names) (name : ℕ) (o : Option Entry) → giver_of o ≡ giver.Nothing → sources state names name o ≡ None
-no_sources state names name None is = refl
-no_sources state names name (Some (Port rights)) is = elim rights.receive as (λ (b : Bool). port_giver rights.port b ≡ giver.Nothing → sources_of_port name b ≡ None) [
-  | true ↦ λ (e : _). absurd (cc e)
-  | false ↦ λ (_ : _). refl
-] is
-no_sources state names name (Some (SendOnce port target)) is = refl
-no_sources state names name (Some Set) is = absurd (cc is)
-no_sources state names name (Some (Dead references)) is = refl
-
-pub nothing_refused : (state : State) (names : Names) (receipt : Receipt) → giver_of (finmap.get names receipt.name) ≡ giver.Nothing
-    → receive_refusal state names receipt ≡ Some (if receipt.waited then RcvPortDied else RcvInvalidName)
-nothing_refused state names receipt is = ap (refusal_of_sources state names receipt) (no_sources state names receipt.name (finmap.get names receipt.name) is)
-
 same_port : (one other : ℕ) → giver.Port one ≡ giver.Port other → one ≡ other
 same_port one other e = ap port_in e
   where
@@ -208,9 +189,6 @@ from_port state names name serial (Some (Dead references)) is = absurd (cc is)
 pub port_held : (state : State) (names : Names) (name serial : ℕ) → giver_of (finmap.get names name) ≡ giver.Port serial → HoldsReceiveRight names name serial
 port_held state names name serial is = let from = from_port state names name serial (finmap.get names name) is in (from.entry, from.there, from.received)
 
-pub port_alone : (state : State) (names : Names) (receipt : Receipt) (serial : ℕ) → giver_of (finmap.get names receipt.name) ≡ giver.Port serial → source_list state names receipt ≡ receipt.name ∷ []
-port_alone state names receipt serial is = ap source_names (from_port state names receipt.name serial (finmap.get names receipt.name) is).alone
-
 pub port_refused : (state : State) (names : Names) (receipt : Receipt) (serial : ℕ) → giver_of (finmap.get names receipt.name) ≡ giver.Port serial → receive_refusal state names receipt ≡ port_refusal state receipt serial
 port_refused state names receipt serial is =
     let from = from_port state names receipt.name serial (finmap.get names receipt.name) is in
@@ -227,32 +205,6 @@ port_refused state names receipt serial is =
         ≡ (if is_in_set state serial then Some (if receipt.waited then RcvPortChanged else RcvInSet) else if b then None else Some RcvTimedOut)
     turned true = refl
     turned false = refl
-
--- a port's own name as its source
-passes_has : (in_a_set has : Bool) (code : KernReturn) → (if in_a_set then Some code else if has then None else Some RcvTimedOut) ≡ None → has ≡ true
-passes_has true has code is = absurd (cc is)
-passes_has false true code is = refl
-passes_has false false code is = absurd (cc is)
-
-pub port_source : (state : State) (names : Names) (receipt : Receipt) (serial : ℕ) → giver_of (finmap.get names receipt.name) ≡ giver.Port serial → port_refusal state receipt serial ≡ None
-    → IsSource state names receipt receipt.name serial
-port_source state names receipt serial is passes = record {
-  passes = port_refused state names receipt serial is ∙ passes;
-  among = subst (λ (l : List ℕ). Contains l receipt.name) (sym (port_alone state names receipt serial is)) (here receipt.name []);
-  holds = port_held state names receipt.name serial is;
-  has = passes_has (is_in_set state serial) (has_message state serial) (if receipt.waited then RcvPortChanged else RcvInSet) passes;
-}
-
-pub port_preferred : (state : State) (names : Names) (receipt : Receipt) (serial : ℕ) (preference : Preference) → giver_of (finmap.get names receipt.name) ≡ giver.Port serial
-    → IsPreferred state names receipt preference receipt.name serial
-port_preferred state names receipt serial preference is = λ other port at holds _ preferred.
-    let own = port_held state names receipt.name serial is in
-    split receipt.name other [] (is_preferred state names receipt preference receipt.name serial ≡ true) (subst (λ (l : List ℕ). Contains l other) (port_alone state names receipt serial is) at)
-    (λ (same : receipt.name ≡ other).
-    let serials : serial ≡ port = one_serial names receipt.name serial port own (subst (λ (n : ℕ). HoldsReceiveRight names n port) (sym same) holds) in
-    subst (λ (n : ℕ). is_preferred state names receipt preference n serial ≡ true) (sym same)
-    (subst (λ (s : ℕ). is_preferred state names receipt preference other s ≡ true) (sym serials) preferred))
-    (λ (none : Contains [] other). in_none other _ none)
 
 -- sets
 

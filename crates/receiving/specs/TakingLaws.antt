@@ -1,6 +1,6 @@
 -- A port's oldest message, and what taking it out leaves.
-use Rattle.std.specs.Prelude.{IsSome, ◌≡◌, ℕ, ◌+◌, ◌*◌, ◌<◌, ◌^◌, Bool, true, false, nat_lt, All, List, [], ◌∷◌, ◌++◌, length, take, drop, flat_map, Option, None, Some, option_map, MatchBool, refl}
-use Rattle.std.proofs.Common.{sym, ◌∙◌, ap, subst, arith, append-nil}
+use Rattle.std.specs.Prelude.{IsSome, ◌≡◌, ℕ, ◌+◌, ◌<◌, ◌^◌, Bool, true, false, nat_lt, All, List, [], ◌∷◌, ◌++◌, length, drop, Option, None, Some, option_map, MatchBool, refl}
+use Rattle.std.proofs.Common.{sym, ◌∙◌, ap, subst, arith}
 use Rattle.std.specs.FinMap as finmap
 use Rattle.codes.specs.declared.kern_return.KernReturn.TheVariants.{Success, RcvHeaderErrorSpace}
 use Rattle.ipc_model.specs.declared.message.CarriedRight.{CarriedRight}
@@ -8,15 +8,14 @@ use Rattle.ipc_model.specs.declared.call.Reply.{Reply}
 use Rattle.ipc_model.specs.declared.call.Reply.TheVariants as reply
 use Rattle.ipc_model.specs.declared.message.Message.{Message}
 use Rattle.ipc_model.specs.declared.port.PortState.{PortState}
-use Rattle.ipc_model.specs.effects.Effects.{Effect, releases_of}
-use Rattle.ipc_model.specs.messages.Messages.{complex_bit, header_length, message_text}
+use Rattle.ipc_model.specs.effects.Effects.{Effect}
+use Rattle.ipc_model.specs.messages.Messages.{header_length, message_text}
 use Rattle.ipc_model.specs.messages.Receiving.{Receipt, Received, TakesOut, TooLarge, arriving, body_names, destination_consumed, lacks_names, message_size, received_body, received_text, reply_kind_number, reply_name, without_message, without_oldest}
 use Rattle.ipc_model.specs.rights.CopyOut.{Arrives}
 use Rattle.ipc_model.specs.rights.Dispositions.{number_of_kind}
 use Rattle.ipc_model.specs.calls.PortCalls.{names_in}
 use Rattle.ipc_model.specs.state.Lawful.{Lawful, LawfulMessage, LawfulNames}
 use Rattle.ipc_model.specs.state.State.{Names, State, next_count, with_names}
-use Rattle.ipc_laws.specs.ListLaws.{same_head}
 use Rattle.ipc_laws.specs.ReceiptLaws.{as_many_names}
 use Rattle.ipc_laws.specs.RecordedReceipts.{body_long, names_left}
 use Rattle.rights.specs.Passed.{messages_at, messages_in, numbers_of, lives_in, seen_message, seen_right, PortNumbers}
@@ -31,31 +30,12 @@ use Rattle.receiving.specs.Taking.{OfOldest}
 pub messages_of_port : (state : State) (serial : ℕ) (port : PortState) → finmap.get state.ports serial ≡ Some port → messages_at state.ports serial ≡ port.messages
 messages_of_port state serial port live = ap messages_in live
 
--- the oldest message is what is seen of the one that was sent
-pub oldest_seen : (state : State) (serial : ℕ) (port : PortState) (message : Message) (later : List Message) (lives : ℕ → Bool) (sent : Message) → finmap.get state.ports serial ≡ Some port → port.messages ≡ message ∷ later
-    → messages_at state.ports serial ≡ seen_message lives sent ∷ drop 1 (messages_at state.ports serial) → message ≡ seen_message lives sent
-oldest_seen state serial port message later lives sent live first is =
-    same_head message (seen_message lives sent) later (drop 1 (messages_at state.ports serial)) (sym first ∙ sym (messages_of_port state serial port live) ∙ is)
-
-pub none_oldest : (state : State) (serial : ℕ) (port : PortState) (message : Message) (later : List Message) (P : Type 0) → finmap.get state.ports serial ≡ Some port → port.messages ≡ message ∷ later → messages_at state.ports serial ≡ [] → P
-none_oldest state serial port message later P live first none = absurd (cc (sym first ∙ sym (messages_of_port state serial port live) ∙ none))
-
 first_less : (first : Message) (later : List Message) → 0 < length (first ∷ later)
 first_less first later = omega arith
 
 pub oldest_lawful : (state : State) (serial : ℕ) (port : PortState) (message : Message) (later : List Message) → Lawful state → finmap.get state.ports serial ≡ Some port → port.messages ≡ message ∷ later → LawfulMessage message
 oldest_lawful state serial port message later lawful live first =
     (subst (λ (l : List Message). All LawfulMessage l) first (lawful.ports serial port live).2.messages) 0 message (first_less message later)
-
--- a message is received in the same bytes as it was sent and as it is seen
-pub text_seen : (lives : ℕ → Bool) (sent : Message) (member seqno : ℕ) (given : List ℕ) → received_text (seen_message lives sent) member seqno given ≡ received_text sent member seqno given
-text_seen lives sent member seqno given = by_reply sent.reply
-  where
-    by_reply : (reply : Option CarriedRight)
-        → message_text (reply_kind_number (option_map (seen_right lives) reply) + number_of_kind sent.destination * 2 ^ 8 + complex_bit sent.complex) (reply_name (option_map (seen_right lives) reply) given) member seqno sent.id (received_body sent (body_names (option_map (seen_right lives) reply) given))
-        ≡ message_text (reply_kind_number reply + number_of_kind sent.destination * 2 ^ 8 + complex_bit sent.complex) (reply_name reply given) member seqno sent.id (received_body sent (body_names reply given))
-    by_reply None = refl
-    by_reply (Some right) = refl
 
 pub body_names_seen : (lives : ℕ → Bool) (reply : Option CarriedRight) (given : List ℕ) → body_names (option_map (seen_right lives) reply) given ≡ body_names reply given
 body_names_seen lives None given = refl
@@ -72,12 +52,6 @@ names_then_oldest state space serial names = elim (finmap.get state.ports serial
   where
     without : PortState → ℕ
     without port = next_count port.sequence_number
-
--- the releases of the oldest message alone
-pub releases_first : (state : State) (serial : ℕ) (port : PortState) (message : Message) (later : List Message) → finmap.get state.ports serial ≡ Some port → port.messages ≡ message ∷ later
-    → flat_map releases_of (take 1 (messages_at state.ports serial)) ≡ releases_of message
-releases_first state serial port message later live first =
-    ap (λ (l : List Message). flat_map releases_of (take 1 l)) (messages_of_port state serial port live ∙ first) ∙ append-nil (releases_of message)
 
 -- what comes of the message
 pub was_large : (old : State) (space : ℕ) (names : Names) (receipt : Receipt) (member serial : ℕ) (port : PortState) (message : Message) (answer : Reply) (new : State) (effects : List Effect)

@@ -63,6 +63,3 @@ front_read slot buffer old n count bytes =
 -- an epoch behind the front of a header
 pub epoch_behind : (slot rest behind : List ℕ) (epoch : ℕ) → slot ≡ version_one ++ rest → rest ≡ long_word epoch ++ behind → epoch < 2 ^ 64 → IsOfEpoch (epoch % 2) epoch slot
 epoch_behind slot rest behind epoch first second fits = record { rest = behind; text = first ∙ ap (λ l. version_one ++ l) second; fits = fits; of_number = refl }
-
-pub too_short : (slot rest : List ℕ) → slot ≡ version_one ++ rest → length rest < 8 → 16 ≤ length slot → ⊥
-too_short slot rest is short long = omega (arith, short, long, ap length is)

@@ -1,10 +1,9 @@
 -- Disks that are synced, and stay so through what changes one slot.
 use Rattle.std.proofs.Common.{◌≡◌, inl, inr, ℕ, List, sym, ap, subst, ◌∙◌}
 use Rattle.disk.specs.declared.slot.Slot.{Slot}
-use Rattle.disk.specs.declared.slot.Slot.TheVariants.{Image0, Image1, Segment0, Segment1}
 use Rattle.disk.specs.Moments.{View, MayLeave, Passes, Follows, IsSynced}
 use Rattle.disk.specs.Slots.{Slots, slot_of, with_slot}
-use Rattle.slot_steps.proofs.Moments.{left_now, left_before, passes_then, passes_as, with_own, with_twice}
+use Rattle.slot_steps.proofs.Moments.{left_now, left_before, passes_as, with_own, with_twice}
 use Rattle.recover.specs.AtRest.{IsAtRest}
 use Rattle.recover.specs.Making.{DiffersIn}
 
@@ -15,33 +14,14 @@ IsAtRestBut slot disk = (c : Slots) → MayLeave disk c → c ≡ with_slot disk
 pub rest_kept : (old new : View) → Passes old new (MayLeave old) → new.seen ≡ old.seen → IsAtRest old → IsAtRest new
 rest_kept old new time same rest c left = rest c (left_before old new time c left) ∙ sym same
 
-pub all_synced : (disk : View) → IsSynced disk Image0 → IsSynced disk Image1 → IsSynced disk Segment0 → IsSynced disk Segment1 → IsAtRest disk
-all_synced disk a b d e c left = λ i. record { image0 = a c left i; image1 = b c left i; segment0 = d c left i; segment1 = e c left i }
-
 pub rest_is_synced : (slot : Slot) (disk : View) → IsAtRest disk → IsSynced disk slot
 rest_is_synced slot disk rest c left = ap (λ (s : Slots). slot_of s slot) (rest c left)
-
--- at rest nothing differs
-pub rest_differs : (slot : Slot) (disk : View) (P : List ℕ → Type 0) → IsAtRest disk → P (slot_of disk.seen slot) → (c : Slots) → MayLeave disk c → DiffersIn disk.seen slot P c
-rest_differs slot disk P rest holds c left = subst (DiffersIn disk.seen slot P) (sym (rest c left)) (holds, sym (with_own slot disk.seen))
-
--- reads and syncs of a disk at rest
-pub rest_unchanged : (slot : Slot) (old new : View) (P : List ℕ → Type 0) → IsAtRest old → P (slot_of old.seen slot) → Passes old new (MayLeave old) → Passes old new (DiffersIn old.seen slot P)
-rest_unchanged slot old new P rest holds time = passes_as old new (MayLeave old) (DiffersIn old.seen slot P) time (rest_differs slot old P rest holds)
 
 -- a write or a cut of one slot of a disk at rest
 pub rest_called : (slot : Slot) (old new : View) (step : List ℕ → List ℕ → Type 0) → IsAtRest old → Passes old new (Follows old slot step) → Passes old new (DiffersIn old.seen slot (step (slot_of old.seen slot)))
 rest_called slot old new step rest time =
     passes_as old new (Follows old slot step) (DiffersIn old.seen slot (step (slot_of old.seen slot))) time (λ c made.
     subst (λ (d : Slots). step (slot_of d slot) (slot_of c slot) × (c ≡ with_slot d slot (slot_of c slot))) (rest made.0 made.1) (made.2, made.3))
-
--- and its sync
-pub called_synced : (slot : Slot) (old mid new : View) (P : List ℕ → Type 0) → IsAtRest old → P (slot_of old.seen slot) → Passes old mid (DiffersIn old.seen slot P) → Passes mid new (MayLeave mid) → Passes old new (DiffersIn old.seen slot P)
-called_synced slot old mid new P rest holds first second =
-    passes_then old mid new (DiffersIn old.seen slot P) (MayLeave mid) (DiffersIn old.seen slot P) first second (λ c differs. differs) (λ c left. elim (left_now old mid (DiffersIn old.seen slot P) first c left) [
-      | inl before ↦ rest_differs slot old P rest holds c before
-      | inr since ↦ since
-    ])
 
 -- a disk that is synced but for one slot
 

@@ -1,5 +1,5 @@
 -- What a store stands for while it is made, while a checkpoint is finished, and while its segment is ended.
-use Rattle.std.proofs.Common.{◌≡◌, inl, inr, ℕ, ◌+◌, ◌%◌, ◌<◌, List, [], ◌∷◌, ◌++◌, length, take, drop, refl, sym, ap, subst, ◌∙◌, arith, append_assoc, take-append-drop, length-append}
+use Rattle.std.proofs.Common.{◌≡◌, inl, inr, ℕ, ◌+◌, ◌<◌, List, [], ◌∷◌, ◌++◌, length, take, drop, refl, sym, ap, subst, ◌∙◌, arith, append_assoc, take-append-drop, length-append}
 use Rattle.std.proofs.Math.Seq.{take-append-add}
 use Rattle.disk.specs.declared.slot.Slot.TheVariants.{Image0, Segment0}
 use Rattle.disk.specs.Slots.{Slots, slot_of, with_slot}
@@ -94,13 +94,6 @@ fresh_spells s fresh = record {
 
 pub fresh_recovered : (s : Slots) → IsFresh s → Recovered (as_written s) opening_state
 fresh_recovered s fresh = record { base = opening_state; records = []; spelled = fresh_spells s fresh; run = refl }
-
--- nothing else is recovered from a store without an image
-pub unused_is_new : (s : Slots) (state : State) → IsUnused s → Recovered (as_written s) state → IsNew (as_written s)
-unused_is_new s state unused found = elim found.spelled.reading as (λ _. IsNew (as_written s)) [
-  | inl new ↦ new.0
-  | inr stored ↦ absurd (unused.no_image (stored.epoch % 2) (omega arith) (subst (IsOpen image_header) (sym stored.image.text) (omega arith, refl)))
-]
 
 -- it is made
 

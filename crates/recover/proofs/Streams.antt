@@ -14,9 +14,6 @@ use Rattle.recover.specs.Replayed.{Replays, ReplaysAll}
 pub record IsLeft (segment : List ℕ) (first place : Place) (old now : State) : Type 0 where
   pub same : (state : State) (count end : ℕ) → Replays segment place now state count end ↔ Replays segment first old state count end
 
-pub all_left : (segment : List ℕ) (first : Place) (old : State) → IsLeft segment first first old old
-all_left segment first old = record { same = λ state count end. (λ r. r, λ r. r) }
-
 -- the records behind the first, from the state after it
 behind : (segment : List ℕ) (place next : Place) (entry : Record) (now mid state : State) (records more : List Record) (count end : ℕ) → records ≡ entry ∷ more → SpellsFrom segment next more end
     → ((other : State) → Step now entry.space entry.call entry.reply other → other ≡ mid) → next.number ≡ place.number + 1 → Run now records state → count ≡ place.number + length records → Replays segment next mid state count end

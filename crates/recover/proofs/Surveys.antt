@@ -1,21 +1,18 @@
 -- What a store is, by the epochs of its open slots.
-use Rattle.std.proofs.Common.{◌≡◌, ◌≢◌, ◌⊎◌, inl, inr, ℕ, ◌+◌, ◌≤◌, ◌<◌, ◌%◌, ◌^◌, List, ◌++◌, length, Bool, true, false, Option, None, Some, IfSome, IfNone, Result, Ok, Err, IfOk, OnOk, OnErr, refl, sym, ap, subst, ◌∙◌, arith}
-use Rattle.std.specs.Prelude.{MatchBool, if◌then◌else◌, ◌==◌, slice_index}
+use Rattle.std.proofs.Common.{◌≡◌, ◌≢◌, ◌⊎◌, inl, inr, ℕ, ◌+◌, ◌≤◌, ◌<◌, ◌%◌, ◌^◌, List, ◌++◌, length, Option, None, Some, IfSome, IfNone, Result, Ok, Err, OnErr, refl, sym, ap, subst, ◌∙◌, arith}
+use Rattle.std.specs.Prelude.{if◌then◌else◌, ◌==◌, slice_index}
 use Rattle.disk.specs.declared.slot.Slot.TheVariants.{Image0, Image1, Segment0, Segment1}
 use Rattle.disk.specs.Slots.{Slots, slot_of}
 use Rattle.ipc_laws.specs.RecoveryLaws.{image_header_is, image_is_open, one_epoch, segment_is_open}
 use Rattle.ipc_model.specs.declared.record.Record.{Record}
 use Rattle.ipc_model.specs.state.State.{State}
-use Rattle.ipc_model.specs.store.Recovery.{Continues, HasHeader, HasOtherVersion, HoldsImage, IsNew, IsOfEpoch, IsOpen, IsOtherVersion, IsStored, Spells, image_header, segment_header_length}
+use Rattle.ipc_model.specs.store.Recovery.{Continues, HasOtherVersion, HoldsImage, IsNew, IsOfEpoch, IsOpen, IsStored, Spells, image_header, segment_header_length}
 use Rattle.ipc_model.specs.store.Store.{SpellsSegment}
 use Rattle.slot_steps.specs.Steps.{image_slot, segment_slot}
-use Rattle.standing.specs.Standing.{as_written, IsPassedImage, IsPassedSegment}
+use Rattle.standing.specs.Standing.{as_written}
 use Rattle.standing.specs.Slots.{image_at, segment_at, one_of_two}
 use Rattle.recover.specs.Headers.{IsForeign, SayAll, Says, TellAll, Tells}
-use Rattle.recover.specs.Surveyed.{Adjoins, IsInUse, IsLatest, IsNoLater, IsUnused, OtherSegment, Surveys}
-use Rattle.journal.specs.declared.fault.StoreFault.{StoreFault}
-use Rattle.recover.specs.declared.survey.Survey.{Survey}
-use Rattle.recover.specs.declared.survey.Survey.TheVariants.{New}
+use Rattle.recover.specs.Surveyed.{Adjoins, IsLatest, IsNoLater}
 use Rattle.recover.specs.declared.headers.Header.{Header}
 use Rattle.recover.specs.declared.headers.Header.TheVariants.{Closed, Open, OtherVersion, Unreadable}
 
@@ -49,35 +46,8 @@ tell_odd s e a b c d odd t =
 told_epoch : (length number n e o : ℕ) (slot : List ℕ) → Tells length number slot (Some o) → IsOfEpoch n e slot → o ≡ e
 told_epoch length number n e o slot tells is = one_epoch o e tells.1.rest is.rest tells.1.fits is.fits (sym tells.1.text ∙ is.text)
 
-open_of_epoch : (number e : ℕ) (slot : List ℕ) → IsOfEpoch number e slot → IsOpen segment_header_length slot
-open_of_epoch number e slot is = subst (IsOpen segment_header_length) (sym is.text) (omega arith, refl)
-
 spelled_epoch : (e : ℕ) (slot : List ℕ) (records : List Record) → e < 2 ^ 64 → SpellsSegment e slot records → IsOfEpoch (e % 2) e slot
 spelled_epoch e slot records fits spelled = record { rest = spelled.content; text = spelled.text; fits = fits; of_number = refl }
-
-passed_image : (s : Slots) (e : ℕ) (o : Option ℕ) → Tells image_header ((e + 1) % 2) (slot_of s (image_slot (e + 1))) o → IsLatest e o → IsPassedImage e (slot_of s (image_slot (e + 1)))
-passed_image s e None told is = inl told
-passed_image s e (Some before) told is = inr (before, is, told.1)
-
-adjoining : (s : Slots) (e : ℕ) (o : Option ℕ) → Tells segment_header_length ((e + 1) % 2) (slot_of s (segment_slot (e + 1))) o → Adjoins e o → IsPassedSegment e (slot_of s (segment_slot (e + 1)))
-adjoining s e None told is = inl told
-adjoining s e (Some before) told is = inr (before, omega (arith, is), record { rest = told.1.rest; text = told.1.text; fits = told.1.fits; of_number = refl })
-
-other_by : (s : Slots) (e : ℕ) (o : Option ℕ) (follows : Bool) → Tells segment_header_length ((e + 1) % 2) (slot_of s (segment_slot (e + 1))) o → MatchBool follows (o ≡ Some (e + 1)) (Adjoins e o) → OtherSegment s e follows
-other_by s e o true told is = let next = subst (Tells segment_header_length ((e + 1) % 2) (slot_of s (segment_slot (e + 1)))) is told in (next.1.fits, next.1)
-other_by s e o false told is = adjoining s e o told is
-
--- what the slots of an epoch tell, whose image is the latest
-pub told_in_use : (s : Slots) (e : ℕ) (other own_segment other_segment : Option ℕ) (follows : Bool) → TellOf s e (Some e) other own_segment other_segment → IsLatest e other → own_segment ≡ Some e
-    → MatchBool follows (other_segment ≡ Some (e + 1)) (Adjoins e other_segment) → IsInUse s e follows
-told_in_use s e other own_segment other_segment follows tells latest own is = record {
-  fits = tells.image.1.fits;
-  image_open = tells.image.0;
-  image = tells.image.1;
-  other_image = passed_image s e other tells.other_image latest;
-  segment = (subst (Tells segment_header_length (e % 2) (slot_of s (segment_slot e))) own tells.segment).1;
-  other = other_by s e other_segment follows tells.other_segment is;
-}
 
 -- where the disk spells something, its epoch is the latest image's
 
@@ -157,30 +127,11 @@ told_damaged s e other own_segment other_segment tells latest wrong base records
 
 -- a store without an open image
 
--- both slots of a number have their headers
-abbrev pub HasHeaders : Slots → ℕ → Type 0
-HasHeaders s n = HasHeader image_header n ((as_written s).image n) × HasHeader segment_header_length n ((as_written s).segment n)
-
 each_number : (P : ℕ → Type 0) → P 0 → P 1 → (number : ℕ) → number < 2 → P number
 each_number P first second number small = elim (one_of_two 0 number small) as (λ _. P number) [ inl zero_is ↦ subst P (sym zero_is) first | inr one_is ↦ subst P (sym one_is) second ]
 
 no_open_image : (s : Slots) → (IsOpen image_header s.image0 → ⊥) → (IsOpen image_header s.image1 → ⊥) → (number : ℕ) → number < 2 → IsOpen image_header ((as_written s).image number) → ⊥
 no_open_image s first second = each_number (λ n. IsOpen image_header ((as_written s).image n) → ⊥) first second
-
-first_epoch : (s : Slots) (o : Option ℕ) → Tells segment_header_length 0 s.segment0 o → (o ≡ None) ⊎ (o ≡ Some 0) → IsOpen segment_header_length s.segment0 → IsOfEpoch 0 0 s.segment0
-first_epoch s o told (inl none) is_open = absurd (subst (Tells segment_header_length 0 s.segment0) none told is_open)
-first_epoch s o told (inr first) is_open = (subst (Tells segment_header_length 0 s.segment0) first told).1
-
-pub told_unused : (s : Slots) (segment0 segment1 : Option ℕ) → TellAll s None None segment0 segment1 → (segment0 ≡ None) ⊎ (segment0 ≡ Some 0) → segment1 ≡ None → IsUnused s
-told_unused s segment0 segment1 tells first second =
-    let shut : IsOpen segment_header_length s.segment1 → ⊥ = subst (Tells segment_header_length 1 s.segment1) second tells.segment1 in
-    let epoch : IsOpen segment_header_length s.segment0 → IsOfEpoch 0 0 s.segment0 = first_epoch s segment0 tells.segment0 first in
-    record {
-      headers = each_number (λ n. HasHeaders s n) ((λ is_open. absurd (tells.image0 is_open)), (λ is_open. (0, epoch is_open))) ((λ is_open. absurd (tells.image1 is_open)), (λ is_open. absurd (shut is_open)));
-      no_image = no_open_image s tells.image0 tells.image1;
-      second = shut;
-      first = epoch;
-    }
 
 second_none : (s : Slots) (o : Option ℕ) → Tells segment_header_length 1 s.segment1 o → IsNew (as_written s) → o ≡ None
 second_none s None told new = refl
@@ -239,36 +190,6 @@ says_tells header number slot h o says (inr some) =
     let said = subst (Says header slot) some.2 says in
     subst (Tells header number slot) (sym some.1) (said.0, record { rest = said.1.rest; text = said.1.text; fits = said.1.fits; of_number = some.3 })
 
--- another version is said of one slot, or of none
-is_other : (header : ℕ) (slot : List ℕ) (h : Header) → Says header slot h → HasOtherVersion header slot → h ≡ OtherVersion
-is_other header slot Closed says other = absurd (says other.0)
-is_other header slot (Open epoch) says other = absurd (of_version_one header (epoch % 2) epoch slot says.1 other)
-is_other header slot OtherVersion says other = refl
-is_other header slot Unreadable says other = absurd (says.1 other)
-
-pub other_said : (s : Slots) (image0 image1 segment0 segment1 : Header) → SayAll s image0 image1 segment0 segment1
-    → (image0 ≡ OtherVersion) ⊎ ((image1 ≡ OtherVersion) ⊎ ((segment0 ≡ OtherVersion) ⊎ (segment1 ≡ OtherVersion))) → IsOtherVersion (as_written s)
-other_said s image0 image1 segment0 segment1 says (inl a) = (0, omega arith, inl (subst (Says image_header s.image0) a says.image0))
-other_said s image0 image1 segment0 segment1 says (inr (inl b)) = (1, omega arith, inl (subst (Says image_header s.image1) b says.image1))
-other_said s image0 image1 segment0 segment1 says (inr (inr (inl c))) = (0, omega arith, inr (subst (Says segment_header_length s.segment0) c says.segment0))
-other_said s image0 image1 segment0 segment1 says (inr (inr (inr d))) = (1, omega arith, inr (subst (Says segment_header_length s.segment1) d says.segment1))
-
-other_of : (s : Slots) (image0 image1 segment0 segment1 : Header) → SayAll s image0 image1 segment0 segment1
-    → (number : ℕ) → number < 2 → HasOtherVersion image_header ((as_written s).image number) ⊎ HasOtherVersion segment_header_length ((as_written s).segment number)
-    → (image0 ≡ OtherVersion) ⊎ ((image1 ≡ OtherVersion) ⊎ ((segment0 ≡ OtherVersion) ⊎ (segment1 ≡ OtherVersion)))
-other_of s image0 image1 segment0 segment1 says =
-    each_number (λ number. HasOtherVersion image_header ((as_written s).image number) ⊎ HasOtherVersion segment_header_length ((as_written s).segment number)
-    → (image0 ≡ OtherVersion) ⊎ ((image1 ≡ OtherVersion) ⊎ ((segment0 ≡ OtherVersion) ⊎ (segment1 ≡ OtherVersion))))
-    (λ other. elim other [ inl a ↦ inl (is_other image_header s.image0 image0 says.image0 a) | inr c ↦ inr (inr (inl (is_other segment_header_length s.segment0 segment0 says.segment0 c))) ])
-    (λ other. elim other [ inl b ↦ inr (inl (is_other image_header s.image1 image1 says.image1 b)) | inr d ↦ inr (inr (inr (is_other segment_header_length s.segment1 segment1 says.segment1 d))) ])
-
-pub none_other : (s : Slots) (image0 image1 segment0 segment1 : Header) → SayAll s image0 image1 segment0 segment1
-    → (image0 ≢ OtherVersion) × (image1 ≢ OtherVersion) × (segment0 ≢ OtherVersion) × (segment1 ≢ OtherVersion) → IsOtherVersion (as_written s) → ⊥
-none_other s image0 image1 segment0 segment1 says none other = elim (other_of s image0 image1 segment0 segment1 says other.0 other.1 other.2) as (λ _. ⊥) [
-  | inl a ↦ none.0 a
-  | inr others ↦ elim others as (λ _. ⊥) [ inl b ↦ none.1 b | inr segments ↦ elim segments as (λ _. ⊥) [ inl c ↦ none.2 c | inr d ↦ none.3 d ] ]
-]
-
 pub tells_of : (header number : ℕ) (slot : List ℕ) (h : Header) (o : Option ℕ) → Says header slot h → IfSome o (λ epoch. (h ≡ Open epoch) × (epoch % 2 ≡ number)) → IfNone o (h ≡ Closed) → Tells header number slot o
 tells_of header number slot h None says some none = says_tells header number slot h None says (inl (refl, none))
 tells_of header number slot h (Some epoch) says some none = says_tells header number slot h (Some epoch) says (inr (epoch, refl, some.0, some.1))
@@ -292,10 +213,6 @@ second_tells s a b c d e tells is no_later =
 pub none_tell : (s : Slots) (a b c d : Option ℕ) → TellAll s a b c d → a ≡ None → b ≡ None → TellAll s None None c d
 none_tell s a b c d tells first second = subst (λ o. TellAll s None o c d) second (subst (λ o. TellAll s o b c d) first tells)
 
-pub always_ok : {T E P : Type 0} (r : Result T E) → ((x : T) → r ≡ Ok x → P) → OnOk r P
-always_ok (Ok x) p = p x refl
-always_ok (Err e) p = tt
-
 pub on_error : {T E P Q : Type 0} (r : Result T E) → (P → Q) → OnErr r P → OnErr r Q
 on_error (Ok x) f p = tt
 on_error (Err e) f p = f p
@@ -303,11 +220,6 @@ on_error (Err e) f p = f p
 pub always_err : {T E P : Type 0} (r : Result T E) → P → OnErr r P
 always_err (Ok x) p = tt
 always_err (Err e) p = p
-
--- a store without an image, once it was tested
-pub new_surveyed : (s : Slots) (c d : Option ℕ) (r : Result Survey StoreFault) → TellAll s None None c d → IfOk r (λ survey. survey ≡ New) → OnOk r ((c ≡ None) ⊎ (c ≡ Some 0)) → OnOk r (d ≡ None) → IfOk r (Surveys s)
-new_surveyed s c d (Ok survey) tells new first second = subst (Surveys s) (sym new) (told_unused s c d tells first second)
-new_surveyed s c d (Err e) tells new first second = tt
 
 pub some_is : {T : Type 0} (P : T → Type 0) (o : Option T) (x : T) → o ≡ Some x → IfSome o P → P x
 some_is P o x is holds = subst (λ p. IfSome p P) is holds

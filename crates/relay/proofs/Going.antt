@@ -1,5 +1,5 @@
 -- How a relay goes on, and how it ends.
-use Rattle.std.proofs.Common.{◌≡◌, inl, inr, ◌-◌, ◌^◌, ℕ, List, [], ◌∷◌, ◌++◌, length, Option, Some, None, IfSome, Result, Ok, Err, refl, sym, ap, subst, ◌∙◌, ◌+◌, arith, append_assoc, length-append}
+use Rattle.std.proofs.Common.{◌≡◌, inl, inr, ◌-◌, ℕ, List, [], ◌∷◌, ◌++◌, length, Result, Err, refl, sym, ap, subst, ◌∙◌, ◌+◌, arith, append_assoc, length-append}
 use Rattle.std.proofs.lemmas.List.{append-nil}
 use Rattle.std.specs.Io.KnownBytes.{Appends, Consumes}
 use Rattle.std.proofs.KnownBytes.{Appends-nil, Appends-trans, Consumes-nil, Consumes-trans}
@@ -7,7 +7,7 @@ use Rattle.wire.specs.Writing.{AppendsPart}
 use Rattle.wire.specs.declared.fault.WireFault.{WireFault}
 use Rattle.wire.specs.declared.fault.WireFault.TheVariants.{Device}
 use Rattle.words.specs.Words.{frame_text}
-use Rattle.relay.specs.Relaying.{AreFrames, Ends, Exchanged, Exchanges, IsTaken, IsUnread, IsUnanswered, Side, TakesAll, as_left, replies_text, requests_text, waiting_behind}
+use Rattle.relay.specs.Relaying.{AreFrames, Ends, Exchanged, Exchanges, IsTaken, Side, replies_text, requests_text, waiting_behind}
 
 -- some frames were relayed
 pub record Going (own peer own_now peer_now : Side) (count : ℕ) : Type 0 where
@@ -68,69 +68,9 @@ goes_on own peer own_mid peer_mid own_now peer_now count request reply so_far as
       counted = omega (arith, so_far.counted, length-append so_far.exchanges (exchange ∷ []));
     }
 
--- the end of the input
-pub all_read : (old mid new : Option (List ℕ)) (bytes : List ℕ) → Consumes old mid bytes → TakesAll mid new → Consumes old new bytes × IfSome old (λ input. new ≡ Some [])
-all_read None mid new bytes first ended = (tt, tt)
-all_read (Some input) None new bytes first ended = absurd first
-all_read (Some input) (Some rest) new bytes first ended = (subst (λ (o : Option (List ℕ)). Consumes (Some input) o bytes) (sym ended.1) (first ∙ ap (λ l. bytes ++ l) ended.0), ended.1)
-
 -- as is said of the result
 ended_as : (own peer own_new peer_new : Side) (fault : WireFault) (result : Result (Unit {0}) WireFault) → result ≡ Err fault → Ends own peer own_new peer_new (Err fault) → Ends own peer own_new peer_new result
 ended_as own peer own_new peer_new fault result is ends = subst (Ends own peer own_new peer_new) (sym is) ends
-
-pub ends_all : (own peer own_mid peer_now own_new : Side) (count : ℕ) → Going own peer own_mid peer_now count → TakesAll own_mid.left own_new.left → own_new ≡ as_left own_new.left own_mid → Ends own peer own_new peer_now (Ok tt)
-ends_all own peer own_mid peer_now own_new count so_far ended same =
-    let before = so_far.exchanged in
-    let read = all_read own.left own_mid.left own_new.left (requests_text so_far.exchanges) before.read ended in
-    record {
-      exchanges = so_far.exchanges;
-      exchanged = record {
-        frames = before.frames;
-        read = read.0;
-        sent = before.sent;
-        sent_on = before.sent_on;
-        heard = before.heard;
-        told = subst (λ (o : Option (List ℕ)). Appends own.written o (replies_text so_far.exchanges)) (sym (ap (λ (s : Side). s.written) same)) before.told;
-        told_on = ap (λ (s : Side). s.waiting) same ∙ before.told_on;
-      };
-      all = read.1;
-    }
-
-pub ends_reading : (own peer own_mid peer_now own_new : Side) (count : ℕ) (fault : WireFault) (result : Result (Unit {0}) WireFault) → Going own peer own_mid peer_now count → IsUnread own_mid.left fault own_new.left → own_mid ≡ as_left own_mid.left own_new → result ≡ Err fault → Ends own peer own_new peer_now result
-ends_reading own peer own_mid peer_now own_new count fault result so_far unread same is = ended_as own peer own_new peer_now fault result is (inl (record {
-  exchanges = so_far.exchanges;
-  left = own_mid.left;
-  exchanged = subst (λ (s : Side). Exchanged own peer so_far.exchanges s peer_now) same so_far.exchanged;
-  unread = unread;
-}))
-
-pub ends_sending : (own peer own_mid peer_mid own_new peer_new : Side) (count : ℕ) (request : List ℕ) (fault : WireFault) (result : Result (Unit {0}) WireFault) → Going own peer own_mid peer_mid count → IsTaken own_mid.left request own_new.left → own_mid ≡ as_left own_mid.left own_new
-    → AppendsPart peer_mid.written peer_new.written (frame_text request) → peer_new.left ≡ peer_mid.left → fault ≡ Device → result ≡ Err fault → Ends own peer own_new peer_new result
-ends_sending own peer own_mid peer_mid own_new peer_new count request fault result so_far taken same part unheard device is = ended_as own peer own_new peer_new fault result is (inr (inl (record {
-  exchanges = so_far.exchanges;
-  left = own_mid.left;
-  peer_mid = peer_mid;
-  exchanged = subst (λ (s : Side). Exchanged own peer so_far.exchanges s peer_mid) same so_far.exchanged;
-  request = request;
-  taken = taken;
-  part = part;
-  unheard = unheard;
-  fault_is = device;
-})))
-
-pub ends_hearing : (own peer own_mid peer_mid own_new peer_new : Side) (count : ℕ) (request : List ℕ) (fault : WireFault) (result : Result (Unit {0}) WireFault) → Going own peer own_mid peer_mid count → IsTaken own_mid.left request own_new.left → own_mid ≡ as_left own_mid.left own_new
-    → Appends peer_mid.written peer_new.written (frame_text request) → peer_new.waiting ≡ [] → IsUnanswered peer_mid.left fault peer_new.left → result ≡ Err fault → Ends own peer own_new peer_new result
-ends_hearing own peer own_mid peer_mid own_new peer_new count request fault result so_far taken same sent sent_on unanswered is = ended_as own peer own_new peer_new fault result is (inr (inr (inl (record {
-  exchanges = so_far.exchanges;
-  left = own_mid.left;
-  peer_mid = peer_mid;
-  exchanged = subst (λ (s : Side). Exchanged own peer so_far.exchanges s peer_mid) same so_far.exchanged;
-  request = request;
-  taken = taken;
-  sent = sent;
-  sent_on = sent_on;
-  unanswered = unanswered;
-}))))
 
 pub ends_telling : (own peer own_mid peer_mid own_new peer_new : Side) (count : ℕ) (request reply : List ℕ) (fault : WireFault) (result : Result (Unit {0}) WireFault) → Going own peer own_mid peer_mid count → IsTaken own_mid.left request own_new.left
     → Appends peer_mid.written peer_new.written (frame_text request) → peer_new.waiting ≡ [] → IsTaken peer_mid.left reply peer_new.left → AppendsPart own_mid.written own_new.written (frame_text reply) → fault ≡ Device → result ≡ Err fault → Ends own peer own_new peer_new result
@@ -148,11 +88,3 @@ ends_telling own peer own_mid peer_mid own_new peer_new count request reply faul
   part = part;
   fault_is = device;
 })))))
-
-pub ends_at_most : (own peer own_now peer_now : Side) (count : ℕ) → Going own peer own_now peer_now count → count ≡ 2 ^ 64 - 1 → Ends own peer own_now peer_now (Err Device)
-ends_at_most own peer own_now peer_now count so_far most = inr (inr (inr (inr (record {
-  exchanges = so_far.exchanges;
-  exchanged = so_far.exchanged;
-  most = so_far.counted ∙ most;
-  fault_is = refl;
-}))))

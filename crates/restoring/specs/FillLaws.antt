@@ -10,7 +10,7 @@ use Rattle.std.specs.declared.cmp.Ordering.TheVariants.{Less, Equal, Greater}
 use Rattle.std.specs.FinMap.Entries.{by_order}
 use Rattle.std.proofs.lemmas.Bool.{eq-eqb, le-ltb}
 use Rattle.std.proofs.lemmas.List.Elements.{All-head, All-tail, All-weaker}
-use Rattle.codes.specs.declared.limits.TheConstants.{MAX_NAMES, MAX_PORTS, MAX_SPACES}
+use Rattle.codes.specs.declared.limits.TheConstants.{MAX_NAMES, MAX_PORTS}
 use Rattle.ipc_laws.specs.MapLaws.{get-here, get-map_values}
 use Rattle.ipc_laws.specs.MapSums.{entries-map_values, insert-insert, insert-same, key_is, same_key}
 use Rattle.ipc_model.specs.calls.PortCalls.{names_in}
@@ -35,7 +35,7 @@ use Rattle.snapshot.specs.declared.rows.Snapshot.{Snapshot}
 use Rattle.snapshot.specs.declared.rows.Space.{Space}
 use Rattle.restoring.specs.Filling.{emptied, filled_all, named_all, opened, opened_all, queued_all, spaced, spaced_all}
 use Rattle.restoring.specs.Linked.{Looks, is_linked_message, is_linked_row, is_live_place, is_live_target, looks_of, replies_well, travels_well}
-use Rattle.restoring.specs.LinkLaws.{both_hold, first_holds, names_there, second_holds, true_of}
+use Rattle.restoring.specs.LinkLaws.{both_hold, first_holds, second_holds, true_of}
 use Rattle.snapshot.specs.Rows.{AreUnder, entries_of, entry_of, greater, key_of, map_map, map_of, names_in_rows, number_of, port_in_row, put_all, serial_of, space_of, state_of_rows, under_last, under_more}
 use Rattle.restoring.specs.Shaped.{IsShapedName, IsShapedPort, IsShapedSpace}
 
@@ -121,9 +121,6 @@ pub record MayName (space : ℕ) (rows : List NamedEntry) (state : State) : Type
   pub few : len names + length rows ≤ MAX_NAMES
   pub each : All (λ (row : NamedEntry). AreFewReferences row.entry) rows
 
-pub may_name_room : (space : ℕ) (row : NamedEntry) (rows : List NamedEntry) (state : State) → MayName space (row ∷ rows) state → len (names_in state space) < MAX_NAMES
-may_name_room space row rows state may = omega (arith, may.few, ap len (names_there state space may.names may.there))
-
 pub may_name_next : (space : ℕ) (row : NamedEntry) (rows : List NamedEntry) (state : State) → MayName space (row ∷ rows) state → MayName space rows (with_entry state space row.name row.entry)
 may_name_next space row rows state may = subst (MayName space rows) (sym (ap (λ (o : Option Names). elim o as (λ _. State) [ None ↦ state | Some n ↦ with_names state space (insert n row.name row.entry) ]) may.there)) (record {
   names = insert may.names row.name row.entry;
@@ -149,9 +146,6 @@ may_space_unused row rows state may = elim (get state.spaces row.number) as (λ 
   | None ↦ λ (_ : _). refl
   | Some names ↦ λ (is : _). absurd (omega (arith, may.rise.0, may.below row.number names is))
 ] refl
-
-pub may_space_room : (row : Space) (rows : List Space) (state : State) → MaySpace (row ∷ rows) state → len state.spaces < MAX_SPACES
-may_space_room row rows state may = omega (arith, may.few, may.rise.0, (All-head IsShapedSpace row rows may.each).number)
 
 pub may_space_next : (row : Space) (rows : List Space) (state : State) → MaySpace (row ∷ rows) state → MaySpace rows (spaced row state)
 may_space_next row rows state may = subst (MaySpace rows) (sym (spaced_is row state)) (record {

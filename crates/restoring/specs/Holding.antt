@@ -29,10 +29,6 @@ use Rattle.ipc_model.specs.state.State.{Names, State, is_number, lives, port_hel
 use Rattle.restoring.specs.Linked.{Looks, looks_of, has_set, is_in_no_set, is_linked_message, is_linked_port, is_live_place, is_live_target, is_set, replies_well, stands_well, travels_well}
 use Rattle.restoring.specs.LinkLaws.{AreWell, AreTight, both_hold, first_holds, second_holds, names_there, one_part, two_parts, some_entry, some_of, true_of, isnt, is_not, found_any, parts_true}
 
-no_and : (b : Bool) → (b && false) ≡ true → ⊥
-no_and true e = cc e
-no_and false e = cc e
-
 -- what weighs as a receive right of a port is one
 
 one_of : (what : RightKind) (serial other : ℕ) → 1 ≤ receive_of serial what other → (same_kind what kind.Receive ≡ true) × (other ≡ serial)

@@ -1,5 +1,5 @@
 -- Rights and the kinds that items bring.
-use Rattle.std.proofs.Common.{◌≡◌, ℕ, zero, suc, ◌+◌, ◌<◌, Bool, true, false, ◌||◌, ◌↔◌, if◌then◌else◌, All, List, [], ◌∷◌, ◌++◌, drop, flat_map, get_or, length, map, replicate, refl, sym, ◌∙◌, ap, add-one, arith}
+use Rattle.std.proofs.Common.{◌≡◌, ℕ, suc, ◌+◌, ◌<◌, Bool, true, false, ◌||◌, ◌↔◌, if◌then◌else◌, All, List, [], ◌∷◌, ◌++◌, drop, flat_map, get_or, length, map, replicate, refl, sym, ◌∙◌, ap, add-one, arith}
 use Rattle.std.specs.List.{Contains, list_any}
 use Rattle.std.proofs.Math.Seq.{drop-cons}
 use Rattle.std.proofs.lemmas.List.{append_cancel_left, map-append}
@@ -64,12 +64,3 @@ port_among (item ∷ items) any = elim (is_port_item item) as (λ (b : Bool). is
   | true ↦ λ (is : _) (_ : _). (item, (0, omega arith, refl), is)
   | false ↦ λ (_ : _) (later : _). let rest = port_among items later in (rest.0, (suc rest.1.0, omega (arith, rest.1.1), rest.1.2), rest.2)
 ] refl any
-
-pub among_port : (items : List Item) (item : Item) → Contains items item → is_port_item item ≡ true → list_any is_port_item items ≡ true
-among_port [] item (k, less, is) port = absurd (omega (arith, less))
-among_port (first ∷ items) item (zero, less, is) port = ap (λ (b : Bool). b || list_any is_port_item items) (ap is_port_item is ∙ port)
-among_port (first ∷ items) item (suc k, less, is) port = or_right (is_port_item first) (list_any is_port_item items) (among_port items item (k, omega (arith, less), is) port)
-  where
-    or_right : (a b : Bool) → b ≡ true → (a || b) ≡ true
-    or_right true b e = refl
-    or_right false b e = e

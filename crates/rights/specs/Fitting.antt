@@ -1,5 +1,5 @@
 -- Rights that arrive one after another under names for which there is room.
-use Rattle.std.specs.Prelude.{◌≡◌, ◌≢◌, ℕ, suc, ◌+◌, ◌<◌, ◌≤◌, Bool, true, false, cond, ◌&&◌, ◌||◌, not, ◌==◌, List, [], ◌∷◌, Option, None, Some, is_none, is_some, MatchOption, if◌then◌else◌, refl}
+use Rattle.std.specs.Prelude.{◌≡◌, ◌≢◌, ℕ, ◌+◌, ◌<◌, ◌≤◌, Bool, true, false, cond, ◌&&◌, ◌||◌, not, ◌==◌, List, [], ◌∷◌, Option, None, Some, is_none, is_some, MatchOption, if◌then◌else◌, refl}
 use Rattle.std.proofs.Common.{sym, ◌∙◌, ap, subst, inl, inr, arith}
 use Rattle.std.specs.Cmp.{nat_cmp_total}
 use Rattle.std.specs.List.{list_any}
@@ -14,7 +14,7 @@ use Rattle.ipc_model.specs.declared.message.PortInMessage.{PortInMessage}
 use Rattle.ipc_model.specs.declared.message.PortInMessage.TheVariants as in_message
 use Rattle.ipc_model.specs.declared.message.RightKind.{RightKind}
 use Rattle.ipc_model.specs.declared.message.RightKind.TheVariants as kind
-use Rattle.ipc_model.specs.rights.CopyOut.{MayArrive, MayBeNamed, names_after, merged_entry, merged_rights, new_entry, names_wanted, named_with, wants_name}
+use Rattle.ipc_model.specs.rights.CopyOut.{MayArrive, names_after, merged_entry, merged_rights, new_entry, names_wanted, named_with, wants_name}
 use Rattle.ipc_model.specs.state.State.{Names, IsUnused, name_of_port, port_held}
 use Rattle.ipc_laws.specs.Arrivals.{HasName, named_there, not_unnamed, same_live}
 use Rattle.ipc_laws.specs.ListLaws.{some_same}
@@ -100,14 +100,6 @@ arrived names what in_message.Dead name may = record { still = λ (_ : _) (has :
 arrived names kind.SendOnce (in_message.Live serial) name unused = fresh names kind.SendOnce serial name unused.free (λ (_ : _) (_ : _) (_ : _) (apart : _). apart refl)
 arrived names kind.Send (in_message.Live serial) name may = by_name names kind.Send serial name (name_of_port names serial) refl (λ (e : _). cc e) may
 arrived names kind.Receive (in_message.Live serial) name may = by_name names kind.Receive serial name (name_of_port names serial) refl (λ (e : _). cc e) may
-
-none_is : (o : Option ℕ) → is_none o ≡ true → o ≡ None
-none_is None e = refl
-none_is (Some n) e = absurd (cc e)
-
-front_true : (b c : Bool) → (b && c) ≡ true → b ≡ true
-front_true true c e = refl
-front_true false c e = absurd (cc e)
 
 -- a port that wants no name by the count has one
 has_one : (start now : Names) (named : List ℕ) (rights : List CarriedRight) (what : RightKind) (port : PortInMessage) → Fits start now named rights → wants_name start named what port ≡ false → (serial : ℕ) → port ≡ in_message.Live serial

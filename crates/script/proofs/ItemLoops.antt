@@ -1,43 +1,16 @@
 -- Bodies item by item.
-use Rattle.std.proofs.Common.{◌≡◌, ℕ, zero, suc, ◌-◌, ◌<◌, ◌^◌, List, [], ◌∷◌, ◌++◌, length, refl, sym, ap, ◌∙◌, arith, Option, Some, None, Ok, Err, append_assoc}
-use Rattle.std.specs.Prelude.{codes, map, OnOk, Result, ⊤}
+use Rattle.std.proofs.Common.{◌≡◌, ℕ, zero, suc, ◌-◌, ◌<◌, List, [], ◌∷◌, ◌++◌, length, refl, sym, ap, ◌∙◌, arith, Option, Some, None, Ok, Err, append_assoc}
+use Rattle.std.specs.Prelude.{codes, OnOk, Result, ⊤}
 use Rattle.std.proofs.lemmas.List.{append-nil}
-use Rattle.words.specs.WordLaws.{little_number-word}
-use Rattle.words.specs.Words.{word}
 use Rattle.script.specs.declared.fault.Fault.{Fault}
 use Rattle.script.specs.declared.fault.Fault.TheVariants as fault
-use Rattle.script.specs.declared.kind.Kind.{Kind}
 use Rattle.script.specs.declared.kind.Kind.TheVariants.{Hexadecimal}
 use Rattle.script.specs.Bytes.{optional_bytes, optional_bytes_at}
-use Rattle.script.specs.Items.{numbers_in, numbers_at, item_front, body_within, body_words, item_at, behind_bytes, parts_at, body_at, AddsItem}
-use Rattle.script.specs.Kinds.{value_word, read_word}
+use Rattle.script.specs.Items.{numbers_at, item_front, body_within, body_words, item_at, behind_bytes, parts_at, body_at, AddsItem}
+use Rattle.script.specs.Kinds.{read_word}
 use Rattle.script.specs.Reading.{Reading, ◌>>=◌, number_at, label_at, Fails}
 use Rattle.script.specs.Spaced.{spaced}
-use Rattle.script.proofs.WordsOf.{spaced_more, spaced_none}
-
--- a number in front of others
-pub numbers_front : (n : ℕ) (rest : List ℕ) → n < 2 ^ 32 → numbers_in (word n ++ rest) ≡ n ∷ numbers_in rest
-numbers_front n rest fits = ap (λ (m : ℕ). m ∷ numbers_in rest) (little_number-word n [] fits)
-
-pub numbers_none : (bytes : List ℕ) → length bytes < 4 → numbers_in bytes ≡ []
-numbers_none [] few = refl
-numbers_none (a ∷ []) few = refl
-numbers_none (a ∷ b ∷ []) few = refl
-numbers_none (a ∷ b ∷ c ∷ []) few = refl
-numbers_none (a ∷ b ∷ c ∷ d ∷ bytes) few = absurd (omega (arith, few))
-
-pub shorter : (n : ℕ) (bytes rest : List ℕ) → bytes ≡ word n ++ rest → length rest < length bytes
-shorter n bytes rest is = omega (arith, ap length is)
-
-pub number_pushed : (k : Kind) (old line bytes behind : List ℕ) (n : ℕ) → n < 2 ^ 32 → bytes ≡ word n ++ behind → line ≡ old ++ spaced (value_word k n ∷ [])
-    → line ++ spaced (map (value_word k) (numbers_in behind)) ≡ old ++ spaced (map (value_word k) (numbers_in bytes))
-number_pushed k old line bytes behind n fits is pushed =
-    ap (λ (l : List ℕ). l ++ spaced (map (value_word k) (numbers_in behind))) pushed
-    ∙ spaced_more old (value_word k n ∷ []) (map (value_word k) (numbers_in behind))
-    ∙ ap (λ (l : List ℕ). old ++ spaced (map (value_word k) l)) (sym (ap numbers_in is ∙ numbers_front n behind fits))
-
-pub numbers_pushed : (k : Kind) (line bytes : List ℕ) → length bytes < 4 → line ≡ line ++ spaced (map (value_word k) (numbers_in bytes))
-numbers_pushed k line bytes few = sym (ap (λ (l : List ℕ). line ++ spaced (map (value_word k) l)) (numbers_none bytes few) ∙ spaced_none line)
+use Rattle.script.proofs.WordsOf.{spaced_more}
 
 -- a number is read behind others
 abbrev with_done : List ℕ → List ℕ × List (List ℕ) → List ℕ × List (List ℕ)

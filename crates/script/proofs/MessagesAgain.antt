@@ -51,14 +51,6 @@ local_again d n ws small fits none = elim (d == 0 && n == 0) as (λ (b : Bool). 
           (rw (bounded_again expected.Number kind.Disposition 0x100 d (value_word Hexadecimal n ∷ ws) tt small (omega arith)) (rw (value_again kind.Hexadecimal n ws tt fits) refl))
     ] refl
 
-pub past_local : (label : List ℕ) (d n : ℕ) (ws : List (List ℕ)) → bytes_eq (codes "local") label ≡ false → label_at label ws ≡ None
-    → label_at label (local_words d n ++ ws) ≡ None
-unfolding local_words
-past_local label d n ws apart none = elim (d == 0 && n == 0) as (λ (b : Bool). label_at label (cond b [] (codes "local" ∷ value_word Disposition d ∷ value_word Hexadecimal n ∷ []) ++ ws) ≡ None) [
-  | true ↦ none
-  | false ↦ other_label label (codes "local") (value_word Disposition d ∷ value_word Hexadecimal n ∷ ws) apart
-]
-
 -- the words of a header are numbers of four bytes
 pub record FitsHeader (h : Header) : Type 0 where
   pub bits : h.bits < 2 ^ 32

@@ -1,5 +1,5 @@
 -- Numbers are read as they are printed.
-use Rattle.std.proofs.Common.{◌≡◌, ℕ, ◌+◌, ◌-◌, ◌*◌, ◌^◌, ◌<◌, ◌≤◌, Bool, true, false, ◌&&◌, ◌==◌, List, [], ◌∷◌, ◌++◌, length, drop, get_or, add-one, drop-cons, cond, refl, ap, ◌∙◌, arith, Some, None}
+use Rattle.std.proofs.Common.{◌≡◌, ℕ, ◌+◌, ◌-◌, ◌*◌, ◌^◌, ◌<◌, ◌≤◌, Bool, true, false, ◌&&◌, ◌==◌, List, [], ◌∷◌, ◌++◌, length, cond, refl, ap, ◌∙◌, arith, Some, None}
 use Rattle.std.specs.Prelude.{nat_lt, nat_eq, codes, decimal}
 use Rattle.std.specs.Char.{digit_value}
 use Rattle.std.specs.Fmt.{digits}
@@ -10,7 +10,7 @@ use Rattle.std.proofs.Math.Nat.{mul-le-mul_left}
 use Rattle.std.proofs.lemmas.Bool.Decides.{nat_tests}
 use Rattle.std.proofs.lemmas.Fmt.{digits_is_IsNumeral}
 use Rattle.std.proofs.lemmas.Str.Parse.{digit_from_value}
-use Rattle.script.specs.Numbers.{hexadecimal, signed, number_from, number_behind, with_digit, natural, negated, number_of_word}
+use Rattle.script.specs.Numbers.{hexadecimal, signed, number_from, number_behind, natural, negated, number_of_word}
 
 -- more digits make no less
 pub value_grows : (radix n : ℕ) (ds : List ℕ) → 1 ≤ radix → n ≤ digits_value_after radix n ds
@@ -74,8 +74,3 @@ signed_again n fits = elim (nat_lt n (2 ^ 31)) as (λ (b : Bool). nat_lt n (2 ^ 
       let least : 2 ^ 32 - n < 2 ^ 32 = omega arith in
       ap (option_map negated) (natural_again 10 (2 ^ 32 - n) (omega arith) (omega arith) least (decimal_fits (2 ^ 32 - n) least)) ∙ ap Some (negated_again n fits high)
 ] refl
-
--- one digit of those that are left
-pub next_digit : (radix n i : ℕ) (ds : List ℕ) → i < length ds
-    → number_from radix n (drop i ds) ≡ number_behind (λ (m : ℕ). number_from radix m (drop (i + 1) ds)) (with_digit radix n (get_or ds i 0))
-next_digit radix n i ds less = rw (add-one, drop-cons ds i 0) refl

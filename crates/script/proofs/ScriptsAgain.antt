@@ -137,9 +137,6 @@ pub none_left : (lines : List Line) (n : ℕ) (text : List ℕ) → text ≡ [] 
 unfolding lines_read lines_of
 none_left lines n text is = rw is (ap Ok (append-nil lines))
 
-pub all_left : (n : ℕ) (lines : List (List ℕ)) → behind_lines [] (lines_read n lines) ≡ lines_read n lines
-all_left n lines = elim (lines_read n lines) as (λ (read : Result (List Line) ScriptFault). behind_lines [] read ≡ read) [ Ok found ↦ refl | Err fault ↦ refl ]
-
 -- a script that was printed says what it was printed for
 pub script_again : (n : ℕ) (xs : List Exchange) → AreExchanges xs → lines_read n (lines_of (script_text xs)) ≡ Ok (numbered n xs)
 unfolding lines_read lines_of script_text numbered

@@ -1,16 +1,15 @@
 -- A call in the state after all of the history.
 use Rattle.std.proofs.Common.{◌≡◌, ℕ, Bool, true, false, List, [], ◌∷◌, ◌++◌, length, refl, sym, ap, subst, ◌∙◌}
 use Rattle.std.specs.Prelude.{if◌then◌else◌}
-use Rattle.std.proofs.lemmas.List.{append-nil, map-append, length-map}
+use Rattle.std.proofs.lemmas.List.{map-append, length-map}
 use Rattle.history.specs.Entries.{Begins, records_of}
-use Rattle.history.specs.Pasts.{PastValue}
 use Rattle.history.specs.declared.entry.Entry.{Entry}
 use Rattle.ipc_model.specs.calls.Step.{Run, has_record}
 use Rattle.ipc_model.specs.declared.call.Call.{Call}
 use Rattle.ipc_model.specs.declared.record.Record.{Record}
 use Rattle.ipc_model.specs.state.State.{State}
 use Rattle.session_core.specs.Keeping.{Applies, IsCore, entries_of_call}
-use Rattle.session_core.specs.Tokens.{entry_by, with_entry}
+use Rattle.session_core.specs.Tokens.{entry_by}
 use Rattle.system.proofs.Rows.{Grows, grown}
 use Rattle.system.specs.Core.{Wait}
 use Rattle.system.specs.Halves.{Gives, KernelValue, TicketValue, entry_of}
@@ -58,11 +57,3 @@ module _ (base : State) (old new : KernelValue) (entries : List Entry) (opened e
     old_counted = core.applied.made_is ∙ counted entries;
     new_counted = more.all.made_is ∙ counted after ∙ ap length (sym is);
   }
-
--- who learned of a call's record, if it has one
-pub learned_of : (number space : ℕ) (c : Call) (ticket : TicketValue) (old new : PastValue) → (b : Bool) → has_record c ticket.answer ≡ b → (has_record c ticket.answer ≡ true → new ≡ with_entry old (entry_by number space c ticket.answer))
-    → (has_record c ticket.answer ≡ false → new ≡ old) → new.entries ≡ old.entries ++ entries_of_call number space c ticket
-learned_of number space c ticket old new true is learned same =
-    ap (λ (p : PastValue). p.entries) (learned is) ∙ ap (λ (b : Bool). old.entries ++ (if b then entry_by number space c ticket.answer ∷ [] else [])) (sym is)
-learned_of number space c ticket old new false is learned same =
-    ap (λ (p : PastValue). p.entries) (same is) ∙ sym (append-nil old.entries) ∙ ap (λ (b : Bool). old.entries ++ (if b then entry_by number space c ticket.answer ∷ [] else [])) (sym is)

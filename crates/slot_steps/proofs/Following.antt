@@ -1,5 +1,5 @@
 -- What a stop may leave of one slot, whatever it might have left of the others before.
-use Rattle.std.proofs.Common.{◌≡◌, ◌⊎◌, inl, inr, ℕ, zero, suc, ◌<◌, List, [], ◌∷◌, take, get_or, refl, sym, ap, subst, ◌∙◌, arith, Result, Ok, Err, OnOk}
+use Rattle.std.proofs.Common.{◌≡◌, inl, inr, ℕ, zero, suc, ◌<◌, List, [], ◌∷◌, take, get_or, sym, ap, subst, ◌∙◌, arith, Result, Ok, Err, OnOk}
 use Rattle.disk.specs.declared.slot.Slot.{Slot}
 use Rattle.disk.specs.Moments.{View, MayLeave, Passes, Follows, IsSynced}
 use Rattle.disk.specs.Slots.{Slots, slot_of, with_slot, TornWrite, TornCut}
@@ -50,10 +50,6 @@ follows_still slot old mid new P same first second =
       | inr since ↦ since
     ])
 
--- calls that change nothing
-pub still_follows : (slot : Slot) (old new : View) (P : List ℕ → List ℕ → Type 0) → ((x : List ℕ) → P x x) → Passes old new (MayLeave old) → Passes old new (Follows old slot P)
-still_follows slot old new P same time = passes_as old new (MayLeave old) (Follows old slot P) time (λ c left. follows_self slot old P c left (same (slot_of c slot)))
-
 -- and then a call
 pub still_then : (slot : Slot) (old mid new : View) (P : List ℕ → List ℕ → Type 0) → ((x : List ℕ) → P x x) → Passes old mid (MayLeave old) → Passes mid new (Follows mid slot P) → Passes old new (Follows old slot P)
 still_then slot old mid new P same first second =
@@ -76,10 +72,6 @@ write_closed slot old new at n some shut time =
 pub cut_closed : (slot : Slot) (old new : View) (n : ℕ) → 0 < n → IsShut old slot → Passes old new (Follows old slot (TornCut n)) → Passes old new (Follows old slot IsStillClosed)
 cut_closed slot old new n some shut time =
     follows_as slot old new (TornCut n) IsStillClosed time (λ d after left torn. still_closed n (slot_of d slot) after some torn.front (shut d left))
-
-pub sync_closed : (slot : Slot) (old new : View) → IsShut old slot → Passes old new (MayLeave old) → Passes old new (Follows old slot IsStillClosed)
-sync_closed slot old new shut time =
-    passes_as old new (MayLeave old) (Follows old slot IsStillClosed) time (λ c left. follows_self slot old IsStillClosed c left (shut c left))
 
 pub shut_kept : (slot : Slot) (old new : View) → IsShut old slot → Passes old new (Follows old slot IsStillClosed) → IsShut new slot
 shut_kept slot old new shut time c left = elim (left_now old new (Follows old slot IsStillClosed) time c left) [ inl before ↦ shut c before | inr since ↦ since.2 ]

@@ -1,6 +1,6 @@
 -- A slot's gate, as it is read and while it is written.
-use Rattle.std.proofs.Common.{rules, ◌≡◌, ◌⊎◌, inl, inr, ℕ, ◌+◌, ◌<◌, List, [], ◌∷◌, ◌++◌, length, take, drop, get_or, refl, sym, ap, subst, ◌∙◌, arith}
-use Rattle.std.specs.Prelude.{IsTrue, nat_eq, min, slice_index_or, ◌↔◌, ◌≤◌, ◌-◌}
+use Rattle.std.proofs.Common.{◌≡◌, ◌⊎◌, inl, inr, ℕ, ◌+◌, ◌<◌, List, [], ◌∷◌, ◌++◌, length, take, drop, get_or, refl, sym, ap, ◌∙◌, arith}
+use Rattle.std.specs.Prelude.{◌-◌}
 use Rattle.std.proofs.lemmas.Bool.{cases_lt}
 use Rattle.disk.specs.declared.slot.Slot.{Slot}
 use Rattle.disk.specs.Moments.{View, Passes, Follows, IsSynced}
@@ -32,23 +32,6 @@ no_open_gate (gate ∷ rest) shut is = shut (ap (λ (l : List ℕ). get_or l 0 0
 
 pub closed_not_open : (header : ℕ) (slot : List ℕ) → IsClosed slot → IsOpen header slot → ⊥
 closed_not_open header slot shut is_open = no_open_gate slot shut is_open.1
-
--- the first byte of a slot, as it is read
-is_gate : (gate : ℕ) → IsTrue (nat_eq gate open_gate) ↔ (gate ≡ open_gate)
-is_gate gate = search rules
-
-pub gate_read : (header : ℕ) (slot buffer old : List ℕ) (n : ℕ) → 1 < header → header ≤ length slot → length old ≡ 1 → n ≡ min (length old) (length slot - 0) → buffer ≡ take n (drop 0 slot) ++ drop n old
-    → IsTrue (nat_eq (slice_index_or buffer 0 0) open_gate) ↔ ((length slot < header) ⊎ (take 1 slot ≡ open_gate ∷ []))
-gate_read header [] buffer old n some long one count bytes = absurd (omega (arith, some, long))
-gate_read header (gate ∷ slot) buffer old n some long one count bytes =
-    let first : n ≡ 1 = omega (arith, one, count) in
-    let front : slice_index_or buffer 0 0 ≡ gate = ap (λ (l : List ℕ). slice_index_or l 0 0) (bytes ∙ (λ i. take (first i) (gate ∷ slot) ++ drop (first i) old)) in (
-      λ is. inr (ap (λ (g : ℕ). g ∷ []) ((is_gate gate).0 (subst (λ (g : ℕ). IsTrue (nat_eq g open_gate)) front is))),
-      λ needs. elim needs [
-        | inl short ↦ absurd (omega (arith, long, short))
-        | inr is ↦ subst (λ (g : ℕ). IsTrue (nat_eq g open_gate)) (sym front) ((is_gate gate).1 (ap (λ (l : List ℕ). slice_index_or l 0 0) is))
-      ],
-    )
 
 -- a gate that is written, or isn't
 pub torn_gate : (before after : List ℕ) → TornWrite 0 1 before after → HasSomeGate before after

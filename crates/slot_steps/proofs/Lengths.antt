@@ -1,6 +1,6 @@
 -- How long what is written is.
-use Rattle.std.proofs.Common.{◌≡◌, ℕ, ◌+◌, ◌≤◌, ◌<◌, List, [], ◌∷◌, ◌++◌, length, take, drop, replicate, Result, Ok, Err, OnOk, OnErr, ap, ◌∙◌, arith, append_assoc, length-append, length-take}
-use Rattle.std.proofs.lemmas.List.{append-nil, take_all, drop_all, take-append-le, drop_at}
+use Rattle.std.proofs.Common.{◌≡◌, ℕ, ◌+◌, ◌≤◌, ◌<◌, List, [], ◌∷◌, ◌++◌, length, take, drop, replicate, Result, Ok, Err, OnOk, ap, ◌∙◌, arith, length-append, length-take}
+use Rattle.std.proofs.lemmas.List.{append-nil, take_all, drop_all}
 use Rattle.disk.specs.declared.slot.Slot.{Slot}
 use Rattle.disk.specs.Slots.{Slots, slot_of, with_slot, written_at}
 use Rattle.ipc_model.specs.store.Store.{IsClosed}
@@ -30,44 +30,9 @@ pub cleared : (slot : Slot) (old new : Slots) → 24 ≤ length (slot_of old slo
 cleared slot old new long is =
     ap (λ (s : Slots). length (slot_of s slot)) is ∙ ap length (own_bytes slot old (take 24 (slot_of old slot))) ∙ cut_length (slot_of old slot) 24 long
 
--- bytes stand behind a gate after text was written behind them
-pub text_behind : (slot : Slot) (old new : Slots) (text : List ℕ) → length (slot_of old slot) ≡ 24 → new ≡ with_slot old slot (written_at (slot_of old slot) 24 text) → 1 ≤ length (slot_of new slot)
-text_behind slot old new text long is =
-    let bytes : List ℕ = written_at (slot_of old slot) 24 text in
-    let more = written_long (slot_of old slot) text 24 (omega arith) in
-    let same : length (slot_of new slot) ≡ length bytes = ap (λ (s : Slots). length (slot_of s slot)) is ∙ ap length (own_bytes slot old bytes) in
-    omega arith
-
--- and on failure
-pub on_err : {T E P Q : Type 0} (r : Result T E) → (P → Q) → OnErr r P → OnErr r Q
-on_err (Ok x) f p = tt
-on_err (Err e) f p = f p
-
-pub always_err : {T E P : Type 0} (r : Result T E) → P → OnErr r P
-always_err (Ok x) p = tt
-always_err (Err e) p = p
-
 -- what follows of nothing
 pub always : {T E P : Type 0} (r : Result T E) → P → OnOk r P
 always r p = elim r as (λ v. OnOk v _) [ Ok x ↦ p | Err e ↦ tt ]
-
--- behind bytes that end where n says, and then over what stands behind the first of them
-pub written_twice : (old text header : List ℕ) (n : ℕ) → length old ≡ n → 1 + length header ≡ n → written_at (written_at old n text) 1 header ≡ take 1 old ++ (header ++ text)
-written_twice old text header n long fits =
-    let front : take n old ≡ old = take_all n old (omega arith) in
-    let none : drop (n + length text) old ≡ [] = drop_all (n + length text) old (omega arith) in
-    let first : written_at old n text ≡ old ++ text = (λ i. front i ++ text ++ none i) ∙ append-nil (old ++ text) in
-    let one : take 1 (old ++ text) ≡ take 1 old = take-append-le 1 old text (omega arith) in
-    let behind : drop (1 + length header) (old ++ text) ≡ text = drop_at old text (1 + length header) (omega arith) in
-    ap (λ (l : List ℕ). written_at l 1 header) first ∙ (λ i. one i ++ header ++ behind i) ∙ append_assoc (take 1 old) header text
-
-pub image_written : (slot : Slot) (old mid new after : Slots) (text header : List ℕ) → length (slot_of old slot) ≡ 24 → length header ≡ 23 → mid ≡ with_slot old slot (written_at (slot_of old slot) 24 text)
-    → new ≡ with_slot mid slot (written_at (slot_of mid slot) 1 header) → after ≡ new → after ≡ with_slot old slot (take 1 (slot_of old slot) ++ (header ++ text))
-image_written slot old mid new after text header long fits first second last =
-    let bytes : List ℕ = written_at (slot_of old slot) 24 text in
-    let own : slot_of mid slot ≡ bytes = ap (λ (s : Slots). slot_of s slot) first ∙ own_bytes slot old bytes in
-    last ∙ second ∙ (λ i. with_slot (first i) slot (written_at (own i) 1 header)) ∙ with_twice slot old bytes (written_at bytes 1 header)
-    ∙ ap (λ (b : List ℕ). with_slot old slot b) (written_twice (slot_of old slot) text header 24 long (omega arith))
 
 -- behind the gate alone, which is all that was left of a slot
 pub segment_written : (slot : Slot) (old mid new after : Slots) (start : List ℕ) → 0 < length (slot_of old slot) → mid ≡ with_slot old slot (take 1 (slot_of old slot)) → new ≡ with_slot mid slot (written_at (slot_of mid slot) 1 start) → after ≡ new
@@ -88,11 +53,6 @@ closed_written (gate ∷ rest) bytes some shut = shut
 pub closed_cut : (slot : List ℕ) → IsClosed slot → IsClosed (take 24 slot)
 closed_cut [] shut = tt
 closed_cut (gate ∷ rest) shut = shut
-
--- and when it has more bytes behind it
-pub closed_front : (head behind : List ℕ) → 0 < length head → IsClosed head → IsClosed (head ++ behind)
-closed_front [] behind some shut = absurd (omega (arith, some))
-closed_front (gate ∷ rest) behind some shut = shut
 
 -- the bytes of one slot, where it alone was changed
 pub own_of : (slot : Slot) (old new : Slots) (bytes : List ℕ) → new ≡ with_slot old slot bytes → slot_of new slot ≡ bytes

@@ -35,10 +35,6 @@ passes_then old mid new P Q R first second early late = record {
 pub passes_as : (old new : View) (P R : Slots → Type 0) → Passes old new P → ((c : Slots) → P c → R c) → Passes old new R
 passes_as old new P R time less = record { later = time.later; past = time.past; since = λ k c after le left. less c (time.since k c after le left) }
 
--- no call
-pub passes_none : (disk : View) (P : Slots → Type 0) → Passes disk disk P
-passes_none disk P = record { later = omega arith; past = λ k c le. (λ left. left, λ left. left); since = λ k c after le left. absurd (omega arith) }
-
 -- one slot of four
 
 pub with_own : (slot : Slot) (s : Slots) → with_slot s slot (slot_of s slot) ≡ s

@@ -168,10 +168,6 @@ pub map_map : {A B C : Type 0} (f : B → C) (g : A → B) (xs : List A) → map
 map_map f g [] = refl
 map_map f g (x ∷ xs) = ap (λ ys. f (g x) ∷ ys) (map_map f g xs)
 
-pub map_same_all : {A B : Type 0} (f g : A → B) (xs : List A) → All (λ x. f x ≡ g x) xs → map f xs ≡ map g xs
-map_same_all f g [] all = refl
-map_same_all {A = A} {B = B} f g (x ∷ xs) all = λ i. All-head (λ (y : A). f y ≡ g y) x xs all i ∷ map_same_all f g xs (All-tail (λ (y : A). f y ≡ g y) x xs all) i
-
 map_same_id : {A : Type 0} (f : A → A) (xs : List A) → All (λ x. f x ≡ x) xs → map f xs ≡ xs
 map_same_id f [] all = refl
 map_same_id {A = A} f (x ∷ xs) all = λ i. All-head (λ (y : A). f y ≡ y) x xs all i ∷ map_same_id f xs (All-tail (λ (y : A). f y ≡ y) x xs all) i

@@ -22,9 +22,6 @@ pub record Buried (port : ℕ) (before spaces : SpaceMap) (at : ℕ) : Type 0 wh
   pub done : (space name : ℕ) → name < 2 ^ 32 → place space name < at → entry_in spaces space name ≡ option_map (entry_after_death port) (entry_in before space name)
   pub left : (space name : ℕ) → name < 2 ^ 32 → at ≤ place space name → entry_in spaces space name ≡ entry_in before space name
 
-pub none_buried : (port : ℕ) (spaces : SpaceMap) → Buried port spaces spaces 0
-none_buried port spaces = record { there = λ space. refl; done = λ space name small below. absurd (omega (arith, below)); left = λ space name small from. refl }
-
 -- whether a name has to do with the port: it stands for a right to it, or its request has it for its target
 abbrev pub StandsApart : ℕ → SpaceMap → ℕ → Type 0
 StandsApart port spaces number = (is_number (at_place port_named spaces number) port ≡ false) × (is_number (at_place request_of spaces number) port ≡ false)

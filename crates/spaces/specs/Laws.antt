@@ -103,9 +103,6 @@ opened_touched slots touched longer key more are = subst (AreTouched was is (slo
     go None = put_touched was is slots (touched ++ key ∷ []) key _ (last_is_touched was is touched key) whole
     go (Some slot) = put_touched was is slots (touched ++ key ∷ []) key _ (last_is_touched was is touched key) whole
 
-pub more_touched : (slots : SpaceSlots) (touched longer : List ℕ) (key : ℕ) → longer ≡ touched ++ key ∷ [] → AreTouched was is slots touched → AreTouched was is slots longer
-more_touched slots touched longer key more are = subst (AreTouched was is slots) (sym more) (one_touched was is slots touched key are)
-
 -- a space made
 pub opened_is : (slots : SpaceSlots) (key : ℕ) → picked is (slot_opened slots key) ≡ insert (picked is slots) key empty
 opened_is slots key = alike _ _ (λ q.

@@ -14,9 +14,6 @@ use Rattle.spaces.specs.Slots.{SpaceMap}
 abbrev pub names_of : SpaceMap → ℕ → Names
 names_of spaces space = elim (get spaces space) as (λ _. Names) [ None ↦ empty | Some names ↦ names ]
 
-pub names_there : (spaces : SpaceMap) (space : ℕ) (names : Names) → Some names ≡ get spaces space → names ≡ names_of spaces space
-names_there spaces space names there = ap (λ (o : Option Names). elim o as (λ _. Names) [ None ↦ empty | Some n ↦ n ]) there
-
 module _ (spaces : SpaceMap) (space : ℕ) (gone : None ≡ get spaces space) where
   pub no_names : names_of spaces space ≡ empty
   no_names = ap (λ (o : Option Names). elim o as (λ _. Names) [ None ↦ empty | Some n ↦ n ]) (sym gone)

@@ -31,9 +31,6 @@ pub record Emptied (before spaces : SpaceMap) (space at : ℕ) : Type 0 where
   pub others : remove spaces space ≡ remove before space
   pub gone : (name : ℕ) → name < at → entry_in spaces space name ≡ None
 
-pub none_emptied : (spaces : SpaceMap) (space : ℕ) → Emptied spaces spaces space 0
-none_emptied spaces space = record { others = refl; gone = λ name below. absurd (omega (arith, below)) }
-
 alike : {X : Type 0} (m n : FinMap {K = ℕ} nat_cmp X) → ((q : ℕ) → get m q ≡ get n q) → m ≡ n
 alike m n each = same_map nat_cmp_total nat_cmp-IsAntisymmetric m n each
 

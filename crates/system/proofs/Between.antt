@@ -1,8 +1,8 @@
 -- What is between the halves.
-use Rattle.std.proofs.Common.{◌≡◌, ◌⊎◌, inl, inr, ℕ, ◌+◌, ◌≤◌, ◌<◌, Bool, true, false, List, [], ◌∷◌, ◌++◌, Option, None, Some, refl, sym, subst, ◌∙◌, arith}
+use Rattle.std.proofs.Common.{◌≡◌, ◌⊎◌, inl, inr, ℕ, ◌+◌, ◌≤◌, ◌<◌, Bool, true, false, [], ◌∷◌, ◌++◌, Option, None, Some, refl, sym, subst, arith}
 use Rattle.std.specs.Prelude.{is_none}
 use Rattle.ipc_model.specs.world.World as world
-use Rattle.ipc_model.specs.world.World.{Receipt, of_append, of_finish}
+use Rattle.ipc_model.specs.world.World.{of_append, of_finish}
 use Rattle.system.specs.Core.{BatchBetween, Between, NothingBetween, ReceiptBetween, in_turn}
 use Rattle.system.specs.Halves.{TakenValue}
 
@@ -69,9 +69,6 @@ module _ (batch : Option world.Batch) (taken stored handed : ℕ) (P : ℕ → T
   none_to_append (Some size) false between one is fresh = between
 
 -- The receipts that are out.
-
-pub no_receipts : (finished_first : Bool) → in_turn None None finished_first ≡ []
-no_receipts finished_first = refl
 
 pub one_more_receipt : (size : ℕ) (finished : Option ℕ) (first : Bool) → in_turn None finished first ++ of_append size ∷ [] ≡ in_turn (Some size) finished true
 one_more_receipt size None first = refl

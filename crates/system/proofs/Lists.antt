@@ -1,6 +1,6 @@
 -- Lists that grow at their end, and tickets by number.
-use Rattle.std.proofs.Common.{◌≡◌, ◌≢◌, ℕ, zero, suc, ◌+◌, ◌-◌, ◌≤◌, ◌<◌, Bool, true, false, List, [], ◌∷◌, ◌++◌, length, take, drop, Option, None, Some, refl, sym, ap, subst, ◌∙◌, arith}
-use Rattle.std.specs.Prelude.{max, map, slice_get, if◌then◌else◌}
+use Rattle.std.proofs.Common.{◌≡◌, ◌≢◌, ℕ, zero, suc, ◌+◌, ◌-◌, ◌≤◌, Bool, true, false, List, [], ◌∷◌, ◌++◌, length, take, drop, Option, None, Some, refl, sym, ap, subst, ◌∙◌, arith}
+use Rattle.std.specs.Prelude.{max, slice_get, if◌then◌else◌}
 use Rattle.ipc_model.specs.world.World.{Ticket, greatest_seen, with_answered}
 
 module _ {A : Type 0} where
@@ -79,9 +79,6 @@ pub answered_long : (tickets : List Ticket) (n : ℕ) → length (with_answered 
 answered_long [] n = refl
 answered_long (first ∷ tickets) zero = refl
 answered_long (first ∷ tickets) (suc n) = ap suc (answered_long tickets n)
-
-seen_of : Ticket → ℕ → ℕ
-seen_of ticket rest = if ticket.answered then max ticket.seen rest else rest
 
 seen_up : (b : Bool) (seen rest n : ℕ) → (if b then max seen rest else rest) ≤ n → rest ≤ n
 seen_up true seen rest n le = omega arith

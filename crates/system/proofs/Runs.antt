@@ -1,5 +1,5 @@
 -- A core at first, and events one after another.
-use Rattle.std.proofs.Common.{◌≡◌, ◌⊎◌, ℕ, ◌+◌, ◌≤◌, ◌<◌, Bool, true, false, List, [], ◌∷◌, ◌++◌, length, Option, None, Some, refl, sym, ap, subst, ◌∙◌, arith}
+use Rattle.std.proofs.Common.{◌≡◌, ℕ, ◌+◌, ◌≤◌, List, [], ◌∷◌, ◌++◌, refl, subst, ◌∙◌, arith}
 use Rattle.disk.specs.Moments.{View, MayLeave, Passes}
 use Rattle.disk.specs.Slots.{Slots}
 use Rattle.ipc_model.specs.state.Circular.{Grounded}
@@ -9,7 +9,7 @@ use Rattle.ipc_model.specs.declared.call.Reply.{Reply}
 use Rattle.ipc_model.specs.world.World.{World, After, first_world, told}
 use Rattle.journal.specs.declared.segment.Segment.{Segment}
 use Rattle.phases.specs.Passed.{IsKept}
-use Rattle.system.specs.Core.{AreBounded, Runs, RunsThrough, StandsFor, StandsFrom, Steps, SystemValue, first_system}
+use Rattle.system.specs.Core.{Runs, RunsThrough, StandsFor, StandsFrom, Steps, SystemValue, first_system}
 use Rattle.system.specs.Events.{event_of, outcome_of}
 use Rattle.system.specs.declared.event.Event.{Event}
 use Rattle.system.specs.declared.event.Outcome.{Outcome}
@@ -101,6 +101,3 @@ through_push honest view base w events outcomes old mid new event answered throu
   stands = steps.stands;
   runs = runs_push honest base w events outcomes (view old.store.disk).moment (view mid.store.disk) (view new.store.disk) through.end steps.next event answered steps.kept through.runs steps.after steps.passes steps.left;
 }
-
-pub through_none : {D : Type 0} (honest : Type 0) (view : D → View) (base : State) (w : World) (old : SystemValue D) → StandsFor honest view base w old → RunsThrough honest view base w [] [] old old
-through_none honest view base w old stands = record { end = w; stands = stands; runs = (refl, λ _. refl) }

@@ -16,18 +16,9 @@ pub touched_append : (q : ℕ) (ks ls : List ℕ) → is_touched q (ks ++ ls) �
 touched_append q [] ls = refl
 touched_append q (k ∷ ks) ls = elim (eq_by_cmp nat_cmp q k) as (λ (b : Bool). (b || is_touched q (ks ++ ls)) ≡ ((b || is_touched q ks) || is_touched q ls)) [ true ↦ refl | false ↦ touched_append q ks ls ]
 
-either_true : (a b : Bool) → a ≡ true → (a || b) ≡ true
-either_true true b e = refl
-either_true false b e = absurd (cc e)
-
 first_off : (a b : Bool) → (a || b) ≡ false → a ≡ false
 first_off true b e = absurd (cc e)
 first_off false b e = refl
-
-last_off : (a b : Bool) → (a || (b || false)) ≡ false → b ≡ false
-last_off true b e = absurd (cc e)
-last_off false true e = absurd (cc e)
-last_off false false e = refl
 
 both_off : (a b : Bool) → a ≡ false → b ≡ false → (a || (b || false)) ≡ false
 both_off true b e f = absurd (cc e)

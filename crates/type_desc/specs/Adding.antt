@@ -1,9 +1,7 @@
 -- What is added to bytes, and that they stay in front of it.
-use Rattle.std.specs.Prelude.{◌≡◌, ℕ, ◌*◌, ◌^◌, ◌<◌, ◌≤◌, Bool, true, false, List, ◌++◌, length, take, replicate, Option, None, Some, if◌then◌else◌, refl}
+use Rattle.std.specs.Prelude.{◌≡◌, ℕ, ◌^◌, ◌<◌, ◌≤◌, Bool, false, List, ◌++◌, length, take, refl}
 use Rattle.std.proofs.Common.{sym, ◌∙◌, ap, arith, length-take, take_at, take-take}
-use Rattle.ipc_model.specs.messages.Items.{Item, descriptor_text, item_text, as_stored, is_port_item, received_type}
-use Rattle.ipc_model.specs.rights.Dispositions.{Disposition, MoveReceive, MoveSend, MoveSendOnce, CopySend, MakeSend, MakeSendOnce, disposition_of, received_kind, number_of_kind}
-use Rattle.type_desc.specs.Whole.{IsWhole}
+use Rattle.ipc_model.specs.messages.Items.{Item, descriptor_text}
 
 -- What was there stands in front of what is.
 pub record Keeps (old new : List ℕ) : Type 0 where
@@ -30,27 +28,3 @@ keeps_both old mid new first second =
 -- What is added behind what was added.
 pub keeps_more : (old mid new added : List ℕ) → mid ≡ old ++ added → Keeps mid new → Keeps old new
 keeps_more old mid new added is kept = keeps_both old mid new (keeps_added old mid added is) kept
-
--- a type as received has no more bits
-received_short : (n : ℕ) → n < 2 ^ 8 → received_type n < 2 ^ 8
-received_short n short = elim (disposition_of n) as (λ (d : Option Disposition). elim d as (λ _. ℕ) [ None ↦ n | Some disposition ↦ number_of_kind (received_kind disposition) ] < 2 ^ 8) [
-  | None ↦ short
-  | Some MoveReceive ↦ omega arith
-  | Some MoveSend ↦ omega arith
-  | Some MoveSendOnce ↦ omega arith
-  | Some CopySend ↦ omega arith
-  | Some MakeSend ↦ omega arith
-  | Some MakeSendOnce ↦ omega arith
-]
-
-pub received_fits : (type_name bits number : ℕ) (is_long : Bool) (content : List ℕ) → IsWhole type_name bits number is_long content → FitsShort is_long (received_type type_name)
-received_fits type_name bits number is_long content whole is = received_short type_name (whole.short is).0
-
--- the text of an item of ports as stored
-pub stored_ports : (item : Item) (count : ℕ) → is_port_item item ≡ true → count ≡ 4 * item.number → item_text (as_stored item) ≡ descriptor_with item (received_type item.type_name) ++ replicate count 0
-stored_ports item count port is =
-    ap (λ (b : Bool). item_text (if b then record item { type_name = received_type item.type_name; content = replicate (4 * item.number) 0 } else item)) port
-    ∙ ap (λ (n : ℕ). descriptor_with item (received_type item.type_name) ++ replicate n 0) (sym is)
-
-pub stored_plain : (item : Item) → is_port_item item ≡ false → item_text (as_stored item) ≡ item_text item
-stored_plain item plain = ap (λ (b : Bool). item_text (if b then record item { type_name = received_type item.type_name; content = replicate (4 * item.number) 0 } else item)) plain

@@ -83,11 +83,6 @@ pub front_more : (front : List Item) (item : Item) (rest : Result (List Item) Ke
 front_more front item (Ok items) = ap Ok (sym (append_assoc front (item ∷ []) items))
 front_more front item (Err code) = refl
 
--- before an item was read
-pub front_none : (rest : Result (List Item) KernReturn) → rest ≡ with_front [] rest
-front_none (Ok items) = refl
-front_none (Err code) = refl
-
 pub none_is : (bytes : List ℕ) → length bytes ≡ 0 → bytes ≡ []
 none_is [] is = refl
 none_is (b ∷ bytes) is = absurd (omega (arith, is))

@@ -1,8 +1,8 @@
 -- A number and its bytes give each other back.
-use Rattle.std.specs.Prelude.{◌≡◌, ℕ, zero, suc, ◌+◌, ◌*◌, ◌^◌, ◌<◌, ◌≤◌, List, [], ◌∷◌, ◌++◌, length, take, slice_index, refl}
-use Rattle.std.specs.Int.{w32, w64, from_le_bytes, to_le_bytes}
+use Rattle.std.specs.Prelude.{◌≡◌, ℕ, zero, suc, ◌+◌, ◌^◌, ◌<◌, ◌≤◌, List, [], ◌∷◌, ◌++◌, length, take, refl}
+use Rattle.std.specs.Int.{w32, from_le_bytes}
 use Rattle.std.proofs.Common.{sym, ◌∙◌, ap, arith}
-use Rattle.std.proofs.lemmas.Nat.{le_bytes_4, le_bytes_8}
+use Rattle.std.proofs.lemmas.Nat.{le_bytes_4}
 use Rattle.byteorder.specs.Endian.{little_number}
 use Rattle.byteorder.specs.Numbers.{length-bytes_low_first, little_number-reads_back}
 use Rattle.words.specs.Words.{AreBytes, word, long_word}
@@ -34,20 +34,6 @@ word-little_number (a ∷ b ∷ c ∷ d ∷ rest) fits long =
     let n = little_number 4 (a ∷ b ∷ c ∷ d ∷ rest) in
     let is : n ≡ from_le_bytes w32 (a ∷ b ∷ c ∷ d ∷ []) = omega arith in
     le_bytes_4 (a ∷ b ∷ c ∷ d ∷ []) n refl (front_fits 4 (a ∷ b ∷ c ∷ d ∷ rest) fits) is
-
-pub long_word-little_number : (bytes : List ℕ) → AreBytes bytes → 8 ≤ length bytes → long_word (little_number 8 bytes) ≡ take 8 bytes
-long_word-little_number [] fits long = absurd (omega arith)
-long_word-little_number (a ∷ []) fits long = absurd (omega arith)
-long_word-little_number (a ∷ b ∷ []) fits long = absurd (omega arith)
-long_word-little_number (a ∷ b ∷ c ∷ []) fits long = absurd (omega arith)
-long_word-little_number (a ∷ b ∷ c ∷ d ∷ []) fits long = absurd (omega arith)
-long_word-little_number (a ∷ b ∷ c ∷ d ∷ e ∷ []) fits long = absurd (omega arith)
-long_word-little_number (a ∷ b ∷ c ∷ d ∷ e ∷ f ∷ []) fits long = absurd (omega arith)
-long_word-little_number (a ∷ b ∷ c ∷ d ∷ e ∷ f ∷ g ∷ []) fits long = absurd (omega arith)
-long_word-little_number (a ∷ b ∷ c ∷ d ∷ e ∷ f ∷ g ∷ h ∷ rest) fits long =
-    let n = little_number 8 (a ∷ b ∷ c ∷ d ∷ e ∷ f ∷ g ∷ h ∷ rest) in
-    let is : n ≡ from_le_bytes w64 (a ∷ b ∷ c ∷ d ∷ e ∷ f ∷ g ∷ h ∷ []) = omega arith in
-    le_bytes_8 (a ∷ b ∷ c ∷ d ∷ e ∷ f ∷ g ∷ h ∷ []) n refl (front_fits 8 (a ∷ b ∷ c ∷ d ∷ e ∷ f ∷ g ∷ h ∷ rest) fits) is
 
 -- words in front of equal bytes are those of one number
 pub same_word : (m n : ℕ) (xs ys : List ℕ) → m < 2 ^ 32 → n < 2 ^ 32 → word m ++ xs ≡ word n ++ ys → m ≡ n

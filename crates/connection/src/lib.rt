@@ -1,0 +1,9 @@
+//! A connection among others on one store: its calls are those of a session of the store's history, and one that finds nothing to
+//! do waits until more was recorded, as long as it may and its task is there.
+#![tactic(auto)]
+
+mod connected;
+mod patience;
+
+pub use connected::Connected;
+pub use patience::{Patience, Peer, SocketPeer};
