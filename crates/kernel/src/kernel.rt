@@ -23,9 +23,9 @@ use std::marker::Model;
 #[derive(Clone, Copy, Debug, PartialEq, Eq)]
 pub enum ReplayFault {
     /// The machine has no such step.
-    Mismatch,
+    Mismatch = 1,
     /// No memory.
-    NoMemory,
+    NoMemory = 2,
 }
 
 impl From<AllocError> for ReplayFault {

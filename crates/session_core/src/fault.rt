@@ -4,9 +4,9 @@ use std::alloc::AllocError;
 #[derive(Clone, Copy, Debug, PartialEq, Eq)]
 pub enum SessionFault {
     /// A growth was refused.
-    NoMemory,
+    NoMemory = 1,
     /// No number is left.
-    Spent,
+    Spent = 2,
 }
 
 impl From<AllocError> for SessionFault {

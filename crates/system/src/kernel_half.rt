@@ -21,9 +21,9 @@ use storing::{Cut, Finished, Receipt};
 #[derive(Clone, Copy, Debug, PartialEq, Eq)]
 pub enum SubmitFault {
     /// A growth was refused.
-    NoMemory,
+    NoMemory = 1,
     /// The epoch's row takes no more records, and a step of the call has one.
-    EpochFull,
+    EpochFull = 2,
 }
 
 impl From<AllocError> for SubmitFault {
