@@ -49,7 +49,6 @@ fn begin<
     };
     let _ = thread::spawn(&rt, move || {
         let _ = serve_stream(&rt, &stream, &mine);
-        // What is still to be written fails at once then, and isn't waited for.
         let _ = stream.shutdown(Shutdown::Both);
     });
 }
@@ -68,6 +67,7 @@ fn serve_stream<L: Founding, D: Disk, R: Wait + Clock + AllocGlobal>(
     };
     let mut asker = Connected::new(rt, shared, SocketPeer::new(stream), session);
     if serve_asked(rt.alloc(), &mut reader, &mut writer, &mut asker).is_err() {
+        // What the writer still holds fails at once then where it is dropped, and isn't waited for.
         return stream.shutdown(Shutdown::Both);
     }
     Ok(())

@@ -34,11 +34,7 @@ fn take_kind(bytes: &[u8]) -> Option<(RightKind, &[u8])>
 fn byte_of_kind(kind: RightKind) -> u8
     ensures { result ≡ number_of_kind kind }
 {
-    match kind {
-        RightKind::Receive => 16,
-        RightKind::Send => 17,
-        RightKind::SendOnce => 18,
-    }
+    kind as u8
 }
 
 /// What stands in a port's place in a message, and the bytes behind it.

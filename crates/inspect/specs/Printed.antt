@@ -1,7 +1,10 @@
 -- What is printed of a store.
-use Rattle.std.specs.Prelude.{◌≡◌, ℕ, List}
+use Rattle.std.specs.Prelude.{◌≡◌, ◌⊎◌, ℕ, List}
 use Rattle.disk.specs.Slots.{Slots}
+use Rattle.inspect.specs.declared.fault.ListFault.{ListFault}
+use Rattle.inspect.specs.declared.fault.ListFault.TheVariants.{Store}
 use Rattle.ipc_model.specs.state.State.{State}
+use Rattle.journal.specs.declared.fault.StoreFault.TheVariants.{Damaged, Device, NoMemory, Version}
 use Rattle.listing.specs.Drawing.{drawing}
 use Rattle.listing.specs.Listing.{listing}
 use Rattle.recover.specs.Found.{Reads}
@@ -21,3 +24,7 @@ pub record IsSketch (honest : Type 0) (slots : Slots) (text : List ℕ) : Type 0
   pub records : ℕ
   pub reads : honest → Reads slots epoch records state
   pub drawn : text ≡ drawing state
+
+-- why a store can't be read, as a look at it tells
+abbrev pub IsOfLook : ListFault → Type 0
+IsOfLook fault = (fault ≡ Store Device) ⊎ ((fault ≡ Store Damaged) ⊎ ((fault ≡ Store NoMemory) ⊎ (fault ≡ Store Version)))

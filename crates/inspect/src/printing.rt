@@ -1,6 +1,7 @@
-ghost use Rattle.std.specs.Prelude.{◌≡◌, ◌≢◌, ℕ, List, Err, IfErr, IfOk, IsErrOf, OnErr, OnOk};
+ghost use Rattle.std.specs.Prelude.{◌≡◌, ◌≢◌, ◌⊎◌, ℕ, List, Err, IfErr, IfOk, IsErrOf, OnErr, OnOk};
+ghost use Rattle.disk.specs.Moments.{one_more};
 ghost use Rattle.std.specs.Io.KnownBytes.{Appends, Keeps};
-ghost use Rattle.inspect.specs.Printed.{IsListing, IsSketch};
+ghost use Rattle.inspect.specs.Printed.{IsListing, IsOfLook, IsSketch};
 ghost use Rattle.ipc_model.specs.store.Recovery.{IsDamaged, IsOtherVersion};
 ghost use Rattle.standing.specs.Standing.{as_written};
 ghost use Rattle.wire.specs.Writing.{AppendsPart};
@@ -16,8 +17,8 @@ use wire::write_bytes;
 /// Writes the lines of a store, and flushes them: `epoch E records N`; each space with its names; each live port with
 /// where its receive right is, its rights' counts and its queue. The store isn't written to.
 ///
-/// `Store`: the store can't be read, and nothing was written. `Write`: the writer failed, and some first bytes of the
-/// lines may have been written.
+/// `Store`: the store can't be read (`recover::look` tells why: `Device`, `Damaged`, `NoMemory` or `Version`), and nothing was
+/// written. `Write`: the writer failed, and some first bytes of the lines may have been written.
 pub fn list<D: Disk, W: Write>(alloc: Global, disk: &mut D, writer: &mut W) -> Result<(), ListFault>
     ensures ok { OnOk result ((text : List ℕ) × IsListing D.honest (D.view disk.old).seen text × Appends (W.contents writer.old) (W.contents writer.new) text) }
     ensures part { IsErrOf result ListFault.Write → (text : List ℕ) × IsListing D.honest (D.view disk.old).seen text × AppendsPart (W.contents writer.old) (W.contents writer.new) text }
@@ -25,6 +26,10 @@ pub fn list<D: Disk, W: Write>(alloc: Global, disk: &mut D, writer: &mut W) -> R
     ensures seen { D.honest → (D.view disk.new).seen ≡ (D.view disk.old).seen }
     ensures version { D.honest → IsErrOf result (ListFault.Store StoreFault.Version) → IsOtherVersion (as_written (D.view disk.old).seen) }
     ensures damaged { D.honest → IsErrOf result (ListFault.Store StoreFault.Damaged) → IsDamaged (as_written (D.view disk.old).seen) }
+    ensures faults { IfErr result (λ fault. IsOfLook fault ⊎ (fault ≡ ListFault.Write)) }
+    ensures quiet { OnOk result (D.failed_calls disk.new ≡ D.failed_calls disk.old) }
+    ensures told { IsErrOf result ListFault.Write → D.failed_calls disk.new ≡ D.failed_calls disk.old }
+    ensures device { IsErrOf result (ListFault.Store StoreFault.Device) → D.failed_calls disk.new ≡ one_more (D.failed_calls disk.old) }
 {
     let text = lines_of(alloc, disk)?;
     send(writer, &text)
@@ -43,6 +48,10 @@ pub fn sketch<D: Disk, W: Write>(
     ensures seen { D.honest → (D.view disk.new).seen ≡ (D.view disk.old).seen }
     ensures version { D.honest → IsErrOf result (ListFault.Store StoreFault.Version) → IsOtherVersion (as_written (D.view disk.old).seen) }
     ensures damaged { D.honest → IsErrOf result (ListFault.Store StoreFault.Damaged) → IsDamaged (as_written (D.view disk.old).seen) }
+    ensures faults { IfErr result (λ fault. IsOfLook fault ⊎ (fault ≡ ListFault.Write)) }
+    ensures quiet { OnOk result (D.failed_calls disk.new ≡ D.failed_calls disk.old) }
+    ensures told { IsErrOf result ListFault.Write → D.failed_calls disk.new ≡ D.failed_calls disk.old }
+    ensures device { IsErrOf result (ListFault.Store StoreFault.Device) → D.failed_calls disk.new ≡ one_more (D.failed_calls disk.old) }
 {
     let text = sketch_of(alloc, disk)?;
     send(writer, &text)
@@ -53,6 +62,9 @@ fn lines_of<D: Disk>(alloc: Global, disk: &mut D) -> Result<Vec<u8>, ListFault>
     ensures seen { D.honest → (D.view disk.new).seen ≡ (D.view disk.old).seen }
     ensures version { D.honest → IsErrOf result (ListFault.Store StoreFault.Version) → IsOtherVersion (as_written (D.view disk.old).seen) }
     ensures damaged { D.honest → IsErrOf result (ListFault.Store StoreFault.Damaged) → IsDamaged (as_written (D.view disk.old).seen) }
+    ensures faults { IfErr result IsOfLook }
+    ensures quiet { OnOk result (D.failed_calls disk.new ≡ D.failed_calls disk.old) }
+    ensures device { IsErrOf result (ListFault.Store StoreFault.Device) → D.failed_calls disk.new ≡ one_more (D.failed_calls disk.old) }
     ensures err { IfErr result (λ fault. fault ≢ ListFault.Write) }
 {
     let look = look(alloc, disk)?;
@@ -66,6 +78,9 @@ fn sketch_of<D: Disk>(alloc: Global, disk: &mut D) -> Result<Vec<u8>, ListFault>
     ensures seen { D.honest → (D.view disk.new).seen ≡ (D.view disk.old).seen }
     ensures version { D.honest → IsErrOf result (ListFault.Store StoreFault.Version) → IsOtherVersion (as_written (D.view disk.old).seen) }
     ensures damaged { D.honest → IsErrOf result (ListFault.Store StoreFault.Damaged) → IsDamaged (as_written (D.view disk.old).seen) }
+    ensures faults { IfErr result IsOfLook }
+    ensures quiet { OnOk result (D.failed_calls disk.new ≡ D.failed_calls disk.old) }
+    ensures device { IsErrOf result (ListFault.Store StoreFault.Device) → D.failed_calls disk.new ≡ one_more (D.failed_calls disk.old) }
     ensures err { IfErr result (λ fault. fault ≢ ListFault.Write) }
 {
     let look = look(alloc, disk)?;

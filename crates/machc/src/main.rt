@@ -5,13 +5,14 @@ use command_line::read_words;
 use relay::run_client;
 use std::io::{self, BufReader, BufWriter};
 use std::process::ExitCode;
+use wire::WireFault;
 
 fn main(rt: HostRuntime) -> ExitCode {
     let (Ok(mut input), Ok(mut output)) = (
         BufReader::new(rt.alloc(), rt.reader()),
         BufWriter::new(rt.alloc(), io::writer(&rt)),
     ) else {
-        let _ = eprintln!(rt; "machc: wire fault 4: no memory");
+        let _ = eprint!(rt; "machc: {}", WireFault::NoMemory.line());
         return ExitCode::from(1);
     };
     let words = read_words(&rt);

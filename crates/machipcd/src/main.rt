@@ -9,6 +9,7 @@ use journal::StoreFault;
 use server::{Opened, lone, open};
 use std::io::{self, BufReader, BufWriter};
 use std::process::ExitCode;
+use wire::WireFault;
 
 fn main(rt: HostRuntime) -> ExitCode {
     let words = read_words(&rt);
@@ -47,7 +48,7 @@ fn serve_alone(rt: HostRuntime, words: Option<&[String]>) -> ExitCode {
         BufReader::new(rt.alloc(), rt.reader()),
         BufWriter::new(rt.alloc(), io::writer(&rt)),
     ) else {
-        let _ = eprintln!(rt; "machipcd: wire fault 4: no memory");
+        let _ = eprint!(rt; "machipcd: {}", WireFault::NoMemory.line());
         return ExitCode::from(1);
     };
     let mut errors = rt.stderr();

@@ -4,21 +4,14 @@ ghost use Rattle.ipc_model.specs.messages.Notices.{notice_message, notice_body};
 ghost use Rattle.effects.specs.Meaning.{notice_meant};
 ghost use Rattle.ipc_model.specs.messages.Notices as notice;
 
+use codes::{
+    MACH_NOTIFY_DEAD_NAME, MACH_NOTIFY_NO_SENDERS, MACH_NOTIFY_PORT_DELETED,
+    MACH_NOTIFY_PORT_DESTROYED, MACH_NOTIFY_SEND_ONCE,
+};
 use effects::Notice;
 use ipc_model::{CarriedRight, Message, PortInMessage, RightKind, Sequence};
 use std::alloc::{AllocError, Global};
 use words::push_word;
-
-/// `MACH_NOTIFY_PORT_DELETED`: a name with a dead-name request ceased to be.
-const PORT_DELETED: u32 = 65;
-/// `MACH_NOTIFY_PORT_DESTROYED`: a receive right would have been destroyed, and comes along.
-const PORT_DESTROYED: u32 = 69;
-/// `MACH_NOTIFY_NO_SENDERS`: no send right is left.
-const NO_SENDERS: u32 = 70;
-/// `MACH_NOTIFY_SEND_ONCE`: a send-once right was destroyed and not used.
-const SEND_ONCE: u32 = 71;
-/// `MACH_NOTIFY_DEAD_NAME`: a name has become a dead name.
-const DEAD_NAME: u32 = 72;
 
 /// The descriptor of one inline port name (type 15).
 const ONE_NAME: u32 = 0x1001_200f;
@@ -33,10 +26,10 @@ pub fn message(alloc: Global, notice: Notice) -> Result<Message, AllocError>
     ensures plain { IfOk result (λ message. (message.reply ≡ None) × (message.rights ≡ [])) }
 {
     match notice {
-        Notice::PortDeleted { name } => plain(alloc, PORT_DELETED, ONE_NAME, name),
-        Notice::NoSenders { count } => plain(alloc, NO_SENDERS, ONE_INTEGER, count),
-        Notice::SendOnce => Ok(without_rights(SEND_ONCE, alloc, Vec::new(alloc))),
-        Notice::DeadName { name } => plain(alloc, DEAD_NAME, ONE_NAME, name),
+        Notice::PortDeleted { name } => plain(alloc, MACH_NOTIFY_PORT_DELETED, ONE_NAME, name),
+        Notice::NoSenders { count } => plain(alloc, MACH_NOTIFY_NO_SENDERS, ONE_INTEGER, count),
+        Notice::SendOnce => Ok(without_rights(MACH_NOTIFY_SEND_ONCE, alloc, Vec::new(alloc))),
+        Notice::DeadName { name } => plain(alloc, MACH_NOTIFY_DEAD_NAME, ONE_NAME, name),
     }
 }
 
@@ -75,7 +68,7 @@ pub fn port_destroyed(alloc: Global, serial: u64) -> Result<Message, AllocError>
     Ok(Message {
         destination: RightKind::SendOnce,
         reply: None,
-        id: PORT_DESTROYED,
+        id: MACH_NOTIFY_PORT_DESTROYED,
         complex: true,
         rights: Sequence::new(rights),
         body: Sequence::new(body),

@@ -74,6 +74,7 @@ fn take_given(
     ensures there { IfOk result (λ taken. IfSome taken (λ right. IsSome (map.get state.new.current.spaces space))) }
     ensures before { state.new.before ≡ state.old.before }
 {
+    // Each answer has an exit of its own, at which its clauses are shown.
     let Some(right) = take_right(state, space, name, disposition, effects)? else {
         return Ok(None);
     };

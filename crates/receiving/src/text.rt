@@ -67,11 +67,7 @@ fn reply_kind(reply: Option<CarriedRight>) -> u8
 fn kind_number(right: RightKind) -> u8
     ensures { result ≡ number_of_kind right }
 {
-    match right {
-        RightKind::Receive => 16,
-        RightKind::Send => 17,
-        RightKind::SendOnce => 18,
-    }
+    right as u8
 }
 
 /// The name that a reply right got, which is the first one.

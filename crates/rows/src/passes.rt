@@ -13,7 +13,14 @@ const OPENING_CALLS: u64 = 13;
 const APPEND_CALLS: u64 = 4;
 
 /// What a stop is told to leave of the writes since the last sync.
-static TORN: [Torn; 4] = [Torn::Old, Torn::New, Torn::Half, Torn::Fill(0x5a)];
+static TORN: [Torn; 6] = [
+    Torn::Old,
+    Torn::New,
+    Torn::Half,
+    Torn::Fill(0),
+    Torn::Fill(0x5a),
+    Torn::Fill(0xff),
+];
 
 /// Whether a reply is what it should be.
 fn check_reply(place: Place, reply: Vec<u8>, ask: &Ask) -> Result<(), Failure> {

@@ -6,6 +6,7 @@ ghost use Rattle.script.specs.Spaced.{spaced};
 
 use crate::number::number_of_word;
 use crate::spaced::push_spaced;
+use codes::{MACH_NOTIFY_DEAD_NAME, MACH_NOTIFY_NO_SENDERS, MACH_NOTIFY_PORT_DESTROYED};
 use std::alloc::{AllocError, Global};
 
 /// How a number of a call or of a reply is spelled.
@@ -122,13 +123,7 @@ fn element_name(number: u32) -> Option<&'static [u8]>
 {
     match number {
         2 => Some(b"words"),
-        16 => Some(b"move_receive"),
-        17 => Some(b"move_send"),
-        18 => Some(b"move_send_once"),
-        19 => Some(b"copy_send"),
-        20 => Some(b"make_send"),
-        21 => Some(b"make_send_once"),
-        _ => None,
+        _ => disposition_name(number),
     }
 }
 
@@ -136,9 +131,9 @@ fn notification_name(number: u32) -> Option<&'static [u8]>
     ensures { option_copied result ≡ name_of Kind.Notification number }
 {
     match number {
-        69 => Some(b"port_destroyed"),
-        70 => Some(b"no_senders"),
-        72 => Some(b"dead_name"),
+        MACH_NOTIFY_PORT_DESTROYED => Some(b"port_destroyed"),
+        MACH_NOTIFY_NO_SENDERS => Some(b"no_senders"),
+        MACH_NOTIFY_DEAD_NAME => Some(b"dead_name"),
         _ => None,
     }
 }

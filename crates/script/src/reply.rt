@@ -11,7 +11,11 @@ use crate::kind::{Kind, push_value};
 use crate::message::{push_labelled, push_message, push_optional, read_message};
 use crate::spaced::{push_spaced, take_word};
 use crate::values::{behind_label, push_two, read_labelled, read_optional, read_value};
-use codes::{KernReturn, MACH_MSG};
+use codes::{
+    KernReturn, MACH_MSG, MACH_PORT_ALLOCATE, MACH_PORT_EXTRACT_RIGHT,
+    MACH_PORT_GET_RECEIVE_STATUS, MACH_PORT_GET_REFS, MACH_PORT_GET_SET_STATUS, MACH_PORT_NAMES,
+    MACH_PORT_REQUEST_NOTIFICATION, MACH_PORT_TYPE, SPACE_CREATE,
+};
 use ipc_model::{NamedType, ReceiveStatus, Reply, RightKind, Sequence};
 use std::alloc::{AllocError, Global};
 
@@ -418,34 +422,34 @@ fn read_results(alloc: Global, number: u32, text: &[u8]) -> Result<Reply, Fault>
     ensures { Gives (λ r. r) result (results_at number (words_of text.now)) }
 {
     match number {
-        1 => {
+        MACH_PORT_NAMES => {
             let names = read_names(alloc, text)?;
             Ok(Reply::Names { names })
         }
-        2 => {
+        MACH_PORT_TYPE => {
             let bits = read_last(Kind::Hexadecimal, text)?;
             Ok(Reply::Type { bits })
         }
-        5 => {
+        MACH_PORT_ALLOCATE => {
             let name = read_last(Kind::Hexadecimal, text)?;
             Ok(Reply::Allocate { name })
         }
-        8 => {
+        MACH_PORT_GET_REFS => {
             let count = read_last(Kind::Decimal, text)?;
             Ok(Reply::References { count })
         }
-        13 => read_last_status(text),
-        14 => {
+        MACH_PORT_GET_RECEIVE_STATUS => read_last_status(text),
+        MACH_PORT_GET_SET_STATUS => {
             let members = read_members(alloc, text)?;
             Ok(Reply::SetStatus { members })
         }
-        16 => {
+        MACH_PORT_REQUEST_NOTIFICATION => {
             let name = read_last(Kind::Hexadecimal, text)?;
             Ok(Reply::PreviousTarget { name })
         }
-        18 => read_extracted(text),
+        MACH_PORT_EXTRACT_RIGHT => read_extracted(text),
         MACH_MSG => read_message_reply(alloc, KernReturn::Success, text),
-        20 => read_space_created(text),
+        SPACE_CREATE => read_space_created(text),
         _ => Err(Fault::expected(Expected::End, text)),
     }
 }
@@ -454,7 +458,19 @@ fn read_results(alloc: Global, number: u32, text: &[u8]) -> Result<Reply, Fault>
 fn may_tell(number: u32) -> bool
     ensures { result ≡ (has_results number || number == 19) }
 {
-    matches!(number, 1 | 2 | 5 | 8 | 13 | 14 | 16 | 18 | 20 | MACH_MSG)
+    matches!(
+        number,
+        MACH_PORT_NAMES
+            | MACH_PORT_TYPE
+            | MACH_PORT_ALLOCATE
+            | MACH_PORT_GET_REFS
+            | MACH_PORT_GET_RECEIVE_STATUS
+            | MACH_PORT_GET_SET_STATUS
+            | MACH_PORT_REQUEST_NOTIFICATION
+            | MACH_PORT_EXTRACT_RIGHT
+            | SPACE_CREATE
+            | MACH_MSG
+    )
 }
 
 #[tactic(auto, unfolding(crate::specs::Replies::silence))]
@@ -463,7 +479,15 @@ fn read_silence(alloc: Global, number: u32, text: &[u8]) -> Result<Reply, Fault>
     ensures { Gives (λ r. r) result (silence number (words_of text.now)) }
 {
     match number {
-        1 | 2 | 5 | 8 | 13 | 14 | 16 | 18 | 20 => Err(Fault::expected(Expected::Results, text)),
+        MACH_PORT_NAMES
+        | MACH_PORT_TYPE
+        | MACH_PORT_ALLOCATE
+        | MACH_PORT_GET_REFS
+        | MACH_PORT_GET_RECEIVE_STATUS
+        | MACH_PORT_GET_SET_STATUS
+        | MACH_PORT_REQUEST_NOTIFICATION
+        | MACH_PORT_EXTRACT_RIGHT
+        | SPACE_CREATE => Err(Fault::expected(Expected::Results, text)),
         MACH_MSG => Ok(Reply::without_message(alloc, KernReturn::Success, 0, 0)),
         _ => Ok(Reply::Done { number }),
     }

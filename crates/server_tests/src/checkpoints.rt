@@ -154,13 +154,13 @@ fn a_stop_in_a_checkpoint_leaves_what_was_told(rt: HostRuntime) {
     same(&rt, unswept::<MemDisk>(rt.alloc(), BESIDE.0, 28), None);
 }
 
-// A hundred and twenty receive rights, which make an image of three pieces; a checkpoint is begun, its image closed and a
-// piece of it written; a call of the next epoch is stored and told; and the checkpoint is finished.
+// A hundred and twenty receive rights, which make an image of three pieces; a checkpoint is begun, its image closed and two
+// pieces of it written; a call of the next epoch is stored and told (its ticket is the 121st); and the checkpoint is finished.
 fn add_pieces(letters: &mut Vec<u8>) -> Result<(), AllocError> {
     for _ in 0..120 {
         letters.push(b'a')?;
     }
-    letters.extend_from_slice(b"kwdclhoipakwdppfd")
+    letters.extend_from_slice(b"kwdclhoippakwd\xa8pfd")
 }
 
 fn of_three_pieces(alloc: Global) -> Option<Vec<u8>> {
@@ -179,6 +179,6 @@ fn tried<S: Store + Drop>(alloc: Global, wanted: &[u8]) -> Option<(bool, Option<
 
 #[test]
 fn calls_are_stored_between_the_pieces_of_an_image(rt: HostRuntime) {
-    let seen = tried::<MemDisk>(rt.alloc(), b"+++++++++#+++++++");
+    let seen = tried::<MemDisk>(rt.alloc(), b"++++++++++#+++\xb9+++");
     same(&rt, seen, Some((true, None)));
 }

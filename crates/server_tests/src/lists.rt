@@ -184,19 +184,23 @@ fn letters_by(alloc: Global, seed: u64) -> Option<Vec<u8>> {
 }
 
 /// How many records were told of by what a list of events answered, and how many were applied, by way of how many each ticket
-/// saw.
+/// saw. Who is answered that a batch is stored is told of its records, as is who gets a reply that saw them.
 fn count_told(
     seen: &mut Vec<u64>,
     letters: &[u8],
     answers: &[u8],
 ) -> Result<(u64, u64), AllocError> {
-    let (mut told, mut applied) = (0, 0u64);
+    let (mut told, mut taken, mut applied) = (0, 0, 0u64);
     for (letter, answer) in letters.iter().zip(answers) {
-        if *answer == b'#' {
-            applied = applied.saturating_add(record_count(*letter));
-            seen.push(applied)?;
-        } else if *answer >= b'=' {
-            told = seen_by(seen, *letter).max(told);
+        match (*letter, *answer) {
+            (_, b'#') => {
+                applied = applied.saturating_add(record_count(*letter));
+                seen.push(applied)?;
+            }
+            (b'k', b'+') => taken = applied,
+            (b'w', b'+') => told = taken.max(told),
+            (_, answer) if answer >= b'=' => told = seen_by(seen, *letter).max(told),
+            _ => {}
         }
     }
     Ok((told, applied))

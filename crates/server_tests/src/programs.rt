@@ -2,6 +2,7 @@ ghost use Rattle.std.specs.Io.{WritesAtMost};
 
 use crate::expect::{same, same_in_row};
 use crate::frames::{ALLOCATE, ALLOCATED, TYPE};
+use crate::streams::{Filling, Seen};
 use command_line::read_words;
 use server::lone;
 use std::env::FillError;
@@ -182,6 +183,49 @@ fn tells_wire_faults_in(rt: &HostRuntime, name: &str) -> Option<[bool; 3]> {
 fn wire_faults_have_a_line(rt: HostRuntime) {
     let seen = tells_wire_faults_in(&rt, "machipcd_wire_faults");
     same(&rt, seen, Some([true; 3]));
+}
+
+/// A run whose output takes so many bytes and then fails.
+fn run_into(rt: &HostRuntime, words: &[String], bytes: &[u8], room: usize) -> Ended {
+    let seen = Seen::new();
+    let mut input = bytes;
+    let mut writer = Filling {
+        output: Vec::new(rt.alloc()),
+        room,
+        seen: &seen,
+    };
+    let mut errors = Vec::new(rt.alloc());
+    let words = Some(words);
+    let status = lone(rt.alloc(), rt, words, &mut input, &mut writer, &mut errors);
+    Ended {
+        status,
+        output: writer.output,
+        errors,
+    }
+}
+
+/// Whether an allocation whose reply isn't taken beyond so many bytes ends with that fault's line.
+fn tells_writer(rt: &HostRuntime, words: &[String], room: usize) -> bool {
+    let front = ALLOCATED.get(..room).unwrap_or(&[]);
+    let line = "machipcd: wire fault 3: device\n";
+    has_ended(&run_into(rt, words, &ALLOCATE, room), 1, front, line)
+}
+
+/// The same for no byte and for twelve; and whether another run knows the first name, since its call was stored.
+fn tells_writers_in(rt: &HostRuntime, name: &str) -> Option<[bool; 4]> {
+    let words = folder(rt, name)?;
+    Some([
+        tells_writer(rt, &words, 0),
+        tells_writer(rt, &words, 12),
+        ends(rt, Some(&words), &TYPE, (0, &TYPED, "")),
+        removed(rt, &words),
+    ])
+}
+
+#[test]
+fn a_writer_that_fails_is_told(rt: HostRuntime) {
+    let seen = tells_writers_in(&rt, "machipcd_writer_faults");
+    same(&rt, seen, Some([true; 4]));
 }
 
 /// The length of a file of the folder.

@@ -91,7 +91,8 @@ impl<L: Founding> Keeper<L> {
     /// Makes a call of a session. Its session has then seen all of the history; also where the call isn't made, it may have seen
     /// more.
     ///
-    /// `NoMemory`: a growth was refused. `EpochFull`: no room is left for the call's record.
+    /// `NoMemory`: a growth was refused. `EpochFull`: no room is left for the call's record, or the session isn't known to be in
+    /// the history that is kept here: it has seen more, or is in a row of which that can't be told.
     pub fn submit(
         &mut self,
         session: Session<L>,

@@ -326,7 +326,7 @@ fn first_number(opened: u64, earlier: u64, older: u64, taken: u64, is_older: boo
     }
 }
 
-/// Has a session learn all of the history. `EpochFull` where it can't, since it is ahead.
+/// Has a session learn all of the history. `EpochFull` where it can't, since it is ahead, or in a row of which that can't be told.
 fn level<L: Founding>(mine: &mut Past<L>, kept: &mut Past<L>) -> Result<(), SubmitFault>
     ensures same { kept.new ≡ kept.old }
     ensures rows { OnOk result (mine.new.rows ≡ kept.old.rows) }

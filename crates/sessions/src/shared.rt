@@ -86,7 +86,8 @@ impl<L: Founding, D: Disk, G: Drop> Shared<L, D, G> {
     /// Makes a call of a session, whose ticket keeps its reply. Also where it isn't made, the session may have seen more.
     ///
     /// Where the epoch's row is full and a loop makes images, it waits for the next epoch. `NoMemory`: a growth was refused.
-    /// `EpochFull`: no room is left for its record, and no next epoch comes.
+    /// `EpochFull`: no room is left for its record, and no next epoch comes; or the session isn't known to be in the history of
+    /// this server (`Keeper::submit`).
     pub fn submit<R: Wait>(
         &self,
         rt: &R,

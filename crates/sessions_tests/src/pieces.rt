@@ -16,14 +16,14 @@ use std::sync::Wait;
 use std::thread::{Threads, join};
 use std::time::Clock;
 
-/// How many records a checkpoint is begun at.
-const RECORDS: u32 = 4;
+/// How many records a checkpoint is begun at: as many receive rights make an image of three pieces.
+const RECORDS: u32 = 120;
 
 #[derive(Debug, Drop, PartialEq)]
 struct Seen {
     /// How many rights were allocated before the checkpoint.
     count: u32,
-    /// Whether the checkpoint was about to write a piece.
+    /// Whether the checkpoint was about to write its last piece.
     has_come: bool,
     /// The name that a call gave then.
     name: Option<u32>,
@@ -108,14 +108,14 @@ fn a_call_is_stored_while_a_checkpoint_is_held_up(rt: HostRuntime) {
     let stay = Stay::new();
     let gate = Stop {
         rt: &rt,
-        at: Step::Piece(0),
+        at: Step::Piece(2),
         stay: &stay,
     };
     let seen = seen_on_new(&rt, rt.alloc(), MemDisk::new(rt.alloc()), gate, &stay);
     let wanted = Seen {
         count: RECORDS,
         has_come: true,
-        name: Some(0x104),
+        name: Some(0x178),
         was_late: false,
         has_finished: true,
     };

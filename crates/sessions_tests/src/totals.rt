@@ -1,4 +1,4 @@
-//! Four sessions at once beside the loop that stores their calls.
+//! Four sessions at once beside the loop that stores their calls, and what they made together once all is closed.
 ghost use Rattle.std.specs.Prelude.{◌≡◌};
 ghost use Rattle.std.specs.Arc.{arc_value};
 
@@ -8,7 +8,7 @@ use crate::service::Service;
 use crate::shares::{Start, shared_from, start_on};
 use disk::{Disk, MemDisk};
 use sessions::{Founding, OpenGate, Shared};
-use std::alloc::Global;
+use std::alloc::{AllocError, Global};
 use std::marker::Brand;
 use std::sync::Wait;
 use std::thread::{Threads, join};
@@ -17,63 +17,117 @@ use std::time::Clock;
 /// How many rights each session allocates.
 const COUNT: u32 = 500;
 
-/// Allocates in a session of its own.
-fn count<S: Service, R: Wait>(rt: &R, service: &S) -> u32 {
-    match service.begin(rt) {
-        Some(session) => allocates_many(rt, service, session, COUNT).1,
-        None => 0,
-    }
+/// How many rights each session was given as it has to be; and how many sessions were made, how many records they made, and how
+/// many of these are stored.
+type Totals = ([u32; 4], [u64; 3]);
+
+fn begin_two<S: Service, R: Wait>(rt: &R, service: &S) -> Option<(S::Session, S::Session)> {
+    let one = service.begin(rt)?;
+    let other = service.begin(rt)?;
+    Some((one, other))
 }
 
-fn count_twice<S: Service + Sync, R: Threads + Wait + Sync>(rt: &R, service: &S) -> (u32, u32) {
-    join(rt, || count(rt, service), || count(rt, service))
+/// Allocates in two sessions at once.
+fn count_two<S: Service + Sync, R: Threads + Wait + Sync>(
+    rt: &R,
+    service: &S,
+    two: (S::Session, S::Session),
+) -> ((S::Session, S::Session), [u32; 2]) {
+    let (one, other) = two;
+    let ((one, first), (other, second)) = join(
+        rt,
+        move || allocates_many(rt, service, one, COUNT),
+        move || allocates_many(rt, service, other, COUNT),
+    );
+    ((one, other), [first, second])
 }
 
-/// Four counts, behind which the loops are told to end.
-fn count_four_times<S: Service + Sync, R: Threads + Wait + Sync>(rt: &R, service: &S) -> [u32; 4] {
-    let (one, other) = join(rt, || count_twice(rt, service), || count_twice(rt, service));
+fn in_order<T: Drop>(alloc: Global, front: (T, T), back: (T, T)) -> Result<Vec<T>, AllocError> {
+    let mut all = Vec::with_capacity(alloc, 4)?;
+    all.push(front.0)?;
+    all.push(front.1)?;
+    all.push(back.0)?;
+    all.push(back.1)?;
+    Ok(all)
+}
+
+/// Allocates in four sessions at once. The sessions by their numbers, and how many rights each was given.
+fn count_four<S: Service + Sync, R: Threads + Wait + Sync>(
+    rt: &R,
+    alloc: Global,
+    service: &S,
+) -> Option<(Vec<S::Session>, [u32; 4])> {
+    let front = begin_two(rt, service)?;
+    let back = begin_two(rt, service)?;
+    let ((front, [one, two]), (back, [three, four])) = join(
+        rt,
+        move || count_two(rt, service, front),
+        move || count_two(rt, service, back),
+    );
+    let sessions = in_order(alloc, front, back).ok()?;
+    Some((sessions, [one, two, three, four]))
+}
+
+/// The same, behind which the loop is told to end.
+fn count_and_end<S: Service + Sync, R: Threads + Wait + Sync>(
+    rt: &R,
+    alloc: Global,
+    service: &S,
+) -> Option<(Vec<S::Session>, [u32; 4])> {
+    let counted = count_four(rt, alloc, service);
     service.end(rt);
-    [one.0, one.1, other.0, other.1]
+    counted
 }
 
 fn count_beside_the_loop<S: Service + Sync, R: Threads + Wait + Clock + Sync>(
     rt: &R,
+    alloc: Global,
     service: &S,
-) -> [u32; 4] {
-    let (_, counts) = join(
+) -> Option<(Vec<S::Session>, [u32; 4])> {
+    let (_, counted) = join(
         rt,
         || service.store_calls(rt),
-        || count_four_times(rt, service),
+        || count_and_end(rt, alloc, service),
     );
-    counts
+    counted
 }
 
-/// The four counts on a new store.
-fn counts<L: Founding + Send + Sync, D: Disk + Drop + Send, R: Threads + Wait + Clock + Sync>(
+fn totals<S: Service + Sync + Drop, R: Threads + Wait + Clock + Sync>(
+    rt: &R,
+    alloc: Global,
+    service: S,
+) -> Option<Totals> {
+    let (sessions, counts) = count_beside_the_loop(rt, alloc, &service)?;
+    let closed = service.counts_closed(sessions)?;
+    Some((counts, closed))
+}
+
+/// The totals on a new store.
+fn totals_on<L: Founding + Send + Sync, D: Disk + Drop + Send, R: Threads + Wait + Clock + Sync>(
     rt: &R,
     alloc: Global,
     start: Start<D>,
-) -> Option<[u32; 4]>
+) -> Option<Totals>
     requires base { start.opened.kernel ≡ L.base }
     requires row { arc_value start.row ≡ L.first }
     requires blank { (start.blank.name ≡ L.name) × (start.blank.parts ≡ L.parts) }
 {
     let shared: Shared<L, D, OpenGate> = shared_from(alloc, start, OpenGate)?;
-    Some(count_beside_the_loop(rt, &shared))
+    totals(rt, alloc, shared)
 }
 
-/// The four counts on a disk without a store. None where none can be made.
-fn counts_on_new<D: Disk + Drop + Send, R: Threads + Wait + Clock + Sync>(
+/// The totals on a disk without a store. None where none can be made, or the sessions aren't of one history.
+fn totals_on_new<D: Disk + Drop + Send, R: Threads + Wait + Clock + Sync>(
     rt: &R,
     alloc: Global,
     disk: D,
-) -> Option<[u32; 4]> {
+) -> Option<Totals> {
     let start = start_on(alloc, disk)?;
-    counts::<Brand, D, R>(rt, alloc, start)
+    totals_on::<Brand, D, R>(rt, alloc, start)
 }
 
 #[test]
-fn each_answer_is_as_wanted_in_four_threads(rt: HostRuntime) {
-    let counts = counts_on_new(&rt, rt.alloc(), MemDisk::new(rt.alloc()));
-    same(&rt, counts, Some([COUNT; 4]));
+fn four_threads_make_one_history(rt: HostRuntime) {
+    let totals = totals_on_new(&rt, rt.alloc(), MemDisk::new(rt.alloc()));
+    same(&rt, totals, Some(([COUNT; 4], [4, 2_000, 2_000])));
 }

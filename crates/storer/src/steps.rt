@@ -2,6 +2,7 @@
 ghost use Rattle.std.specs.Prelude.{◌≡◌, false, IfOk, IfErr, IfSome, IfNone, MatchBool};
 ghost use Rattle.storer.specs.Storing.{LosesNothing};
 ghost use Rattle.storing.specs.Changes.{CanFinish, CanOpen, ClosesImage, FailsToCloseImage, FailsToFinish, FailsToRollClose, FailsToRollHead, FailsToRollOpen, FailsToWritePiece, Finishes, HasImaged, HasPieceLeft, IsFault, IsFaultOrShortage, IsNotNow, IsRolled, RollsClose, RollsHead, RollsOpen, WritesPiece};
+ghost use Rattle.storing.specs.Counting.{counted};
 
 use crate::Storer;
 use disk::Disk;
@@ -18,6 +19,7 @@ impl<L: Founding, D: Disk> Storer<L, D> {
         ensures done { IfOk result (λ is_done. MatchBool is_done (RollsClose D.honest D.view self.old.store self.new.store)
             (IsNotNow self.old.store (IsRolled self.old.store.checkpoint 0) self.new.store)) }
         ensures faults { IfErr result (λ fault. IsFault self.old.store fault (FailsToRollClose D.honest D.view self.old.store self.new.store) self.new.store) }
+        ensures failures { D.failed_calls self.new.store.disk ≡ counted result (D.failed_calls self.old.store.disk) }
         ensures rest { self.new ≡ record self.old { store = self.new.store } }
         ensures any_moment { D.honest → LosesNothing D.view L.base self.old self.new }
     {
@@ -29,6 +31,7 @@ impl<L: Founding, D: Disk> Storer<L, D> {
         ensures done { IfOk result (λ is_done. MatchBool is_done (RollsHead D.honest D.view self.old.store self.new.store)
             (IsNotNow self.old.store (IsRolled self.old.store.checkpoint 1) self.new.store)) }
         ensures faults { IfErr result (λ fault. IsFault self.old.store fault (FailsToRollHead D.honest D.view self.old.store self.new.store) self.new.store) }
+        ensures failures { D.failed_calls self.new.store.disk ≡ counted result (D.failed_calls self.old.store.disk) }
         ensures rest { self.new ≡ record self.old { store = self.new.store } }
         ensures any_moment { D.honest → LosesNothing D.view L.base self.old self.new }
     {
@@ -41,6 +44,7 @@ impl<L: Founding, D: Disk> Storer<L, D> {
         ensures done { IfOk result (λ is_done. MatchBool is_done (RollsOpen D.honest D.view self.old.store self.new.store)
             (IsNotNow self.old.store (CanOpen self.old.store self.old.store.checkpoint × (self.old.stored ≡ self.old.earlier)) self.new.store)) }
         ensures faults { IfErr result (λ fault. IsFault self.old.store fault (FailsToRollOpen D.honest D.view self.old.store self.new.store) self.new.store) }
+        ensures failures { D.failed_calls self.new.store.disk ≡ counted result (D.failed_calls self.old.store.disk) }
         ensures rest { self.new ≡ record self.old { store = self.new.store } }
         ensures any_moment { D.honest → LosesNothing D.view L.base self.old self.new }
     {
@@ -59,6 +63,7 @@ impl<L: Founding, D: Disk> Storer<L, D> {
         ensures done { IfOk result (λ is_done. MatchBool is_done (RollsOpen D.honest D.view self.old.store self.new.store)
             (IsNotNow self.old.store (CanOpen self.old.store self.old.store.checkpoint) self.new.store)) }
         ensures faults { IfErr result (λ fault. IsFault self.old.store fault (FailsToRollOpen D.honest D.view self.old.store self.new.store) self.new.store) }
+        ensures failures { D.failed_calls self.new.store.disk ≡ counted result (D.failed_calls self.old.store.disk) }
         ensures rest { self.new ≡ record self.old { store = self.new.store } }
         ensures any_moment { D.honest → LosesNothing D.view L.base self.old self.new }
     {
@@ -72,6 +77,7 @@ impl<L: Founding, D: Disk> Storer<L, D> {
         ensures done { IfOk result (λ is_done. MatchBool is_done (ClosesImage D.honest D.view self.old.store self.new.store)
             (IsNotNow self.old.store (HasImaged self.old.store.checkpoint 0) self.new.store)) }
         ensures faults { IfErr result (λ fault. IsFaultOrShortage self.old.store fault (HasImaged self.old.store.checkpoint 0) (FailsToCloseImage D.honest D.view self.old.store self.new.store) self.new.store) }
+        ensures failures { D.failed_calls self.new.store.disk ≡ counted result (D.failed_calls self.old.store.disk) }
         ensures rest { self.new ≡ record self.old { store = self.new.store } }
         ensures any_moment { D.honest → LosesNothing D.view L.base self.old self.new }
     {
@@ -84,6 +90,7 @@ impl<L: Founding, D: Disk> Storer<L, D> {
         ensures done { IfOk result (λ is_done. MatchBool is_done (WritesPiece D.honest D.view self.old.store self.new.store)
             (IsNotNow self.old.store (HasPieceLeft self.old.store.checkpoint) self.new.store)) }
         ensures faults { IfErr result (λ fault. IsFault self.old.store fault (FailsToWritePiece D.honest D.view self.old.store self.new.store) self.new.store) }
+        ensures failures { D.failed_calls self.new.store.disk ≡ counted result (D.failed_calls self.old.store.disk) }
         ensures rest { self.new ≡ record self.old { store = self.new.store } }
         ensures any_moment { D.honest → LosesNothing D.view L.base self.old self.new }
     {
@@ -96,6 +103,7 @@ impl<L: Founding, D: Disk> Storer<L, D> {
         ensures done { IfOk result (λ receipt. IfSome receipt (λ finished. (finished ≡ self.old.store.segment.epoch) × Finishes D.honest D.view self.old.store self.new.store)) }
         ensures not_now { IfOk result (λ receipt. IfNone receipt (IsNotNow self.old.store (CanFinish self.old.store.checkpoint) self.new.store)) }
         ensures faults { IfErr result (λ fault. IsFault self.old.store fault (FailsToFinish D.honest D.view self.old.store self.new.store) self.new.store) }
+        ensures failures { D.failed_calls self.new.store.disk ≡ counted result (D.failed_calls self.old.store.disk) }
         ensures rest { self.new ≡ record self.old { store = self.new.store } }
         ensures any_moment { D.honest → LosesNothing D.view L.base self.old self.new }
     {

@@ -1,5 +1,6 @@
 ghost use Rattle.std.specs.Prelude.{◌≡◌, ◌⊎◌, ◌+◌, ◌<◌, ◌≤◌, [], None, Some, true, false, length, IfOk, IfErr, OnOk, OnErr, MatchBool, is_some};
-ghost use Rattle.disk.specs.Moments.{MayLeave};
+ghost use Rattle.codes.specs.declared.limits.TheConstants.{MAX_RECORDS};
+ghost use Rattle.disk.specs.Moments.{MayLeave, one_more};
 ghost use Rattle.disk.specs.Slots.{Slots};
 ghost use Rattle.history.specs.Entries.{Begins, records_of};
 ghost use Rattle.ipc_model.specs.state.Circular.{Grounded};
@@ -157,6 +158,10 @@ impl<L: Founding, D: Disk> Storer<L, D> {
         ensures not_now { IfErr result (λ fault. fault.0 ≡ NotStored.NotNow → IsNext self.old.store self.old.stored load → ⊥) }
         ensures back { IfErr result (λ fault. (fault.1 ≡ load) × (self.new.stored ≡ self.old.stored)) }
         ensures unwritten { IfErr result (λ fault. (fault.0 ≡ NotStored.Store StoreFault.Device → ⊥) → self.new.store ≡ self.old.store) }
+        ensures quiet { OnOk result (D.failed_calls self.new.store.disk ≡ D.failed_calls self.old.store.disk) }
+        ensures device { IfErr result (λ fault. fault.0 ≡ NotStored.Store StoreFault.Device → D.failed_calls self.new.store.disk ≡ one_more (D.failed_calls self.old.store.disk)) }
+        ensures failed { IfErr result (λ fault. fault.0 ≡ NotStored.Store StoreFault.Failed → self.old.store.failed ≡ true) }
+        ensures full { IfErr result (λ fault. fault.0 ≡ NotStored.Store StoreFault.Full → MAX_RECORDS < self.old.store.segment.records + load.batch.count) }
         ensures earlier { self.new.earlier ≡ self.old.earlier }
         ensures begins { Begins self.old.entries self.new.entries }
         ensures any_moment { D.honest → LosesNothing D.view L.base self.old self.new }
@@ -188,6 +193,10 @@ impl<L: Founding, D: Disk> Storer<L, D> {
         ensures back { IfErr result (λ fault. (fault.1 ≡ load) × (self.new.stored ≡ self.old.stored)) }
         ensures fault { IfErr result (λ fault. fault.0 ≡ NotStored.NotNow → ⊥) }
         ensures unwritten { IfErr result (λ fault. (fault.0 ≡ NotStored.Store StoreFault.Device → ⊥) → self.new.store ≡ self.old.store) }
+        ensures quiet { OnOk result (D.failed_calls self.new.store.disk ≡ D.failed_calls self.old.store.disk) }
+        ensures device { IfErr result (λ fault. fault.0 ≡ NotStored.Store StoreFault.Device → D.failed_calls self.new.store.disk ≡ one_more (D.failed_calls self.old.store.disk)) }
+        ensures failed { IfErr result (λ fault. fault.0 ≡ NotStored.Store StoreFault.Failed → self.old.store.failed ≡ true) }
+        ensures full { IfErr result (λ fault. fault.0 ≡ NotStored.Store StoreFault.Full → MAX_RECORDS < self.old.store.segment.records + load.batch.count) }
         ensures earlier { self.new.earlier ≡ self.old.earlier }
         ensures entries { self.new.entries ≡ self.old.entries }
         ensures any_moment { D.honest → LosesNothing D.view L.base self.old self.new }

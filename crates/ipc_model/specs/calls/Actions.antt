@@ -41,7 +41,7 @@ only state answer = record { answer = answer; state = state; effects = [] }
 abbrev pub done_with : ℕ → State → List Effect → Action
 done_with number state effects = record { answer = reply.Done number; state = state; effects = effects }
 
--- every member of a set in a space gets this set's name, or none
+-- the ports whose receive rights are members of a set
 abbrev pub serials_of_members : State → Names → ℕ → List ℕ
 serials_of_members state names set = filter_map (λ e. received_port e.1) (filter (λ e. is_member state set e.1) (finmap.entries names))
 
@@ -49,6 +49,7 @@ abbrev pub with_ports : State → List ℕ → (PortState → PortState) → Sta
 with_ports state [] change = state
 with_ports state (serial ∷ serials) change = with_ports (with_port state serial change) serials change
 
+-- every member of a set in a space gets this set's name, or none
 abbrev pub members_in : State → Names → ℕ → Option ℕ → State
 members_in state names set other = with_ports state (serials_of_members state names set) (λ port. record port { set = other })
 
@@ -74,10 +75,11 @@ allocated state space names wanted name =
     let named : State = with_names state space (finmap.insert names name (allocated_entry state.next wanted)) in
     if is_right wanted right.Receive then record named { ports = finmap.insert state.ports state.next new_port; next = state.next + 1 } else named
 
--- the releases of all that a name stands for, and its port-deleted notice
+-- an effect, or none
 abbrev pub release_if : Bool → Effect → List Effect
 release_if b effect = if b then effect ∷ [] else []
 
+-- the releases of all that a name stands for, and its port-deleted notice
 abbrev pub effects_of_name : ℕ → Entry → List Effect
 effects_of_name name (Port rights) =
     release_if (not (rights.send == 0)) (release kind.Send rights.port) ++ (release_if rights.receive (release kind.Receive rights.port) ++ port_deleted name rights.dead_name_target)

@@ -25,7 +25,7 @@ use Rattle.ipc_model.specs.messages.Sending.{live_port}
 use Rattle.ipc_model.specs.state.State.{State, Names, is_null_or_dead, ports_are_used_up, port_held, received_port, request_of, is_number}
 use Rattle.ipc_model.specs.calls.Tests.{Tests}
 
--- the numbers of the rights that a name may hold
+-- whether a number is this right's
 abbrev pub is_right : ℕ → Right → Bool
 is_right n wanted = n == number_of wanted
 
@@ -72,10 +72,10 @@ is_send_once (SendOnce port target) = true
 is_send_once Set = false
 is_send_once (Dead references) = false
 
--- how many references of a right an entry holds; of a receive right, a set and a send-once right it is one
 abbrev pub one_if : Bool → ℕ
 one_if b = if b then 1 else 0
 
+-- how many send references an entry holds, and how many of a dead name
 abbrev pub send_references : Entry → ℕ
 send_references (Port rights) = rights.send
 send_references (SendOnce port target) = 0
@@ -88,6 +88,7 @@ dead_references (SendOnce port target) = 0
 dead_references Set = 0
 dead_references (Dead references) = references
 
+-- how many references of a right an entry holds; of a receive right, a set and a send-once right it is one
 abbrev pub references_of : ℕ → Entry → ℕ
 references_of n entry =
     if is_right n right.Send then send_references entry

@@ -54,16 +54,18 @@ queued state serial message = with_port state serial (λ port. record port { mes
 abbrev pub notified : State → ℕ → Notice → State
 notified state target what = queued state target (notice_message what)
 
--- what a name becomes when a port dies: a name with send references or a send-once right becomes a dead name, with
--- a reference more for a dead-name request; a request by which the port was to be told goes
+-- a reference more where there is a dead-name request
 abbrev pub one_more_if : Option ℕ → ℕ
 one_more_if None = 0
 one_more_if (Some target) = 1
 
+-- a request, but none by which this port was to be told
 abbrev pub without_target : ℕ → Option ℕ → Option ℕ
 without_target serial None = None
 without_target serial (Some target) = if target == serial then None else Some target
 
+-- what a name becomes when a port dies: a name with send references or a send-once right becomes a dead name, with
+-- a reference more for a dead-name request; a request by which the port was to be told goes
 abbrev pub entry_after_death : ℕ → Entry → Entry
 entry_after_death serial (Port rights) =
     if rights.port == serial then Dead (rights.send + one_more_if rights.dead_name_target)
@@ -73,17 +75,19 @@ entry_after_death serial (SendOnce port target) =
 entry_after_death serial Set = Set
 entry_after_death serial (Dead references) = Dead references
 
--- the dead-name notice of a name that stood for the port
+-- whether a name stands for a right to the port
 abbrev pub is_name_of : ℕ → Entry → Bool
 is_name_of serial (Port rights) = rights.port == serial
 is_name_of serial (SendOnce port target) = port == serial
 is_name_of serial Set = false
 is_name_of serial (Dead references) = false
 
+-- the dead-name notice of a name, if it was asked for
 abbrev pub dead_name_notice : ℕ → Option ℕ → List Effect
 dead_name_notice name None = []
 dead_name_notice name (Some target) = notify target (notice.DeadName name) ∷ []
 
+-- the dead-name notice of a name that stood for the port
 abbrev pub dead_name_of_entry : ℕ → ℕ → Entry → List Effect
 dead_name_of_entry serial name entry = if is_name_of serial entry then dead_name_notice name (request_of entry) else []
 
@@ -124,11 +128,12 @@ after_death state serial = record state {
   ports = map_values (port_after_death serial) (finmap.remove state.ports serial);
 }
 
--- What a death adds: the releases of its messages' rights, oldest message first; the dead-name notices; the release of its no-senders target.
+-- the release of a request's send-once right, if there is a request
 abbrev pub release_of_target : Option ℕ → List Effect
 release_of_target None = []
 release_of_target (Some target) = release kind.SendOnce target ∷ []
 
+-- What a death adds: the releases of its messages' rights, oldest message first; the dead-name notices; the release of its no-senders target.
 abbrev pub effects_of_death : State → ℕ → PortState → List Effect
 effects_of_death state serial port = flat_map releases_of port.messages ++ (dead_name_notices state serial ++ release_of_target port.no_senders_target)
 
@@ -148,12 +153,13 @@ told_no_senders state serial port (Some target) =
 abbrev pub send_released : State → ℕ → PortState → State
 send_released state serial port = if send_count state serial == 0 then told_no_senders state serial port port.no_senders_target else state
 
--- A receive right was released: the port leaves its set. A port-destroyed request takes the right along, unless it
--- would come back to its own queue; else the port dies.
+-- a receive right goes to who asked for it, in a port-destroyed notice; the port begins anew, in no set
 abbrev pub sent_to_target : State → ℕ → ℕ → State
 sent_to_target state serial target =
     notified (with_port state serial (λ p. record p { set = None; sequence_number = 0; make_send_count = 0; port_destroyed_target = None })) target (notice.PortDestroyed serial)
 
+-- A receive right was released: the port leaves its set. A port-destroyed request takes the right along, unless it
+-- would come back to its own queue; else the port dies.
 abbrev pub receive_released_to : State → ℕ → PortState → Option ℕ → Outcome
 receive_released_to state serial port None = died state serial port
 receive_released_to state serial port (Some target) =

@@ -92,19 +92,20 @@ reply_right (Some right) = right ∷ []
 abbrev pub arriving : Message → List CarriedRight
 arriving message = reply_right message.reply ++ message.rights
 
--- the bits as received: the kind of the reply right, that of the destination, and whether the body has ports
+-- the number of the reply right's kind, or 0
 abbrev pub reply_kind_number : Option CarriedRight → ℕ
 reply_kind_number None = 0
 reply_kind_number (Some right) = number_of_kind right.kind
 
+-- the bits as received: the kind of the reply right, that of the destination, and whether the body has ports
 abbrev pub received_bits : Message → ℕ
 received_bits message = reply_kind_number message.reply + number_of_kind message.destination * 2 ^ 8 + complex_bit message.complex
 
--- the reply right's name among the given ones, and those of the body
 abbrev pub first_name : List ℕ → ℕ
 first_name [] = MACH_PORT_NULL
 first_name (name ∷ names) = name
 
+-- the reply right's name among the given ones, and those of the body
 abbrev pub reply_name : Option CarriedRight → List ℕ → ℕ
 reply_name None given = MACH_PORT_NULL
 reply_name (Some right) given = first_name given

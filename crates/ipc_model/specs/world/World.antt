@@ -270,15 +270,14 @@ is_of_store piece = true
 is_of_store finish = true
 is_of_store _ = false
 
--- the events that take memory, and so may be refused for want of it: the core's own, and the store's
+-- the events that take memory, and so may be refused for want of it: the core's own, and the store's; taking a batch and
+-- storing it take none
 abbrev pub core_takes_memory : Event → Bool
 core_takes_memory (submit space call) = true
-core_takes_memory take_batch = true
 core_takes_memory cut = true
 core_takes_memory _ = false
 
 abbrev pub store_takes_memory : Event → Bool
-store_takes_memory append = true
 store_takes_memory image_close = true
 store_takes_memory _ = false
 

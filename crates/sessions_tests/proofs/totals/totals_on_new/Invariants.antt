@@ -1,0 +1,14 @@
+use Rattle.std.specs.Arc.{arc_value}
+use Rattle.sessions_tests.proofs.totals.totals_on_new.Given as goal
+
+-- the state that was opened
+abbrev pub ghosts-totals_on-L-Founding : goal.ghosts-totals_on-L-Founding
+ghosts-totals_on-L-Founding g a = record { base = a.start.opened.kernel }
+
+-- the row that was just made
+abbrev pub ghosts-totals_on-L-FirstRow : goal.ghosts-totals_on-L-FirstRow
+ghosts-totals_on-L-FirstRow g a = record { first = arc_value a.start.row }
+
+-- the ledger that was just made
+abbrev pub ghosts-totals_on-L-Ledger : goal.ghosts-totals_on-L-Ledger
+ghosts-totals_on-L-Ledger g a = record { name = a.start.blank.name; parts = a.start.blank.parts }
