@@ -1,6 +1,6 @@
 -- The opening state is lawful and grounded.
-use Rattle.std.specs.Prelude.{◌≡◌, ℕ, List, [], ◌∷◌, Some, length, refl}
-use Rattle.std.proofs.Common.{sym, ◌∙◌, ap, subst, arith}
+use Rattle.std.specs.Prelude.{◌≡◌, ℕ, true, List, [], ◌∷◌, Some, is_some, length, refl}
+use Rattle.std.proofs.Common.{sym, ◌∙◌, ap, subst, inl, inr, arith}
 use Rattle.std.specs.Ordering.{nat_cmp}
 use Rattle.std.specs.FinMap as finmap
 use Rattle.std.specs.FinMap.{get-empty, len-empty, len-entries}
@@ -10,10 +10,12 @@ use Rattle.ipc_model.specs.state.Circular.{Grounded, Carries}
 use Rattle.ipc_model.specs.state.Lawful.{Lawful, LawfulNames}
 use Rattle.ipc_laws.specs.LawfulLaws.{alone}
 use Rattle.ipc_model.specs.texts.Images.{image_text}
-use Rattle.ipc_laws.specs.MapLaws.{get-here, map_rules}
-use Rattle.ipc_laws.specs.MapSums.{total, weigh}
-use Rattle.ipc_model.specs.state.State.{Names, opening_state}
-use Rattle.ipc_laws.specs.Weights.{any_of, count-any}
+use Rattle.ipc_laws.specs.ListLaws.{some_same}
+use Rattle.ipc_laws.specs.MapLaws.{get-here, get-there, map_rules}
+use Rattle.ipc_laws.specs.MapSums.{total, total-new, weigh}
+use Rattle.ipc_laws.specs.Others.{number_decided}
+use Rattle.ipc_model.specs.state.State.{Names, opening_state, lives}
+use Rattle.ipc_laws.specs.Weights.{Weight, state_weigh, any_of, names_weigh, entry_weigh, port_weigh, count-any}
 
 pub none_in_empty : {X : Type 0} (k : ℕ) (x : X) → finmap.get (finmap.empty {X = X} {R = nat_cmp}) k ≡ Some x → ⊥
 none_in_empty {X} k x there = absurd (cc (sym (get-empty nat_cmp k) ∙ there))
@@ -31,6 +33,21 @@ no_names_lawful = record {
   named = λ (name : ℕ) (entry : Entry) (at : _). absurd (none_in_empty name entry at);
   one_name = λ (one other serial : ℕ) (first second : Entry) (at : _) (at_too : _) (held : _) (held_too : _). absurd (none_in_empty one first at);
 }
+
+-- the only space is space 1
+only_space : (space : ℕ) (names : Names) → finmap.get opening_state.spaces space ≡ Some names → (space ≡ 1) × (finmap.empty ≡ names)
+only_space space names at = elim (number_decided space 1) as (λ _. (space ≡ 1) × (finmap.empty ≡ names)) [
+  | inl apart ↦ absurd (none_in_empty space names (sym (get-there finmap.empty 1 finmap.empty space apart) ∙ at))
+  | inr same ↦ (same, some_same finmap.empty names (sym (get-here finmap.empty 1 finmap.empty) ∙ ap (finmap.get (finmap.insert finmap.empty 1 finmap.empty)) (sym same) ∙ at))
+]
+
+no_weight : (w : Weight) → state_weigh w opening_state ≡ 0
+unfolding state_weigh
+no_weight w =
+    omega (arith, total-new (λ s n. names_weigh w n) finmap.empty 1 finmap.empty (get-empty nat_cmp 1), total-empty {X = Names} (λ s n. names_weigh w n), total-empty {X = Entry} (λ n e. entry_weigh w e), total-empty {X = PortState} (port_weigh w))
+
+no_port_lives : (serial : ℕ) → lives opening_state serial ≡ true → ⊥
+no_port_lives serial live = absurd (cc (sym (ap is_some (get-empty {X = PortState} nat_cmp serial)) ∙ live))
 
 abbrev pub OpeningIsLawful : Type 0
 OpeningIsLawful = Lawful opening_state × Grounded opening_state
