@@ -7,6 +7,8 @@ mod asking;
 #[cfg(test)]
 mod batches;
 #[cfg(test)]
+mod bent;
+#[cfg(test)]
 mod checkpoint_phases;
 #[cfg(test)]
 mod checkpoints;

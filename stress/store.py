@@ -1,0 +1,66 @@
+"""The proved programs, run on a store in a folder of its own."""
+
+import shutil
+import struct
+import subprocess
+import tempfile
+
+from machine import listing
+
+
+class Difference(Exception):
+    pass
+
+
+def framed(*contents):
+    return b"".join(struct.pack("<I", len(it)) + it for it in contents)
+
+
+def replies_in(output):
+    """The whole replies of an output."""
+    replies, place = [], 0
+    while place + 4 <= len(output):
+        (length,) = struct.unpack_from("<I", output, place)
+        if place + 4 + length > len(output):
+            break
+        replies.append(output[place + 4 : place + 4 + length])
+        place += 4 + length
+    return replies
+
+
+def compare(frames, wanted, replies):
+    for frame, want, reply in zip(frames, wanted, replies):
+        if want != reply:
+            raise Difference(f"frame {frame.hex()}\nwanted {want.hex()}\ncame   {reply.hex()}")
+
+
+class Store:
+    """A store's folder, and the programs that are run on it."""
+
+    def __init__(self, programs):
+        self.programs = programs
+        self.folder = tempfile.mkdtemp(prefix="wannikol-")
+
+    def serve(self, contents):
+        """The replies of a lone server to these frames."""
+        ran = subprocess.run([self.programs / "machipcd", self.folder], input=framed(*contents), capture_output=True)
+        replies = replies_in(ran.stdout)
+        if ran.returncode or len(replies) != len(contents):
+            raise Difference(f"status {ran.returncode}, {len(replies)} of {len(contents)} replies: {ran.stderr}")
+        return replies
+
+    def listed(self):
+        """How many records the store holds, and its lines."""
+        ran = subprocess.run([self.programs / "machls", self.folder], capture_output=True, text=True)
+        if ran.returncode:
+            raise Difference(f"machls: {ran.stderr}")
+        first, lines = ran.stdout.split("\n", 1)
+        return int(first.split()[3]), lines
+
+    def expect(self, machine):
+        records, lines = self.listed()
+        if records != machine.records or lines != listing(machine):
+            raise Difference(f"{records} records\n{lines}wanted {machine.records} records\n{listing(machine)}")
+
+    def remove(self):
+        shutil.rmtree(self.folder)
