@@ -1,4 +1,4 @@
-.PHONY: demo test bin bench load stress
+.PHONY: demo test bin bench load stress shortage
 
 # The main job on a new folder, with its bytes explained. It proves nothing: the program runs checked, and where bin/ has
 # the proved one, that.
@@ -29,3 +29,8 @@ load: bin
 # programs first.
 stress: bin
 	@stress/run
+
+# Each allocation of a lone server and of the lister refused in turn, with the same machine. It proves the programs first, and
+# wants a C compiler.
+shortage: bin
+	@stress/shortage

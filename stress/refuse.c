@@ -1,9 +1,10 @@
-/* Refuses the allocation whose number REFUSE_AT tells, counted from 1, in a program that it is loaded into, and writes to
-   the file REFUSE_TOLD how many there were once the program ends. */
+/* Refuses the allocation whose number REFUSE_AT tells, counted from 1, in a program that it is loaded into, and makes the
+   file REFUSE_TOLD then. */
 #define _GNU_SOURCE
 #include <dlfcn.h>
-#include <stdio.h>
+#include <fcntl.h>
 #include <stdlib.h>
+#include <unistd.h>
 
 static unsigned long count, refused;
 
@@ -13,18 +14,14 @@ __attribute__((constructor)) static void begin(void) {
     count = 0;
 }
 
-__attribute__((destructor)) static void end(void) {
-    unsigned long told = count;
-    const char *path = getenv("REFUSE_TOLD");
-    FILE *file;
-    refused = 0;
-    if (path && (file = fopen(path, "w"))) {
-        fprintf(file, "%lu\n", told);
-        fclose(file);
-    }
+static int is_refused(void) {
+    const char *path;
+    if (__atomic_add_fetch(&count, 1, __ATOMIC_SEQ_CST) != refused)
+        return 0;
+    if ((path = getenv("REFUSE_TOLD")))
+        close(open(path, O_CREAT | O_WRONLY, 0600));
+    return 1;
 }
-
-static int is_refused(void) { return ++count == refused; }
 
 void *malloc(size_t size) {
     static void *(*next)(size_t);

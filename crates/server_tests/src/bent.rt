@@ -34,14 +34,6 @@ fn store_of_one<S: Store + Drop>(alloc: Global) -> S {
     disk
 }
 
-/// The same disk with another byte at one place.
-fn bent<S: Store + Drop>(alloc: Global, disk: &S, slot: Slot, at: u64, byte: u8) -> Option<S> {
-    let mut copy = disk.copied(alloc)?;
-    copy.write_at(slot, at, &[byte]).ok()?;
-    copy.sync(slot).ok()?;
-    Some(copy)
-}
-
 /// The lines of a store, or why it can't be listed.
 fn listed<D: Disk>(alloc: Global, disk: &mut D) -> Result<Vec<u8>, ListFault> {
     let mut lines = Vec::new(alloc);
@@ -98,19 +90,19 @@ fn count_at<S: Store + Drop>(
     alloc: Global,
     disk: &S,
     slot: Slot,
-    at: u64,
+    at: usize,
     counts: &mut Counts,
 ) -> Option<()> {
-    let byte = disk.bytes(slot).get(at as usize).copied()?;
+    let byte = disk.bytes(slot).get(at).copied()?;
     for more in 1..=255u8 {
-        let bent = bent(alloc, disk, slot, at, byte.wrapping_add(more))?;
+        let bent = disk.bent(alloc, slot, at, byte.wrapping_add(more))?;
         count(counts, told(alloc, bent));
     }
     Some(())
 }
 
 /// Counts them for all places of a range.
-fn counted<S: Store + Drop>(alloc: Global, slot: Slot, from: u64, end: u64) -> Option<Counts> {
+fn counted<S: Store + Drop>(alloc: Global, slot: Slot, from: usize, end: usize) -> Option<Counts> {
     let disk: S = store_of_one(alloc);
     let mut counts = NONE;
     for at in from..end {
@@ -121,7 +113,7 @@ fn counted<S: Store + Drop>(alloc: Global, slot: Slot, from: u64, end: u64) -> O
 
 /// Places of a slot, and of how many of their bent stores the state is found, how many are damaged, and how many of another
 /// version.
-type Range = (Slot, u64, u64, u32, u32, u32);
+type Range = (Slot, usize, usize, u32, u32, u32);
 
 static RANGES: [Range; 14] = [
     (Slot::Image0, 0, 1, 0, 255, 0), // the gate
@@ -157,7 +149,7 @@ fn each_bent_byte_is_told_alike(rt: HostRuntime) {
 /// The lines of the store whose batch's gate is closed.
 fn lines_without_batch<S: Store + Drop>(alloc: Global) -> Option<Vec<u8>> {
     let disk: S = store_of_one(alloc);
-    let mut disk = bent(alloc, &disk, Slot::Segment0, 16, 0)?;
+    let mut disk = disk.bent(alloc, Slot::Segment0, 16, 0)?;
     lines_of(alloc, &mut disk)
 }
 

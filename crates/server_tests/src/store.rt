@@ -83,11 +83,19 @@ pub(crate) trait Store: Disk {
     /// The bytes of a slot.
     fn bytes(&self, slot: Slot) -> &[u8];
 
+    /// A disk whose slots hold what this one's do, but for one byte of a slot.
+    fn bent(&self, alloc: Global, slot: Slot, at: usize, byte: u8) -> Option<Self>;
+
     /// Plans failures of calls, as `MemDisk::plan` does.
     fn plan_faults(&mut self, stop_at: Option<u64>, fail_at: Option<u64>, torn: Torn);
 
     /// What a stop leaves.
     fn stop(self) -> Option<Self>;
+}
+
+/// The one or the other.
+fn either<'a>(is_one: bool, one: &'a [u8], other: &'a [u8]) -> &'a [u8] {
+    if is_one { one } else { other }
 }
 
 impl Store for MemDisk {
@@ -108,6 +116,19 @@ impl Store for MemDisk {
 
     fn bytes(&self, slot: Slot) -> &[u8] {
         self.content(slot)
+    }
+
+    fn bent(&self, alloc: Global, slot: Slot, at: usize, byte: u8) -> Option<MemDisk> {
+        let mut own = Vec::from_slice(alloc, self.content(slot)).ok()?;
+        *own.get_mut(at)? = byte;
+        let copy = MemDisk::with_slots(
+            alloc,
+            either(slot == Slot::Image0, &own, self.content(Slot::Image0)),
+            either(slot == Slot::Image1, &own, self.content(Slot::Image1)),
+            either(slot == Slot::Segment0, &own, self.content(Slot::Segment0)),
+            either(slot == Slot::Segment1, &own, self.content(Slot::Segment1)),
+        );
+        copy.ok()
     }
 
     fn plan_faults(&mut self, stop_at: Option<u64>, fail_at: Option<u64>, torn: Torn) {

@@ -32,14 +32,14 @@ fn count_two<S: Service + Sync, R: Threads + Wait + Sync>(
     rt: &R,
     service: &S,
     two: (S::Session, S::Session),
-) -> ((S::Session, S::Session), [u32; 2]) {
+) -> ((S::Session, S::Session), (u32, u32)) {
     let (one, other) = two;
     let ((one, first), (other, second)) = join(
         rt,
         move || allocates_many(rt, service, one, COUNT),
         move || allocates_many(rt, service, other, COUNT),
     );
-    ((one, other), [first, second])
+    ((one, other), (first, second))
 }
 
 fn in_order<T: Drop>(alloc: Global, front: (T, T), back: (T, T)) -> Result<Vec<T>, AllocError> {
@@ -59,13 +59,13 @@ fn count_four<S: Service + Sync, R: Threads + Wait + Sync>(
 ) -> Option<(Vec<S::Session>, [u32; 4])> {
     let front = begin_two(rt, service)?;
     let back = begin_two(rt, service)?;
-    let ((front, [one, two]), (back, [three, four])) = join(
+    let ((front, one), (back, other)) = join(
         rt,
         move || count_two(rt, service, front),
         move || count_two(rt, service, back),
     );
     let sessions = in_order(alloc, front, back).ok()?;
-    Some((sessions, [one, two, three, four]))
+    Some((sessions, [one.0, one.1, other.0, other.1]))
 }
 
 /// The same, behind which the loop is told to end.
