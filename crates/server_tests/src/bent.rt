@@ -2,10 +2,10 @@
 //! nothing.
 use crate::expect::{same, same_in_row};
 use crate::frames::{ALLOCATE, served};
-use crate::inspected::{are_alike, lines_of};
+use crate::inspected::{are_alike, lines_of, listed};
 use crate::store::Store;
 use disk::{Disk, MemDisk, Slot};
-use inspect::{ListFault, list};
+use inspect::ListFault;
 use journal::StoreFault;
 use std::alloc::Global;
 use system::{Opened, open};
@@ -34,14 +34,7 @@ fn store_of_one<S: Store + Drop>(alloc: Global) -> S {
     disk
 }
 
-/// The lines of a store, or why it can't be listed.
-fn listed<D: Disk>(alloc: Global, disk: &mut D) -> Result<Vec<u8>, ListFault> {
-    let mut lines = Vec::new(alloc);
-    list(alloc, disk, &mut lines)?;
-    Ok(lines)
-}
-
-/// The same once it was opened, or why it can't be.
+/// The lines of a store once it was opened, or why it can't be.
 fn listed_when_opened<D: Disk + Drop>(alloc: Global, disk: D) -> Result<Vec<u8>, ListFault> {
     match open(alloc, disk) {
         Ok(opened) => {

@@ -3,7 +3,7 @@
 
 use crate::store::Store;
 use disk::{Disk, Slot};
-use inspect::{list, sketch};
+use inspect::{ListFault, list, sketch};
 use std::alloc::Global;
 
 /// Whether a slot of both disks holds the same.
@@ -22,11 +22,16 @@ pub(crate) fn are_alike<S: Store>(one: &S, other: &S) -> bool {
     are == [true; 4]
 }
 
-/// The lines of a store.
-pub(crate) fn lines_of<D: Disk>(alloc: Global, disk: &mut D) -> Option<Vec<u8>> {
+/// The lines of a store, or why it can't be listed.
+pub(crate) fn listed<D: Disk>(alloc: Global, disk: &mut D) -> Result<Vec<u8>, ListFault> {
     let mut lines = Vec::new(alloc);
-    list(alloc, disk, &mut lines).ok()?;
-    Some(lines)
+    list(alloc, disk, &mut lines)?;
+    Ok(lines)
+}
+
+/// The lines of a store that can be listed.
+pub(crate) fn lines_of<D: Disk>(alloc: Global, disk: &mut D) -> Option<Vec<u8>> {
+    listed(alloc, disk).ok()
 }
 
 /// The drawing of a store.
