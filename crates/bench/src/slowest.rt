@@ -7,9 +7,10 @@ use crate::makers::{open_alone, open_core};
 use crate::states::{LEAST, Shape, make_state};
 use crate::watched::{Watch, Watched};
 use crate::ways::HERE;
+use codes::CHECKPOINT_RECORDS;
 use disk::Disk;
 use ipc_model::Call;
-use server::{CHECKPOINT_RECORDS, Caller};
+use server::Caller;
 use std::alloc::Global;
 
 /// States that are measured: their ports and spaces, in how many stores each, and how many calls are made in each store before

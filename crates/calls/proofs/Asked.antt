@@ -1,19 +1,18 @@
 -- What frames ask for.
-use Rattle.std.proofs.Common.{◌≡◌, ◌≢◌, ℕ, Bool, true, false, ◌==◌, ◌||◌, List, ◌++◌, drop, ◌⊎◌, Option, None, Some, IfSome, Result, Ok, Err, IfOk, bit_and, if◌then◌else◌, sym, ap, subst, ◌∙◌, arith}
+use Rattle.std.proofs.Common.{◌≡◌, ◌≢◌, ℕ, Bool, true, false, ◌==◌, ◌||◌, List, ◌++◌, drop, ◌⊎◌, Result, Ok, Err, IfOk, bit_and, if◌then◌else◌, sym, ap, subst, ◌∙◌, arith}
 use Rattle.codes.specs.declared.call_number.TheConstants.{MACH_MSG}
 use Rattle.codes.specs.declared.kern_return.KernReturn.TheVariants.{Success, InvalidArgument}
 use Rattle.ipc_model.specs.declared.call.Call.{Call}
-use Rattle.ipc_model.specs.declared.call.Call.TheVariants as call
 use Rattle.ipc_model.specs.calls.Step.{number_of_call}
 use Rattle.ipc_laws.specs.TextReading.{number-fits}
-use Rattle.ipc_model.specs.texts.Texts.{call_text, arguments_text, FitsCall}
+use Rattle.ipc_model.specs.texts.Texts.{call_text, arguments_text}
 use Rattle.words.specs.WordLaws.{same_word}
 use Rattle.words.specs.Words.{word}
 use Rattle.calls.specs.declared.request.CallFault.{CallFault}
 use Rattle.calls.specs.declared.request.CallFault.TheVariants.{NoMemory}
 use Rattle.calls.specs.declared.request.Request.{Request}
 use Rattle.calls.specs.declared.request.Request.TheVariants as request
-use Rattle.calls.specs.Requests.{MachMsg, FitsMachMsg, AsksMachMsg, Asks, asked, asked_send, asked_receive, message_request, has_option, known_options, send_msg, rcv_msg, rcv_large}
+use Rattle.calls.specs.Requests.{MachMsg, AsksMachMsg, Asks, asked, message_request, has_option, known_options, send_msg, rcv_msg}
 
 -- what holds of both holds of the one that is chosen
 chosen : {X : Type 0} (P : X → Type 0) (b : Bool) (x y : X) → P x → P y → P (if b then x else y)

@@ -7,7 +7,7 @@ use Rattle.codes.specs.declared.call_number.TheConstants.{MACH_MSG}
 use Rattle.ipc_model.specs.declared.call.Call.{Call}
 use Rattle.ipc_model.specs.declared.call.Call.TheVariants as call
 use Rattle.ipc_model.specs.calls.Step.{number_of_call}
-use Rattle.ipc_model.specs.texts.Texts.{arguments_text, receive_option, number_of_bool, kept_call, IsKeptCall}
+use Rattle.ipc_model.specs.texts.Texts.{arguments_text, receive_option, number_of_bool, IsKeptCall}
 use Rattle.ipc_model.specs.messages.Kept.{kept_message}
 use Rattle.words.specs.Words.{AreBytes, word}
 use Rattle.calls.proofs.Masks.{at_drop}

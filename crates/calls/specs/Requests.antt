@@ -1,5 +1,5 @@
 -- What a frame asks for.
-use Rattle.std.specs.Prelude.{◌≡◌, ◌≢◌, ℕ, ◌<◌, ◌^◌, Bool, false, not, IsTrue, ◌==◌, ◌||◌, List, ◌++◌, Option, None, Some, IfSome, bit_and, if◌then◌else◌}
+use Rattle.std.specs.Prelude.{◌≡◌, ◌≢◌, ℕ, ◌<◌, ◌^◌, Bool, false, not, IsTrue, ◌==◌, ◌||◌, List, ◌++◌, Option, None, Some, bit_and, if◌then◌else◌}
 use Rattle.codes.specs.declared.call_number.TheConstants.{MACH_MSG}
 use Rattle.codes.specs.declared.kern_return.KernReturn.TheVariants.{Success, InvalidArgument}
 use Rattle.ipc_model.specs.declared.call.Call.{Call}

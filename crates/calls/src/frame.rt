@@ -3,7 +3,7 @@ ghost use Rattle.ipc_model.specs.texts.Texts.{reply_text, done_text, status_text
 ghost use Rattle.words.specs.Words.{word};
 ghost use Rattle.calls.specs.Rows.{names_text};
 
-use crate::spell::{kind_number, status_words};
+use crate::spell::status_words;
 use codes::{
     MACH_MSG, MACH_PORT_ALLOCATE, MACH_PORT_EXTRACT_RIGHT, MACH_PORT_GET_RECEIVE_STATUS,
     MACH_PORT_GET_REFS, MACH_PORT_GET_SET_STATUS, MACH_PORT_NAMES, MACH_PORT_REQUEST_NOTIFICATION,
@@ -98,7 +98,7 @@ pub fn reply_frame(reply: &Reply, frame: &mut Frame)
             frame,
             MACH_PORT_EXTRACT_RIGHT,
             0,
-            &[*name, kind_number(*kind)],
+            &[*name, kind.number()],
         ),
         Reply::Message {
             code,

@@ -1,11 +1,9 @@
-ghost use Rattle.std.specs.Prelude.{true, false, ◌≡◌, ◌≢◌, ◌<◌, ◌^◌, ◌++◌, ◌||◌, ℕ, List, None, Some, IsTrue, IfOk, IfSome, IfNone, length};
+ghost use Rattle.std.specs.Prelude.{true, false, ◌≡◌, ◌≢◌, ◌<◌, ◌^◌, ◌++◌, ◌||◌, None, Some, IsTrue, IfOk, IfSome, IfNone, length};
 ghost use Rattle.codes.specs.KernReturn.{number_of};
 ghost use Rattle.codes.specs.declared.kern_return.KernReturn.{KernReturn};
 ghost use Rattle.ipc_model.specs.declared.call.Call.{Call};
 ghost use Rattle.ipc_model.specs.declared.call.Reply.{Reply};
-ghost use Rattle.ipc_model.specs.declared.message.RightKind.{RightKind};
-ghost use Rattle.ipc_model.specs.rights.Dispositions.{number_of_kind};
-ghost use Rattle.ipc_model.specs.calls.Step.{number_of_call, has_record, has_destroyed, is_recorded, is_success, succeeded};
+ghost use Rattle.ipc_model.specs.calls.Step.{number_of_call, has_destroyed, is_recorded, is_success, succeeded};
 ghost use Rattle.ipc_model.specs.texts.Texts.{reply_text, done_text, has_no_results, number_of_reply, Brings, FitsReply, HasItsResults, IsMessageSize, IsOfReceipt, IsRecordedReply};
 ghost use Rattle.words.specs.Words.{word};
 
@@ -93,19 +91,6 @@ fn brings(call: &Call, code: KernReturn, size: u32, member: u32, message: &[u8])
     }
 }
 
-/// The kind of right of a number in a reply.
-fn kind_of_number(number: u32) -> Option<RightKind>
-    ensures found { IfSome result (λ kind. number_of_kind kind ≡ number) }
-    ensures only { (kind : RightKind) → number_of_kind kind ≡ number → result ≡ Some kind }
-{
-    match number {
-        16 => Some(RightKind::Receive),
-        17 => Some(RightKind::Send),
-        18 => Some(RightKind::SendOnce),
-        _ => None,
-    }
-}
-
 /// The size, the port's name and the message that stand behind the code of a `mach_msg`.
 fn take_message(results: &[u8]) -> Option<(u32, u32, &[u8])>
     ensures found { IfSome result (λ r. results.now ≡ word r.0 ++ (word r.1 ++ r.2.now)) }
@@ -170,7 +155,7 @@ fn read_plain_reply(number: u32, results: &[u8]) -> Option<Reply>
         }
         MACH_PORT_EXTRACT_RIGHT => {
             let (name, kind) = two_words(results)?;
-            let kind = kind_of_number(kind)?;
+            let kind = RightKind::from_number(kind)?;
             Some(Reply::Extracted { name, kind })
         }
         SPACE_CREATE => {

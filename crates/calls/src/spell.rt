@@ -1,6 +1,5 @@
 ghost use Rattle.std.specs.Prelude.{◌≡◌, ◌++◌, ◌<◌, ◌^◌, OnOk, flat_map, length};
 ghost use Rattle.ipc_model.specs.declared.call.Call.TheVariants as call;
-ghost use Rattle.ipc_model.specs.rights.Dispositions.{number_of_kind};
 ghost use Rattle.ipc_model.specs.texts.Texts.{call_text, kept_call, reply_text, done_text, status_text, receive_option, number_of_bool};
 ghost use Rattle.words.specs.Words.{word};
 ghost use Rattle.calls.specs.Rows.{names_text};
@@ -171,13 +170,6 @@ fn bool_number(flag: bool) -> u32
     flag as u32
 }
 
-/// The number of a kind of right in a reply.
-pub(crate) fn kind_number(kind: RightKind) -> u32
-    ensures { result ≡ number_of_kind kind }
-{
-    kind as u32
-}
-
 /// Adds names with their type bits, behind their count.
 fn push_names(out: &mut Vec<u8>, names: &[NamedType]) -> Result<(), AllocError>
     requires { length names.now < 2 ^ 32 }
@@ -244,7 +236,7 @@ pub fn push_reply(out: &mut Vec<u8>, reply: &Reply) -> Result<(), AllocError>
             MACH_PORT_EXTRACT_RIGHT,
             0,
             *name,
-            kind_number(*kind),
+            kind.number(),
         ),
         Reply::Message {
             code,

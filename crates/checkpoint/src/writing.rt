@@ -1,4 +1,4 @@
-ghost use Rattle.std.specs.Prelude.{◌≡◌, ◌+◌, ◌*◌, ◌^◌, ◌<◌, ◌≤◌, ◌++◌, [], length, take, IfOk, OnOk, OnErr};
+ghost use Rattle.std.specs.Prelude.{◌≡◌, ◌+◌, ◌^◌, ◌<◌, ◌≤◌, [], length, IfOk, OnOk, OnErr};
 ghost use Rattle.disk.specs.Slots.{slot_of, with_slot};
 ghost use Rattle.disk.specs.Moments.{IsSynced, Passes, Follows, CountsFailure};
 ghost use Rattle.image.specs.Rows.{snapshot_text};

@@ -3,8 +3,22 @@ use Rattle.std.specs.Prelude.{ℕ, Option, None, Some, ◌==◌, if◌then◌els
 use Rattle.codes.specs.declared.disposition.Disposition.{Disposition}
 use Rattle.codes.specs.declared.disposition.Disposition.TheVariants.{MoveReceive, MoveSend, MoveSendOnce, CopySend, MakeSend, MakeSendOnce}
 
--- the disposition of a number (MACH_MSG_TYPE_MOVE_RECEIVE 16 to MACH_MSG_TYPE_MAKE_SEND_ONCE 21)
+-- the disposition's number
+abbrev pub number_of_disposition : Disposition → ℕ
+number_of_disposition MoveReceive = 16
+number_of_disposition MoveSend = 17
+number_of_disposition MoveSendOnce = 18
+number_of_disposition CopySend = 19
+number_of_disposition MakeSend = 20
+number_of_disposition MakeSendOnce = 21
+
+-- the disposition of a number, if it is one
 abbrev pub disposition_of : ℕ → Option Disposition
 disposition_of n =
-    if n == 16 then Some MoveReceive else if n == 17 then Some MoveSend else if n == 18 then Some MoveSendOnce
-    else if n == 19 then Some CopySend else if n == 20 then Some MakeSend else if n == 21 then Some MakeSendOnce else None
+    if n == number_of_disposition MoveReceive then Some MoveReceive
+    else if n == number_of_disposition MoveSend then Some MoveSend
+    else if n == number_of_disposition MoveSendOnce then Some MoveSendOnce
+    else if n == number_of_disposition CopySend then Some CopySend
+    else if n == number_of_disposition MakeSend then Some MakeSend
+    else if n == number_of_disposition MakeSendOnce then Some MakeSendOnce
+    else None

@@ -16,6 +16,9 @@ pub const MAX_SPACES: usize = 256;
 /// How many records an epoch's segment holds at most.
 pub const MAX_RECORDS: u64 = 65_536;
 
+/// How many records an epoch's segment has when a checkpoint is begun.
+pub const CHECKPOINT_RECORDS: u64 = 32_768;
+
 /// How many bytes a message's header has (`mach_msg_header_t`).
 pub const HEADER_LENGTH: usize = 24;
 

@@ -1,10 +1,11 @@
 //! The threads: one that stores, one that makes images, one for each connection.
 
+use codes::CHECKPOINT_RECORDS;
 use connection::{Connected, SocketPeer};
 use disk::Disk;
 use journal::StoreFault;
 use serving::serve_asked;
-use sessions::{CHECKPOINT_RECORDS, Founding, OpenGate, Shared};
+use sessions::{Founding, OpenGate, Shared};
 use std::alloc::{AllocGlobal, Global};
 use std::io::{self, BufReader, BufWriter};
 use std::net::{Net, Shutdown, TcpListener, TcpStream};

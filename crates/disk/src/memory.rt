@@ -1,5 +1,5 @@
 // A disk in memory that keeps the disk model: it has each call since it was made, and what it held then.
-ghost use Rattle.std.specs.Prelude.{◌≡◌, ℕ, ◌+◌, ◌-◌, ◌≤◌, ◌<◌, ◌^◌, ◌++◌, [], length, take, drop, min, if◌then◌else◌, IfOk, OnOk, OnErr};
+ghost use Rattle.std.specs.Prelude.{◌≡◌, ◌+◌, ◌-◌, ◌≤◌, ◌<◌, ◌++◌, length, take, drop, min, if◌then◌else◌, IfOk, OnOk};
 ghost use Rattle.disk.specs.Slots.{Slots, empty_slots, slot_of, with_slot, written_at, TornWrite, TornCut};
 ghost use Rattle.disk.specs.Moments.{Passes, Follows, IsSynced, MayLeave};
 ghost use Rattle.disk.specs.Log.{slots_of, replayed};

@@ -1,5 +1,5 @@
 -- The snapshots that an image spells: their numbers fit their words, and their rows rise.
-use Rattle.std.specs.Prelude.{◌≢◌, ℕ, ◌+◌, ◌^◌, ◌<◌, ◌≤◌, List, [], ◌∷◌, length, map, All}
+use Rattle.std.specs.Prelude.{◌≢◌, ◌^◌, ◌<◌, length, map, All}
 use Rattle.ipc_laws.specs.ImageLaws.{SpellableNamed, SpellableReplyRight, SpellableRight, SpellableSet, SpellableTarget}
 use Rattle.ipc_model.specs.declared.message.Message.{Message}
 use Rattle.ipc_model.specs.declared.message.RightKind.TheVariants as kind

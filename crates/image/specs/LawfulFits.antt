@@ -1,15 +1,15 @@
 -- An image spells the snapshot of every lawful state whose queues are short.
-use Rattle.std.proofs.Common.{◌≡◌, ◌≢◌, ℕ, ◌+◌, ◌<◌, ◌≤◌, ◌^◌, All, List, [], ◌∷◌, length, map, refl, sym, Some, ◌∙◌, ap, subst, arith}
-use Rattle.std.specs.FinMap.{entries, get, len, len-entries}
-use Rattle.std.proofs.lemmas.List.Elements.{All-map, All-same}
-use Rattle.ipc_laws.specs.ImageLaws.{Spellable, SpellableLivePort, SpellableMessage, SpellableNamed, SpellablePort, SpellableSpace}
+use Rattle.std.proofs.Common.{◌≡◌, ℕ, List, [], ◌∷◌, length, map, refl, sym, Some, subst, arith}
+use Rattle.std.specs.FinMap.{entries, get, len-entries}
+use Rattle.std.proofs.lemmas.List.Elements.{All-map}
+use Rattle.ipc_laws.specs.ImageLaws.{Spellable, SpellableLivePort, SpellableMessage, SpellablePort, SpellableSpace}
 use Rattle.ipc_laws.specs.Spelling.{lawful_is_spellable}
 use Rattle.ipc_model.specs.declared.message.Message.{Message}
 use Rattle.ipc_model.specs.declared.port.PortState.{PortState}
 use Rattle.ipc_model.specs.state.Lawful.{Lawful, LawfulMessage, LawfulPort, ShortQueues}
 use Rattle.ipc_model.specs.state.State.{Names, State}
 use Rattle.snapshot.specs.Rows.{all_entries, each_entry, entries_rise, map_map, named_row, port_row, space_row}
-use Rattle.snapshot.specs.Snapshots.{names_of, snapshot_of}
+use Rattle.snapshot.specs.Snapshots.{snapshot_of}
 use Rattle.image.specs.Fitting.{FitsImage, FitsLivePort, FitsMessage, FitsNamed, FitsPort, FitsSpace, RisesFrom, name_of, number_of, serial_of}
 
 length_mapped : {A B : Type 0} (f : A → B) (xs : List A) → length (map f xs) ≡ length xs

@@ -1,4 +1,4 @@
-ghost use Rattle.std.specs.Prelude.{◌≡◌, ◌≢◌, ◌<◌, ◌^◌, ◌++◌, ◌∷◌, [], ℕ, Bool, List, Option, IfSome, IfNone, IsSomeAnd, OnOk};
+ghost use Rattle.std.specs.Prelude.{◌≡◌, ◌<◌, ◌^◌, ◌++◌, ◌∷◌, [], ℕ, Bool, List, Option, IfSome, IsSomeAnd, OnOk};
 ghost use Rattle.image.specs.Fitting.{FitsNamed};
 ghost use Rattle.ipc_laws.specs.ImageLaws.{SpellableEntry, SpellableTarget};
 ghost use Rattle.image.specs.Rows.{named_text};

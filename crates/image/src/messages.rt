@@ -1,4 +1,4 @@
-ghost use Rattle.std.specs.Prelude.{◌≡◌, ◌≢◌, ◌<◌, ◌≤◌, ◌^◌, ◌+◌, ◌++◌, ◌∷◌, ℕ, Bool, List, Option, IfOk, IfSome, IfNone, IsSomeAnd, OnOk, length};
+ghost use Rattle.std.specs.Prelude.{◌≡◌, ◌≢◌, ◌<◌, ◌^◌, ◌+◌, ◌++◌, ◌∷◌, ℕ, Bool, List, Option, IfOk, IfSome, IfNone, IsSomeAnd, OnOk, length};
 ghost use Rattle.ipc_laws.specs.ImageLaws.{SpellablePlace, SpellableReplyRight, SpellableRight};
 ghost use Rattle.ipc_model.specs.declared.message.CarriedRight.{CarriedRight};
 ghost use Rattle.ipc_model.specs.declared.message.PortInMessage.{PortInMessage};
@@ -22,12 +22,9 @@ fn take_kind(bytes: &[u8]) -> Option<(RightKind, &[u8])>
     ensures only { (kind : RightKind) (rest : List ℕ) → bytes.now ≡ number_of_kind kind ∷ rest
         → IsSomeAnd result (λ r. (r.0 ≡ kind) × (r.1.now ≡ rest)) }
 {
-    match take_byte(bytes)? {
-        (16, rest) => Some((RightKind::Receive, rest)),
-        (17, rest) => Some((RightKind::Send, rest)),
-        (18, rest) => Some((RightKind::SendOnce, rest)),
-        _ => None,
-    }
+    let (byte, rest) = take_byte(bytes)?;
+    let kind = RightKind::from_number(u32::from(byte))?;
+    Some((kind, rest))
 }
 
 /// The byte of a kind of right.

@@ -4,7 +4,7 @@ ghost use Rattle.ipc_laws.specs.ImageLaws.{SpellableSet};
 ghost use Rattle.ipc_model.specs.declared.message.Message.{Message};
 ghost use Rattle.ipc_model.specs.declared.port.PortState.{PortState};
 ghost use Rattle.ipc_model.specs.texts.Images.{message_image, number_or_0, port_text};
-ghost use Rattle.words.specs.Words.{word, long_word};
+ghost use Rattle.words.specs.Words.{word};
 
 use crate::entries::{push_target, take_serials, target_of};
 use crate::spelled::{Spelled, push_length, push_rows, take_rows};

@@ -22,7 +22,7 @@ use Rattle.ipc_laws.specs.EffectParts.{mapped_some}
 use Rattle.ipc_laws.specs.EffectWeights.{moved_out, sent_or_died}
 use Rattle.ipc_laws.specs.EffectsKeep.{dangles_none, effects_keep_lawful}
 use Rattle.ipc_model.specs.state.Lawful.{Lawful, LawfulBut, IsWaiting}
-use Rattle.ipc_laws.specs.LawfulLaws.{LawfulAtRest, alone}
+use Rattle.ipc_laws.specs.LawfulLaws.{alone}
 use Rattle.ipc_laws.specs.ListLaws.{some_same}
 use Rattle.ipc_laws.specs.MapLaws.{get-here, get-there, get-left, get-map_values}
 use Rattle.ipc_laws.specs.MapSums.{weigh, total, weigh-le}

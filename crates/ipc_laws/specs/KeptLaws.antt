@@ -1,5 +1,5 @@
 -- A message and its kept form are sent alike, and so are a call and what is kept of it made.
-use Rattle.std.specs.Prelude.{◌≡◌, ◌↔◌, ℕ, zero, suc, ◌+◌, ◌*◌, ◌/◌, ◌%◌, ◌^◌, ◌<◌, ◌≤◌, Bool, ◌==◌, List, [], ◌∷◌, length, drop, slice_index, bit_and, Option, None, Some, MatchResult, refl}
+use Rattle.std.specs.Prelude.{◌≡◌, ◌↔◌, ℕ, zero, suc, ◌+◌, ◌*◌, ◌/◌, ◌%◌, ◌^◌, ◌<◌, ◌≤◌, ◌==◌, List, [], ◌∷◌, length, drop, slice_index, bit_and, Option, None, Some, MatchResult, refl}
 use Rattle.std.specs.Int.Bits.{and_self}
 use Rattle.std.specs.FinMap as finmap
 use Rattle.std.proofs.Common.{◌∙◌, ap, sym, subst, arith}

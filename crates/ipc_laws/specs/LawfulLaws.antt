@@ -1,12 +1,12 @@
 -- A state is lawful exactly where it is so with no effects left.
-use Rattle.std.specs.Prelude.{◌≡◌, ℕ, true, ◌==◌, ◌&&◌, List, [], ◌++◌, count_by, refl}
+use Rattle.std.specs.Prelude.{◌≡◌, ℕ, ◌==◌, ◌&&◌, [], count_by}
 use Rattle.std.proofs.Common.{sym, ◌∙◌, ap, inl, inr, arith}
 use Rattle.std.proofs.lemmas.List.{append-nil}
 use Rattle.ipc_model.specs.declared.port.PortState.{PortState}
 use Rattle.ipc_model.specs.declared.message.RightKind.TheVariants as kind
 use Rattle.ipc_model.specs.state.Lawful.{Lawful, LawfulBut, IsHeldBesideSet, IsReleased, count_with}
 use Rattle.ipc_model.specs.state.Placed.{Right, placed, receive_count, same_kind}
-use Rattle.ipc_model.specs.state.State.{State, lives}
+use Rattle.ipc_model.specs.state.State.{State}
 
 -- lawful with no effects left
 abbrev pub LawfulAtRest : State → Type 0

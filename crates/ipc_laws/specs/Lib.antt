@@ -2,6 +2,7 @@ pub mod AllocateKeep
 pub mod Arrivals
 pub mod BatchLaws
 pub mod CallsKeep
+pub mod Circles
 pub mod Counted
 pub mod Dangling
 pub mod EffectParts

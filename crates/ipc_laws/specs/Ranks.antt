@@ -51,7 +51,7 @@ finds_one {X = X} test (y ∷ es) k x passes there =
     ] refl
 
 -- the carrier of a port carries it
-carrier_carries : (state : State) (inner outer : ℕ) → carrier_of state inner ≡ Some outer → Carries state outer inner
+pub carrier_carries : (state : State) (inner outer : ℕ) → carrier_of state inner ≡ Some outer → Carries state outer inner
 carrier_carries state inner outer is =
     elim (find (λ e. carries inner e.1) (finmap.entries state.ports)) as (λ (o : Option (ℕ × PortState)). find (λ e. carries inner e.1) (finmap.entries state.ports) ≡ o → option_map (λ e. e.0) o ≡ Some outer → Carries state outer inner) [
       | None ↦ λ (none : _) (e : _). absurd (cc e)

@@ -1,25 +1,20 @@
 -- What sends and receipts that have records answer.
-use Rattle.std.specs.Prelude.{◌≡◌, ℕ, zero, suc, ◌+◌, ◌*◌, ◌-◌, ◌≤◌, Bool, true, false, ◌==◌, ◌&&◌, ◌||◌, nat_lt, List, [], ◌∷◌, ◌++◌, length, take, drop, flat_map, Option, None, Some, Result, Ok, Err, IfErr, MatchOption, MatchBool, MatchResult, if◌then◌else◌, refl}
-use Rattle.std.proofs.Common.{◌∙◌, ap, sym, subst, arith, length-append}
-use Rattle.std.proofs.lemmas.List.{length-drop}
-use Rattle.std.specs.FinMap as finmap
-use Rattle.codes.specs.KernReturn.{number_of}
+use Rattle.std.specs.Prelude.{◌≡◌, ℕ, zero, suc, ◌≤◌, Bool, true, false, ◌==◌, ◌&&◌, ◌||◌, nat_lt, List, [], ◌∷◌, length, Option, None, Some, Result, Ok, Err, IfErr, MatchResult, if◌then◌else◌, refl}
+use Rattle.std.proofs.Common.{subst}
 use Rattle.codes.specs.declared.kern_return.KernReturn.{KernReturn}
-use Rattle.codes.specs.declared.kern_return.KernReturn.TheVariants.{Success, SendInvalidDest, SendInvalidReply, SendInvalidRight, SendInvalidHeader, SendTimedOut, SendMsgTooSmall, SendNoBuffer, SendInvalidMemory, SendInvalidType, RcvTooLarge, RcvHeaderErrorSpace}
+use Rattle.codes.specs.declared.kern_return.KernReturn.TheVariants.{Success, SendInvalidDest, SendInvalidReply, SendInvalidRight, SendInvalidHeader, SendNoBuffer}
 use Rattle.codes.specs.declared.limits.TheConstants.{MAX_MESSAGE_SIZE, MAX_MESSAGE_PORTS}
 use Rattle.codes.specs.declared.name.TheConstants.{MACH_PORT_NULL}
-use Rattle.ipc_model.specs.calls.Step.{ActsIn, IsRefusedWith, has_record, has_destroyed, is_success}
+use Rattle.ipc_model.specs.calls.Step.{ActsIn, IsRefusedWith, has_record, is_success}
 use Rattle.ipc_model.specs.calls.Tests.{Tests, and_then, or_refused, unless_failing}
-use Rattle.ipc_model.specs.declared.call.Call.{Call}
 use Rattle.ipc_model.specs.declared.call.Call.TheVariants as call
 use Rattle.ipc_model.specs.declared.call.Reply.{Reply}
-use Rattle.ipc_model.specs.declared.call.Reply.TheVariants as reply
 use Rattle.ipc_model.specs.effects.Effects.{Effect}
 use Rattle.ipc_model.specs.messages.Items.{Item, items_of, items_within, tests_of_item}
 use Rattle.ipc_model.specs.messages.Messages.{Parts, parts_of, header_length}
 use Rattle.ipc_model.specs.messages.Receiving.{without_message}
 use Rattle.ipc_model.specs.messages.Sending as sending
-use Rattle.ipc_model.specs.messages.Sending.{TakenHeader, TakenReply, TakenRights, Ready, ready_to_send, ready_by_parts, ready_of_items, take_destination, take_reply, take_header, sent}
+use Rattle.ipc_model.specs.messages.Sending.{TakenHeader, TakenReply, TakenRights, Ready, ready_to_send, ready_of_items, take_destination, take_reply, take_header, sent}
 use Rattle.ipc_model.specs.rights.CopyIn.{Taken, copy_in}
 use Rattle.ipc_model.specs.rights.Dispositions.{Disposition}
 use Rattle.ipc_model.specs.state.State.{State, Names, is_null_or_dead}

@@ -12,7 +12,7 @@ use Rattle.ipc_model.specs.declared.entry.Entry.{Entry}
 use Rattle.ipc_model.specs.declared.entry.Entry.TheVariants.{Port, SendOnce, Set, Dead}
 use Rattle.ipc_model.specs.declared.entry.PortRights.{PortRights}
 use Rattle.ipc_model.specs.calls.Actions as actions
-use Rattle.ipc_model.specs.calls.Actions.{ActsOn, Acts, Done}
+use Rattle.ipc_model.specs.calls.Actions.{ActsOn, Done}
 use Rattle.ipc_laws.specs.AllocateKeep.{allocated_kept, chosen_unused}
 use Rattle.ipc_model.specs.declared.record.Record.{Record}
 use Rattle.ipc_laws.specs.CallsKeep.{Kept, kept_as, first_passes, simple_kept}

@@ -11,10 +11,10 @@ use Rattle.ipc_model.specs.declared.call.NamedType.{NamedType}
 use Rattle.ipc_model.specs.declared.call.ReceiveStatus.{ReceiveStatus}
 use Rattle.ipc_model.specs.declared.call.Reply.{Reply}
 use Rattle.ipc_model.specs.declared.call.Reply.TheVariants as reply
-use Rattle.ipc_model.specs.declared.message.RightKind.{RightKind}
 use Rattle.ipc_model.specs.declared.message.RightKind.TheVariants as kind
 use Rattle.ipc_model.specs.messages.Items.{words_of}
 use Rattle.ipc_model.specs.calls.Step.{number_of_call, has_record, is_recorded}
+use Rattle.ipc_model.specs.state.Lawful.{kind_of_number}
 use Rattle.ipc_model.specs.texts.Texts.{arguments_text, reply_text, status_text, number_of_bool, FitsCall, FitsReply}
 use Rattle.words.specs.WordLaws.{little_number-word}
 use Rattle.words.specs.Words.{word}
@@ -236,10 +236,7 @@ words_back (name ∷ members) fits =
     let others = words_back members (all_tail FitsWord name members fits) in
     λ i. first i ∷ others i
 
--- a kind of right by its number, and a yes or no
-abbrev kind_of : ℕ → RightKind
-kind_of n = if n == 16 then kind.Receive else if n == 17 then kind.Send else kind.SendOnce
-
+-- a yes or no by its number
 bool_back : (b : Bool) (rest : List ℕ) → (little_number 4 (word (number_of_bool b) ++ rest) == 1) ≡ b
 bool_back true rest = refl
 bool_back false rest = refl
@@ -308,7 +305,7 @@ replies_spelled bytes =
     ∷ reply.Done 15
     ∷ reply.PreviousTarget (word_at 2 bytes)
     ∷ reply.Done 17
-    ∷ reply.Extracted (word_at 2 bytes) (kind_of (word_at 3 bytes))
+    ∷ reply.Extracted (word_at 2 bytes) (kind_of_number (word_at 3 bytes))
     ∷ reply.Message (code_of (word_at 1 bytes)) (word_at 2 bytes) (word_at 3 bytes) (drop 16 bytes)
     ∷ reply.SpaceCreated (word_at 2 bytes) (word_at 3 bytes)
     ∷ []

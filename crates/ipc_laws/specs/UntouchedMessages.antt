@@ -1,5 +1,5 @@
 -- A send and a receipt change the names of their caller's space alone.
-use Rattle.std.specs.Prelude.{ℕ, Bool, true, false, nat_lt, List, [], ◌∷◌, ◌++◌, length, drop, Option, None, Some, option_map, if◌then◌else◌, Result, Ok, Err, IfOk, IfSome}
+use Rattle.std.specs.Prelude.{ℕ, Bool, true, false, nat_lt, List, [], ◌∷◌, ◌++◌, drop, Option, None, Some, option_map, if◌then◌else◌, Result, Ok, Err, IfOk, IfSome}
 use Rattle.std.proofs.Common.{sym, subst}
 use Rattle.std.specs.List.{list_any}
 use Rattle.codes.specs.declared.kern_return.KernReturn.{KernReturn}

@@ -1,4 +1,5 @@
 // Laws over the definitions. Each is the contract of a function that does nothing, so that the check proves it.
+ghost use Rattle.ipc_laws.specs.Circles.{CirclesLeadUp};
 ghost use Rattle.ipc_laws.specs.StepsKeep.{OneRun, RunsKeepLawful, StepsKeepLawful};
 ghost use Rattle.ipc_laws.specs.EffectRanks.{EffectsKeepGrounded, SettledIsLawful};
 ghost use Rattle.ipc_laws.specs.EffectsKeep.{EffectsKeepLawful};
@@ -70,6 +71,12 @@ pub fn opening_is_lawful()
 /// keeps its one receive right, and no right is left to a dead one.
 pub fn effects_keep_lawful()
     ensures { EffectsKeepLawful }
+{}
+
+/// A receive right can't be put into a queue from which hops, each to the port whose queue holds the receive right of the one
+/// before, lead up to its port; into each other queue it can.
+pub fn circles_lead_up()
+    ensures { CirclesLeadUp }
 {}
 
 /// Each effect keeps a lawful state grounded: no ports come to carry one another in a circle.

@@ -129,6 +129,7 @@ pub enum Call {
 impl Call {
     ghost use Rattle.std.specs.Prelude.{◌≡◌};
     ghost use Rattle.ipc_model.specs.calls.Step.{number_of_call, is_recorded, succeeded, destroyed_message, has_record};
+    ghost use Rattle.ipc_model.specs.history.History.{attached_by};
 
     /// The number of the call in its frame.
     pub fn number(&self) -> u32
@@ -157,6 +158,16 @@ impl Call {
             Call::Send { .. } | Call::Receive { .. } => MACH_MSG,
             Call::SpaceCreate { .. } => SPACE_CREATE,
             Call::SpaceDestroy => SPACE_DESTROY,
+        }
+    }
+
+    /// The space that the call attaches a task to where it is done, which was attached to this one.
+    pub fn attached_by(&self, space: u32) -> u32
+        ensures { result ≡ attached_by space self.now }
+    {
+        match self {
+            Call::Attach { space: other } => *other,
+            _ => space,
         }
     }
 

@@ -1,3 +1,11 @@
+ghost use Rattle.std.specs.Prelude.{◌≡◌};
+ghost use Rattle.ipc_model.specs.state.State.{request_bit};
+
+use codes::Right;
+
+/// The bit of a dead-name request in a name's type (`MACH_PORT_TYPE_DNREQUEST`).
+const REQUEST_BIT: u32 = 1 << 31;
+
 /// The rights that a name holds to one port: the receive right, send rights, or both.
 #[derive(Clone, Copy, Debug, PartialEq, Eq)]
 pub struct PortRights {
@@ -27,4 +35,45 @@ pub enum Entry {
     Dead {
         references: u32,
     },
+}
+
+impl Entry {
+    ghost use Rattle.std.specs.Prelude.{◌≡◌};
+    ghost use Rattle.ipc_model.specs.state.State.{type_of};
+
+    /// The name's type: a bit for each right that it holds, and one for a dead-name request (`mach_port_type`).
+    pub fn type_bits(&self) -> u32
+        ensures { result ≡ type_of self.now }
+    {
+        match self {
+            Entry::Port(rights) => {
+                let send = if rights.send == 0 {
+                    0
+                } else {
+                    Right::Send.type_bit()
+                };
+                let receive = if rights.receive {
+                    Right::Receive.type_bit()
+                } else {
+                    0
+                };
+                send + receive + request_bit(rights.dead_name_target)
+            }
+            Entry::SendOnce {
+                dead_name_target,
+                ..
+            } => { Right::SendOnce.type_bit() + request_bit(*dead_name_target) }
+            Entry::Set => Right::PortSet.type_bit(),
+            Entry::Dead { .. } => Right::DeadName.type_bit(),
+        }
+    }
+}
+
+fn request_bit(target: Option<u64>) -> u32
+    ensures { result ≡ request_bit target }
+{
+    match target {
+        Some(_) => REQUEST_BIT,
+        None => 0,
+    }
 }

@@ -11,6 +11,32 @@ pub enum RightKind {
     SendOnce = 18,
 }
 
+impl RightKind {
+    ghost use Rattle.std.specs.Prelude.{◌≡◌, Some, IfSome};
+    ghost use Rattle.ipc_model.specs.declared.message.RightKind.{RightKind};
+    ghost use Rattle.ipc_model.specs.rights.Dispositions.{number_of_kind};
+
+    /// The kind's number.
+    pub fn number(self) -> u32
+        ensures { result ≡ number_of_kind self }
+    {
+        self as u32
+    }
+
+    /// The kind of a number, if it is one.
+    pub fn from_number(number: u32) -> Option<Self>
+        ensures found { IfSome result (λ kind. number_of_kind kind ≡ number) }
+        ensures only { (kind : RightKind) → number_of_kind kind ≡ number → result ≡ Some kind }
+    {
+        match number {
+            16 => Some(RightKind::Receive),
+            17 => Some(RightKind::Send),
+            18 => Some(RightKind::SendOnce),
+            _ => None,
+        }
+    }
+}
+
 /// What stands in the place of a port in a message.
 #[derive(Clone, Copy, Debug, PartialEq, Eq)]
 pub enum PortInMessage {

@@ -64,7 +64,7 @@ pub fn call_in_range(call: &Call)
 }
 
 /// The results of a call that has a record are in range.
-fn reply_in_range(call: &Call, reply: &Reply)
+pub fn reply_in_range(call: &Call, reply: &Reply)
     ensures { number_of_reply reply.now ≡ number_of_call call.now → IsTrue (has_record call.now reply.now)
         → FitsReply reply.now }
 {

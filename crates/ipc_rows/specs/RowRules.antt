@@ -1,23 +1,20 @@
 -- How worked examples are computed: what the maps of a written state hold.
-use Rattle.std.specs.Prelude.{◌≡◌, ℕ, Bool, false, if◌then◌else◌, List, [], ◌∷◌, ◌++◌, length, Option, None, Some, option_map, option_and_then, refl}
-use Rattle.std.proofs.Common.{sym, ◌∙◌, ap, subst, arith}
-use Rattle.std.specs.Ordering.{nat_cmp}
-use Rattle.std.specs.Cmp.{nat_cmp_total}
+use Rattle.std.specs.Prelude.{◌≡◌, ℕ, Bool, false, if◌then◌else◌, List, [], ◌∷◌, ◌++◌, Option, None, Some, option_map, option_and_then, refl}
+use Rattle.std.proofs.Common.{sym, ◌∙◌, ap, subst}
 use Rattle.std.specs.FinMap as finmap
 use Rattle.ipc_model.specs.declared.entry.Entry.{Entry}
 use Rattle.ipc_model.specs.calls.Actions.{request_set_under, lacks_senders, make_send_count_of, port_request_set}
-use Rattle.ipc_model.specs.state.Circular.{carrier_of, is_circular, meets}
+use Rattle.ipc_model.specs.state.Circular.{carrier_of, meets}
 use Rattle.ipc_model.specs.rights.CopyIn.{Taken, copy_in, with_left, moved_port, taken_leaving}
 use Rattle.ipc_model.specs.rights.Dispositions.{Disposition, received_kind}
 use Rattle.ipc_model.specs.effects.Effects.{queued, notified, send_released, told_no_senders, receive_released_to, sent_to_target, after_death, died, effects_of_death, dead_name_notices, released_if_live, map_values, entry_after_death, Effect, effect, Settles, next_effect}
 use Rattle.ipc_laws.specs.MapLaws.{get-map_values, map_rules}
-use Rattle.ipc_model.specs.state.Placed.{count_of, placed, send_count, send_once_count, receive_count}
+use Rattle.ipc_model.specs.state.Placed.{count_of, send_count, send_once_count, receive_count}
 use Rattle.ipc_model.specs.calls.PortCalls.{names_in, is_in_some_set, name_is, is_in_use, is_no_name, references_under, stands_elsewhere}
 use Rattle.ipc_model.specs.calls.PortCalls as port_calls
 use Rattle.ipc_model.specs.messages.Receiving.{port_under, oldest_under, is_in_set, all_empty, without_oldest}
 use Rattle.ipc_model.specs.messages.Sending.{is_full, tests_of_queue, TakenRights, passed, take_rights, take_right, goes_in_circle}
 use Rattle.ipc_model.specs.state.State.{State, Names, is_null_or_dead, entry_at, with_names, with_changed, with_entry, without_name, with_port, lives, ports_are_used_up, name_of_port, is_member, members_of}
-use Rattle.std.specs.FinMap.{FinMap, gets, put, entries-insert, len-entries, len-empty}
 
 -- what a name stands for once a port has died
 pub entry-after_death : (state : State) (serial space name : ℕ) → entry_at (after_death state serial) space name ≡ option_map (entry_after_death serial) (entry_at state space name)

@@ -12,7 +12,7 @@ use Rattle.ipc_model.specs.messages.Kept.{kept_message}
 use Rattle.ipc_model.specs.texts.Images.{image_text}
 use Rattle.ipc_rows.specs.RowRules.{rows}
 use Rattle.ipc_rows.specs.RowStates.{rights_to}
-use Rattle.ipc_model.specs.state.State.{State, opening_state, new_port}
+use Rattle.ipc_model.specs.state.State.{State, new_port}
 use Rattle.ipc_model.specs.texts.Texts.{arguments_text, call_text, reply_text, record_text, IsRecord}
 use Rattle.words.specs.Words.{AreBytes, frame_text}
 

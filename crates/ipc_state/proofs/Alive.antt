@@ -1,5 +1,5 @@
 -- Messages whose rights are to live ports.
-use Rattle.std.proofs.Common.{◌≡◌, ℕ, Bool, true, false, ◌&&◌, ◌||◌, ◌==◌, List, [], ◌∷◌, Option, None, Some, refl, sym, ◌∙◌, ap}
+use Rattle.std.proofs.Common.{◌≡◌, ℕ, Bool, true, false, ◌&&◌, ◌||◌, List, [], ◌∷◌, Option, None, Some, refl, sym, ◌∙◌, ap}
 use Rattle.std.proofs.lemmas.Bool.{eqb-true}
 use Rattle.std.specs.List.{list_all, list_any}
 use Rattle.ipc_model.specs.declared.message.CarriedRight.{CarriedRight}
@@ -9,7 +9,7 @@ use Rattle.ipc_model.specs.declared.message.PortInMessage.TheVariants as in_mess
 use Rattle.ipc_model.specs.state.Circular.{is_port}
 use Rattle.ipc_model.specs.state.State.{State, lives}
 use Rattle.ipc_state.specs.Live.{carries_live, is_live, is_live_port, is_live_reply}
-use Rattle.ports.specs.Passed.{Ports, AreLive, lives_in, mentions, reply_is_to, is_to}
+use Rattle.ports.specs.Passed.{Ports, AreLive, lives_in, reply_is_to, is_to}
 
 both : (a b : Bool) → (a && b) ≡ true → (a ≡ true) × (b ≡ true)
 both true b e = (refl, e)

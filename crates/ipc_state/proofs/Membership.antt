@@ -1,5 +1,5 @@
 -- A name is a member of a set where its port's numbers name the set.
-use Rattle.std.proofs.Common.{◌≡◌, ℕ, eqb, Bool, true, false, cond, Option, None, Some, option_and_then, refl, sym, ◌∙◌, ap, subst}
+use Rattle.std.proofs.Common.{◌≡◌, ℕ, eqb, Bool, false, cond, Option, None, Some, option_and_then, refl, sym, ◌∙◌, ap}
 use Rattle.std.specs.FinMap as finmap
 use Rattle.std.specs.Option.{option_eq}
 use Rattle.ipc_model.specs.declared.entry.Entry.{Entry}

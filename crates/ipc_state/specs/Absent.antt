@@ -1,8 +1,7 @@
 -- A space that isn't there has no names.
-use Rattle.std.proofs.Common.{◌≡◌, ℕ, Option, None, Some, ap, ◌∙◌}
-use Rattle.std.specs.Prelude.{List, []}
+use Rattle.std.proofs.Common.{◌≡◌, ℕ, None, ap, ◌∙◌}
+use Rattle.std.specs.Prelude.{[]}
 use Rattle.std.specs.FinMap as finmap
-use Rattle.ipc_model.specs.declared.entry.Entry.{Entry}
 use Rattle.ipc_model.specs.calls.PortCalls.{names_in}
 use Rattle.ipc_laws.specs.MapLaws.{entries_none}
 use Rattle.ipc_model.specs.state.State.{State, Names}

@@ -3,7 +3,7 @@ use Rattle.std.specs.Prelude.{◌≡◌, ℕ, ◌+◌, Bool, ◌&&◌, ◌==◌,
 use Rattle.std.proofs.Common.{◌∙◌, sym, arith}
 use Rattle.std.proofs.lemmas.List.Sums.{sum_by-cons}
 use Rattle.ipc_laws.specs.MapSums.{total, weigh}
-use Rattle.ipc_laws.specs.Weights.{names_weigh, port_weigh, right_weigh, state_weigh, weigh-placed}
+use Rattle.ipc_laws.specs.Weights.{names_weigh, port_weigh, state_weigh, weigh-placed}
 use Rattle.ipc_model.specs.declared.message.RightKind.{RightKind}
 use Rattle.ipc_model.specs.state.Placed.{Right, count_of, placed, same_kind}
 use Rattle.ipc_model.specs.state.State.{State}

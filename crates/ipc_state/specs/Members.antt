@@ -2,14 +2,13 @@
 use Rattle.std.proofs.Common.{◌≡◌, ℕ, ◌+◌, ◌^◌, ◌<◌, ◌≤◌, ◌/◌, ◌%◌, ◌==◌, Bool, true, false, cond, nat_lt, Option, None, Some, is_some, option_map, option_and_then, refl, sym, ◌∙◌, ap, subst, arith}
 use Rattle.std.proofs.lemmas.Bool.{eqb-true, ltb-true, ltb-false}
 use Rattle.std.specs.Ordering.{nat_cmp, eq_by_cmp}
-use Rattle.std.specs.FinMap.{FinMap, get, insert, remove, empty, get-empty}
+use Rattle.std.specs.FinMap.{get, empty, get-empty}
 use Rattle.ipc_laws.specs.MapSums.{key_is, same_key}
 use Rattle.ipc_model.specs.declared.entry.Entry.{Entry}
 use Rattle.ipc_model.specs.declared.port.PortState.{PortState}
 use Rattle.ipc_model.specs.state.State.{State, Names, is_number, received_port}
 use Rattle.ports.specs.Passed.{PortTable, Ports}
 use Rattle.spaces.specs.Passed.{IsIndexed, alike_indexed, nothing_indexed, place_moved, Numbers, Tracked, moved}
-use Rattle.spaces.specs.Indexes.{IsNextAt}
 use Rattle.spaces.specs.Looking.{at_place, entry_in, parts_of, place, place_changed}
 use Rattle.spaces.specs.Slots.{SpaceMap, names_changed}
 

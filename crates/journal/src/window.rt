@@ -1,5 +1,5 @@
 // What of a slot is in memory while a reader goes over it.
-ghost use Rattle.std.specs.Prelude.{◌≡◌, ◌+◌, ◌≤◌, [], length, take, drop, IfOk, OnOk};
+ghost use Rattle.std.specs.Prelude.{◌≡◌, ◌+◌, ◌≤◌, length, take, drop, IfOk, OnOk};
 ghost use Rattle.disk.specs.Slots.{slot_of};
 ghost use Rattle.disk.specs.Moments.{Passes, MayLeave, CountsFailure};
 ghost use Rattle.journal.specs.Windows.{IsOver, IsFull};

@@ -1,5 +1,5 @@
 -- The rows of a snapshot, gathered one by one.
-use Rattle.std.proofs.Common.{◌≡◌, ℕ, ◌+◌, ◌^◌, ◌<◌, ◌≤◌, true, Bool, List, [], ◌∷◌, ◌++◌, map, Option, None, Some, is_some, append_assoc, append-nil, refl, sym, ◌∙◌, ap, subst, arith}
+use Rattle.std.proofs.Common.{◌≡◌, ℕ, ◌+◌, ◌^◌, ◌<◌, ◌≤◌, true, List, [], ◌∷◌, ◌++◌, map, Option, None, Some, is_some, append_assoc, append-nil, refl, sym, ◌∙◌, ap, arith}
 use Rattle.std.specs.Ordering.{nat_cmp}
 use Rattle.std.specs.FinMap as finmap
 use Rattle.std.specs.FinMap.{FinMap, entries, get}
@@ -9,20 +9,11 @@ use Rattle.ipc_model.specs.declared.port.PortState.{PortState}
 use Rattle.ipc_model.specs.state.Lawful.{Lawful}
 use Rattle.ipc_model.specs.state.State.{Names, State}
 use Rattle.port_calls.specs.Passed.{entries_from, from_end, from_first, from_next, IsNextEntry}
+use Rattle.snapshot.specs.Rows.{named_row, port_row, space_row}
 use Rattle.snapshot.specs.Snapshots.{names_of}
 use Rattle.snapshot.specs.declared.rows.LivePort.{LivePort}
 use Rattle.snapshot.specs.declared.rows.NamedEntry.{NamedEntry}
 use Rattle.snapshot.specs.declared.rows.Space.{Space}
-
--- the row of a name, of a space, and of a live port
-abbrev pub named_row : ℕ × Entry → NamedEntry
-named_row e = record { name = e.0; entry = e.1 }
-
-abbrev pub space_row : ℕ × Names → Space
-space_row e = record { number = e.0; names = names_of e.1 }
-
-abbrev pub port_row : ℕ × PortState → LivePort
-port_row e = record { serial = e.0; state = e.1 }
 
 -- the row of a port, none where it is dead
 abbrev pub port_rows : ℕ → Option PortState → List LivePort

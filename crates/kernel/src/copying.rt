@@ -3,7 +3,8 @@ ghost use Rattle.std.specs.Prelude.{◌≡◌, ◌++◌, IfOk, OnOk, map as mapp
 ghost use Rattle.std.specs.FinMap as map;
 ghost use Rattle.ipc_model.specs.calls.PortCalls.{names_in};
 ghost use Rattle.ipc_model.specs.state.Lawful.{Lawful};
-ghost use Rattle.kernel.specs.Copying.{port_row, port_rows, space_row};
+ghost use Rattle.kernel.specs.Copying.{port_rows};
+ghost use Rattle.snapshot.specs.Rows.{port_row, space_row};
 ghost use Rattle.snapshot.specs.Snapshots.{names_of, snapshot_of};
 
 use crate::Kernel;

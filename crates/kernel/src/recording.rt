@@ -1,14 +1,12 @@
 //! Steps whose records are written down before they are kept.
-ghost use Rattle.std.specs.Prelude.{◌≡◌, ◌≤◌, ℕ, true, false, length, None, IfOk, OnOk, OnErr};
+ghost use Rattle.std.specs.Prelude.{◌≡◌, ℕ, true, false, None, IfOk, OnOk, OnErr};
 ghost use Rattle.std.specs.FinMap as map;
-ghost use Rattle.codes.specs.declared.limits.TheConstants.{MAX_FRAME_CONTENT};
 ghost use Rattle.ipc_laws.specs.RecordedSteps.{IsAnsweredWhole};
-ghost use Rattle.ipc_model.specs.calls.Step.{Step, has_record, number_of_call};
+ghost use Rattle.ipc_model.specs.calls.Step.{Step, has_record};
 ghost use Rattle.ipc_model.specs.declared.call.Call.{Call};
 ghost use Rattle.ipc_model.specs.declared.call.Reply.{Reply};
 ghost use Rattle.ipc_model.specs.state.Circular.{Grounded};
 ghost use Rattle.ipc_model.specs.state.Lawful.{Lawful};
-ghost use Rattle.ipc_model.specs.texts.Texts.{number_of_reply, reply_text};
 
 use crate::choices::Shown;
 use crate::stepping::step;

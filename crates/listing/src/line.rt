@@ -1,52 +1,11 @@
 ghost use Rattle.std.specs.Prelude.{◌≡◌, ◌++◌, IfOk, OnOk, string_bytes};
-ghost use Rattle.ipc_model.specs.state.State as model;
 ghost use Rattle.listing.specs.Listing.{hexadecimal, port_of, references_of, name_line, space_line, queue_text, port_text, store_line};
 ghost use Rattle.listing.specs.Rows.{standing_text};
 
 use crate::standing::Standing;
 use crate::tally::Tally;
-use codes::Right;
 use ipc_model::{Entry, PortState};
 use std::alloc::{AllocError, Global};
-
-/// The bit of a dead-name request in a name's type (`MACH_PORT_TYPE_DNREQUEST`).
-const REQUEST_BIT: u32 = 1 << 31;
-
-fn request_bit(target: Option<u64>) -> u32
-    ensures { result ≡ model.request_bit target }
-{
-    match target {
-        Some(_) => REQUEST_BIT,
-        None => 0,
-    }
-}
-
-/// The type bits of what a name stands for.
-pub(crate) fn type_of(entry: &Entry) -> u32
-    ensures { result ≡ model.type_of entry.now }
-{
-    match entry {
-        Entry::Port(rights) => {
-            let send = if rights.send == 0 {
-                0
-            } else {
-                Right::Send.type_bit()
-            };
-            let receive = if rights.receive {
-                Right::Receive.type_bit()
-            } else {
-                0
-            };
-            send + receive + request_bit(rights.dead_name_target)
-        }
-        Entry::SendOnce {
-            dead_name_target,
-            ..
-        } => { Right::SendOnce.type_bit() + request_bit(*dead_name_target) }
-        Entry::Set => Right::PortSet.type_bit(),
-        Entry::Dead { .. } => Right::DeadName.type_bit(),
-    }
-}
 
 fn port_of(entry: &Entry) -> u64
     ensures { result ≡ port_of entry.now }
@@ -90,7 +49,7 @@ pub(crate) fn name_line(alloc: Global, name: u32, entry: &Entry) -> Result<Strin
     ensures { IfOk result (λ line. string_bytes line ≡ name_line name entry.now) }
 {
     let name = hexadecimal(alloc, name)?;
-    let bits = hexadecimal(alloc, type_of(entry))?;
+    let bits = hexadecimal(alloc, entry.type_bits())?;
     let port = port_of(entry);
     let references = references_of(entry);
     let line = format!(in alloc; "name {name} {bits} port {port} refs {references}\n");

@@ -2,7 +2,7 @@ ghost use Rattle.std.specs.Prelude.{◌≡◌, IfOk, string_bytes};
 ghost use Rattle.listing.specs.Drawing.{name_node, port_node, name_node_line, cluster_head, queue_label, port_node_text, kind_word, held_label};
 ghost use Rattle.listing.specs.Strokes.{source_of, label_of, edge_of};
 
-use crate::line::{hexadecimal, references_of, type_of};
+use crate::line::{hexadecimal, references_of};
 use crate::standing::{Standing, StandingRight};
 use crate::tally::Tally;
 use ipc_model::{Entry, PortState, RightKind};
@@ -35,7 +35,7 @@ pub(crate) fn name_node_line(
 {
     let node = name_node(alloc, space, name)?;
     let name = hexadecimal(alloc, name)?;
-    let bits = hexadecimal(alloc, type_of(entry))?;
+    let bits = hexadecimal(alloc, entry.type_bits())?;
     let references = references_of(entry);
     format!(in alloc; "    {node} [label=\"{name} {bits} refs {references}\"];\n")
 }

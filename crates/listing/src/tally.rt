@@ -1,7 +1,6 @@
-ghost use Rattle.std.specs.Prelude.{◌≡◌, ◌+◌, IfOk, OnOk};
+ghost use Rattle.std.specs.Prelude.{◌≡◌, ◌+◌, IfOk};
 ghost use Rattle.std.specs.FinMap as finmap;
 ghost use Rattle.listing.specs.Gathering.{with_right, no_rights, tally_of, noted, gathered};
-ghost use Rattle.listing.specs.Walking.{snapshot_seen};
 
 use crate::standing::{Standing, StandingRight};
 use crate::walk::{Visitor, see_snapshot};

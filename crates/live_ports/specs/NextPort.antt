@@ -4,7 +4,7 @@ use Rattle.std.proofs.lemmas.Bool.{ltb-true, ltb-false}
 use Rattle.std.specs.FinMap.{get}
 use Rattle.ipc_model.specs.declared.port.PortState.{PortState}
 use Rattle.live_ports.specs.Seen.{Ports, as_seen}
-use Rattle.live_ports.specs.SeenLaws.{get_seen, lives_seen}
+use Rattle.live_ports.specs.SeenLaws.{lives_seen}
 use Rattle.live_ports.specs.Tables.{Slots, current_of, present_ports}
 use Rattle.tracked_map.specs.Slots.{get_picked}
 

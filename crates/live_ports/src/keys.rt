@@ -110,7 +110,7 @@ impl SerialKeys {
 fn place(serial: u128) -> usize
     ensures { result ≡ place_of serial }
 {
-    (serial % 16384) as usize
+    (serial % PLACES as u128) as usize
 }
 
 /// What a place has for a serial and its key. A serial that is no `u64` has no place.

@@ -1,10 +1,10 @@
 //! The slots of ports, with the serials of those that were changed, as a plain table.
-ghost use Rattle.std.specs.Prelude.{◌≡◌, ◌<◌, ◌≤◌, ◌+◌, ◌-◌, ◌^◌, ◌∷◌, ◌++◌, [], true, None, Some, OnOk, OnErr, IfSome, is_some, length, option_map, option_and_then, slice_index_or};
+ghost use Rattle.std.specs.Prelude.{◌≡◌, ◌<◌, ◌+◌, ◌-◌, ◌^◌, ◌∷◌, ◌++◌, [], None, Some, OnOk, OnErr, IfSome, is_some, length, option_map};
 ghost use Rattle.std.specs.FinMap as map;
 ghost use Rattle.codes.specs.declared.limits.TheConstants.{MAX_PORTS};
 ghost use Rattle.ipc_model.specs.state.State.{new_port};
-ghost use Rattle.live_ports.specs.Changed.{IsMessageAt, changed, messages_at, messages_in, numbers_of, with_message, with_numbers, without_first};
-ghost use Rattle.live_ports.specs.Tables.{before_of, current_of, former_ports, present_ports, slot_changed, present_changed, buried, kept_slot, given_up_slot, AreMarked, SameBefore, AreNow, AreAtRest};
+ghost use Rattle.live_ports.specs.Changed.{IsMessageAt, changed, messages_at, numbers_of, with_message, with_numbers, without_first};
+ghost use Rattle.live_ports.specs.Tables.{before_of, current_of, former_ports, present_ports, kept_slot, given_up_slot, AreMarked, SameBefore, AreNow, AreAtRest};
 ghost use Rattle.live_ports.specs.Touched.{worked_off};
 
 use crate::port::{Port, PortNumbers};

@@ -1,6 +1,6 @@
-ghost use Rattle.std.specs.Prelude.{◌≡◌, ◌∷◌, [], ◌++◌, IfOk, None, false};
+ghost use Rattle.std.specs.Prelude.{◌≡◌, [], ◌++◌, IfOk, None, false};
 ghost use Rattle.words.specs.Words.{word};
-ghost use Rattle.ipc_model.specs.messages.Notices.{notice_message, notice_body};
+ghost use Rattle.ipc_model.specs.messages.Notices.{notice_message};
 ghost use Rattle.effects.specs.Meaning.{notice_meant};
 ghost use Rattle.ipc_model.specs.messages.Notices as notice;
 

@@ -1,4 +1,4 @@
-ghost use Rattle.std.specs.Prelude.{◌≡◌, ◌&&◌, not, IfSome, IfNone, Some, true, false};
+ghost use Rattle.std.specs.Prelude.{◌≡◌, IfSome, IfNone, Some, true, false};
 ghost use Rattle.std.specs.FinMap as map;
 ghost use Rattle.ipc_model.specs.calls.PortCalls.{is_no_name, names_in};
 ghost use Rattle.ipc_model.specs.state.State.{entry_at, is_null_or_dead};

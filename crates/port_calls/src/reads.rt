@@ -8,7 +8,6 @@ ghost use Rattle.ipc_model.specs.calls.PortCalls.{names_in, references_of};
 ghost use Rattle.ipc_model.specs.calls.Step.{ActsIn};
 ghost use Rattle.codes.specs.Right.{number_of};
 
-use crate::entry::type_of;
 use crate::name_lookup::named;
 use crate::reply::refused;
 use codes::{
@@ -27,7 +26,7 @@ pub fn port_type(state: &IpcState, space: u32, name: u32) -> Reply
 {
     match named(state, space, name) {
         Some(entry) => Reply::Type {
-            bits: type_of(&entry),
+            bits: entry.type_bits(),
         },
         None => refused(MACH_PORT_TYPE, KernReturn::InvalidName),
     }
@@ -69,7 +68,7 @@ fn named_types(alloc: Global, state: &IpcState, space: u32) -> Result<Vec<NamedT
     for (name, entry) in entries.as_slice() {
         types.push(NamedType {
             name: *name,
-            bits: type_of(entry),
+            bits: entry.type_bits(),
         })?;
     }
     Ok(types)

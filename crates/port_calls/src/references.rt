@@ -1,5 +1,5 @@
 ghost use Rattle.std.specs.Prelude.{◌≡◌, ◌++◌, ◌∷◌, ◌==◌, ◌≤◌, ◌||◌, ◌&&◌, [], IfOk, OnOk, IsSome, Some};
-ghost use Rattle.codes.specs.declared.limits.TheConstants.{MAX_SEND_REFERENCES, MAX_DEAD_REFERENCES};
+ghost use Rattle.codes.specs.declared.limits.TheConstants.{MAX_SEND_REFERENCES};
 ghost use Rattle.ipc_model.specs.calls.Actions.{release_if, effects_of_name};
 ghost use Rattle.ipc_model.specs.rights.CopyIn.{with_left, notices_of_left};
 ghost use Rattle.ipc_model.specs.declared.call.Call.TheVariants as call;

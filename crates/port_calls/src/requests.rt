@@ -1,4 +1,4 @@
-ghost use Rattle.std.specs.Prelude.{◌≡◌, ◌<◌, ◌++◌, ℕ, List, [], Some, None, IfOk, IfErr, OnOk, IsSome, is_none, option_map};
+ghost use Rattle.std.specs.Prelude.{◌≡◌, ◌<◌, ◌++◌, ℕ, List, [], Some, None, IfOk, IfErr, OnOk, IsSome, is_none};
 ghost use Rattle.std.specs.FinMap as map;
 ghost use Rattle.ipc_model.specs.calls.Actions.{GivesBack, dead_name_request_set, lacks_senders, make_send_count_of, port_request_set, request_set_under, target_for};
 ghost use Rattle.ipc_model.specs.declared.call.Call.TheVariants as call;

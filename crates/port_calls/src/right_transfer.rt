@@ -6,7 +6,7 @@ ghost use Rattle.ipc_model.specs.rights.CopyOut.{MayArrive, names_after};
 ghost use Rattle.ipc_model.specs.declared.call.Call.TheVariants as call;
 ghost use Rattle.ipc_model.specs.effects.Effects.{Effect};
 ghost use Rattle.ipc_model.specs.calls.PortCalls.{is_in_use, names_are_used_up, is_send_once_kind, is_taken_otherwise, names_in, passes_bound, stands_elsewhere, tests_of};
-ghost use Rattle.ipc_model.specs.state.State.{State, entry_at, with_names};
+ghost use Rattle.ipc_model.specs.state.State.{State, with_names};
 ghost use Rattle.ipc_model.specs.calls.Step.{ActsIn};
 ghost use Rattle.ipc_model.specs.calls.Tests.{first_failing};
 ghost use Rattle.port_calls.specs.Trying.{Tries};

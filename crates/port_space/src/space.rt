@@ -1,4 +1,4 @@
-ghost use Rattle.std.specs.Prelude.{◌≡◌, ℕ, ◌≤◌, ◌<◌, ◌^◌, ◌↔◌, true, false, IfOk, OnOk, OnErr, IsSome, IfSome, IsTrue, MatchBool, None, is_some, option_copied};
+ghost use Rattle.std.specs.Prelude.{◌≡◌, ℕ, ◌≤◌, ◌<◌, ◌^◌, ◌↔◌, true, false, IfOk, OnOk, OnErr, IsSome, IfSome, IsTrue, MatchBool, None, is_some};
 ghost use Rattle.std.specs.FinMap as map;
 ghost use Rattle.ipc_model.specs.calls.PortCalls.{stands_elsewhere};
 ghost use Rattle.ipc_model.specs.state.State.{IsUnused, name_of_port};

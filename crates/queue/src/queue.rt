@@ -1,4 +1,4 @@
-ghost use Rattle.std.specs.Prelude.{◌≡◌, ◌<◌, ◌≤◌, ◌-◌, ◌^◌, ◌↔◌, ◌==◌, ◌∷◌, ◌++◌, [], length, drop, option_copied, OnOk, OnErr, IsErrOf, MatchOption, slice_index_or};
+ghost use Rattle.std.specs.Prelude.{◌≡◌, ◌<◌, ◌≤◌, ◌-◌, ◌↔◌, ◌==◌, ◌∷◌, ◌++◌, [], length, drop, OnOk, OnErr, IsErrOf, slice_index_or};
 ghost use Rattle.queue.specs.TrackedList.{list_at_rest};
 
 use ipc_model::Message;

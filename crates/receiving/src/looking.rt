@@ -1,5 +1,5 @@
 //! What is asked of a message before it is received.
-ghost use Rattle.std.specs.Prelude.{◌≡◌, ◌+◌, ◌++◌, [], nat_lt, IfOk, OnOk, length, map, option_map};
+ghost use Rattle.std.specs.Prelude.{◌≡◌, ◌+◌, ◌++◌, [], nat_lt, IfOk, OnOk, map, option_map};
 ghost use Rattle.std.specs.FinMap as finmap;
 ghost use Rattle.codes.specs.declared.limits.TheConstants.{MAX_NAMES};
 ghost use Rattle.ipc_model.specs.calls.PortCalls.{names_in};

@@ -1,11 +1,10 @@
-ghost use Rattle.std.specs.Prelude.{◌≡◌, ◌+◌, ◌≤◌, ◌<◌, ◌^◌, ◌++◌, ℕ, List, [], None, Some, IfOk, IfSome, IfNone, OnOk, IsSome, length};
+ghost use Rattle.std.specs.Prelude.{◌≡◌, ◌+◌, ◌≤◌, ◌<◌, ◌++◌, List, [], None, Some, IfOk, IfSome, IfNone, OnOk, IsSome, length};
 ghost use Rattle.std.specs.FinMap as map;
 ghost use Rattle.codes.specs.declared.limits.TheConstants.{MAX_NAMES};
 ghost use Rattle.ipc_model.specs.calls.PortCalls.{names_in};
 ghost use Rattle.ipc_model.specs.calls.Step.{ActsIn};
 ghost use Rattle.ipc_model.specs.declared.call.Call.TheVariants as call;
 ghost use Rattle.ipc_model.specs.declared.call.Reply as machine;
-ghost use Rattle.ipc_model.specs.declared.port.PortState.{PortState};
 ghost use Rattle.ipc_model.specs.effects.Effects as waiting;
 ghost use Rattle.ipc_model.specs.messages.Receiving.{Received, TakesOut, TooLarge, arriving, destination_consumed, message_size, received_text};
 ghost use Rattle.ipc_model.specs.rights.CopyOut.{Arrives, names_wanted};
@@ -14,7 +13,6 @@ ghost use Rattle.ipc_model.specs.state.State.{Names, State};
 ghost use Rattle.rights.specs.Passed.{messages_at};
 ghost use Rattle.receiving.specs.ShownNames.{names_shown};
 ghost use Rattle.receiving.specs.Shows.{preferred_by, receipt_of, text_in};
-ghost use Rattle.receiving.specs.Sources.{IsSource};
 ghost use Rattle.receiving.specs.Taking.{OfOldest};
 
 use crate::asked::{Asked, Preference};

@@ -2,7 +2,6 @@
 ghost use Rattle.std.specs.Prelude.{◌≡◌, ◌++◌, ◌<◌, ◌^◌, IfOk, OnOk, length};
 ghost use Rattle.ipc_model.specs.messages.Receiving.{body_names, first_name, message_size, received_body, received_text, reply_kind_number, reply_name};
 ghost use Rattle.ipc_model.specs.rights.Dispositions.{number_of_kind};
-ghost use Rattle.msg_header.specs.declared.header.Header as declared;
 
 use crate::looking::size_of;
 use codes::MACH_PORT_NULL;

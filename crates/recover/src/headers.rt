@@ -1,5 +1,5 @@
 // What the header of a slot says.
-ghost use Rattle.std.specs.Prelude.{◌≡◌, ◌≢◌, ◌↔◌, ◌≤◌, ◌%◌, ◌++◌, ℕ, List, IsTrue, IfOk, IfSome, IfNone, OnOk, length};
+ghost use Rattle.std.specs.Prelude.{◌≡◌, ◌≢◌, ◌↔◌, ◌≤◌, ◌%◌, ◌++◌, ℕ, List, IsTrue, IfOk, IfSome, IfNone, length};
 ghost use Rattle.disk.specs.Slots.{slot_of};
 ghost use Rattle.disk.specs.Moments.{CountsFailure, MayLeave, Passes};
 ghost use Rattle.ipc_model.specs.store.Recovery.{HasOtherVersion, IsOfEpoch, IsOpen};

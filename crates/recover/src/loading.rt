@@ -1,5 +1,5 @@
 // The state whose image stands in a slot.
-ghost use Rattle.std.specs.Prelude.{◌≡◌, ◌⊎◌, ◌%◌, ◌^◌, ◌<◌, ◌++◌, ℕ, List, IfOk, OnOk, OnErr, IsErrOf, drop, length};
+ghost use Rattle.std.specs.Prelude.{◌≡◌, ◌⊎◌, ◌^◌, ◌<◌, ◌++◌, ℕ, List, IfOk, OnOk, OnErr, IsErrOf, drop, length};
 ghost use Rattle.disk.specs.Moments.{CountsFailure, MayLeave, Passes, one_more};
 ghost use Rattle.disk.specs.Slots.{slot_of};
 ghost use Rattle.ipc_model.specs.state.State.{State};

@@ -1,6 +1,6 @@
 //! What a store holds, as it is found.
-ghost use Rattle.std.specs.Prelude.{◌≡◌, ◌⊎◌, ◌+◌, ◌^◌, ◌<◌, true, Err, IfOk, IsErrOf, OnErr, OnOk};
-ghost use Rattle.disk.specs.Moments.{MayLeave, Passes, one_more};
+ghost use Rattle.std.specs.Prelude.{◌≡◌, ◌⊎◌, ◌+◌, ◌<◌, Err, IfOk, IsErrOf, OnErr, OnOk};
+ghost use Rattle.disk.specs.Moments.{one_more};
 ghost use Rattle.ipc_model.specs.state.State.{State};
 ghost use Rattle.ipc_model.specs.store.Recovery.{IsDamaged, IsOtherVersion, Recovered};
 ghost use Rattle.recover.specs.Found.{Reads};

@@ -1,4 +1,4 @@
-ghost use Rattle.std.specs.Prelude.{◌≡◌, ◌≢◌, ◌⊎◌, ◌+◌, ◌<◌, ◌^◌, ℕ, List, [], true, false, Err, IfOk, IfErr, IsErrOf, OnErr, OnOk};
+ghost use Rattle.std.specs.Prelude.{◌≡◌, ◌≢◌, ◌⊎◌, ◌+◌, ◌<◌, ◌^◌, true, false, Err, IfOk, IfErr, IsErrOf, OnErr, OnOk};
 ghost use Rattle.checkpoint.specs.Images.{open_image, unwritten};
 ghost use Rattle.disk.specs.Slots.{Slots};
 ghost use Rattle.disk.specs.Moments.{CountsFailure, MayLeave, Passes, one_more};
@@ -9,7 +9,7 @@ ghost use Rattle.recover.specs.AtRest.{IsAtRest};
 ghost use Rattle.recover.specs.Headers.{SayAll, Says};
 ghost use Rattle.recover.specs.Kept.{IsKept};
 ghost use Rattle.recover.specs.Stopping.{HaveLastGates, LeavesSame, StandForSame};
-ghost use Rattle.recover.specs.Surveyed.{IsInUse, IsUnused, Surveys};
+ghost use Rattle.recover.specs.Surveyed.{IsInUse, IsUnused};
 ghost use Rattle.standing.specs.Standing.{as_written};
 
 use crate::behind::{both, end_behind, write_behind};

@@ -1,5 +1,5 @@
 // What the headers of a store's slots tell of the store.
-ghost use Rattle.std.specs.Prelude.{◌≡◌, ◌≢◌, ◌⊎◌, ◌+◌, ◌%◌, ◌^◌, ◌<◌, ℕ, IsTrue, List, Some, None, IfOk, IfSome, IfNone, IsErrOf, OnOk, OnErr, MatchBool};
+ghost use Rattle.std.specs.Prelude.{◌≡◌, ◌≢◌, ◌⊎◌, ◌+◌, ◌%◌, ◌^◌, ◌<◌, IsTrue, List, Some, None, IfOk, IfSome, IfNone, IsErrOf, OnOk, OnErr, MatchBool};
 ghost use Rattle.disk.specs.Slots.{Slots};
 ghost use Rattle.ipc_model.specs.declared.record.Record.{Record};
 ghost use Rattle.ipc_model.specs.state.State.{State};

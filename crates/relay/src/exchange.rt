@@ -1,8 +1,7 @@
-ghost use Rattle.std.specs.Prelude.{◌≡◌, [], IfErr, IfOk, MatchOption, OnErr, OnOk, length};
+ghost use Rattle.std.specs.Prelude.{◌≡◌, [], IfErr, IfOk, MatchOption, OnErr, OnOk};
 ghost use Rattle.std.specs.Io.Buffered.{writer_buffer, writer_contents};
 ghost use Rattle.std.specs.Io.KnownBytes.{Appends};
 ghost use Rattle.relay.specs.Relaying.{Ends, IsTaken, IsUnread, IsUnanswered, TakesAll, side};
-ghost use Rattle.wire.specs.Frame.{IsContentLength};
 ghost use Rattle.wire.specs.Writing.{AppendsPart};
 ghost use Rattle.words.specs.Words.{frame_text};
 

@@ -1,7 +1,7 @@
 //! A state filled with the rows of a snapshot.
 ghost use Rattle.std.specs.Prelude.{◌≡◌, ◌∷◌, ◌-◌, ◌^◌, ◌<◌, ◌≤◌, [], true, All, None, IfOk, OnOk};
 ghost use Rattle.std.specs.FinMap as map;
-ghost use Rattle.codes.specs.declared.limits.TheConstants.{MAX_PORTS, MAX_SPACES};
+ghost use Rattle.codes.specs.declared.limits.TheConstants.{MAX_PORTS};
 ghost use Rattle.ipc_model.specs.state.State.{State};
 ghost use Rattle.ipc_state.specs.Passed.{numbers_of};
 ghost use Rattle.restoring.specs.FillLaws.{AreAlike, MayName, MayOpen, MaySpace};

@@ -1,5 +1,5 @@
 //! Rows of a lawful shape, each looked at alone.
-ghost use Rattle.std.specs.Prelude.{◌≡◌, ◌↔◌, ◌<◌, ◌^◌, All, IfOk, IsTrue, length};
+ghost use Rattle.std.specs.Prelude.{◌↔◌, ◌<◌, ◌^◌, All, IfOk, IsTrue, length};
 ghost use Rattle.ipc_model.specs.state.Lawful.{LawfulEntry, LawfulMessage, LawfulPort};
 ghost use Rattle.restoring.specs.Shaped.{BeginsFirst, IsShaped, IsShapedName, IsShapedPort, IsShapedSpace};
 

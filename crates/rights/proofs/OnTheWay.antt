@@ -7,9 +7,7 @@ use Rattle.std.specs.FinMap.{FinMap}
 use Rattle.codes.specs.declared.limits.TheConstants.{MAX_NAMES}
 use Rattle.ipc_model.specs.calls.PortCalls.{names_in}
 use Rattle.ipc_model.specs.declared.message.CarriedRight.{CarriedRight}
-use Rattle.ipc_model.specs.declared.message.PortInMessage.{PortInMessage}
 use Rattle.ipc_model.specs.declared.message.PortInMessage.TheVariants as in_message
-use Rattle.ipc_model.specs.declared.message.RightKind.{RightKind}
 use Rattle.ipc_model.specs.rights.CopyOut.{Arrives, MayArrive, names_after, names_wanted}
 use Rattle.ipc_model.specs.state.State.{State, Names, with_names}
 use Rattle.ipc_laws.specs.ListLaws.{same_head, same_tail}

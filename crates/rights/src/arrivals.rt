@@ -1,5 +1,5 @@
 //! Rights that arrive in the receiver's space, one after another.
-ghost use Rattle.std.specs.Prelude.{◌≡◌, ℕ, ◌+◌, ◌<◌, ◌≤◌, ◌∷◌, [], None, Some, IfOk, OnOk, IsSome, MatchOption, length};
+ghost use Rattle.std.specs.Prelude.{◌≡◌, ℕ, ◌+◌, ◌<◌, ◌≤◌, ◌∷◌, [], None, Some, IfOk, OnOk, IsSome, MatchOption};
 ghost use Rattle.std.specs.FinMap as map;
 ghost use Rattle.codes.specs.declared.limits.TheConstants.{MAX_NAMES};
 ghost use Rattle.ipc_model.specs.calls.PortCalls.{names_in};

@@ -1,4 +1,4 @@
-ghost use Rattle.std.specs.Prelude.{◌≡◌, ◌<◌, length, IfSome, IfNone, IsTrue};
+ghost use Rattle.std.specs.Prelude.{◌<◌, length, IfSome, IfNone, IsTrue};
 ghost use Rattle.rows.specs.Replies.{HasCode, IsSame, Meets};
 
 use crate::failure::{Place, Way};

@@ -1,4 +1,4 @@
-ghost use Rattle.std.specs.Prelude.{◌≡◌, ◌<◌, ◌≤◌, ◌^◌};
+ghost use Rattle.std.specs.Prelude.{◌≡◌, ◌<◌, ◌≤◌};
 ghost use Rattle.script.specs.Numbers.{natural, number_from, with_digit, number_of_word};
 
 /// The number that digits spell, if they are some and it has four bytes.

@@ -1,4 +1,4 @@
-ghost use Rattle.std.specs.Prelude.{◌≡◌, ◌<◌, ◌≤◌, ◌∷◌, [], ◌++◌, OnOk, length, take, drop, MatchOption, Option, None, Some};
+ghost use Rattle.std.specs.Prelude.{◌≡◌, ◌<◌, ◌≤◌, ◌∷◌, [], ◌++◌, OnOk, length, MatchOption, Option, None, Some};
 ghost use Rattle.std.specs.List.{prefix_len};
 ghost use Rattle.script.specs.Spaced.{is_space, is_word_byte, words_of, word_end, column_of, spaced};
 

@@ -1,4 +1,4 @@
-ghost use Rattle.std.specs.Prelude.{◌≡◌, ◌<◌, ◌^◌, MatchOption, None, Some, OnOk, IfOk, ◌++◌, ◌∷◌, []};
+ghost use Rattle.std.specs.Prelude.{◌≡◌, ◌<◌, MatchOption, None, Some, OnOk, IfOk, ◌++◌, ◌∷◌, []};
 ghost use Rattle.script.specs.Kinds.{value_word};
 ghost use Rattle.script.specs.Reading.{Gives, number_at, bounded_at, value_at, label_at, labelled_at, optional_at, flag_at};
 ghost use Rattle.script.specs.Spaced.{words_of, spaced};

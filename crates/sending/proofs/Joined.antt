@@ -1,5 +1,5 @@
 -- The rights of a header and of a body make a message that is ready.
-use Rattle.std.proofs.Common.{◌≡◌, ℕ, Bool, true, false, ◌&&◌, not, List, [], ◌∷◌, ◌++◌, map, Option, Result, Ok, Err, refl, sym, ◌∙◌, ap, subst, append_assoc, if◌then◌else◌}
+use Rattle.std.proofs.Common.{◌≡◌, ℕ, Bool, true, false, ◌&&◌, not, List, [], ◌∷◌, ◌++◌, map, Result, Ok, Err, refl, sym, ◌∙◌, ap, subst, append_assoc, if◌then◌else◌}
 use Rattle.std.specs.List.{list_any}
 use Rattle.codes.specs.declared.kern_return.KernReturn.{KernReturn}
 use Rattle.codes.specs.declared.kern_return.KernReturn.TheVariants.{SendInvalidRight, SendTimedOut}
@@ -13,11 +13,10 @@ use Rattle.ipc_model.specs.messages.Messages.{Parts}
 use Rattle.ipc_model.specs.messages.Sending.{TakenHeader, TakenRights, Ready, ready_message, is_full, tests_of_queue, take_items}
 use Rattle.ipc_model.specs.state.Placed.{same_kind}
 use Rattle.ipc_model.specs.state.State.{State}
-use Rattle.sending.specs.Gave.{Gave, Tells, IsWant}
+use Rattle.sending.specs.Gave.{Gave}
 use Rattle.sending.specs.Sends.{ReadyIs}
 use Rattle.sending.specs.SoFar.{so_far}
 use Rattle.sending.specs.declared.fault.SendFault.{SendFault}
-use Rattle.sending.specs.declared.fault.SendFault.TheVariants.{Refused, NoMemory}
 use Rattle.sending.specs.declared.header.HeaderRights.{HeaderRights}
 use Rattle.sending.proofs.Steps.{gave_then, gave_failed}
 

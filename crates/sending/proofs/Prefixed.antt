@@ -1,12 +1,11 @@
 -- Notices that wait already stand in front of those of rights that are taken.
-use Rattle.std.proofs.Common.{◌≡◌, ℕ, Bool, true, false, List, [], ◌∷◌, ◌++◌, Option, None, Some, option_map, if◌then◌else◌, refl, sym, ◌∙◌, ap, append_assoc}
-use Rattle.ipc_model.specs.declared.message.CarriedRight.{CarriedRight}
+use Rattle.std.proofs.Common.{◌≡◌, ℕ, Bool, true, false, List, [], ◌∷◌, ◌++◌, Option, None, Some, option_map, if◌then◌else◌, refl, ◌∙◌, ap, append_assoc}
 use Rattle.ipc_model.specs.effects.Effects.{Effect}
 use Rattle.ipc_model.specs.messages.Items.{Item, names_of_item}
 use Rattle.ipc_model.specs.messages.Sending.{TakenRights, take_right, take_rights, take_item, take_items, passed}
 use Rattle.ipc_model.specs.rights.CopyIn.{Taken, copy_in}
 use Rattle.ipc_model.specs.rights.Dispositions.{Disposition, disposition_of, received_kind}
-use Rattle.ipc_model.specs.state.State.{State, is_null_or_dead}
+use Rattle.ipc_model.specs.state.State.{is_null_or_dead}
 
 abbrev pub behind : List Effect → TakenRights → TakenRights
 behind waiting taken = record taken { notices = waiting ++ taken.notices }

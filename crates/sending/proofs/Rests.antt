@@ -1,5 +1,5 @@
 -- Rights that are taken one after another, where one is refused, and behind effects that wait.
-use Rattle.std.proofs.Common.{◌≡◌, ℕ, ◌<◌, List, [], ◌∷◌, ◌++◌, length, drop, map, Option, None, Some, option_map, Result, Ok, Err, refl, sym, ◌∙◌, ap, subst, append-nil, get_or, suc}
+use Rattle.std.proofs.Common.{◌≡◌, ℕ, ◌<◌, List, [], ◌∷◌, ◌++◌, length, drop, map, Option, None, Some, option_map, Result, Ok, Err, sym, ◌∙◌, ap, subst, append-nil, get_or, suc}
 use Rattle.std.proofs.Math.Seq.{drop-cons}
 use Rattle.codes.specs.declared.kern_return.KernReturn.{KernReturn}
 use Rattle.ipc_model.specs.calls.Tests.{or_refused}
@@ -9,7 +9,7 @@ use Rattle.ipc_model.specs.messages.Items.{Item}
 use Rattle.ipc_model.specs.messages.Sending.{TakenRights, take_item, take_items}
 use Rattle.ipc_model.specs.rights.Dispositions.{disposition_of}
 use Rattle.ipc_model.specs.state.State.{State}
-use Rattle.sending.specs.Gave.{Gave, Tells, IsWant}
+use Rattle.sending.specs.Gave.{Gave, IsWant}
 use Rattle.sending.specs.SoFar.{so_far}
 use Rattle.sending.specs.declared.fault.SendFault.{SendFault}
 use Rattle.sending.specs.declared.fault.SendFault.TheVariants.{Refused, NoMemory}

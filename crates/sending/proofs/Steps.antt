@@ -2,7 +2,7 @@
 use Rattle.std.proofs.Common.{◌≡◌, Result, Ok, Err, sym, ap, subst}
 use Rattle.codes.specs.declared.kern_return.KernReturn.{KernReturn}
 use Rattle.ipc_model.specs.calls.Tests.{and_then}
-use Rattle.sending.specs.Gave.{Gave, Tells, IsWant, IsToldBy}
+use Rattle.sending.specs.Gave.{Gave, IsWant, IsToldBy}
 use Rattle.sending.specs.declared.fault.SendFault.{SendFault}
 use Rattle.sending.specs.declared.fault.SendFault.TheVariants.{Refused, NoMemory}
 

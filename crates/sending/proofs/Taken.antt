@@ -1,5 +1,5 @@
 -- What copy in took is what the machine takes.
-use Rattle.std.proofs.Common.{◌≡◌, ℕ, List, ◌++◌, Option, None, Some, Result, Ok, Err, refl, sym, ◌∙◌, ap}
+use Rattle.std.proofs.Common.{◌≡◌, List, ◌++◌, Option, None, Some, Result, Ok, Err, refl}
 use Rattle.codes.specs.declared.kern_return.KernReturn.{KernReturn}
 use Rattle.ipc_model.specs.calls.Tests.{or_refused}
 use Rattle.ipc_model.specs.declared.message.CarriedRight.{CarriedRight}
@@ -8,9 +8,9 @@ use Rattle.ipc_model.specs.rights.CopyIn.{Taken}
 use Rattle.ipc_model.specs.state.State.{State}
 use Rattle.ipc_laws.specs.ListLaws.{some_same}
 use Rattle.rights.specs.Taking.{Takes}
-use Rattle.sending.specs.Gave.{Gave, Tells, IsWant}
+use Rattle.sending.specs.Gave.{Gave}
 use Rattle.sending.specs.declared.fault.SendFault.{SendFault}
-use Rattle.sending.specs.declared.fault.SendFault.TheVariants.{Refused, NoMemory}
+use Rattle.sending.specs.declared.fault.SendFault.TheVariants.{Refused}
 
 abbrev pub outcome_of : KernReturn → Option CarriedRight → Result CarriedRight SendFault
 outcome_of code None = Err (Refused code)

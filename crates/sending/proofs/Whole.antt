@@ -1,5 +1,5 @@
 -- From a task's bytes to a message that is ready.
-use Rattle.std.proofs.Common.{◌≡◌, ℕ, Bool, true, false, List, [], ◌∷◌, ◌++◌, length, Result, Ok, Err, sym, ap, subst, ◌∙◌, refl, if◌then◌else◌}
+use Rattle.std.proofs.Common.{◌≡◌, ℕ, Bool, true, false, List, [], ◌∷◌, ◌++◌, length, Result, Ok, Err, sym, ap, subst, ◌∙◌, if◌then◌else◌}
 use Rattle.std.specs.Prelude.{Option, IfOk, IfErr}
 use Rattle.codes.specs.declared.kern_return.KernReturn.{KernReturn}
 use Rattle.codes.specs.declared.kern_return.KernReturn.TheVariants.{SendInvalidHeader}
@@ -11,7 +11,7 @@ use Rattle.ipc_model.specs.messages.Messages.{Parts, parts_of}
 use Rattle.ipc_model.specs.messages.Sending.{Ready, ready_to_send, tests_of_size, header_disposition, reply_disposition, items_if_complex, ready_of_items}
 use Rattle.ipc_model.specs.rights.Dispositions.{Disposition}
 use Rattle.ipc_model.specs.state.State.{State}
-use Rattle.sending.specs.Gave.{Gave, Tells, IsWant, IsToldBy}
+use Rattle.sending.specs.Gave.{Gave, IsWant, IsToldBy}
 use Rattle.sending.specs.Sends.{ReadyIs, of_dispositions}
 use Rattle.sending.proofs.Steps.{gave_then, gave_failed, gave_same, told}
 use Rattle.sending.specs.declared.fault.SendFault.{SendFault}

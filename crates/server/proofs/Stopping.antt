@@ -20,7 +20,8 @@ use Rattle.server.proofs.Keeping.{no_time, passes_so}
 use Rattle.server.specs.Keeping.{AloneValue, AnswersKept, BreaksKept, FailsKept, IsHeld, RestsKept}
 use Rattle.standing.specs.Standing.{as_written}
 use Rattle.serving.specs.Serving.{Answers, AnswersMessage, AnswersRequest, Exchanges, FailsMessage, FailsRequest, IsAnswered, IsFailed, StepOrShortage, shortage_of}
-use Rattle.server.specs.Stopping.{IsStoredFrame, IsStoredWhole, Makes, MakesAll, MakesMessage, MakesRequest, StandsWithin, AreOf, calls_of, given, record_of}
+use Rattle.server.specs.Stopping.{IsStoredFrame, IsStoredWhole, Makes, MakesAll, MakesMessage, MakesRequest, StandsWithin, AreOf, calls_of, given}
+use Rattle.ipc_model.specs.world.World.{record_of}
 
 run_append : (old mid new : State) (records more : List Record) → Run old records mid → Run mid more new → Run old (records ++ more) new
 run_append old mid new [] more so_far run = subst (λ (s : State). Run s more new) so_far run

@@ -1,14 +1,15 @@
 -- What a clause sees of a lone caller, and what a stop during a call leaves.
 use Rattle.std.specs.Prelude.{◌≡◌, ◌⊎◌, ℕ, ◌+◌, Bool, true, false, if◌then◌else◌, refl}
 use Rattle.std.specs.Coded.{Coded, code_by, coded×, coded_ℕ, coded_bool}
+use Rattle.codes.specs.declared.limits.TheConstants.{CHECKPOINT_RECORDS}
 use Rattle.disk.specs.Moments.{View, MayLeave, Passes}
 use Rattle.disk.specs.Slots.{Slots}
 use Rattle.ipc_model.specs.declared.call.Call.{Call}
-use Rattle.ipc_model.specs.declared.call.Call.TheVariants as call
 use Rattle.ipc_model.specs.declared.call.Reply.{Reply}
 use Rattle.ipc_model.specs.state.State.{State}
 use Rattle.ipc_model.specs.state.StateCode.{state_code}
-use Rattle.ipc_model.specs.calls.Step.{Step, has_record, succeeded}
+use Rattle.ipc_model.specs.calls.Step.{Step, has_record}
+use Rattle.ipc_model.specs.history.History.{space_after}
 use Rattle.journal.specs.declared.fault.StoreFault.{StoreFault}
 use Rattle.journal.specs.declared.fault.StoreFault.TheVariants.{Failed}
 use Rattle.ipc_model.specs.store.Recovery.{Recovered}
@@ -16,7 +17,6 @@ use Rattle.standing.specs.Standing.{as_written}
 use Rattle.system.specs.GoingOn.{GoesOn, TakesMemory}
 use Rattle.system.specs.Passed.{StoreValue, store_code}
 use Rattle.serving.specs.Serving.{StepOrShortage}
-use Rattle.server.specs.declared.alone.TheConstants.{CHECKPOINT_RECORDS}
 
 -- The state after the calls so far, the store, the space that the caller is attached to, and whether a call failed.
 pub record AloneValue (D : Type 0) : Type 0 where
@@ -29,15 +29,6 @@ abbrev pub alone_code : {D : Type 0} → Coded D → Coded (AloneValue D)
 alone_code {D = D} code =
     code_by (State × (StoreValue D × (ℕ × Bool))) (coded× state_code (coded× (store_code code) (coded× coded_ℕ coded_bool))) (λ a. (a.kernel, (a.store, (a.space, a.failed))))
     (λ p. record { kernel = p.0; store = p.1.0; space = p.1.1.0; failed = p.1.1.1 }) (λ _. refl)
-
--- the space that a call attaches its caller to where it is done
-abbrev pub attached_by : ℕ → Call → ℕ
-attached_by space (call.Attach other) = other
-attached_by space c = space
-
--- the space that a caller is attached to after a call that was answered so
-abbrev pub space_after : ℕ → Call → Reply → ℕ
-space_after space c answer = if succeeded c answer then attached_by space c else space
 
 -- nothing changed but the space that the caller is attached to
 abbrev pub IsMoved : {D : Type 0} → AloneValue D → AloneValue D → Type 0

@@ -1,6 +1,6 @@
 -- What a stop leaves while a lone connection is served: the state after some first ones of the records that its calls made,
 -- and nothing that was answered is missing.
-use Rattle.std.specs.Prelude.{◌≡◌, ◌⊎◌, ℕ, ◌≤◌, List, [], ◌∷◌, ◌++◌, length, take, Option, None, Some, MatchBool, if◌then◌else◌}
+use Rattle.std.specs.Prelude.{◌≡◌, ◌⊎◌, ℕ, ◌≤◌, List, [], ◌∷◌, ◌++◌, length, take, Option, None, Some, MatchBool}
 use Rattle.calls.specs.Requests.{Asks}
 use Rattle.calls.specs.declared.request.Request.{Request}
 use Rattle.calls.specs.declared.request.Request.TheVariants as request
@@ -8,7 +8,7 @@ use Rattle.codes.specs.declared.kern_return.KernReturn.TheVariants.{Success}
 use Rattle.codes.specs.declared.name.TheConstants.{MACH_PORT_NULL}
 use Rattle.disk.specs.Moments.{View, LeftSince}
 use Rattle.disk.specs.Slots.{Slots}
-use Rattle.ipc_model.specs.calls.Step.{Run, has_record, succeeded}
+use Rattle.ipc_model.specs.calls.Step.{Run, succeeded}
 use Rattle.ipc_model.specs.declared.call.Call.{Call}
 use Rattle.ipc_model.specs.declared.call.Reply.{Reply}
 use Rattle.ipc_model.specs.declared.record.Record.{Record}
@@ -16,13 +16,10 @@ use Rattle.ipc_model.specs.messages.Receiving.{without_message}
 use Rattle.ipc_model.specs.state.State.{State}
 use Rattle.journal.specs.declared.fault.StoreFault.{StoreFault}
 use Rattle.ipc_model.specs.store.Recovery.{Recovered}
+use Rattle.ipc_model.specs.world.World.{record_of}
 use Rattle.standing.specs.Standing.{as_written}
 use Rattle.server.specs.Keeping.{AloneValue, AnswersKept, BreaksKept, FailsKept, IsHeld, RestsKept}
 use Rattle.serving.specs.Serving.{Answers, Exchanges, IsAnswered, IsFailed, IsRefused, LacksMemory}
-
--- the record of a call of a task of this space that was answered so, if it has one
-abbrev pub record_of : ℕ → Call → Reply → List Record
-record_of space c answer = if has_record c answer then (record { space = space; call = c; reply = answer }) ∷ [] else []
 
 -- the records that the calls of frames made, in order
 module _ {D : Type 0} (answers : AloneValue D → Call → Reply → AloneValue D → Type 0) where

@@ -1,5 +1,5 @@
 ghost use Rattle.std.specs.Prelude.{◌≡◌, ◌+◌, ◌<◌, ◌≤◌, true, false, if◌then◌else◌, length, IfErr, IfOk, MatchBool, OnOk, OnErr, IsErrOf};
-ghost use Rattle.disk.specs.Moments.{LeftSince, MayLeave, Passes};
+ghost use Rattle.disk.specs.Moments.{LeftSince, Passes};
 ghost use Rattle.disk.specs.Slots.{Slots};
 ghost use Rattle.ipc_model.specs.store.Recovery.{Recovered};
 ghost use Rattle.standing.specs.Standing.{as_written};
@@ -7,7 +7,7 @@ ghost use Rattle.system.specs.Calling.{IsResting};
 ghost use Rattle.system.specs.Core.{first_system};
 ghost use Rattle.system.specs.Counting.{counted};
 ghost use Rattle.system.specs.GoingOn.{GoesOn, IsStanding};
-ghost use Rattle.server.specs.Keeping.{AnswersKept, BreaksKept, FailsKept, IsBeforeOrAfter, IsCounted, IsHeld, IsMoved, IsShortOf, RestsKept, attached_by};
+ghost use Rattle.server.specs.Keeping.{AnswersKept, BreaksKept, FailsKept, IsBeforeOrAfter, IsCounted, IsHeld, IsMoved, IsShortOf, RestsKept};
 ghost use Rattle.serving.specs.Serving.{StepOrShortage};
 ghost use Rattle.ipc_model.specs.calls.Step.{has_record, succeeded};
 ghost use Rattle.ipc_model.specs.texts.Texts.{reply_text};
@@ -15,7 +15,7 @@ ghost use Rattle.ipc_model.specs.declared.call.Call.{Call};
 ghost use Rattle.ipc_model.specs.declared.call.Reply.{Reply};
 ghost use Rattle.journal.specs.declared.fault.StoreFault.{StoreFault};
 
-use codes::{FIRST_SPACE, MAX_FRAME_CONTENT};
+use codes::{CHECKPOINT_RECORDS, FIRST_SPACE, MAX_FRAME_CONTENT};
 use disk::Disk;
 use ipc_model::{Call, Reply};
 use journal::StoreFault;
@@ -23,9 +23,6 @@ use serving::{Caller, shortage};
 use std::alloc::Global;
 use std::marker::Model;
 use system::{CallFault, Opened, System};
-
-/// How many records an epoch's row has when a checkpoint is begun.
-pub const CHECKPOINT_RECORDS: u64 = 32_768;
 
 /// The caller of a lone connection: the core over an opened store that nobody else uses.
 pub struct Alone<D: Disk> {
@@ -134,7 +131,7 @@ impl<D: Disk> Caller for Alone<D> {
         if self.failed {
             return Err(StoreFault::Failed);
         }
-        let attached = attached_by(self.space, &call);
+        let attached = call.attached_by(self.space);
         match make_call(self.alloc, &mut self.system, self.space, &call) {
             Ok(reply) => {
                 self.space = space_after(self.space, attached, &reply);
@@ -175,16 +172,6 @@ impl<D: Disk> Caller for Alone<D> {
                 Err(broken)
             }
         }
-    }
-}
-
-/// The space that a call attaches its caller to where it is done.
-fn attached_by(space: u32, call: &Call) -> u32
-    ensures { result ≡ attached_by space call.now }
-{
-    match call {
-        Call::Attach { space: other } => *other,
-        _ => space,
     }
 }
 

@@ -6,7 +6,7 @@ mod ending;
 mod laws;
 mod program;
 
-pub use alone::{Alone, CHECKPOINT_RECORDS};
+pub use alone::Alone;
 pub use ending::SocketEnd;
 pub use laws::{
     answered_is_stored, breaking_loses_nothing, failure_loses_nothing, frame_is_stored,

@@ -1,4 +1,4 @@
-ghost use Rattle.std.specs.Prelude.{◌≡◌, ◌++◌, false, length, codes, option_map, IfErr, IfSome, OnErr, OnOk};
+ghost use Rattle.std.specs.Prelude.{◌≡◌, ◌++◌, length, codes, option_map, IfErr, IfSome, OnErr, OnOk};
 ghost use Rattle.std.specs.Io.KnownBytes.{Appends};
 ghost use Rattle.server.specs.Program.{EndsAlone, IsRun, ServesOpened, line_of, status_of, words_of};
 ghost use Rattle.wire.specs.Writing.{AppendsPart};

@@ -1,8 +1,6 @@
 -- How a connection ends with a fault, and parts of what was to be written.
-use Rattle.std.proofs.Common.{◌≡◌, ◌-◌, ◌^◌, inl, inr, List, [], ℕ, ◌++◌, false, Option, None, Some, IfSome, Result, Ok, Err, refl, sym, ap, subst, ◌∙◌, append_assoc}
-use Rattle.std.specs.Prelude.{OnErr}
+use Rattle.std.proofs.Common.{◌≡◌, ◌-◌, ◌^◌, inl, inr, List, [], ℕ, ◌++◌, Option, Some, IfSome, Result, Err, refl, sym, subst, ◌∙◌}
 use Rattle.std.specs.Io.KnownBytes.{Appends}
-use Rattle.std.proofs.KnownBytes.{Appends-trans}
 use Rattle.std.proofs.lemmas.List.{append-nil}
 use Rattle.ipc_model.specs.declared.call.Call.{Call}
 use Rattle.ipc_model.specs.declared.call.Reply.{Reply}

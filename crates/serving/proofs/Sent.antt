@@ -1,5 +1,5 @@
 -- What is in hand behind a send.
-use Rattle.std.specs.Prelude.{◌≡◌, true, Bool}
+use Rattle.std.specs.Prelude.{◌≡◌, true}
 use Rattle.ipc_model.specs.calls.Step.{succeeded}
 use Rattle.ipc_model.specs.declared.call.Call.{Call}
 use Rattle.ipc_model.specs.declared.call.Reply.{Reply}

@@ -1,5 +1,5 @@
 -- How frames are taken and told, turn by turn.
-use Rattle.std.proofs.Common.{◌≡◌, ◌≤◌, ◌+◌, ◌-◌, ◌^◌, ℕ, Bool, true, false, inl, inr, List, [], ◌∷◌, ◌++◌, length, Option, None, Some, Result, Ok, Err, IfSome, refl, sym, ap, subst, ◌∙◌, arith, append_assoc, length-append}
+use Rattle.std.proofs.Common.{◌≡◌, ◌≤◌, ◌+◌, ◌-◌, ◌^◌, ℕ, Bool, true, false, inl, inr, List, [], ◌∷◌, ◌++◌, length, Option, None, Some, Result, Ok, Err, IfSome, refl, sym, ap, subst, ◌∙◌, arith}
 use Rattle.std.specs.Prelude.{IfErr}
 use Rattle.std.proofs.lemmas.List.{append-nil}
 use Rattle.ipc_model.specs.declared.call.Call.{Call}
@@ -7,13 +7,13 @@ use Rattle.ipc_model.specs.declared.call.Reply.{Reply}
 use Rattle.ipc_model.specs.texts.Texts.{reply_text}
 use Rattle.journal.specs.declared.fault.StoreFault.{StoreFault}
 use Rattle.serving.proofs.Acting.{Taking, acts_both, begun, one_told, went_both}
-use Rattle.serving.specs.Asking.{Act, Acted, EndsAsked, EndsOne, EndsRound, EndsTelling, IsLeft, IsRead, IsSome, TookFrames, Went, frames_of, replies_of}
+use Rattle.serving.specs.Asking.{EndsAsked, EndsOne, EndsRound, EndsTelling, IsLeft, IsRead, TookFrames, Went}
 use Rattle.serving.specs.declared.asking.Hand.{Hand}
 use Rattle.serving.specs.declared.service.ServeFault.{ServeFault}
 use Rattle.serving.specs.declared.service.ServeFault.TheVariants.{Wire, Store}
 use Rattle.wire.specs.Frame.{IsReadOf}
 use Rattle.wire.specs.declared.fault.WireFault.{WireFault}
-use Rattle.wire.specs.declared.fault.WireFault.TheVariants.{Device, NoMemory}
+use Rattle.wire.specs.declared.fault.WireFault.TheVariants.{Device}
 use Rattle.words.specs.Words.{frame_text}
 
 -- a fact for bytes that are known

@@ -1,4 +1,4 @@
-ghost use Rattle.std.specs.Prelude.{◌≡◌, ◌≤◌, List, length, IfErr, IfOk};
+ghost use Rattle.std.specs.Prelude.{◌≤◌, List, length, IfErr, IfOk};
 ghost use Rattle.calls.specs.declared.request.MessageRequest.{MessageRequest};
 ghost use Rattle.codes.specs.declared.limits.TheConstants.{MAX_FRAME_CONTENT};
 ghost use Rattle.ipc_model.specs.texts.Texts.{reply_text};

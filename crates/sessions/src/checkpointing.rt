@@ -11,9 +11,6 @@ use std::time::Clock;
 use storer::NotBegun;
 use storing::Finished;
 
-/// How many records an epoch's row has when a checkpoint is begun.
-pub const CHECKPOINT_RECORDS: u64 = 32_768;
-
 impl<L: Founding, D: Disk, G: Gate> Shared<L, D, G> {
     /// Makes an image each time that the epoch's row has `records` records, until it is told to stop or the store fails.
     pub fn checkpointer<R: Wait + Clock>(&self, rt: &R, records: u64) {

@@ -8,7 +8,6 @@ mod flushing;
 mod gate;
 mod shared;
 
-pub use checkpointing::CHECKPOINT_RECORDS;
 pub use closing::{Book, Unmatched, close};
 pub use desk::Waited;
 pub use gate::{Gate, OpenGate, Step};

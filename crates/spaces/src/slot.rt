@@ -1,4 +1,4 @@
-ghost use Rattle.std.specs.Prelude.{◌≡◌, ◌<◌, None, Some, IfOk, OnOk, OnErr, IfSome, IsSome, is_some, option_map, option_and_then, option_copied};
+ghost use Rattle.std.specs.Prelude.{◌≡◌, ◌<◌, None, Some, IfOk, OnOk, OnErr, IfSome, is_some, option_map, option_and_then, option_copied};
 ghost use Rattle.std.specs.FinMap as map;
 ghost use Rattle.codes.specs.declared.limits.TheConstants.{MAX_NAMES};
 ghost use Rattle.ipc_model.specs.state.State.{Names};

@@ -1,4 +1,4 @@
-ghost use Rattle.std.specs.Prelude.{◌≡◌, ◌⊎◌, ◌+◌, ◌<◌, ◌≤◌, [], None, Some, true, false, length, IfOk, IfErr, OnOk, OnErr, MatchBool, is_some};
+ghost use Rattle.std.specs.Prelude.{◌≡◌, ◌⊎◌, ◌+◌, ◌<◌, ◌≤◌, [], None, Some, true, false, IfOk, IfErr, OnOk, MatchBool, is_some};
 ghost use Rattle.codes.specs.declared.limits.TheConstants.{MAX_RECORDS};
 ghost use Rattle.disk.specs.Moments.{MayLeave, one_more};
 ghost use Rattle.disk.specs.Slots.{Slots};

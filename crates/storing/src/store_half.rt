@@ -1,4 +1,4 @@
-ghost use Rattle.std.specs.Prelude.{◌≡◌, ◌↔◌, ◌⊎◌, ◌+◌, ◌<◌, ◌≤◌, true, false, length, None, Some, IfOk, IfErr, IfSome, IfNone, MatchBool, MatchResult, OnOk, OnErr, is_some};
+ghost use Rattle.std.specs.Prelude.{◌≡◌, ◌↔◌, ◌⊎◌, ◌+◌, ◌<◌, ◌≤◌, true, false, length, None, Some, IfOk, IfErr, IfSome, IfNone, MatchBool, MatchResult, OnOk, is_some};
 ghost use Rattle.codes.specs.declared.limits.TheConstants.{MAX_RECORDS};
 ghost use Rattle.disk.specs.Moments.{IsSynced, one_more};
 ghost use Rattle.disk.specs.Slots.{slot_of};

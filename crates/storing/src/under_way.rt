@@ -55,7 +55,6 @@ pub(crate) struct Checkpoint {
 }
 
 impl Model for Checkpoint {
-    ghost use Rattle.std.specs.Prelude.{◌≤◌};
     ghost use Rattle.storing.specs.Values.{CheckpointValue, IsOfEpoch, checkpoint_code, imaged_of, text_of};
 
     ghost Value = { CheckpointValue };

@@ -1,19 +1,17 @@
 -- A batch is stored.
-use Rattle.std.proofs.Common.{◌≡◌, ◌≢◌, ◌⊎◌, inl, inr, ℕ, suc, ◌+◌, ◌-◌, ◌≤◌, ◌<◌, Bool, true, false, List, [], ◌∷◌, ◌++◌, length, take, drop, Option, None, Some, refl, sym, ap, subst, ◌∙◌, arith, take-append-drop}
-use Rattle.std.specs.Prelude.{max, ◌&&◌}
+use Rattle.std.proofs.Common.{◌≡◌, ◌⊎◌, inl, inr, ℕ, ◌+◌, ◌-◌, ◌≤◌, ◌<◌, Bool, true, false, List, [], ◌∷◌, ◌++◌, length, take, drop, Option, None, Some, refl, sym, ap, subst, ◌∙◌, arith, take-append-drop}
 use Rattle.codes.specs.declared.limits.TheConstants.{MAX_RECORDS}
-use Rattle.disk.specs.Moments.{View, MayLeave, Passes, Follows, IsSynced}
+use Rattle.disk.specs.Moments.{View, Follows, IsSynced}
 use Rattle.disk.specs.Slots.{Slots}
 use Rattle.ipc_laws.specs.RunLaws.{run_split}
 use Rattle.ipc_model.specs.calls.Step.{Run}
 use Rattle.ipc_model.specs.declared.record.Record.{Record}
 use Rattle.ipc_model.specs.state.State.{State}
-use Rattle.ipc_model.specs.store.Recovery.{Recovered}
 use Rattle.ipc_model.specs.store.Store.{IsMidAppend}
 use Rattle.ipc_model.specs.store.Faults as fault
 use Rattle.ipc_model.specs.world.World as world
 use Rattle.ipc_model.specs.world.World.{World, CanAppend, IsSegmentOpen, after_append, of_append, told}
-use Rattle.journal.specs.Batch.{BatchValue, Holds, content_of}
+use Rattle.journal.specs.Batch.{Holds, content_of}
 use Rattle.journal.specs.declared.segment.Segment.{Segment}
 use Rattle.phases.specs.Batches.{IsReadyBatch, with_more}
 use Rattle.phases.specs.Phases.{Keeps}
@@ -21,12 +19,11 @@ use Rattle.phases.proofs.Appends.{append_keeps, append_mid, kept_synced}
 use Rattle.phases.proofs.Passed.{run_join}
 use Rattle.slot_steps.proofs.Moments.{passes_as}
 use Rattle.slot_steps.specs.Steps.{segment_slot}
-use Rattle.standing.specs.Standing.{as_written}
 use Rattle.storing.specs.Values.{CheckpointValue, StoreValue}
 use Rattle.system.specs.Changes.{CannotAppend, FailsToStore, FindsFull, Stores}
-use Rattle.system.specs.Core.{BatchBetween, Between, Checkpoints, Counts, HasPlace, IsBeforeEpoch, IsInEpoch, IsInUse, KeepsStored, StandsFor, StandsFrom, SystemValue, in_turn}
+use Rattle.system.specs.Core.{BatchBetween, Between, Checkpoints, HasPlace, IsBeforeEpoch, IsInEpoch, IsInUse, KeepsStored, StandsFor, StandsFrom, SystemValue, in_turn}
 use Rattle.system.specs.Halves.{TakenValue}
-use Rattle.system.proofs.Between.{batch_is_out, handed_within, none_to_append, one_more_receipt, some_is}
+use Rattle.system.proofs.Between.{batch_is_out, none_to_append, one_more_receipt, some_is}
 use Rattle.system.proofs.Lists.{drop_long, drop_sum, take_long, take_sum}
 use Rattle.system.proofs.Rows.{are_drop, are_take, fit_drop, fit_take}
 use Rattle.system.proofs.Simulation.{Shows, from_stored, from_told, shows_device, stored_within, unfailed_first, unmoved}

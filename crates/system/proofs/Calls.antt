@@ -1,5 +1,5 @@
 -- The five events of a call, one after another.
-use Rattle.std.proofs.Common.{◌≡◌, ◌⊎◌, inl, inr, ℕ, ◌+◌, ◌≤◌, ◌<◌, Bool, true, false, List, [], ◌∷◌, ◌++◌, length, Option, None, Some, Result, Ok, Err, IfErr, refl, sym, ap, subst, ◌∙◌, arith}
+use Rattle.std.proofs.Common.{◌≡◌, ◌⊎◌, inl, inr, ℕ, ◌+◌, ◌≤◌, ◌<◌, Bool, true, false, List, length, Option, None, Some, Result, Ok, Err, IfErr, refl, sym, ap, subst, ◌∙◌, arith}
 use Rattle.std.specs.Prelude.{MatchBool, if◌then◌else◌, is_some}
 use Rattle.std.specs.Result.{IsErrAnd}
 use Rattle.std.specs.FinMap as finmap
@@ -21,10 +21,10 @@ use Rattle.journal.specs.declared.fault.StoreFault.TheVariants.{Device, Failed, 
 use Rattle.phases.specs.Passed.{unrecorded_step}
 use Rattle.system.specs.Calling.{Calls, CallFails, FailsToStoreAll, IsAlone, IsResting, IsStored, StoresAll}
 use Rattle.storing.specs.Changes.{IsAppended, PassesAppend}
-use Rattle.storing.specs.Values.{CheckpointValue, StoreValue}
-use Rattle.system.specs.Changes.{Answers, FailsToStore, FindsFull, HandsFinished, HandsIn, HandsReceipt, IsNotDue, Stores, Submits, Takes}
+use Rattle.storing.specs.Values.{StoreValue}
+use Rattle.system.specs.Changes.{Answers, FailsToStore, FindsFull, HandsIn, IsNotDue, Submits, Takes}
 use Rattle.system.specs.Core.{SystemValue, TicketsValue}
-use Rattle.system.specs.Halves.{CannotTake, Gives, KernelValue, RowValue, TakenValue, TakesBatch, TicketValue, entry_of, with_receipt, with_record}
+use Rattle.system.specs.Halves.{CannotTake, KernelValue, RowValue, TakenValue, TakesBatch, TicketValue, entry_of, with_receipt, with_record}
 
 pub if_err_from : {T E : Type 0} (r : Result T E) (was : E) (P : E → Type 0) → IsErrAnd r (λ fault. fault ≡ was) → P was → IfErr r P
 if_err_from (Ok x) was P is p = tt

@@ -1,8 +1,7 @@
 -- A checkpoint under way.
-use Rattle.std.proofs.Common.{◌≡◌, ◌≢◌, ◌⊎◌, inl, inr, ℕ, suc, ◌+◌, ◌-◌, ◌≤◌, ◌<◌, Bool, true, false, List, [], ◌∷◌, ◌++◌, length, take, drop, Option, None, Some, refl, sym, ap, subst, ◌∙◌, arith}
-use Rattle.std.specs.Prelude.{max, ◌&&◌, ◌^◌, is_none}
-use Rattle.disk.specs.Moments.{View, MayLeave, Passes}
-use Rattle.disk.specs.Slots.{Slots}
+use Rattle.std.proofs.Common.{◌≡◌, inl, inr, ℕ, ◌+◌, ◌-◌, ◌≤◌, ◌<◌, Bool, true, false, List, [], ◌∷◌, ◌++◌, length, take, drop, Option, None, Some, refl, sym, ap, subst, ◌∙◌, arith}
+use Rattle.std.specs.Prelude.{max, is_none}
+use Rattle.disk.specs.Moments.{View, Passes}
 use Rattle.ipc_laws.specs.StepsKeep.{one_run}
 use Rattle.ipc_model.specs.calls.Step.{Run}
 use Rattle.ipc_model.specs.declared.record.Record.{Record}
@@ -12,9 +11,7 @@ use Rattle.ipc_model.specs.store.Recovery.{Recovered}
 use Rattle.ipc_model.specs.store.Faults as fault
 use Rattle.ipc_model.specs.world.World as world
 use Rattle.ipc_model.specs.world.World.{World, After, after_cut, of_finish, one_imaged, one_rolled, pieces_of, told}
-use Rattle.journal.specs.Batch.{BatchValue, Holds, empty_batch}
-use Rattle.journal.specs.declared.fault.StoreFault.{StoreFault}
-use Rattle.journal.specs.declared.fault.StoreFault.TheVariants.{Device, Failed, NoMemory}
+use Rattle.journal.specs.Batch.{Holds}
 use Rattle.journal.specs.declared.segment.Segment.{Segment}
 use Rattle.phases.specs.Phases.{Keeps}
 use Rattle.phases.proofs.Appends.{begin_keeps}
@@ -22,16 +19,15 @@ use Rattle.phases.proofs.Images.{finish_fails, finish_keeps, finish_passes, imag
 use Rattle.phases.proofs.Rolls.{roll_close_fails, roll_close_keeps, roll_close_passes, roll_head_fails, roll_head_keeps, roll_head_passes, roll_open_fails, roll_open_keeps, roll_open_passes}
 use Rattle.slot_steps.proofs.Moments.{passes_as}
 use Rattle.standing.specs.Standing.{as_written}
-use Rattle.storing.specs.Changes.{CanFinish, CanOpen, ClosesImage, FailsToCloseImage, FailsToFinish, FailsToRollClose, FailsToRollHead, FailsToRollOpen, FailsToWritePiece, Finishes, HasImaged, HasPieceLeft, IsFault, IsFaultOrShortage, IsNotNow, IsRolled, RollsClose, RollsHead, RollsOpen, WritesPiece}
+use Rattle.storing.specs.Changes.{CanFinish, CanOpen, ClosesImage, FailsToCloseImage, FailsToFinish, FailsToRollClose, FailsToRollHead, FailsToRollOpen, FailsToWritePiece, HasImaged, HasPieceLeft, IsNotNow, IsRolled, RollsClose, RollsHead, RollsOpen, WritesPiece}
 use Rattle.storing.specs.Values.{CheckpointValue, CutValue, StoreValue, begun}
 use Rattle.system.specs.Changes.{BeginsEpoch, FinishesImage}
-use Rattle.system.specs.Core.{Between, Checkpoints, Counts, HasPlace, IsBeforeEpoch, IsFinishedCheckpoint, IsInEpoch, IsInUse, IsSameCheckpoint, KeepsStored, StandsFor, StandsFrom, SystemValue, Wait, in_turn}
-use Rattle.system.specs.Halves.{CanCut, Cuts, KernelValue, TakenValue, next_row}
-use Rattle.system.proofs.Appending.{used}
+use Rattle.system.specs.Core.{Checkpoints, HasPlace, IsBeforeEpoch, IsFinishedCheckpoint, IsInEpoch, IsInUse, IsSameCheckpoint, KeepsStored, StandsFor, StandsFrom, SystemValue, in_turn}
+use Rattle.system.specs.Halves.{CanCut, Cuts, KernelValue, next_row}
 use Rattle.system.proofs.Between.{between_with, handed_within, one_finished_more, some_is}
-use Rattle.system.proofs.Lists.{drop_long, take_end, take_long}
+use Rattle.system.proofs.Lists.{take_end, take_long}
 use Rattle.system.proofs.Rows.{drop_past, fit_take, holds_as, holds_none}
-use Rattle.system.proofs.Simulation.{Shows, and_false, from_stored, from_told, shows_device, shows_failed, shown, stored_within, unfailed_first, unmoved}
+use Rattle.system.proofs.Simulation.{Shows, and_false, from_stored, from_told, shows_device, shows_failed, shown, unfailed_first, unmoved}
 
 -- the written checkpoint beside the store's
 

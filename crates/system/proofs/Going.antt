@@ -1,28 +1,24 @@
 -- A checkpoint between the calls of a lone caller keeps the store.
-use Rattle.std.proofs.Common.{◌≡◌, ◌⊎◌, inl, inr, ℕ, ◌+◌, ◌-◌, ◌≤◌, ◌<◌, ◌^◌, Bool, true, false, Option, None, Some, refl, sym, ap, subst, ◌∙◌, arith}
-use Rattle.std.specs.Prelude.{MatchBool, is_none, is_some}
+use Rattle.std.proofs.Common.{◌≡◌, ◌⊎◌, inl, inr, ℕ, ◌+◌, ◌<◌, Bool, true, false, Option, None, Some, refl, sym, ap, subst, ◌∙◌, arith}
+use Rattle.std.specs.Prelude.{MatchBool, is_some}
 use Rattle.disk.specs.Moments.{View, Passes}
-use Rattle.disk.specs.Slots.{Slots}
 use Rattle.ipc_model.specs.state.State.{State}
-use Rattle.ipc_model.specs.store.Recovery.{Recovered}
-use Rattle.journal.specs.Batch.{BatchValue, empty_batch}
+use Rattle.journal.specs.Batch.{empty_batch}
 use Rattle.journal.specs.declared.fault.StoreFault.{StoreFault}
-use Rattle.journal.specs.declared.fault.StoreFault.TheVariants.{Device, Failed, NoMemory}
+use Rattle.journal.specs.declared.fault.StoreFault.TheVariants.{Device, NoMemory}
 use Rattle.journal.specs.declared.segment.Segment.{Segment}
 use Rattle.phases.specs.Phases.{Keeps}
 use Rattle.phases.proofs.Appends.{begin_keeps}
 use Rattle.phases.proofs.Images.{finish_fails, finish_keeps, finish_passes, image_close_fails, image_close_keeps, image_close_passes, piece_fails, piece_keeps, piece_passes}
 use Rattle.phases.proofs.Rolls.{roll_close_fails, roll_close_keeps, roll_close_passes, roll_head_fails, roll_head_keeps, roll_head_passes, roll_open_fails, roll_open_keeps, roll_open_passes}
 use Rattle.slot_steps.proofs.Moments.{passes_then}
-use Rattle.std.proofs.lemmas.Bool.{cases_lt}
-use Rattle.standing.specs.Standing.{as_written}
-use Rattle.storing.specs.Changes.{CanFinish, CanOpen, ClosesImage, FailsToCloseImage, FailsToFinish, FailsToRollClose, FailsToRollHead, FailsToRollOpen, FailsToWritePiece, Finishes, HasImaged, HasPieceLeft, IsFault, IsFaultOrShortage, IsNotNow, IsRolled, RollsClose, RollsHead, RollsOpen, WritesPiece}
+use Rattle.storing.specs.Changes.{CanOpen, ClosesImage, FailsToCloseImage, FailsToFinish, FailsToRollClose, FailsToRollHead, FailsToRollOpen, FailsToWritePiece, Finishes, HasImaged, HasPieceLeft, IsFault, IsFaultOrShortage, IsNotNow, IsRolled, RollsClose, RollsHead, RollsOpen, WritesPiece}
 use Rattle.storing.specs.Values.{CheckpointValue, StoreValue, begun}
 use Rattle.system.specs.Calling.{IsResting}
-use Rattle.system.specs.Changes.{BeginsEpoch, FinishesImage, HandsFinished, HandsIn, HandsReceipt}
+use Rattle.system.specs.Changes.{BeginsEpoch, FinishesImage, HandsIn}
 use Rattle.system.specs.Core.{SystemValue}
-use Rattle.system.specs.GoingOn.{BeginsNext, GoesOn, GoesOnImage, GoesOnInEpoch, GoesOnPieces, IsFirstStep, IsRolledOver, IsStanding, Recovers, RollsOver}
-use Rattle.system.specs.Halves.{CanCut, KernelValue}
+use Rattle.system.specs.GoingOn.{GoesOn, GoesOnImage, IsFirstStep, IsRolledOver, IsStanding, Recovers, RollsOver}
+use Rattle.system.specs.Halves.{KernelValue}
 use Rattle.system.proofs.Between.{some_is}
 use Rattle.system.proofs.Simulation.{no_time}
 

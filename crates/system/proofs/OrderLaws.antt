@@ -1,18 +1,16 @@
 -- A core's parts agree with one another after each event.
-use Rattle.std.proofs.Common.{◌≡◌, ◌⊎◌, inl, inr, ℕ, ◌+◌, ◌≤◌, ◌<◌, Bool, true, false, Option, None, Some, refl, sym, ap, subst, ◌∙◌, arith}
-use Rattle.std.specs.Prelude.{if◌then◌else◌, is_none}
+use Rattle.std.proofs.Common.{◌≡◌, inl, inr, ℕ, ◌+◌, ◌≤◌, ◌<◌, Bool, true, false, Option, None, Some, refl, sym, ap, subst, ◌∙◌, arith}
+use Rattle.std.specs.Prelude.{if◌then◌else◌}
 use Rattle.std.specs.FinMap as finmap
-use Rattle.disk.specs.Moments.{View}
 use Rattle.ipc_model.specs.calls.Step.{has_record}
 use Rattle.ipc_model.specs.declared.call.Call.{Call}
 use Rattle.ipc_model.specs.declared.record.Record.{Record}
 use Rattle.ipc_model.specs.state.State.{State}
-use Rattle.journal.specs.Batch.{BatchValue, empty_batch}
+use Rattle.journal.specs.Batch.{BatchValue}
 use Rattle.journal.specs.declared.segment.Segment.{Segment}
-use Rattle.storing.specs.Changes.{Finishes, IsFault, IsFaultOrShortage}
 use Rattle.storing.specs.Values.{CheckpointValue, CutValue, StoreValue, begun}
 use Rattle.system.specs.Core.{SystemValue, TicketsValue, first_system}
-use Rattle.system.specs.Halves.{Cuts, Gives, KernelValue, RowValue, TakenValue, TakesBatch, TicketValue, entry_of, next_row, with_receipt, with_record}
+use Rattle.system.specs.Halves.{Cuts, Gives, KernelValue, RowValue, TakenValue, TakesBatch, TicketValue, entry_of, with_receipt, with_record}
 use Rattle.system.specs.Order.{IsInOrder, IsOut, stored_out, taken_out}
 use Rattle.system.proofs.Between.{some_is}
 use Rattle.system.proofs.Tickets.{none_fresh}

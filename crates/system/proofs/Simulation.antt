@@ -1,42 +1,34 @@
 -- What a core does is what the written world of events allows: calls, batches, receipts and replies.
-use Rattle.std.proofs.Common.{◌≡◌, ◌≢◌, ◌⊎◌, inl, inr, ℕ, zero, suc, ◌+◌, ◌-◌, ◌≤◌, ◌<◌, Bool, true, false, List, [], ◌∷◌, ◌++◌, length, take, drop, Option, None, Some, refl, sym, ap, subst, ◌∙◌, arith, take-append-drop, append_assoc, length-append}
-use Rattle.std.specs.Prelude.{max, map, nat_lt, slice_get, ◌&&◌, if◌then◌else◌}
+use Rattle.std.proofs.Common.{◌≡◌, ◌⊎◌, inl, inr, ℕ, ◌+◌, ◌-◌, ◌≤◌, ◌<◌, Bool, true, false, List, [], ◌∷◌, ◌++◌, length, take, drop, Option, None, Some, refl, sym, ap, subst, ◌∙◌, arith, length-append}
+use Rattle.std.specs.Prelude.{max, nat_lt, slice_get, ◌&&◌, if◌then◌else◌}
 use Rattle.std.proofs.lemmas.Bool.{cases_eq, le-ltb, lt-ltb}
 use Rattle.std.specs.FinMap as finmap
-use Rattle.codes.specs.declared.limits.TheConstants.{MAX_RECORDS}
-use Rattle.disk.specs.Moments.{View, MayLeave, Passes, Follows, IsSynced}
+use Rattle.disk.specs.Moments.{View, MayLeave, Passes}
 use Rattle.disk.specs.Slots.{Slots}
 use Rattle.ipc_laws.specs.MapLaws.{get-here, get-there, get-gone, get-left}
-use Rattle.ipc_laws.specs.RunLaws.{run_split}
-use Rattle.ipc_model.specs.calls.Step.{Run, Step, has_record}
+use Rattle.ipc_model.specs.calls.Step.{Run, has_record}
 use Rattle.ipc_model.specs.declared.call.Call.{Call}
 use Rattle.ipc_model.specs.declared.call.Reply.{Reply}
 use Rattle.ipc_model.specs.declared.record.Record.{Record}
 use Rattle.ipc_model.specs.state.State.{State}
 use Rattle.ipc_model.specs.store.Recovery.{Recovered}
-use Rattle.ipc_model.specs.store.Store.{IsMidAppend}
 use Rattle.ipc_model.specs.store.Faults as fault
 use Rattle.ipc_model.specs.world.World as world
-use Rattle.ipc_model.specs.world.World.{World, Ticket, After, CanAppend, IsPossible, IsSegmentOpen, after_append, after_durable, after_submit, after_take, greatest_seen, is_behind, of_append, of_finish, record_of, told, with_answered}
-use Rattle.journal.specs.Batch.{BatchValue, Holds, content_of, empty_batch}
-use Rattle.journal.specs.declared.segment.Segment.{Segment}
-use Rattle.phases.specs.Batches.{IsReadyBatch, with_more}
-use Rattle.phases.specs.Phases.{Keeps}
-use Rattle.phases.proofs.Appends.{append_keeps, append_mid, kept_recovered, kept_synced}
-use Rattle.phases.proofs.Passed.{run_join}
+use Rattle.ipc_model.specs.world.World.{World, Ticket, After, after_durable, after_submit, after_take, greatest_seen, of_append, of_finish, record_of, told, with_answered}
+use Rattle.journal.specs.Batch.{BatchValue, Holds, empty_batch}
+use Rattle.phases.proofs.Appends.{kept_recovered}
 use Rattle.slot_steps.proofs.Moments.{left_now, passes_as}
-use Rattle.slot_steps.specs.Steps.{segment_slot}
 use Rattle.standing.specs.Standing.{as_written}
-use Rattle.storing.specs.Values.{CheckpointValue, StoreValue}
-use Rattle.system.specs.Changes.{Answers, CannotAppend, FailsToStore, FindsFull, HandsFinished, HandsReceipt, HandsIn, IsFullNow, IsNotDue, Stores, Submits, Takes}
-use Rattle.system.specs.Core.{AreTickets, BatchBetween, Between, Checkpoints, Counts, HasPlace, IsApplied, IsBeforeEpoch, IsFinishedCheckpoint, IsInEpoch, IsInUse, IsSameCheckpoint, KeepsStored, NothingBetween, Stands, StandsFor, StandsFrom, Steps, SystemValue, TicketsValue, Wait, in_turn, kept_ticket, unanswered}
+use Rattle.storing.specs.Values.{CheckpointValue}
+use Rattle.system.specs.Changes.{Answers, HandsFinished, HandsReceipt, HandsIn, IsFullNow, IsNotDue, Submits, Takes}
+use Rattle.system.specs.Core.{AreTickets, Between, Checkpoints, HasPlace, IsApplied, KeepsStored, NothingBetween, StandsFor, StandsFrom, Steps, SystemValue, Wait, in_turn, kept_ticket, unanswered}
 use Rattle.system.specs.Events.{event_of, outcome_of}
 use Rattle.system.specs.declared.event.Event.{Event}
 use Rattle.system.specs.declared.event.Outcome.{Outcome}
-use Rattle.system.specs.Halves.{CannotTake, Gives, KernelValue, RowValue, TakenValue, TicketValue, entry_of, with_receipt}
-use Rattle.system.proofs.Between.{append_first, batch_is_out, between_with, finish_first, handed_within, none_to_append, nothing_out, one_more_receipt, receipt_is_out, some_batch, some_is}
-use Rattle.system.proofs.Lists.{answered_here, answered_long, answered_other, drop_end, drop_long, drop_sum, got_last, got_other, seen_answered, seen_given, take_long, take_sum}
-use Rattle.system.proofs.Rows.{Grows, are_drop, are_take, drop_at_end, drop_past, drop_take, fit_drop, fit_take, grown, empty_holds, holds_as, holds_none, take_rest}
+use Rattle.system.specs.Halves.{CannotTake, Gives, KernelValue, TakenValue, TicketValue, with_receipt}
+use Rattle.system.proofs.Between.{append_first, between_with, finish_first, handed_within, nothing_out, receipt_is_out, some_batch, some_is}
+use Rattle.system.proofs.Lists.{answered_here, answered_long, answered_other, drop_long, got_last, got_other, seen_answered, seen_given, take_long}
+use Rattle.system.proofs.Rows.{Grows, drop_at_end, drop_past, drop_take, grown, empty_holds, holds_as, holds_none, take_rest}
 
 -- small facts
 

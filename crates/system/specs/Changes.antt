@@ -1,5 +1,5 @@
 -- What each event makes of a core.
-use Rattle.std.specs.Prelude.{◌≡◌, ◌⊎◌, ℕ, ◌+◌, ◌<◌, ◌≤◌, true, false, Option, None, Some, is_none}
+use Rattle.std.specs.Prelude.{◌≡◌, ◌⊎◌, ℕ, ◌+◌, ◌<◌, ◌≤◌, true, false, None, Some, is_none}
 use Rattle.std.specs.FinMap as finmap
 use Rattle.codes.specs.declared.limits.TheConstants.{MAX_RECORDS}
 use Rattle.disk.specs.Moments.{View, IsSynced}
@@ -9,7 +9,7 @@ use Rattle.slot_steps.specs.Steps.{segment_slot}
 use Rattle.storing.specs.Changes.{Finishes, IsAppended, PassesAppend}
 use Rattle.storing.specs.Values.{CutValue, begun}
 use Rattle.system.specs.Core.{SystemValue}
-use Rattle.system.specs.Halves.{CannotTake, Cuts, Gives, IsFullFor, TakenValue, TakesBatch, TicketValue, with_receipt}
+use Rattle.system.specs.Halves.{Cuts, Gives, IsFullFor, TakenValue, TakesBatch, TicketValue, with_receipt}
 
 module _ {D : Type 0} where
   -- A call was made, and its ticket given.

@@ -1,5 +1,5 @@
 -- The core as a whole, and the world of events that it stands for.
-use Rattle.std.specs.Prelude.{◌≡◌, ◌⊎◌, ℕ, ◌+◌, ◌-◌, ◌<◌, ◌≤◌, max, Bool, true, false, List, [], ◌∷◌, ◌++◌, length, take, drop, map, Option, None, Some, slice_get, refl}
+use Rattle.std.specs.Prelude.{◌≡◌, ◌⊎◌, ℕ, ◌+◌, ◌-◌, ◌<◌, ◌≤◌, max, Bool, true, false, List, [], ◌∷◌, length, take, drop, map, Option, None, Some, slice_get}
 use Rattle.std.specs.FinMap as finmap
 use Rattle.std.specs.Ordering.{nat_cmp}
 use Rattle.codes.specs.declared.limits.TheConstants.{MAX_RECORDS}
@@ -17,7 +17,7 @@ use Rattle.ipc_model.specs.store.Store.{AreRecords}
 use Rattle.ipc_model.specs.world.World.{World, Ticket, Receipt, After, greatest_seen, of_append, of_finish, pieces_of, told}
 use Rattle.ipc_model.specs.world.World as world
 use Rattle.ipc_laws.specs.StepsKeep.{FitCalls}
-use Rattle.journal.specs.Batch.{BatchValue, Holds, empty_batch}
+use Rattle.journal.specs.Batch.{BatchValue, Holds}
 use Rattle.journal.specs.declared.segment.Segment.{Segment}
 use Rattle.phases.specs.Phases.{Keeps}
 use Rattle.standing.specs.Standing.{as_written}

@@ -1,5 +1,5 @@
 -- What a core keeps to at any time.
-use Rattle.std.specs.Prelude.{◌≡◌, ◌⊎◌, ℕ, ◌+◌, ◌<◌, ◌≤◌, Bool, true, false, Option, None, Some}
+use Rattle.std.specs.Prelude.{◌≡◌, ℕ, ◌+◌, ◌<◌, ◌≤◌, Bool, true, false, Option, None, Some}
 use Rattle.std.specs.FinMap as finmap
 use Rattle.storing.specs.Values.{CheckpointValue}
 use Rattle.system.specs.Core.{SystemValue}

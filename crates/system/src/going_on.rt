@@ -1,5 +1,5 @@
 //! A checkpoint between the calls of a lone caller, where nothing waits.
-ghost use Rattle.std.specs.Prelude.{◌≡◌, ◌⊎◌, ◌<◌, false, None, IfErr, IfOk, OnOk, MatchBool};
+ghost use Rattle.std.specs.Prelude.{◌≡◌, ◌⊎◌, ◌<◌, false, IfErr, OnOk};
 ghost use Rattle.disk.specs.Moments.{Passes};
 ghost use Rattle.ipc_model.specs.state.State.{State};
 ghost use Rattle.phases.specs.Phases.{Keeps};

@@ -1,4 +1,4 @@
-ghost use Rattle.std.specs.Prelude.{◌≡◌, ℕ, ◌+◌, ◌-◌, ◌<◌, ◌≤◌, ◌^◌, length, None, Some, MatchOption, IfSome, IfNone, IsSome, OnOk, OnErr, option_copied};
+ghost use Rattle.std.specs.Prelude.{◌≡◌, ◌+◌, ◌-◌, ◌<◌, ◌≤◌, ◌^◌, length, None, Some, IfSome, IfNone, IsSome, OnOk, OnErr};
 ghost use Rattle.std.specs.FinMap as map;
 ghost use Rattle.codes.specs.declared.limits.TheConstants.{MAX_FRAME_CONTENT};
 ghost use Rattle.ipc_model.specs.calls.Step.{succeeded};

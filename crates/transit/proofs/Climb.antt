@@ -1,5 +1,5 @@
 -- One hop of the way up from a port to the port that carries its receive right.
-use Rattle.std.proofs.Common.{◌≡◌, ℕ, zero, suc, Bool, true, false, ◌==◌, ◌||◌, Option, None, Some, refl, sym, ◌∙◌, ap, subst}
+use Rattle.std.proofs.Common.{◌≡◌, ℕ, suc, Bool, true, false, ◌==◌, ◌||◌, Option, None, Some, refl, sym, ◌∙◌, ap, subst}
 use Rattle.ipc_model.specs.state.Circular.{carrier_of, meets}
 use Rattle.ipc_laws.specs.Ranks.{meets_itself}
 use Rattle.ipc_model.specs.state.State.{State}

@@ -1,6 +1,6 @@
-ghost use Rattle.std.specs.Prelude.{◌≡◌, ◌<◌, ◌^◌, ◌+◌, ◌*◌, ◌++◌, true, false, length, take, drop, flat_map, replicate, OnOk, OnErr};
+ghost use Rattle.std.specs.Prelude.{◌≡◌, ◌<◌, ◌^◌, ◌+◌, ◌*◌, ◌++◌, length, take, drop, flat_map, replicate, OnOk, OnErr};
 ghost use Rattle.byteorder.specs.Endian.{little_bytes};
-ghost use Rattle.ipc_model.specs.messages.Items.{is_port_item, item_text, received_type};
+ghost use Rattle.ipc_model.specs.messages.Items.{received_type};
 ghost use Rattle.type_desc.specs.Adding.{Keeps, descriptor_with, FitsShort};
 ghost use Rattle.type_desc.specs.Values.{item_value};
 ghost use Rattle.words.specs.Words.{word};

@@ -1,5 +1,4 @@
 ghost use Rattle.std.specs.Prelude.{◌≡◌, ◌==◌, ◌&&◌, ◌||◌, ◌*◌, ◌%◌, ◌^◌, ◌≤◌, ◌<◌, not, nat_lt, true, false, length};
-ghost use Rattle.byteorder.specs.Endian.{little_number};
 ghost use Rattle.ipc_model.specs.messages.Items.{is_inline, is_long_form, has_other_bit, is_port_type, type_name_in, bits_in, number_in, padded, descriptor_length};
 
 use byteorder::{ByteOrder, LittleEndian};

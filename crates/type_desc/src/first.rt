@@ -1,4 +1,4 @@
-ghost use Rattle.std.specs.Prelude.{◌≡◌, ◌==◌, ◌&&◌, ◌*◌, ◌+◌, ◌≤◌, not, nat_lt, true, false, length, drop, Some, None, IfOk, IfErr, OnOk, OnErr};
+ghost use Rattle.std.specs.Prelude.{◌≡◌, ◌==◌, ◌&&◌, ◌+◌, ◌≤◌, not, nat_lt, true, false, length, Some, None, IfOk, IfErr, OnOk, OnErr};
 ghost use Rattle.byteorder.specs.Endian.{little_number};
 ghost use Rattle.ipc_model.specs.calls.Tests.{first_failing};
 ghost use Rattle.ipc_model.specs.messages.Items.{tests_of_item, item_of, after_item, is_long_form, is_port_type, type_name_in, bits_in, number_in, descriptor_length, data_length};

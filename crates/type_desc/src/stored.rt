@@ -1,4 +1,4 @@
-ghost use Rattle.std.specs.Prelude.{◌≡◌, ◌++◌, true, false, map, OnOk, OnErr};
+ghost use Rattle.std.specs.Prelude.{◌≡◌, ◌++◌, true, map, OnOk, OnErr};
 ghost use Rattle.ipc_model.specs.messages.Items.{is_port_item, item_text, items_text, as_stored};
 ghost use Rattle.type_desc.specs.Adding.{Keeps};
 ghost use Rattle.type_desc.specs.Values.{item_value};

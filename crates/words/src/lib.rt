@@ -1,7 +1,7 @@
 //! Numbers at the front and at the end of byte strings, lowest byte first.
 #![tactic(auto)]
 
-ghost use Rattle.std.specs.Prelude.{◌≡◌, ◌<◌, ◌≤◌, ◌+◌, ◌^◌, ◌++◌, length, drop, IfSome, IfNone, OnOk, OnErr};
+ghost use Rattle.std.specs.Prelude.{◌≡◌, ◌<◌, ◌+◌, ◌^◌, ◌++◌, length, IfSome, IfNone, OnOk, OnErr};
 ghost use Rattle.words.specs.Words.{word, long_word};
 
 use byteorder::{ByteOrder, LittleEndian};

@@ -20,7 +20,7 @@ use Rattle.ipc_model.specs.declared.message.RightKind.TheVariants as kind
 use Rattle.ipc_model.specs.declared.port.PortState.{PortState}
 use Rattle.ipc_model.specs.rights.CopyIn.{Taken, copy_in}
 use Rattle.ipc_model.specs.rights.CopyOut.{names_wanted}
-use Rattle.ipc_model.specs.rights.Dispositions.{Disposition, MoveSendOnce, MakeSendOnce, disposition_of}
+use Rattle.ipc_model.specs.rights.Dispositions.{Disposition, MoveSendOnce, MakeSendOnce, disposition_of, number_of_disposition}
 use Rattle.ipc_model.specs.messages.Sending.{live_port}
 use Rattle.ipc_model.specs.state.State.{State, Names, is_null_or_dead, ports_are_used_up, port_held, received_port, request_of, is_number}
 use Rattle.ipc_model.specs.calls.Tests.{Tests}
@@ -221,7 +221,8 @@ tests_of_request state space name variant sync cancels =
 
 -- a notification's disposition makes or moves a send-once right
 abbrev pub notify_disposition : ℕ → Option Disposition
-notify_disposition n = if n == 18 then Some MoveSendOnce else if n == 21 then Some MakeSendOnce else None
+notify_disposition n =
+    if n == number_of_disposition MoveSendOnce then Some MoveSendOnce else if n == number_of_disposition MakeSendOnce then Some MakeSendOnce else None
 
 abbrev pub tests_of_notify : State → ℕ → ℕ → ℕ → ℕ → ℕ → ℕ → Tests
 tests_of_notify state space name variant sync notify_name disposition =

@@ -4,7 +4,7 @@ use Rattle.std.specs.Prelude.{ℕ, zero, suc, ◌+◌, ◌*◌, ◌/◌, ◌%◌
 use Rattle.words.specs.Numbers.{little_number, little_bytes}
 use Rattle.codes.specs.declared.kern_return.KernReturn.{KernReturn}
 use Rattle.codes.specs.declared.kern_return.KernReturn.TheVariants.{SendMsgTooSmall, SendInvalidMemory, SendInvalidType}
-use Rattle.ipc_model.specs.rights.Dispositions.{disposition_of, received_kind, number_of_kind}
+use Rattle.ipc_model.specs.rights.Dispositions.{MoveReceive, MakeSendOnce, disposition_of, number_of_disposition, received_kind, number_of_kind}
 use Rattle.ipc_model.specs.calls.Tests.{Tests, and_then, unless_failing}
 use Rattle.words.specs.Words.{word}
 
@@ -55,7 +55,7 @@ padded n = (((n + 7) / 8 + 3) / 4) * 4
 
 -- MACH_MSG_TYPE_MOVE_RECEIVE to MACH_MSG_TYPE_MAKE_SEND_ONCE
 abbrev pub is_port_type : ℕ → Bool
-is_port_type type_name = nat_le 16 type_name && nat_le type_name 21
+is_port_type type_name = nat_le (number_of_disposition MoveReceive) type_name && nat_le type_name (number_of_disposition MakeSendOnce)
 
 abbrev pub data_length : List ℕ → Bool → ℕ
 data_length bytes long = padded (number_in bytes long * bits_in bytes long)

@@ -14,7 +14,7 @@ use Rattle.ipc_model.specs.declared.message.RightKind.{RightKind}
 use Rattle.ipc_model.specs.declared.message.RightKind.TheVariants as kind
 use Rattle.ipc_model.specs.state.Circular.{is_circular}
 use Rattle.ipc_model.specs.rights.CopyIn.{Taken, copy_in}
-use Rattle.ipc_model.specs.rights.Dispositions.{Disposition, MoveReceive, MoveSend, MoveSendOnce, CopySend, MakeSend, MakeSendOnce, disposition_of, received_kind}
+use Rattle.ipc_model.specs.rights.Dispositions.{Disposition, MoveReceive, MoveSend, MoveSendOnce, CopySend, MakeSend, MakeSendOnce, disposition_of, number_of_disposition, received_kind}
 use Rattle.ipc_model.specs.effects.Effects.{Effect, release, releases_of, queued, Outcome}
 use Rattle.ipc_model.specs.messages.Items.{Item, items_of, items_text, as_stored, is_port_item, names_of_item}
 use Rattle.ipc_model.specs.messages.Messages.{Parts, parts_of, header_length}
@@ -127,7 +127,7 @@ tests_of_size size = (nat_lt size header_length || not (size % 4 == 0), SendMsgT
 
 -- a disposition for a header names a send or send-once right
 abbrev pub header_disposition : ℕ → Option Disposition
-header_disposition n = if n == 16 then None else disposition_of n
+header_disposition n = if n == number_of_disposition MoveReceive then None else disposition_of n
 
 -- the reply's disposition, or none where there is no reply; refused where it is neither
 abbrev pub reply_disposition : ℕ → ℕ → Result (Option Disposition) KernReturn

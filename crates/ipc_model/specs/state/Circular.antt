@@ -29,7 +29,8 @@ abbrev pub carrier_of : State → ℕ → Option ℕ
 carrier_of state serial = option_map (λ e. e.0) (find (λ e. carries serial e.1) (finmap.entries state.ports))
 
 -- Going up from one port to the port that carries its receive right, and so on, within so many hops, meets a
--- port. The port itself is met at once.
+-- port. The port itself is met at once. (`circles_lead_up` of `ipc_laws` says this without a bound: of ports that aren't in a
+-- circle already, some number of hops leads up to the port.)
 abbrev pub meets : State → ℕ → ℕ → ℕ → Bool
 meets state zero wanted serial = serial == wanted
 meets state (suc hops) wanted serial = serial == wanted || elim (carrier_of state serial) as (λ _. Bool) [ None ↦ false | Some carrier ↦ meets state hops wanted carrier ]

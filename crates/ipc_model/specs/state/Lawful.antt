@@ -15,6 +15,7 @@ use Rattle.ipc_model.specs.declared.port.PortState.{PortState}
 use Rattle.ipc_model.specs.effects.Effects.{Effect, release, notify}
 use Rattle.ipc_model.specs.messages.Notices as notice
 use Rattle.ipc_model.specs.messages.Items.{Item, items_of, is_port_item}
+use Rattle.ipc_model.specs.rights.Dispositions.{number_of_kind}
 use Rattle.ipc_model.specs.state.Placed.{Right, waiting, placed, same_kind, receive_count}
 use Rattle.ipc_model.specs.messages.Receiving.{message_size}
 use Rattle.ipc_model.specs.state.State.{State, Names, lives, port_held, received_port}
@@ -40,14 +41,14 @@ pub record LawfulNames (names : Names) : Type 0 where
 
 -- the kinds of right that a port item brings: one for each of its ports
 abbrev pub kind_of_number : ℕ → RightKind
-kind_of_number n = if n == 16 then kind.Receive else if n == 17 then kind.Send else kind.SendOnce
+kind_of_number n = if n == number_of_kind kind.Receive then kind.Receive else if n == number_of_kind kind.Send then kind.Send else kind.SendOnce
 
 abbrev pub kinds_of_item : Item → List RightKind
 kinds_of_item item = if is_port_item item then replicate item.number (kind_of_number item.type_name) else []
 
 -- a port item has a type as received, and 0 in each port's place
 abbrev pub IsStoredItem : Item → Type 0
-IsStoredItem item = MatchBool (is_port_item item) ((item.type_name ≤ 18) × All (λ byte. byte ≡ 0) item.content) (Unit {0})
+IsStoredItem item = MatchBool (is_port_item item) ((item.type_name ≤ number_of_kind kind.SendOnce) × All (λ byte. byte ≡ 0) item.content) (Unit {0})
 
 -- A body with ports: its items tile it, at least one holds ports, and the rights are those of its ports, in order.
 pub record HoldsPorts (body : List ℕ) (rights : List CarriedRight) : Type 0 where

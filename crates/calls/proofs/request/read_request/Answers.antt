@@ -1,5 +1,4 @@
 use Rattle.std.proofs.Common.{ℕ, ◌++◌, sym, ap, ◌∙◌}
-use Rattle.codes.specs.declared.call_number.TheConstants.{MACH_MSG}
 use Rattle.words.specs.Words.{word}
 use Rattle.calls.proofs.Asked.{asks_in_front, asks_behind}
 use Rattle.calls.proofs.request.read_request.Goals as goal

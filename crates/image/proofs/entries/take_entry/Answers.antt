@@ -1,4 +1,4 @@
-use Rattle.std.proofs.Common.{◌≡◌, List, ℕ, ◌++◌, sym, ◌∙◌, ap}
+use Rattle.std.proofs.Common.{◌≡◌, List, ℕ, sym, ◌∙◌, ap}
 use Rattle.std.specs.Option.{IsSomeAnd}
 use Rattle.ipc_laws.specs.TextLaws.{word_once}
 use Rattle.ipc_model.specs.declared.entry.Entry.{Entry}

@@ -1,7 +1,6 @@
-use Rattle.std.proofs.Common.{◌≡◌, ℕ, ◌+◌, ap, sym, ◌∙◌, subst, refl, arith}
-use Rattle.ipc_state.specs.Members.{AreMembers, all_moved, all_stay, moving_none}
+use Rattle.std.proofs.Common.{ℕ, ◌+◌, sym, ◌∙◌, subst, arith}
+use Rattle.ipc_state.specs.Members.{all_moved}
 use Rattle.ipc_state.proofs.Kept.{MovesTo, moves_on}
-use Rattle.spaces.specs.Passed.{Numbers}
 use Rattle.ipc_state.proofs.port_changes.move_places.Goals as goal
 
 pub returns-in_default-checked_add-clause-ok : goal.returns-in_default-checked_add-clause-ok

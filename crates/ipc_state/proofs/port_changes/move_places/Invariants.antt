@@ -1,4 +1,4 @@
-use Rattle.std.proofs.Common.{◌≡◌, ℕ, ◌-◌, ◌≤◌, ◌^◌}
+use Rattle.std.proofs.Common.{◌≡◌, ◌-◌, ◌≤◌, ◌^◌}
 use Rattle.ipc_state.proofs.Kept.{MovesTo}
 use Rattle.ipc_state.proofs.port_changes.move_places.Given as goal
 

@@ -1,4 +1,4 @@
-use Rattle.std.proofs.Common.{◌≡◌, ap, sym, ◌∙◌, subst}
+use Rattle.std.proofs.Common.{sym, subst}
 use Rattle.ipc_state.specs.Members.{AreMembers}
 use Rattle.ports.specs.Passed.{TrackedPorts}
 use Rattle.ipc_state.proofs.Kept.{numbers_replaced}

@@ -1,6 +1,7 @@
 use Rattle.std.proofs.Common.{ℕ, ◌+◌, sym, subst, arith}
 use Rattle.ipc_model.specs.calls.PortCalls.{names_in}
-use Rattle.kernel.specs.Copying.{gathered_all, gathered_none, name_more, named_row, AreGathered}
+use Rattle.kernel.specs.Copying.{gathered_all, gathered_none, name_more, AreGathered}
+use Rattle.snapshot.specs.Rows.{named_row}
 use Rattle.kernel.proofs.copying.names_of.Goals as goal
 
 pub loop-name-init : goal.loop-name-init

@@ -1,6 +1,7 @@
 use Rattle.std.proofs.Common.{◌≤◌, ◌-◌, ◌^◌}
 use Rattle.ipc_model.specs.calls.PortCalls.{names_in}
-use Rattle.kernel.specs.Copying.{named_row, AreGathered}
+use Rattle.kernel.specs.Copying.{AreGathered}
+use Rattle.snapshot.specs.Rows.{named_row}
 use Rattle.kernel.proofs.copying.names_of.Given as goal
 
 -- what was gathered, with the names that are left, is the whole

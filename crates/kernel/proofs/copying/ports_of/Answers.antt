@@ -1,4 +1,5 @@
-use Rattle.kernel.specs.Copying.{gathered_all, gathered_none, port_more, port_row}
+use Rattle.kernel.specs.Copying.{gathered_all, gathered_none, port_more}
+use Rattle.snapshot.specs.Rows.{port_row}
 use Rattle.kernel.proofs.copying.ports_of.Goals as goal
 
 pub loop-serial-init : goal.loop-serial-init

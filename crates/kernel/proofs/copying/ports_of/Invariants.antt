@@ -1,5 +1,6 @@
 use Rattle.std.proofs.Common.{◌-◌, ◌^◌}
-use Rattle.kernel.specs.Copying.{port_row, AreGathered}
+use Rattle.kernel.specs.Copying.{AreGathered}
+use Rattle.snapshot.specs.Rows.{port_row}
 use Rattle.kernel.proofs.copying.ports_of.Given as goal
 
 -- what was gathered, with the ports that are left, is the whole

@@ -1,5 +1,6 @@
 use Rattle.std.proofs.Common.{ℕ, List, [], ◌+◌, ◌∷◌, ◌++◌, sym, ◌∙◌, ap, subst, arith}
-use Rattle.kernel.specs.Copying.{gathered_none, space_more, space_row, spaces_all, AreGathered}
+use Rattle.kernel.specs.Copying.{gathered_none, space_more, spaces_all, AreGathered}
+use Rattle.snapshot.specs.Rows.{space_row}
 use Rattle.snapshot.specs.declared.rows.NamedEntry.{NamedEntry}
 use Rattle.snapshot.specs.declared.rows.Space.{Space}
 use Rattle.kernel.proofs.copying.spaces_of.Goals as goal

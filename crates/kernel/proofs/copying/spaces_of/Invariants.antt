@@ -1,5 +1,6 @@
 use Rattle.std.proofs.Common.{◌≤◌, ◌-◌, ◌^◌}
-use Rattle.kernel.specs.Copying.{space_row, AreGathered}
+use Rattle.kernel.specs.Copying.{AreGathered}
+use Rattle.snapshot.specs.Rows.{space_row}
 use Rattle.kernel.proofs.copying.spaces_of.Given as goal
 
 -- what was gathered, with the spaces that are left, is the whole

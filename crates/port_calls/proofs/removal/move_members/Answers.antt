@@ -1,10 +1,8 @@
-use Rattle.std.proofs.Common.{◌≡◌, ℕ, List, [], ◌∷◌, Option, None, Some, refl, sym, ◌∙◌, ap}
-use Rattle.std.specs.Ordering.{nat_cmp}
+use Rattle.std.proofs.Common.{◌≡◌, ℕ, List, [], ◌∷◌, Option, None, Some, refl, ◌∙◌, ap}
 use Rattle.std.specs.FinMap as finmap
-use Rattle.std.specs.FinMap.{FinMap}
 use Rattle.ipc_model.specs.calls.Actions.{with_ports}
 use Rattle.ipc_model.specs.declared.port.PortState.{PortState}
-use Rattle.ipc_model.specs.state.State.{State, Names, with_port}
+use Rattle.ipc_model.specs.state.State.{State, with_port}
 use Rattle.port_calls.proofs.removal.move_members.Goals as goal
 
 -- a change of ports leaves the names as they are

@@ -1,4 +1,4 @@
-use Rattle.std.proofs.Common.{◌≡◌, Option, Some, IfSome, length, refl, sym, subst, ap, arith}
+use Rattle.std.proofs.Common.{◌≡◌, Option, IfSome, length, refl, subst, ap, arith}
 use Rattle.ipc_model.specs.declared.call.Call.{Call}
 use Rattle.ipc_model.specs.declared.call.Reply.{Reply}
 use Rattle.ipc_model.specs.texts.Texts.{call_text, reply_text, IsKeptCall, IsRecordedReply}

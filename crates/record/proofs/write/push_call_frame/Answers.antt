@@ -1,4 +1,4 @@
-use Rattle.std.proofs.Common.{◌++◌, length, ap, arith, length-append}
+use Rattle.std.proofs.Common.{length, ap, arith, length-append}
 use Rattle.words.specs.Words.{word}
 use Rattle.ipc_model.specs.texts.Texts.{call_text, kept_call}
 use Rattle.ipc_laws.specs.KeptLaws.{kept_call_long}

@@ -3,7 +3,7 @@ use Rattle.std.proofs.lemmas.Result.{err_from_is_err_and}
 use Rattle.disk.specs.Slots.{Slots}
 use Rattle.ipc_model.specs.store.Recovery.{image_header, segment_header_length}
 use Rattle.recover.specs.Headers.{Says}
-use Rattle.recover.proofs.Faults.{none_at_error, none_in_error}
+use Rattle.recover.proofs.Faults.{none_in_error}
 use Rattle.recover.proofs.headers.read_headers.Goals as goal
 
 pub returns-clause-said : goal.returns-clause-said

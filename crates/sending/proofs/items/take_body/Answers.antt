@@ -1,4 +1,4 @@
-use Rattle.std.proofs.Common.{◌≡◌, map, Vec, Global}
+use Rattle.std.proofs.Common.{map, Vec, Global}
 use Rattle.std.proofs.lemmas.Result.{err_from_is_err_and}
 use Rattle.codes.specs.declared.kern_return.KernReturn.TheVariants.{SendInvalidRight}
 use Rattle.ipc_model.specs.declared.message.CarriedRight.{CarriedRight}

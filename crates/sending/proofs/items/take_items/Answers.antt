@@ -1,7 +1,7 @@
-use Rattle.std.proofs.Common.{◌≡◌, map}
+use Rattle.std.proofs.Common.{map}
 use Rattle.std.proofs.lemmas.Result.{err_from_is_err_and}
 use Rattle.codes.specs.declared.kern_return.KernReturn.TheVariants.{SendInvalidRight}
-use Rattle.ipc_model.specs.messages.Sending.{TakenRights, take_items}
+use Rattle.ipc_model.specs.messages.Sending.{take_items}
 use Rattle.sending.specs.SoFar.{so_far}
 use Rattle.sending.proofs.Rests.{failed_item}
 use Rattle.type_desc.specs.Values.{item_value}

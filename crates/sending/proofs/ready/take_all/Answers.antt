@@ -3,7 +3,7 @@ use Rattle.std.proofs.lemmas.Result.{err_from_is_err_and}
 use Rattle.ipc_model.specs.declared.message.CarriedRight.{CarriedRight}
 use Rattle.ipc_model.specs.messages.Sending.{take_header}
 use Rattle.msg_header.specs.Headers.{parts_by}
-use Rattle.sending.proofs.Joined.{all_taken, second_failed, third_failed, next_rights, HeaderIs}
+use Rattle.sending.proofs.Joined.{all_taken, second_failed, third_failed}
 use Rattle.sending.proofs.Steps.{gave_failed}
 use Rattle.type_desc.specs.Values.{item_value}
 use Rattle.sending.proofs.ready.take_all.Goals as goal

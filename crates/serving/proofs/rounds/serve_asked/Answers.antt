@@ -1,7 +1,7 @@
 use Rattle.std.proofs.Common.{Err, ap, ◌∙◌, arith}
 use Rattle.std.proofs.lemmas.Result.{err_from_is_err_and}
 use Rattle.serving.proofs.Going.{both_known}
-use Rattle.serving.proofs.Turns.{at_most, last_turn, next_turn, no_turn, turn_stops}
+use Rattle.serving.proofs.Turns.{at_most, last_turn, next_turn, turn_stops}
 use Rattle.serving.proofs.rounds.serve_asked.Goals as goal
 
 pub returns-in_err-goes_on : goal.returns-in_err-goes_on

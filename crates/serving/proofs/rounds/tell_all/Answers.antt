@@ -1,6 +1,5 @@
 use Rattle.std.proofs.Common.{Err, ap, ◌∙◌, arith}
 use Rattle.std.proofs.lemmas.Result.{err_from_is_err_and}
-use Rattle.serving.proofs.Acting.{begun}
 use Rattle.serving.proofs.Going.{keeps_is}
 use Rattle.serving.proofs.Turns.{none_left, telling_known, tells_more, telling_ends, telling_stops}
 use Rattle.serving.proofs.rounds.tell_all.Goals as goal

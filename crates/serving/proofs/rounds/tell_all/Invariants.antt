@@ -1,6 +1,5 @@
 use Rattle.std.proofs.Common.{◌≡◌, ◌≤◌, ℕ, List, Some}
 use Rattle.std.specs.VecDeque.{deque_capacity, deque_len}
-use Rattle.codes.specs.declared.limits.TheConstants.{MAX_FRAME_CONTENT}
 use Rattle.serving.specs.Asking.{Went}
 use Rattle.serving.proofs.rounds.tell_all.Given as goal
 

@@ -1,5 +1,4 @@
-use Rattle.std.proofs.Common.{◌≤◌, ℕ, List, sym, ap, subst}
-use Rattle.disk.specs.Moments.{MayLeave}
+use Rattle.std.proofs.Common.{◌≤◌, ℕ, List, sym, subst}
 use Rattle.history.specs.Entries.{Begins, records_of}
 use Rattle.history.specs.declared.entry.Entry.{Entry}
 use Rattle.session_core.specs.Tokens.{SessionValue}

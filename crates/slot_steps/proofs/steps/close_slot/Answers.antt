@@ -1,5 +1,4 @@
 use Rattle.std.proofs.Common.{◌≡◌, ◌⊎◌, ◌<◌, List, ℕ, [], ◌∷◌, inl, length, take, refl, ap, subst, ◌∙◌, sym}
-use Rattle.std.specs.Prelude.{IsTrue}
 use Rattle.disk.specs.Slots.{Slots, slot_of}
 use Rattle.ipc_model.specs.store.Store.{open_gate}
 use Rattle.slot_steps.proofs.Following.{follows_as, still_then}

@@ -1,4 +1,4 @@
-use Rattle.std.proofs.Common.{◌≡◌, ap, sym, ◌∙◌, subst}
+use Rattle.std.proofs.Common.{ap, ◌∙◌}
 use Rattle.ipc_model.specs.effects.Effects.{after_death}
 use Rattle.ipc_state.specs.Members.{set_in}
 use Rattle.ipc_state.specs.Running.{Running}

@@ -1,4 +1,4 @@
-use Rattle.std.proofs.Common.{◌≡◌, None, Some, refl, ap, sym, ◌∙◌, arith}
+use Rattle.std.proofs.Common.{ap, ◌∙◌}
 use Rattle.ipc_state.specs.Members.{set_in}
 use Rattle.ipc_state.specs.Running.{Running}
 use Rattle.ipc_state.proofs.Kept.{port_buried}

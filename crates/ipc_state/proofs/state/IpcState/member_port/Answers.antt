@@ -1,4 +1,4 @@
-use Rattle.std.proofs.Common.{◌≡◌, ℕ, eqb, Option, Some, true, false, sym, ap, subst, ◌∙◌}
+use Rattle.std.proofs.Common.{ℕ, eqb, Option, Some, true, false, sym, ap, ◌∙◌}
 use Rattle.std.specs.Option.{option_eq}
 use Rattle.ipc_state.specs.Members.{state_of}
 use Rattle.ipc_state.specs.Running.{Running}

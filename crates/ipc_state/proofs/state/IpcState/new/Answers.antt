@@ -1,4 +1,4 @@
-use Rattle.std.proofs.Common.{◌≡◌, ap}
+use Rattle.std.proofs.Common.{ap}
 use Rattle.ipc_state.specs.Members.{no_members}
 use Rattle.spaces.specs.Slots.{TrackedSpaces}
 use Rattle.spaces.specs.Passed.{Tracked}

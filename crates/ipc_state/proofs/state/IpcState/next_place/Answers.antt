@@ -1,6 +1,6 @@
-use Rattle.std.proofs.Common.{◌≡◌, ℕ, ◌≤◌, ◌^◌, ◌/◌, ◌%◌, Option, None, Some, ap, sym, subst, ◌∙◌, arith}
+use Rattle.std.proofs.Common.{◌≡◌, ℕ, ◌^◌, ◌%◌, Option, None, Some, subst, arith}
 use Rattle.ipc_state.specs.Running.{Running}
-use Rattle.ipc_state.specs.SetNames.{IsNextPlace, name_found, none_found, other_space, past_names}
+use Rattle.ipc_state.specs.SetNames.{IsNextPlace, name_found, none_found, past_names}
 use Rattle.spaces.specs.Passed.{Numbers, IsNext}
 use Rattle.spaces.specs.Looking.{place}
 use Rattle.ipc_state.proofs.state.IpcState.next_place.Goals as goal

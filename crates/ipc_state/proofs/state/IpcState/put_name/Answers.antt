@@ -1,7 +1,7 @@
-use Rattle.std.proofs.Common.{◌≡◌, None, Some, ap, sym, ◌∙◌, arith}
-use Rattle.std.specs.FinMap.{insert, remove}
+use Rattle.std.proofs.Common.{Some, arith}
+use Rattle.std.specs.FinMap.{insert}
 use Rattle.ipc_model.specs.state.State.{Names}
-use Rattle.ipc_state.proofs.Kept.{name_changed, put_looks, gone_looks}
+use Rattle.ipc_state.proofs.Kept.{name_changed, put_looks}
 use Rattle.ipc_state.proofs.state.IpcState.put_name.Goals as goal
 
 pub invariant_of-self : goal.invariant_of-self

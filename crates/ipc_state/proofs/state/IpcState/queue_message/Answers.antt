@@ -1,4 +1,4 @@
-use Rattle.std.proofs.Common.{◌≡◌, ap, sym, ◌∙◌, refl}
+use Rattle.std.proofs.Common.{ap, sym, refl}
 use Rattle.ipc_state.specs.Running.{Running}
 use Rattle.ports.specs.Passed.{with_message}
 use Rattle.ipc_state.proofs.Kept.{port_changed}

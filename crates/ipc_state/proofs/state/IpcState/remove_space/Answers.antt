@@ -1,4 +1,4 @@
-use Rattle.std.proofs.Common.{◌≡◌, ℕ, ◌+◌, ◌<◌, None, ap, sym, ◌∙◌, subst, arith}
+use Rattle.std.proofs.Common.{◌≡◌, ℕ, ◌+◌, ◌<◌, None, ap, sym, ◌∙◌, arith}
 use Rattle.std.specs.FinMap.{get, remove}
 use Rattle.ipc_model.specs.calls.PortCalls.{names_in}
 use Rattle.ipc_model.specs.state.State.{State, without_name}

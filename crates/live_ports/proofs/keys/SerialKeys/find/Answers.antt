@@ -2,7 +2,6 @@ use Rattle.std.proofs.Common.{sym, ◌∙◌, ap}
 use Rattle.std.specs.FinMap as map
 use Rattle.live_ports.specs.Recent.{Places, at, place_of}
 use Rattle.live_ports.specs.Slabbed.{Keys}
-use Rattle.live_ports.proofs.Recency.{noted_recent}
 use Rattle.live_ports.proofs.keys.SerialKeys.find.Goals as goal
 
 pub returns-in-Some-clause-found : goal.returns-in-Some-clause-found

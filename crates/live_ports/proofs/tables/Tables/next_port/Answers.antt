@@ -1,4 +1,4 @@
-use Rattle.std.proofs.Common.{ℕ, ◌+◌, sym, ◌∙◌, ap, subst, arith}
+use Rattle.std.proofs.Common.{ℕ, ◌+◌, sym, ◌∙◌, subst, arith}
 use Rattle.live_ports.specs.NextPort.{ArePassed, passed_dead, passed_on}
 use Rattle.live_ports.specs.Tables.{present_ports}
 use Rattle.live_ports.proofs.tables.Tables.next_port.Goals as goal

@@ -1,4 +1,4 @@
-use Rattle.std.proofs.Common.{◌≤◌, ap, sym, subst, arith}
+use Rattle.std.proofs.Common.{ap, sym, subst, arith}
 use Rattle.live_ports.specs.PortTable.{PortTable, TrackedPorts}
 use Rattle.ports.specs.Indexes.{AreIndexed, former_parts, present_parts}
 use Rattle.ports.specs.IndexLaws.{later_indexed}

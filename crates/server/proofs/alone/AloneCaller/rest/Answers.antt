@@ -5,7 +5,7 @@ use Rattle.system.specs.GoingOn.{IsStanding}
 use Rattle.server.proofs.Keeping.{is_wanted, kept_held, no_time}
 use Rattle.server.proofs.Stopping.{left_within}
 use Rattle.server.specs.Keeping.{IsHeld}
-use Rattle.server.specs.declared.alone.TheConstants.{CHECKPOINT_RECORDS}
+use Rattle.codes.specs.declared.limits.TheConstants.{CHECKPOINT_RECORDS}
 use Rattle.server.proofs.alone.AloneCaller.rest.Goals as goal
 
 pub returns-then-self-clause-breaks : goal.returns-then-self-clause-breaks

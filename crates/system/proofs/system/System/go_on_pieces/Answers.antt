@@ -1,5 +1,4 @@
 use Rattle.std.proofs.Common.{ap, ◌∙◌}
-use Rattle.ipc_model.specs.state.State.{State}
 use Rattle.system.proofs.Calls.{match_false, match_true}
 use Rattle.system.proofs.Going.{finish_breaks, finished_moves, finished_rests, hands_finished, kernel_same, leaves_then, moves_none, moves_then, passes_after, piece_breaks, piece_or_none, piece_working, rests_same, standing_after}
 use Rattle.system.proofs.system.System.go_on_pieces.Goals as goal

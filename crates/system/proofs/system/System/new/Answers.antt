@@ -1,4 +1,4 @@
-use Rattle.std.proofs.Common.{◌≡◌, ◌≤◌, ℕ, None, false, refl, sym, ap, subst, ◌∙◌}
+use Rattle.std.proofs.Common.{◌≡◌, None, false, refl, sym, ap, subst, ◌∙◌}
 use Rattle.phases.specs.Passed.{IsKept}
 use Rattle.ipc_model.specs.state.Circular.{Grounded}
 use Rattle.ipc_model.specs.state.Lawful.{Lawful}

@@ -1,7 +1,7 @@
 use Rattle.ipc_model.specs.declared.call.Reply.TheVariants as reply
 use Rattle.system.specs.declared.event.Event.TheVariants as event
 use Rattle.system.specs.declared.event.Outcome.TheVariants as outcome
-use Rattle.std.proofs.Common.{◌⊎◌, inl, inr, refl, sym, subst}
+use Rattle.std.proofs.Common.{inl, inr, refl, sym, subst}
 use Rattle.ipc_model.specs.world.World as world
 use Rattle.journal.specs.declared.fault.StoreFault.{StoreFault}
 use Rattle.journal.specs.declared.fault.StoreFault.TheVariants.{Device, Failed}
