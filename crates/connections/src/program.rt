@@ -1,5 +1,8 @@
-ghost use Rattle.std.specs.Prelude.{◌≡◌};
+ghost use Rattle.std.specs.Prelude.{◌≡◌, ◌⊎◌, IfErr, OnErr, OnOk};
 ghost use Rattle.std.specs.Arc.{arc_value};
+ghost use Rattle.std.specs.Io.KnownBytes.{Appends};
+ghost use Rattle.connections.specs.Telling.{HasTold, ready_line};
+ghost use Rattle.wire.specs.Writing.{AppendsPart};
 
 use crate::bound::bind;
 use crate::threads::{accept, start_loops};
@@ -19,6 +22,7 @@ use std::sync::{Arc, Wait};
 use std::thread::Threads;
 use std::time::Clock;
 use system::Opened;
+use wire::{WireFault, write_bytes};
 
 /// Binds the socket's path, says on the output that it is ready, and serves an opened store there, each connection in a thread of its
 /// own as a session of the store's history. It ends only by a fault.
@@ -35,7 +39,9 @@ pub fn serve_opened<
         + Sync
         + 'static,
     O: Write,
->(rt: R, path: &str, opened: Opened<D>, output: &mut O) -> SocketEnd {
+>(rt: R, path: &str, opened: Opened<D>, output: &mut O) -> SocketEnd
+    ensures told { HasTold (O.contents output.old) (O.contents output.new) result }
+{
     let (listener, row, path) = match prepare(&rt, path) {
         Ok(prepared) => prepared,
         Err(end) => {
@@ -51,7 +57,9 @@ pub fn serve_opened<
 fn prepare<R: Files + Net + AllocGlobal>(
     rt: &R,
     path: &str,
-) -> Result<(UnixListener, Arc<Row, Global>, String), SocketEnd> {
+) -> Result<(UnixListener, Arc<Row, Global>, String), SocketEnd>
+    ensures err { IfErr result (λ end. (end ≡ SocketEnd.Socket) ⊎ (end ≡ SocketEnd.Store StoreFault.NoMemory)) }
+{
     let no_memory = SocketEnd::Store(StoreFault::NoMemory);
     let listener = bind(rt, path).ok_or(SocketEnd::Socket)?;
     let row = first_row(rt.alloc()).ok_or(no_memory)?;
@@ -91,6 +99,7 @@ fn serve_history<
     requires base { opened.kernel ≡ L.base }
     requires row { arc_value row ≡ L.first }
     requires blank { (blank.name ≡ L.name) × (blank.parts ≡ L.parts) × (L.parts ≡ MOST_SESSIONS) }
+    ensures told { HasTold (O.contents output.old) (O.contents output.new) result }
 {
     let Ok(shared) = Shared::<L, D, OpenGate>::new(rt.alloc(), opened, row, blank, OpenGate) else {
         return SocketEnd::Store(StoreFault::NoMemory);
@@ -101,8 +110,20 @@ fn serve_history<
     if start_loops(rt, rt.alloc(), &shared, path.as_str()).is_err() {
         return SocketEnd::Socket;
     }
-    if output.write_all(b"machipcd: ready\n").is_err() || output.flush().is_err() {
+    if tell_ready(output).is_err() {
         return SocketEnd::Socket;
     }
     SocketEnd::Store(accept(rt, listener, &shared))
+}
+
+/// Says that connections are taken.
+fn tell_ready<O: Write>(output: &mut O) -> Result<(), WireFault>
+    ensures ok { OnOk result (Appends (O.contents output.old) (O.contents output.new) ready_line) }
+    ensures part { OnErr result (AppendsPart (O.contents output.old) (O.contents output.new) ready_line) }
+{
+    write_bytes(output, b"machipcd: ready\n")?;
+    if output.flush().is_err() {
+        return Err(WireFault::Device);
+    }
+    Ok(())
 }

@@ -1,5 +1,5 @@
 // What is known of cells, a note for each. A note is read by `&mut` alone, so these functions say that notes stay as they were.
-ghost use Rattle.std.specs.Prelude.{◌≡◌, ◌<◌, ◌≤◌, ◌++◌, ℕ, Some, IfSome, length, map, drop, slice_get, vec_capacity};
+ghost use Rattle.std.specs.Prelude.{◌≡◌, ◌<◌, ◌≤◌, ◌++◌, Some, IfSome, length, map, drop, slice_get, vec_capacity};
 
 use once_cell::race::Note;
 

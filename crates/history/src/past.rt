@@ -1,4 +1,4 @@
-ghost use Rattle.std.specs.Prelude.{◌≡◌, ◌+◌, ◌-◌, ◌<◌, ◌≤◌, ◌∷◌, [], ◌++◌, Some, length, IfOk, OnOk, OnErr, IsErrOf, MatchOption, option_map, slice_get};
+ghost use Rattle.std.specs.Prelude.{◌≡◌, ◌+◌, ◌-◌, ◌<◌, ◌≤◌, ◌∷◌, [], ◌++◌, length, IfOk, OnOk, OnErr, IsErrOf};
 ghost use Rattle.std.specs.Arc.{arc_value};
 ghost use Rattle.history.specs.Entries.{numbers_of};
 
@@ -159,8 +159,11 @@ impl<L: FirstRow> Past<L> {
     }
 
     /// Goes on in another row, whose entries come behind all that it has.
+    ///
+    /// `NoMemory`: a growth was refused. `CellTaken`: another left this row before.
     pub fn begin_row(&mut self, row: Arc<Row, Global>) -> Result<(), AddFault>
         ensures ok { OnOk result (self.new ≡ record { entries = self.old.entries; rows = self.old.rows + 1; start = length self.old.entries; row = arc_value row; read = 0 }) }
+        ensures full { IsErrOf result AddFault.RowFull → ⊥ }
         ensures err { OnErr result (self.new ≡ self.old) }
     {
         match self.place.begin(self.alloc, self.notes.len(), row) {

@@ -1,4 +1,4 @@
-ghost use Rattle.std.specs.Prelude.{◌≡◌, ◌≤◌, ◌<◌, Some, [], IfOk, OnOk, OnErr, IfSome, length, map, take, slice_get, option_map};
+ghost use Rattle.std.specs.Prelude.{◌≡◌, ◌≤◌, ◌<◌, Some, [], IfOk, OnOk, OnErr, IsErrOf, IfSome, length, map, take, slice_get, option_map};
 ghost use Rattle.std.specs.Arc.{arc_value};
 ghost use Rattle.history.specs.Rows.{names_after, place_after, known_links, AreLinks, IsRowAt};
 
@@ -142,6 +142,7 @@ impl<L: FirstRow> Place<L> {
     ) -> Result<(), AddFault>
         requires { long ≤ length (names_after L.first self.old.links).cells }
         ensures ok { OnOk result (self.new ≡ place_after L.first self.old long (arc_value row)) }
+        ensures full { IsErrOf result AddFault.RowFull → ⊥ }
         ensures err { OnErr result (self.new ≡ self.old) }
     {
         let here = Tag::of::<Place<L>, Here>(self);

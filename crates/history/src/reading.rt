@@ -1,4 +1,4 @@
-ghost use Rattle.std.specs.Prelude.{◌≡◌, ◌+◌, ◌-◌, ◌<◌, ◌≤◌, Some, true, length, map, slice_get, is_some, option_map, MatchOption, IfOk, OnOk, OnErr};
+ghost use Rattle.std.specs.Prelude.{◌≡◌, ◌+◌, ◌-◌, ◌<◌, ◌≤◌, Some, true, length, slice_get, is_some, option_map, MatchOption, IfOk, OnOk, OnErr};
 
 use crate::held::Held;
 use crate::notes::again_at;

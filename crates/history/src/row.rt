@@ -85,6 +85,7 @@ impl Row {
     pub(crate) fn set_link(&self, alloc: Global, link: Link) -> Result<Note<Link>, AddFault>
         ensures cell { IfOk result (λ note. note.cell ≡ self.now.link) }
         ensures known { IfOk result (λ note. note.known ≡ Some link) }
+        ensures full { IsErrOf result AddFault.RowFull → ⊥ }
     {
         set_cell(alloc, &self.link, link)
     }

@@ -1,5 +1,5 @@
 -- What is kept under the lock of the kernel, and what a call there makes of it.
-use Rattle.std.specs.Prelude.{◌≡◌, ℕ, ◌+◌, ◌-◌, Bool, List, [], ◌∷◌, ◌++◌, length, Option, Some, option_map, if◌then◌else◌, refl}
+use Rattle.std.specs.Prelude.{◌≡◌, ◌≢◌, ◌⊎◌, ℕ, ◌+◌, ◌-◌, ◌<◌, Bool, List, [], ◌∷◌, ◌++◌, length, Option, None, Some, option_map, if◌then◌else◌, refl}
 use Rattle.std.specs.Coded.{Coded, code_by, coded×, coded_ℕ, coded_option}
 use Rattle.history.specs.Entries.{Begins, records_of}
 use Rattle.history.specs.Pasts.{PastValue, past_code}
@@ -94,6 +94,11 @@ pub record Applies (base : State) (number space : ℕ) (seen : List Entry) (c : 
 pub record Learns (base : State) (seen after : List Entry) : Type 0 where
   pub begins : Begins seen after
   pub history : IsHistory base after
+
+-- What a session has seen of the history can't be told to be a beginning of what is kept: it is in another row, or longer.
+abbrev pub IsApart : Option PastValue → PastValue → Type 0
+IsApart None seen = ⊥
+IsApart (Some kept) seen = (seen.rows ≢ kept.rows) ⊎ (length kept.entries < length seen.entries)
 
 -- A call was made and is kept: a ticket was given, and the history has the call's entry, if it has one.
 pub record Makes (old : CoreValue) (number space : ℕ) (c : Call) (ticket : TicketValue) (new : CoreValue) : Type 0 where

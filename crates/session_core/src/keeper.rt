@@ -1,14 +1,14 @@
 ghost use Rattle.std.specs.Prelude.{◌≡◌, ◌⊎◌, ◌+◌, ◌<◌, ◌≤◌, ◌∷◌, [], ◌++◌, Some, false, length, IfOk, IfErr, IfSome, IfNone, IsErrOf, MatchBool, OnErr};
 ghost use Rattle.codes.specs.declared.limits.TheConstants.{MAX_FRAME_CONTENT};
 ghost use Rattle.codes.specs.declared.name.TheConstants.{FIRST_SPACE};
-ghost use Rattle.ipc_model.specs.history.History.{attached_by, called, looked, redeemed, space_after};
+ghost use Rattle.ipc_model.specs.history.History.{called, looked, redeemed, space_after};
 ghost use Rattle.ipc_model.specs.texts.Texts.{reply_text};
 ghost use Rattle.ipc_model.specs.state.Circular.{Grounded};
 ghost use Rattle.ipc_model.specs.state.Lawful.{Lawful};
-ghost use Rattle.session_core.specs.Keeping.{Ends, IsSame, Loads, Makes, entries_in, first_core};
+ghost use Rattle.session_core.specs.Keeping.{Ends, IsApart, IsSame, Loads, Makes, entries_in, first_core};
 ghost use Rattle.session_core.specs.Tokens.{Did, IsHistory};
 ghost use Rattle.session_core.specs.declared.keeper.TheConstants.{MOST_SESSIONS};
-ghost use Rattle.system.specs.Halves.{CanCut, CannotTake, with_receipt};
+ghost use Rattle.system.specs.Halves.{CanCut, CannotTake, IsFullFor, with_receipt};
 
 use crate::counting::Tally;
 use crate::fault::SessionFault;
@@ -100,6 +100,7 @@ impl<L: Founding> Keeper<L> {
     ) -> (Session<L>, Result<Ticket, SubmitFault>)
         ensures given { IfOk result.1 (λ ticket. Did L.base session (called call.now ticket.answer) result.0 × (ticket.seen ≡ result.0.task.seen)) }
         ensures makes { IfOk result.1 (λ ticket. Makes self.old.core session.number session.task.space call.now ticket self.new.core × (self.new.given ≡ self.old.given)) }
+        ensures full { IsErrOf result.1 SubmitFault.EpochFull → IsFullFor self.old.core.half session.task.space call.now ⊎ IsApart self.old.core.past session.past }
         ensures err { OnErr result.1 (Did L.base session looked result.0 × (self.new ≡ self.old)) }
     {
         let Session { card, past } = session;
@@ -274,17 +275,7 @@ fn note_call<L: Founding>(
         card.places = with_place(places, before);
         book.add(&mut card.share, 1);
     } else if ticket.is_success() {
-        card.space = attached_by(card.space, call);
-    }
-}
-
-/// The space that a call attaches its caller to where it is done.
-fn attached_by(space: u32, call: &Call) -> u32
-    ensures { result ≡ attached_by space call.now }
-{
-    match call {
-        Call::Attach { space: other } => *other,
-        _ => space,
+        card.space = call.attached_by(card.space);
     }
 }
 

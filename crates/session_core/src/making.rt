@@ -1,12 +1,12 @@
-ghost use Rattle.std.specs.Prelude.{◌≡◌, ◌⊎◌, ◌≤◌, ◌<◌, ◌-◌, ◌+◌, ◌^◌, ◌++◌, [], false, length, Some, IfOk, IfErr, IfSome, IfNone, OnOk, OnErr, MatchBool};
+ghost use Rattle.std.specs.Prelude.{◌≡◌, ◌⊎◌, ◌≤◌, ◌<◌, ◌-◌, ◌+◌, ◌^◌, ◌++◌, [], false, length, Some, IfOk, IfErr, IfSome, IfNone, IsErrOf, OnOk, OnErr, MatchBool};
 ghost use Rattle.codes.specs.declared.limits.TheConstants.{MAX_FRAME_CONTENT};
 ghost use Rattle.history.specs.Entries.{Begins};
 ghost use Rattle.ipc_model.specs.texts.Texts.{reply_text};
 ghost use Rattle.ipc_model.specs.state.Circular.{Grounded};
 ghost use Rattle.ipc_model.specs.state.Lawful.{Lawful};
-ghost use Rattle.session_core.specs.Keeping.{Applies, Ends, IsSame, Learns, Loads, Makes, entries_in, entries_of_call, first_core, first_number};
+ghost use Rattle.session_core.specs.Keeping.{Applies, Ends, IsApart, IsSame, Learns, Loads, Makes, entries_in, entries_of_call, first_core, first_number};
 ghost use Rattle.session_core.specs.Tokens.{IsHistory};
-ghost use Rattle.system.specs.Halves.{CanCut, CannotTake, Gives, with_receipt};
+ghost use Rattle.system.specs.Halves.{CanCut, CannotTake, Gives, IsFullFor, with_receipt};
 
 use crate::beside::Beside;
 use history::{CatchUpFault, Founding, Past, Row};
@@ -94,6 +94,7 @@ impl<L: Founding> Core<L> {
         requires { IsHistory L.base seen.entries }
         ensures given { IfOk result.1 (λ ticket. Applies L.base number space seen.entries call.now ticket result.0.entries self.old.half.row.made self.new.half.row.made) }
         ensures makes { IfOk result.1 (λ ticket. Makes self.old number space call.now ticket self.new) }
+        ensures full { IsErrOf result.1 SubmitFault.EpochFull → IsFullFor self.old.half space call.now ⊎ IsApart self.old.past seen }
         ensures err { OnErr result.1 (Learns L.base seen.entries result.0.entries × (self.new ≡ self.old)) }
     {
         let Some(kept) = self.past.take() else {
@@ -291,6 +292,7 @@ fn apply_beside<L: Founding>(
     ensures seen { OnOk result.2 (result.1.entries ≡ result.0.entries) }
     ensures begins { Begins seen.entries result.1.entries }
     ensures more { OnOk result.2 (Begins seen.entries kept.entries) }
+    ensures full { IsErrOf result.2 SubmitFault.EpochFull → IsFullFor half.old space call.now ⊎ IsApart (Some kept) seen }
     ensures err { OnErr result.2 ((half.new ≡ half.old) × (result.0 ≡ kept) × ((result.1.entries ≡ seen.entries) ⊎ (result.1.entries ≡ kept.entries))) }
 {
     let mut mine = seen;
@@ -332,6 +334,7 @@ fn level<L: Founding>(mine: &mut Past<L>, kept: &mut Past<L>) -> Result<(), Subm
     ensures rows { OnOk result (mine.new.rows ≡ kept.old.rows) }
     ensures level { OnOk result (mine.new.entries ≡ kept.old.entries) }
     ensures begins { Begins mine.old.entries mine.new.entries }
+    ensures full { IsErrOf result SubmitFault.EpochFull → IsApart (Some kept.old) mine.old }
     ensures err { OnErr result ((mine.new.entries ≡ mine.old.entries) ⊎ (mine.new.entries ≡ kept.old.entries)) }
 {
     match mine.catch_up(kept) {

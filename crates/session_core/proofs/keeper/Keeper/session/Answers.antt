@@ -1,4 +1,4 @@
-use Rattle.std.proofs.Common.{◌<◌, arith}
+use Rattle.std.proofs.Common.{arith}
 use Rattle.session_core.proofs.Cores.{new_session}
 use Rattle.session_core.proofs.keeper.Keeper.session.Goals as goal
 

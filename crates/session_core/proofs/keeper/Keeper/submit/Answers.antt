@@ -1,10 +1,12 @@
-use Rattle.std.proofs.Common.{◌≡◌, ◌∙◌, ℕ, ◌<◌, ◌≤◌, [], ◌∷◌, ◌++◌, length, refl, ap, subst, arith}
-use Rattle.std.specs.Prelude.{IfOk, OnErr}
+use Rattle.std.proofs.Common.{◌≡◌, ◌⊎◌, ◌∙◌, ℕ, ◌<◌, ◌≤◌, [], ◌∷◌, ◌++◌, length, refl, sym, ap, subst, arith}
+use Rattle.std.specs.Prelude.{IfOk, IsErrOf, OnErr}
 use Rattle.ipc_model.specs.history.History.{called}
-use Rattle.session_core.specs.Keeping.{Applies, Learns}
+use Rattle.session_core.specs.Keeping.{Applies, IsApart, KeeperValue, Learns}
 use Rattle.session_core.specs.Tokens.{Did, SessionValue, session_of}
 use Rattle.session_core.proofs.Calls.{book_counts, called_session}
 use Rattle.session_core.proofs.Histories.{looks}
+use Rattle.system.specs.Halves.{IsFullFor}
+use Rattle.system.specs.declared.kernel_half.SubmitFault.TheVariants.{EpochFull}
 use Rattle.session_core.proofs.keeper.Keeper.submit.Goals as goal
 
 pub invariant_of-self : goal.invariant_of-self
@@ -50,3 +52,11 @@ returns-in-Ok-clause-given g c =
     let both = called_session g.L.Founding.base old c.args.call.now c.in-Ok.ticket past made c.apply-past.new.self.half.row.made did refl card.share.amount c.note_call.new.card.number c.note_call.new.card.space c.note_call.new.card.told c.note_call.new.card.share.amount c.note_call.new.card.places.numbers
     c.note_call.ensures.same.0 c.note_call.ensures.same.1 (λ more. ((grew more).0, (grew more).1 ∙ ap (λ (n : ℕ). card.places.numbers ++ n ∷ []) c.made-before.ensures, (grew more).2)) (λ same. ((none same).0, (none same).1, (none same).2)) c.session.invariant.0 in
     (subst (λ (v : SessionValue). Did g.L.Founding.base v (called c.args.call.now c.in-Ok.ticket.answer) (session_of c.note_call.new.card.number c.note_call.new.card.space c.note_call.new.card.told c.note_call.new.card.places.numbers past)) c.session.view_is both.1, did.seen_is)
+
+pub returns-in-Err-clause-full : goal.returns-in-Err-clause-full
+returns-in-Err-clause-full g c = λ told.
+    let call = c.args.call.now in
+    let kept = c.self.inside.core in
+    let full = c.apply-past.ensures.full (subst (λ r. IsErrOf r EpochFull) (sym c.in-Err.is) told) in
+    subst (λ (v : KeeperValue). IsFullFor v.core.half c.args.session.task.space call ⊎ IsApart v.core.past c.args.session.past) c.self.view_is
+    (subst (λ (s : SessionValue). IsFullFor kept.half s.task.space call ⊎ IsApart kept.past s.past) c.session.view_is full)

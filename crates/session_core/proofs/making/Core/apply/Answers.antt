@@ -1,7 +1,9 @@
-use Rattle.std.proofs.Common.{◌∙◌, List, sym, ap}
+use Rattle.std.proofs.Common.{◌⊎◌, ◌∙◌, List, Option, sym, ap, subst}
 use Rattle.history.specs.declared.entry.Entry.{Entry}
-use Rattle.session_core.specs.Keeping.{CoreValue, IsCore}
+use Rattle.history.specs.Pasts.{PastValue}
+use Rattle.session_core.specs.Keeping.{CoreValue, IsApart, IsCore}
 use Rattle.session_core.proofs.Cores.{after_call, applied_call, handed_after, kept_some, unapplied_call}
+use Rattle.system.specs.Halves.{IsFullFor}
 use Rattle.session_core.proofs.making.Core.apply.Goals as goal
 
 pub invariant_of-self : goal.invariant_of-self
@@ -29,3 +31,9 @@ returns-clause-err g c =
     let core = kept_some (λ (l : List Entry). IsCore g.L.Founding.base s.half l s.opened s.earlier s.taken s.older) s.past c.in-Some.kept there c.self.invariant.2 in
     let a = c.apply_beside-kept in
     unapplied_call g.L.Founding.base s.half a.new.half s.past c.in-Some.kept a.result.0 s.opened s.earlier s.taken s.older c.args.self.now core there c.self.view_is a.result.2 c.args.seen.entries a.result.1.entries c.requires a.ensures.begins a.ensures.err
+
+pub returns-clause-full : goal.returns-clause-full
+returns-clause-full g c = λ full.
+    let there = sym c.take.ensures.value ∙ c.in-Some.is in
+    subst (λ (v : CoreValue). IsFullFor v.half c.args.space c.args.call.now ⊎ IsApart v.past c.args.seen) c.self.view_is
+    (subst (λ (p : Option PastValue). IsFullFor c.self.inside.half c.args.space c.args.call.now ⊎ IsApart p c.args.seen) (sym there) (c.apply_beside-kept.ensures.full full))
