@@ -28,6 +28,25 @@ def replies_in(output):
     return replies
 
 
+def reply_of(server):
+    def read(count):
+        content = b""
+        while len(content) < count:
+            more = server.recv(count - len(content))
+            if not more:
+                raise EOFError
+            content += more
+        return content
+
+    (length,) = struct.unpack("<I", read(4))
+    return read(length)
+
+
+def ask(server, *contents):
+    server.sendall(framed(*contents))
+    return [reply_of(server) for _ in contents]
+
+
 def compare(frames, wanted, replies):
     for frame, want, reply in zip(frames, wanted, replies):
         if want != reply:
