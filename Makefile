@@ -30,7 +30,7 @@ load: bin
 stress: bin
 	@stress/run
 
-# Each allocation of a lone server and of the lister refused in turn, with the same machine. It proves the programs first, and
-# wants a C compiler.
+# Each allocation of a server, alone and on a socket, and of the lister refused in turn, with the same machine. It proves the
+# programs first, and wants a C compiler.
 shortage: bin
 	@stress/shortage
