@@ -13,7 +13,7 @@ test:
 bin:
 	@mkdir -p bin
 	@empty=$$(mktemp -d) && for program in machipcd machls machmap machc load; do \
-	  (cd crates/$$program && rt run -- "$$empty" < /dev/null > /dev/null || [ $$program = machc ] || [ $$program = load ]) && cp crates/$$program/out/$$program bin/ || exit 1; \
+	  rm -f crates/$$program/out/$$program && (cd crates/$$program && rt run -- "$$empty" < /dev/null > /dev/null || [ $$program = machc ] || [ $$program = load ]) && cp crates/$$program/out/$$program bin/ || exit 1; \
 	done; rm -r "$$empty"
 
 # What calls, messages, deaths, batches, openings and checkpoints cost, in a new folder: it proves the program first.

@@ -1,6 +1,6 @@
 use crate::expect::same_bytes;
 use crate::sample::sample;
-use listing::{draw, write_drawing};
+use listing::draw;
 use std::alloc::Global;
 
 const TEXT: &str = r#"digraph ports {
@@ -33,21 +33,7 @@ fn drawn(alloc: Global) -> Option<Vec<u8>> {
     Some(text)
 }
 
-fn written(alloc: Global) -> Option<Vec<u8>> {
-    let state = sample(alloc)?;
-    let mut text = Vec::new(alloc);
-    let done = write_drawing(alloc, &state, &mut text);
-    drop(state);
-    done.ok()?;
-    Some(text)
-}
-
 #[test]
 fn drawing_of_a_state(rt: HostRuntime) {
     same_bytes(&rt, drawn(rt.alloc()), TEXT.as_bytes());
-}
-
-#[test]
-fn drawing_written(rt: HostRuntime) {
-    same_bytes(&rt, written(rt.alloc()), TEXT.as_bytes());
 }

@@ -156,7 +156,7 @@ legal_stays_legal base opened history more operations session legal = record {
 }
 
 -- one operation more
-after_more : (base : State) (history : List Record) (old : Session) (operations : List Operation) (mid : Session) (operation : Operation) (new : Session) → AfterAll base history old operations mid → After base history mid operation new
+pub after_more : (base : State) (history : List Record) (old : Session) (operations : List Operation) (mid : Session) (operation : Operation) (new : Session) → AfterAll base history old operations mid → After base history mid operation new
     → AfterAll base history old (operations ++ operation ∷ []) new
 after_more base history old [] mid operation new all next = (new, subst (λ (s : Session). After base history s operation new) all next, refl)
 after_more base history old (first ∷ operations) mid operation new all next = (all.0, all.1, after_more base history all.0 operations mid operation new all.2 next)

@@ -125,12 +125,12 @@ pub fn messages_are_sent_as_kept()
     ensures { MessagesAreSentAsKept }
 {}
 
-/// So each call is made as a record keeps it,
+/// A call and what a record keeps of it are made alike.
 pub fn calls_are_made_as_kept()
     ensures { CallsAreMadeAsKept }
 {}
 
-/// and records run as they are kept.
+/// Records run as they are kept.
 pub fn records_run_as_kept()
     ensures { RecordsRunAsKept }
 {}
@@ -174,17 +174,17 @@ pub fn spells_once()
     ensures { SpellsOnce }
 {}
 
-/// So one state at most is recovered from them,
+/// One state at most is recovered from the slots of a store.
 pub fn recovers_once()
     ensures { RecoversOnce }
 {}
 
-/// it is lawful and grounded,
+/// A state that is recovered is lawful and grounded.
 pub fn recovers_lawful()
     ensures { RecoversLawful }
 {}
 
-/// and no slot is of another version then.
+/// Slots from which a state is recovered have no open slot of another version.
 pub fn recovers_version_one()
     ensures { RecoversVersionOne }
 {}

@@ -161,7 +161,7 @@ impl Call {
         }
     }
 
-    /// The space that the call attaches a task to where it is done, which was attached to this one.
+    /// The space that a task of this space is attached to once the call is done.
     pub fn attached_by(&self, space: u32) -> u32
         ensures { result ≡ attached_by space self.now }
     {

@@ -13,6 +13,6 @@ pub use call::{Call, NamedType, ReceiveStatus, Reply};
 pub use entry::{Entry, PortRights};
 pub use message::{CarriedRight, Message, PortInMessage, RightKind};
 pub use port::PortState;
-pub use ranges::{call_in_range, record_in_range, reply_in_range};
+pub use ranges::{call_in_range, reply_in_range};
 pub use record::Record;
 pub use sequence::Sequence;

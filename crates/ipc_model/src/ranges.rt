@@ -3,7 +3,7 @@ ghost use Rattle.ipc_model.specs.calls.Step.{number_of_call, has_record};
 ghost use Rattle.ipc_model.specs.texts.Texts.{number_of_reply, FitsCall, FitsReply};
 ghost use Rattle.words.specs.Words.{AreBytes};
 
-use crate::{Call, Record, Reply};
+use crate::{Call, Reply};
 
 // A clause doesn't see that the numbers behind a reference are in the ranges of their types. These functions do
 // nothing but show it.
@@ -91,16 +91,4 @@ pub fn reply_in_range(call: &Call, reply: &Reply)
         }
         Reply::SpaceCreated { space, name } => numbers(&[*space, *name]),
     }
-}
-
-/// The numbers of a record are in range, where it is one of a call that has a record.
-pub fn record_in_range(entry: &Record)
-    ensures space { entry.now.space < 2 ^ 32 }
-    ensures call { FitsCall entry.now.call }
-    ensures reply { number_of_reply entry.now.reply ≡ number_of_call entry.now.call
-        → IsTrue (has_record entry.now.call entry.now.reply) → FitsReply entry.now.reply }
-{
-    numbers(&[entry.space]);
-    call_in_range(&entry.call);
-    reply_in_range(&entry.call, &entry.reply);
 }

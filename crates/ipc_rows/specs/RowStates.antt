@@ -1,5 +1,5 @@
 -- The parts of which the states of worked examples are written.
-use Rattle.std.specs.Prelude.{ℕ, Bool, false, List, [], length, Option, None, option_map}
+use Rattle.std.specs.Prelude.{ℕ, Bool, true, false, List, [], ◌∷◌, length, Option, None, Some, option_map}
 use Rattle.std.specs.FinMap as finmap
 use Rattle.ipc_model.specs.declared.entry.Entry.{Entry}
 use Rattle.ipc_model.specs.declared.entry.Entry.TheVariants.{Port}
@@ -7,6 +7,7 @@ use Rattle.ipc_model.specs.declared.message.CarriedRight.{CarriedRight}
 use Rattle.ipc_model.specs.declared.message.Message.{Message}
 use Rattle.ipc_model.specs.declared.message.PortInMessage.TheVariants.{Live}
 use Rattle.ipc_model.specs.declared.message.RightKind.{RightKind}
+use Rattle.ipc_model.specs.declared.message.RightKind.TheVariants as kind
 use Rattle.ipc_model.specs.declared.port.PortState.{PortState}
 use Rattle.ipc_model.specs.state.State.{State, Names, new_port}
 
@@ -39,3 +40,18 @@ queue_of state serial = option_map (λ (port : PortState). port.messages) (finma
 
 abbrev pub message_count : State → ℕ → Option ℕ
 message_count state serial = option_map (λ (messages : List Message). length messages) (queue_of state serial)
+
+-- one port, whose receive right and one send reference stand under the name 0x100
+abbrev pub one_port : List Message → State
+one_port messages = in_space_1 ((0x100, rights_to 1 true 1) ∷ []) ((1, with_queue messages) ∷ [])
+
+abbrev pub hello : Message
+hello = plain kind.Send 7 (68 ∷ 51 ∷ 34 ∷ 17 ∷ [])
+
+-- a message of 28 bytes, sent to 0x100 by a copy of its send right, which carries what `hello` does
+abbrev pub hello_as_sent : List ℕ
+hello_as_sent = 19 ∷ 0 ∷ 0 ∷ 0 ∷ 28 ∷ 0 ∷ 0 ∷ 0 ∷ 0 ∷ 1 ∷ 0 ∷ 0 ∷ 0 ∷ 0 ∷ 0 ∷ 0 ∷ 0 ∷ 0 ∷ 0 ∷ 0 ∷ 7 ∷ 0 ∷ 0 ∷ 0 ∷ 68 ∷ 51 ∷ 34 ∷ 17 ∷ []
+
+-- a message with a send-once right to port 2 to reply by
+abbrev pub asking : Message
+asking = record { destination = kind.Send; reply = Some (live kind.SendOnce 2); id = 9; complex = false; rights = []; body = [] }

@@ -16,20 +16,9 @@ use Rattle.ipc_model.specs.messages.Messages.{body_of}
 use Rattle.ipc_model.specs.state.Placed.{placed, send_count}
 use Rattle.ipc_model.specs.messages.Receiving.{received_text, message_size, without_oldest}
 use Rattle.ipc_rows.specs.RowRules.{rows}
-use Rattle.ipc_rows.specs.RowStates.{rights_to, names_of, in_space_1, with_queue, plain, live, message_count}
+use Rattle.ipc_rows.specs.RowStates.{rights_to, names_of, in_space_1, with_queue, plain, live, message_count, one_port, hello, hello_as_sent, asking}
 use Rattle.ipc_model.specs.messages.Sending.{Ready, ready_to_send, sent}
 use Rattle.ipc_model.specs.state.State.{State, Names, new_port, with_port, without_name, entry_at}
-
--- one port, whose receive right and one send reference stand under the name 0x100
-abbrev pub one_port : List Message → State
-one_port messages = in_space_1 ((0x100, rights_to 1 true 1) ∷ []) ((1, with_queue messages) ∷ [])
-
-abbrev pub hello : Message
-hello = plain kind.Send 7 (68 ∷ 51 ∷ 34 ∷ 17 ∷ [])
-
--- a message of 28 bytes, sent to 0x100 by a copy of its send right
-abbrev pub hello_as_sent : List ℕ
-hello_as_sent = 19 ∷ 0 ∷ 0 ∷ 0 ∷ 28 ∷ 0 ∷ 0 ∷ 0 ∷ 0 ∷ 1 ∷ 0 ∷ 0 ∷ 0 ∷ 0 ∷ 0 ∷ 0 ∷ 0 ∷ 0 ∷ 0 ∷ 0 ∷ 7 ∷ 0 ∷ 0 ∷ 0 ∷ 68 ∷ 51 ∷ 34 ∷ 17 ∷ []
 
 abbrev pub ready_at_1 : State → Message → Result Ready KernReturn
 ready_at_1 state message = Ok (record { message = message; port = 1; state = state; notices = [] })
@@ -167,9 +156,6 @@ three-received = refl
 -- A message with a reply right: 0x101's port is to be answered by a send-once right.
 abbrev pub with_reply : List Message → State
 with_reply messages = in_space_1 ((0x100, rights_to 1 true 1) ∷ (0x101, rights_to 2 true 0) ∷ []) ((1, with_queue messages) ∷ (2, new_port) ∷ [])
-
-abbrev pub asking : Message
-asking = record { destination = kind.Send; reply = Some (live kind.SendOnce 2); id = 9; complex = false; rights = []; body = [] }
 
 pub reply-taken : ready_to_send (with_reply []) 1 (19 ∷ 21 ∷ 0 ∷ 0 ∷ 24 ∷ 0 ∷ 0 ∷ 0 ∷ 0 ∷ 1 ∷ 0 ∷ 0 ∷ 1 ∷ 1 ∷ 0 ∷ 0 ∷ 0 ∷ 0 ∷ 0 ∷ 0 ∷ 9 ∷ 0 ∷ 0 ∷ 0 ∷ []) ≡ ready_at_1 (with_reply []) asking
 unfolding ready_to_send copy_in

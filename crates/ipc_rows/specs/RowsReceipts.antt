@@ -5,7 +5,6 @@ use Rattle.codes.specs.declared.kern_return.KernReturn.TheVariants.{RcvTooLarge,
 use Rattle.ipc_model.specs.declared.call.Call.TheVariants as call
 use Rattle.ipc_model.specs.declared.entry.Entry.{Entry}
 use Rattle.ipc_model.specs.declared.entry.Entry.TheVariants.{Set, Dead}
-use Rattle.ipc_model.specs.declared.message.Message.{Message}
 use Rattle.ipc_model.specs.declared.message.PortInMessage.TheVariants as in_message
 use Rattle.ipc_model.specs.declared.message.RightKind.TheVariants as kind
 use Rattle.ipc_model.specs.declared.port.PortState.{PortState}
@@ -13,7 +12,7 @@ use Rattle.ipc_model.specs.rights.CopyOut.{names_wanted}
 use Rattle.ipc_model.specs.effects.Effects.{release}
 use Rattle.ipc_model.specs.messages.Receiving.{Receipt, destination_consumed, lacks_names, message_size, without_oldest, without_message, receive_refusal, sources}
 use Rattle.ipc_rows.specs.RowRules.{rows}
-use Rattle.ipc_rows.specs.RowStates.{rights_to, names_of, in_space_1, with_queue, plain, live, queue_of}
+use Rattle.ipc_rows.specs.RowStates.{rights_to, names_of, in_space_1, with_queue, plain, live, queue_of, asking, hello}
 use Rattle.ipc_model.specs.state.State.{State, Names, new_port}
 use Rattle.ipc_model.specs.calls.Step.{has_record}
 
@@ -70,9 +69,6 @@ pub empty-refused : receive_refusal (in_space_1 alone ((1, new_port) ∷ [])) (n
 empty-refused = simp rows
 
 -- A message of 28 bytes with limit 24 is too large. Kept, it has no record; destroyed, it has.
-abbrev pub hello : Message
-hello = plain kind.Send 7 (68 ∷ 51 ∷ 34 ∷ 17 ∷ [])
-
 pub large-size : nat_lt 24 (message_size hello) ≡ true
 large-size = refl
 
@@ -116,9 +112,6 @@ pub wanted-null : names_wanted (names_of of_port) [] ((record { kind = kind.Send
 wanted-null = refl
 
 -- a full space has no room for a send-once right that comes to reply by
-abbrev pub asking : Message
-asking = record { destination = kind.Send; reply = Some (live kind.SendOnce 2); id = 9; complex = false; rights = []; body = [] }
-
 pub full-lacks : (names : Names) → finmap.len names ≡ 4096 → lacks_names names asking ≡ true
 full-lacks names full = rw full refl
 

@@ -1,5 +1,5 @@
 -- Worked examples of whole steps: the answer, and the state once all effects have settled.
-use Rattle.std.specs.Prelude.{◌≡◌, ℕ, true, false, replicate, List, [], ◌∷◌, Option, None, Some, refl}
+use Rattle.std.specs.Prelude.{◌≡◌, true, false, replicate, List, [], ◌∷◌, Option, None, Some, refl}
 use Rattle.std.specs.FinMap as finmap
 use Rattle.codes.specs.declared.kern_return.KernReturn.TheVariants.{Success, InvalidName, InvalidTask, SendTimedOut}
 use Rattle.ipc_model.specs.declared.call.Call.{Call}
@@ -7,7 +7,6 @@ use Rattle.ipc_model.specs.declared.call.Reply.{Reply}
 use Rattle.ipc_model.specs.declared.call.Call.TheVariants as call
 use Rattle.ipc_model.specs.declared.call.Reply.TheVariants as reply
 use Rattle.ipc_model.specs.declared.entry.Entry.TheVariants.{Dead}
-use Rattle.ipc_model.specs.declared.message.Message.{Message}
 use Rattle.ipc_model.specs.declared.message.RightKind.TheVariants as kind
 use Rattle.ipc_model.specs.calls.Actions.{Done, allocated}
 use Rattle.ipc_model.specs.rights.CopyIn.{copy_in, taken_keeping, moved_port}
@@ -19,23 +18,12 @@ use Rattle.ipc_model.specs.state.Placed.{placed}
 use Rattle.ipc_model.specs.calls.PortCalls.{tests_of}
 use Rattle.ipc_laws.specs.MapLaws.{map_rules}
 use Rattle.ipc_rows.specs.RowRules.{rows, settles_adding, take_one, entry-after_death}
-use Rattle.ipc_rows.specs.RowStates.{rights_to, names_of, in_space_1, with_queue, plain, live}
+use Rattle.ipc_rows.specs.RowStates.{rights_to, names_of, in_space_1, with_queue, live, one_port, hello, hello_as_sent}
 use Rattle.ipc_model.specs.messages.Sending.{ready_to_send, sent, take_items, TakenRights}
 use Rattle.ipc_model.specs.state.State.{State, opening_state, new_port, with_names, with_port, with_entry, entry_at}
 use Rattle.std.proofs.Common.{ap, ◌∙◌, arith}
 use Rattle.ipc_model.specs.messages.Receiving.{without_oldest}
 use Rattle.ipc_model.specs.calls.Step.{Step, ActsFrom}
-
-abbrev pub one_port : List Message → State
-one_port messages = in_space_1 ((0x100, rights_to 1 true 1) ∷ []) ((1, with_queue messages) ∷ [])
-
--- what the bytes carry that are sent below
-abbrev pub hello : Message
-hello = plain kind.Send 7 (68 ∷ 51 ∷ 34 ∷ 17 ∷ [])
-
--- a message of 28 bytes, sent to 0x100 by a copy of its send right
-abbrev pub hello_as_sent : List ℕ
-hello_as_sent = 19 ∷ 0 ∷ 0 ∷ 0 ∷ 28 ∷ 0 ∷ 0 ∷ 0 ∷ 0 ∷ 1 ∷ 0 ∷ 0 ∷ 0 ∷ 0 ∷ 0 ∷ 0 ∷ 0 ∷ 0 ∷ 0 ∷ 0 ∷ 7 ∷ 0 ∷ 0 ∷ 0 ∷ 68 ∷ 51 ∷ 34 ∷ 17 ∷ []
 
 -- the type of a name that is in use, and of one that isn't
 pub type-step : Step (one_port []) 1 (call.Type 0x100) (reply.Type 0x30000) (one_port [])

@@ -6,4 +6,3 @@ pub mod Listing
 pub mod Rows
 pub mod Strokes
 pub mod Walking
-pub mod Writing

@@ -9,9 +9,7 @@ mod standing;
 mod stroke;
 mod tally;
 mod walk;
-mod write;
 
 pub use drawing::draw;
 pub use laws::holders_are_told;
 pub use listing::list;
-pub use write::{WriteFault, write_drawing, write_listing};

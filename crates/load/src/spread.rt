@@ -42,9 +42,12 @@ impl Spread {
         count
     }
 
-    /// Within how many microseconds so many of a thousand calls were answered.
+    /// Within how many microseconds so many of a thousand calls were answered, and less than a sixteenth more.
     pub(crate) fn within(&self, of_a_thousand: u64) -> u64 {
-        let wanted = self.count() / 1000 * of_a_thousand.min(1000);
+        let wanted = self
+            .count()
+            .saturating_mul(of_a_thousand.min(1000))
+            .div_ceil(1000);
         let mut seen = 0u64;
         let mut longest = 0;
         for (index, bucket) in self.buckets.iter().enumerate() {
@@ -68,12 +71,13 @@ fn bucket_of(microseconds: u64) -> usize {
     (((power - 3) * STEPS + step) as usize).min(BUCKETS - 1)
 }
 
-/// The least time of a bucket.
+/// The greatest time of a bucket.
 fn time_of(index: usize) -> u64 {
     let index = index as u64;
     let power = index / STEPS;
     if power == 0 {
         return index;
     }
-    (STEPS + index % STEPS) << (power - 1).min(40)
+    let times = (power - 1).min(40);
+    ((STEPS + index % STEPS + 1) << times).saturating_sub(1)
 }

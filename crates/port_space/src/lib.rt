@@ -1,4 +1,5 @@
-//! Tables.
+//! The names of one port name space, found by their ports too, with its least unused name. What a call changes of them is kept or
+//! given up.
 #![tactic(auto)]
 
 mod space;

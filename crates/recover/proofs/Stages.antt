@@ -12,13 +12,13 @@ use Rattle.ipc_model.specs.store.Recovery.{HasHeader, HoldsImage, IsNew, IsOfEpo
 use Rattle.ipc_model.specs.store.Store.{SpellsBatches, SpellsSegment, IsClosed, IsInUse, NoneEmpty, all_records, open_gate, closed_gate, segment_header, batches_text}
 use Rattle.slot_steps.specs.Steps.{IsRemade, image_slot}
 use Rattle.standing.specs.Changes.{closing_image, two_finished, two_image_changed}
-use Rattle.standing.specs.Slots.{one_of_two}
 use Rattle.standing.specs.Spelled.{one_spells, two_spells}
 use Rattle.standing.specs.Standing.{as_written, InOne, InTwo}
 use Rattle.recover.specs.Making.{empty_segment}
 use Rattle.recover.specs.Stopping.{HasLastGate, RecoverSame}
 use Rattle.recover.specs.Surveyed.{IsUnused}
 use Rattle.recover.proofs.Gates.{shut_has_gate, empty_has_gate}
+use Rattle.recover.proofs.Surveys.{each_number}
 
 -- what is recovered
 
@@ -37,9 +37,6 @@ pub two_recovered : (s : Slots) (e : ℕ) (base mid state : State) (first next :
 two_recovered s e base mid state first next two run more = record { base = base; records = first ++ next; spelled = two_spells s e base first next two; run = run_join base mid state first next run more }
 
 -- a store that was never in use
-
-each_number : (P : ℕ → Type 0) → P 0 → P 1 → (number : ℕ) → number < 2 → P number
-each_number P first second number small = elim (one_of_two 0 number small) as (λ _. P number) [ inl zero_is ↦ subst P (sym zero_is) first | inr one_is ↦ subst P (sym one_is) second ]
 
 pub record IsFresh (s : Slots) : Type 0 where
   pub image0 : IsOpen image_header s.image0 → ⊥

@@ -127,7 +127,7 @@ told_damaged s e other own_segment other_segment tells latest wrong base records
 
 -- a store without an open image
 
-each_number : (P : ℕ → Type 0) → P 0 → P 1 → (number : ℕ) → number < 2 → P number
+pub each_number : (P : ℕ → Type 0) → P 0 → P 1 → (number : ℕ) → number < 2 → P number
 each_number P first second number small = elim (one_of_two 0 number small) as (λ _. P number) [ inl zero_is ↦ subst P (sym zero_is) first | inr one_is ↦ subst P (sym one_is) second ]
 
 no_open_image : (s : Slots) → (IsOpen image_header s.image0 → ⊥) → (IsOpen image_header s.image1 → ⊥) → (number : ℕ) → number < 2 → IsOpen image_header ((as_written s).image number) → ⊥

@@ -295,7 +295,7 @@ item_no_number : (ws : List (List ℕ)) → numbers_at (codes "item" ∷ ws) ≡
 unfolding read_word
 item_no_number ws = numbers_end (codes "item") ws refl
 
-abbrev words_behind_item : ℕ → List ℕ → Option (List (List ℕ) × List ℕ) → List (List ℕ)
+abbrev pub words_behind_item : ℕ → List ℕ → Option (List (List ℕ) × List ℕ) → List (List ℕ)
 words_behind_item m body front = elim front [ None ↦ optional_bytes (codes "data") body | Some i ↦ i.0 ++ body_within m i.1 ]
 
 body_no_number : (m : ℕ) (body : List ℕ) (ws : List (List ℕ)) → AreBytes body → numbers_at ws ≡ ([], ws) → numbers_at (body_within m body ++ ws) ≡ ([], body_within m body ++ ws)

@@ -37,7 +37,7 @@ use Rattle.script.specs.Numbers.{hexadecimal, signed}
 use Rattle.script.specs.Replies.{yes_or_no, kind_word, count_words, status_words, names_words, members_words, outcome_words, received_words, message_reply_words, reply_words}
 use Rattle.script.specs.Spaced.{is_word_byte}
 use Rattle.script.specs.Verbs.{verb_word}
-use Rattle.script.proofs.ItemsAgain.{bytes_behind, item_cases, AreNumbers, WordsFront, BytesFront}
+use Rattle.script.proofs.ItemsAgain.{bytes_behind, item_cases, words_behind_item, AreNumbers, WordsFront, BytesFront}
 use Rattle.script.proofs.MessagesAgain.{FitsHeader, fits_header}
 use Rattle.script.proofs.NumbersAgain.{decimal_fits}
 use Rattle.script.proofs.WordsOf.{are_word_bytes, is_word, are_words}
@@ -192,9 +192,6 @@ header_spelled h fits =
 numbers_spelled : (k : Kind) (ns : List ℕ) → AreNumbers ns → are_words (map (value_word k) ns) ≡ true
 numbers_spelled k [] fit = refl
 numbers_spelled k (n ∷ ns) fit = both _ _ (value_spelled k n fit.0) (numbers_spelled k ns fit.1)
-
-abbrev words_behind_item : ℕ → List ℕ → Option (List (List ℕ) × List ℕ) → List (List ℕ)
-words_behind_item m body front = elim front [ None ↦ optional_bytes (codes "data") body | Some i ↦ i.0 ++ body_within m i.1 ]
 
 within_spelled : (m : ℕ) (body : List ℕ) → AreBytes body → are_words (body_within m body) ≡ true
 unfolding body_within words_item_words bytes_item_words

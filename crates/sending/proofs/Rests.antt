@@ -20,7 +20,7 @@ use Rattle.type_desc.specs.declared.item.Item as declared
 abbrev go_on : (TakenRights → Option TakenRights) → Option TakenRights → Option TakenRights
 go_on next o = elim o as (λ _. Option TakenRights) [ None ↦ None | Some taken ↦ next taken ]
 
-want_is : {X Y : Type 0} (r : Result X KernReturn) (Is : X → Y → Type 0) (fault : SendFault) → IsWant fault → Gave r Is (Err fault)
+pub want_is : {X Y : Type 0} (r : Result X KernReturn) (Is : X → Y → Type 0) (fault : SendFault) → IsWant fault → Gave r Is (Err fault)
 want_is (Ok x) Is fault want = want
 want_is (Err code) Is (Refused other) want = absurd want
 want_is (Err code) Is NoMemory want = tt

@@ -11,16 +11,11 @@ use Rattle.ipc_model.specs.messages.Messages.{Parts, parts_of}
 use Rattle.ipc_model.specs.messages.Sending.{Ready, ready_to_send, tests_of_size, header_disposition, reply_disposition, items_if_complex, ready_of_items}
 use Rattle.ipc_model.specs.rights.Dispositions.{Disposition}
 use Rattle.ipc_model.specs.state.State.{State}
-use Rattle.sending.specs.Gave.{Gave, IsWant, IsToldBy}
+use Rattle.sending.specs.Gave.{Gave, IsToldBy}
 use Rattle.sending.specs.Sends.{ReadyIs, of_dispositions}
+use Rattle.sending.proofs.Rests.{want_is}
 use Rattle.sending.proofs.Steps.{gave_then, gave_failed, gave_same, told}
 use Rattle.sending.specs.declared.fault.SendFault.{SendFault}
-use Rattle.sending.specs.declared.fault.SendFault.TheVariants.{Refused, NoMemory}
-
-want_is : {X Y : Type 0} (r : Result X KernReturn) (Is : X → Y → Type 0) (fault : SendFault) → IsWant fault → Gave r Is (Err fault)
-want_is (Ok x) Is fault want = want
-want_is (Err code) Is (Refused other) want = absurd want
-want_is (Err code) Is NoMemory want = tt
 
 -- the tests passed
 passed : {Y Z W : Type 0} (tests : Tests) (parts : Parts) (by : Y → Parts) (next : Result Z KernReturn) (Then : Z → W → Type 0) (found : Y) (result : Result W SendFault)

@@ -1,5 +1,5 @@
 -- How a connection on an opened store ends.
-use Rattle.std.proofs.Common.{◌≡◌, ◌-◌, List, ℕ, ◌++◌, false, Option, None, Some, IfSome, Result, Ok, Err, sym, ap, subst, ◌∙◌, append_assoc}
+use Rattle.std.proofs.Common.{◌≡◌, List, ℕ, ◌++◌, false, Option, None, Some, IfSome, Result, Ok, Err, sym, ap, subst, ◌∙◌, append_assoc}
 use Rattle.std.specs.Prelude.{OnErr}
 use Rattle.std.specs.Io.KnownBytes.{Appends}
 use Rattle.std.proofs.KnownBytes.{Appends-trans}

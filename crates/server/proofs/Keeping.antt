@@ -82,3 +82,8 @@ pub is_wanted : {D : Type 0} (records : ℕ) (old new : SystemValue D) (fault : 
     → (fault ≡ Device) ⊎ ((fault ≡ NoMemory) × TakesMemory records old.store old.store.checkpoint × (new ≡ old)) → TakesMemory records old.store old.store.checkpoint × (new ≡ old)
 is_wanted records old new fault short is =
     elim is as (λ _. TakesMemory records old.store old.store.checkpoint × (new ≡ old)) [ inl device ↦ absurd (cc (device, short)) | inr wanted ↦ (wanted.1, wanted.2) ]
+
+-- a fault that isn't a want of memory is the device's
+pub is_of_device : {D : Type 0} (records : ℕ) (old new : SystemValue D) (fault : StoreFault) → (fault ≡ NoMemory → ⊥)
+    → (fault ≡ Device) ⊎ ((fault ≡ NoMemory) × TakesMemory records old.store old.store.checkpoint × (new ≡ old)) → fault ≡ Device
+is_of_device records old new fault other is = elim is as (λ _. fault ≡ Device) [ inl device ↦ device | inr wanted ↦ absurd (other wanted.0) ]

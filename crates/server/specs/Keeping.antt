@@ -11,7 +11,7 @@ use Rattle.ipc_model.specs.state.StateCode.{state_code}
 use Rattle.ipc_model.specs.calls.Step.{Step, has_record}
 use Rattle.ipc_model.specs.history.History.{space_after}
 use Rattle.journal.specs.declared.fault.StoreFault.{StoreFault}
-use Rattle.journal.specs.declared.fault.StoreFault.TheVariants.{Failed}
+use Rattle.journal.specs.declared.fault.StoreFault.TheVariants.{Device, Failed}
 use Rattle.ipc_model.specs.store.Recovery.{Recovered}
 use Rattle.standing.specs.Standing.{as_written}
 use Rattle.system.specs.GoingOn.{GoesOn, TakesMemory}
@@ -68,10 +68,11 @@ module _ {D : Type 0} (honest : Type 0) (view : D → View) where
     pub passes : honest → Passes (view old.store.disk) (view new.store.disk) (IsBeforeOrAfter old.kernel old.space call new.kernel)
     pub held : honest → IsHeld (view new.store.disk) new.kernel
 
-  -- A call that fails in the store. The caller is of no further use; a stop at any moment of the call leaves the state before
-  -- it or the state after it.
+  -- A call that fails in the store: the device failed, or a call before did. The caller is of no further use; a stop at any
+  -- moment of the call leaves the state before it or the state after it.
   pub record FailsKept (old : AloneValue D) (call : Call) (fault : StoreFault) (new : AloneValue D) : Type 0 where
     pub failed : new.failed ≡ true
+    pub device : old.failed ≡ false → fault ≡ Device
     pub failed_before : old.failed ≡ true → (fault ≡ Failed) × (new ≡ old)
     pub passes : honest → Passes (view old.store.disk) (view new.store.disk) (IsBeforeOrAfter old.kernel old.space call new.kernel)
 
@@ -83,10 +84,11 @@ module _ {D : Type 0} (honest : Type 0) (view : D → View) where
     pub passes : honest → Passes (view old.store.disk) (view new.store.disk) (λ c. Recovered (as_written c) old.kernel)
     pub held : honest → IsHeld (view new.store.disk) new.kernel
 
-  -- Time after a reply that ends with a fault of the store. The caller is of no further use; a stop at any moment of that time
-  -- leaves the state it had.
+  -- Time after a reply that ends with a fault of the store: the device failed, or it did before. The caller is of no further
+  -- use; a stop at any moment of that time leaves the state it had.
   pub record BreaksKept (old : AloneValue D) (fault : StoreFault) (new : AloneValue D) : Type 0 where
     pub failed : new.failed ≡ true
+    pub device : old.failed ≡ false → fault ≡ Device
     pub kernel : new.kernel ≡ old.kernel
     pub space : new.space ≡ old.space
     pub failed_before : old.failed ≡ true → (fault ≡ Failed) × (new ≡ old)

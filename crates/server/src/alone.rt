@@ -104,8 +104,8 @@ impl<D: Disk> Caller for Alone<D> {
 
     ghost breaks = { BreaksKept D.honest D.view };
 
-    /// Makes a call. One that has a record is stored before it is answered. After a fault the caller is of no
-    /// further use, and answers `Failed`: a call that was made and not stored is known to nobody.
+    /// Makes a call. One that has a record is stored before it is answered. Its fault is `Device`. The caller is of no further use
+    /// then, and answers `Failed`: a call that was made and not stored is known to nobody. Want of memory or of room is a reply.
     ///
     /// Where a state is recovered from the slots (`Recovered`), `recover::open` gives that state, and doesn't find them
     /// damaged or of another version.
@@ -146,7 +146,7 @@ impl<D: Disk> Caller for Alone<D> {
 
     /// Takes time after a reply: where the epoch's row has `CHECKPOINT_RECORDS` records a checkpoint is begun, and while one is
     /// under way its image goes on by a step. Where memory is wanted for that, nothing changes, and it is tried again the next
-    /// time. After a fault it answers `Failed`, as `call` does.
+    /// time. Its faults are those of `call`.
     fn rest(&mut self) -> Result<bool, StoreFault>
         ensures rests { OnOk result (RestsKept D.honest D.view self.old self.new) }
         ensures goes { IfOk result (λ is_done. MatchBool is_done
@@ -201,6 +201,7 @@ fn make_call<D: Disk>(
         → (system.new.core.kernel ≡ system.old.core.kernel) × (system.new.store ≡ system.old.store)) }
     ensures counted { IfOk result (λ reply. IsCounted system.old.store call.now reply system.new.store) }
     ensures rests { OnOk result (IsResting system.new) }
+    ensures device { IfErr result (λ fault. fault ≡ StoreFault.Device) }
     ensures failures { D.failed_calls system.new.store.disk ≡ counted result (D.failed_calls system.old.store.disk) }
 {
     match system.call(space, call) {

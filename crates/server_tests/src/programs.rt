@@ -204,20 +204,28 @@ fn run_into(rt: &HostRuntime, words: &[String], bytes: &[u8], room: usize) -> En
     }
 }
 
-/// Whether an allocation whose reply isn't taken beyond so many bytes ends with that fault's line.
-fn tells_writer(rt: &HostRuntime, words: &[String], room: usize) -> bool {
-    let front = ALLOCATED.get(..room).unwrap_or(&[]);
+/// Whether calls whose replies aren't taken beyond so many bytes end with that fault's line.
+fn tells_writer(
+    rt: &HostRuntime,
+    words: &[String],
+    calls: &[u8],
+    replies: &[u8],
+    room: usize,
+) -> bool {
+    let front = replies.get(..room).unwrap_or(&[]);
     let line = "machipcd: wire fault 3: device\n";
-    has_ended(&run_into(rt, words, &ALLOCATE, room), 1, front, line)
+    has_ended(&run_into(rt, words, calls, room), 1, front, line)
 }
 
-/// The same for no byte and for twelve; and whether another run knows the first name, since its call was stored.
-fn tells_writers_in(rt: &HostRuntime, name: &str) -> Option<[bool; 4]> {
+/// The same for no byte of an allocation's reply and for twelve; whether another run knows the first name, since its call was
+/// stored; and the same for a second reply of which four bytes are taken.
+fn tells_writers_in(rt: &HostRuntime, name: &str) -> Option<[bool; 5]> {
     let words = folder(rt, name)?;
     Some([
-        tells_writer(rt, &words, 0),
-        tells_writer(rt, &words, 12),
+        tells_writer(rt, &words, &ALLOCATE, &ALLOCATED, 0),
+        tells_writer(rt, &words, &ALLOCATE, &ALLOCATED, 12),
         ends(rt, Some(&words), &TYPE, (0, &TYPED, "")),
+        tells_writer(rt, &words, &TYPE_TWICE, &TYPED_TWICE, 20),
         removed(rt, &words),
     ])
 }
@@ -225,7 +233,7 @@ fn tells_writers_in(rt: &HostRuntime, name: &str) -> Option<[bool; 4]> {
 #[test]
 fn a_writer_that_fails_is_told(rt: HostRuntime) {
     let seen = tells_writers_in(&rt, "machipcd_writer_faults");
-    same(&rt, seen, Some([true; 4]));
+    same(&rt, seen, Some([true; 5]));
 }
 
 /// The length of a file of the folder.
@@ -248,6 +256,16 @@ fn answered(
 
 /// The type of the name 0x100.
 const TYPED: [u8; 16] = [12, 0, 0, 0, 2, 0, 0, 0, 0, 0, 0, 0, 0, 0, 2, 0];
+
+/// The call for that type, made twice, and its replies.
+const TYPE_TWICE: [u8; 24] = [
+    8, 0, 0, 0, 2, 0, 0, 0, 0, 1, 0, 0, 8, 0, 0, 0, 2, 0, 0, 0, 0, 1, 0, 0,
+];
+
+const TYPED_TWICE: [u8; 32] = [
+    12, 0, 0, 0, 2, 0, 0, 0, 0, 0, 0, 0, 0, 0, 2, 0, 12, 0, 0, 0, 2, 0, 0, 0, 0, 0, 0, 0, 0, 0, 2,
+    0,
+];
 
 /// Two runs on a store, and whether its folder could be removed.
 type Runs = ([(bool, [Option<usize>; 2]); 2], bool);

@@ -7,7 +7,7 @@ use Rattle.history.proofs.Beginnings.{begins_itself, begins_length, begins_recor
 use Rattle.history.specs.Entries.{Begins, records_of}
 use Rattle.history.specs.Pasts.{PastValue}
 use Rattle.history.specs.declared.entry.Entry.{Entry}
-use Rattle.ipc_laws.specs.HistoryLaws.{legal_stays_legal}
+use Rattle.ipc_laws.specs.HistoryLaws.{after_more, legal_stays_legal}
 use Rattle.ipc_model.specs.declared.record.Record.{Record}
 use Rattle.ipc_model.specs.history.History.{Session, Operation, looked, After, AfterAll, Legal}
 use Rattle.ipc_model.specs.state.State.{State}
@@ -45,11 +45,6 @@ got_pushed [] x = refl
 got_pushed (y ∷ xs) x = got_pushed xs x
 
 -- operations
-
-after_more : (base : State) (history : List Record) (old : Session) (operations : List Operation) (mid : Session) (operation : Operation) (new : Session) → AfterAll base history old operations mid → After base history mid operation new
-    → AfterAll base history old (operations ++ operation ∷ []) new
-after_more base history old [] mid operation new all next = (new, subst (λ (s : Session). After base history s operation new) all next, refl)
-after_more base history old (first ∷ operations) mid operation new all next = (all.0, all.1, after_more base history all.0 operations mid operation new all.2 next)
 
 -- A session stays one after an operation.
 pub did_session : (base : State) (old : SessionValue) (operation : Operation) (new : SessionValue) (amount after : ℕ) → IsHistory base new.past.entries → IsSession base old amount → Did base old operation new → new.task.seen ≡ length new.past.entries

@@ -31,6 +31,10 @@ pub(crate) trait Service {
         ticket: Ticket,
     ) -> (Self::Session, Option<Reply>);
 
+    /// The name that the allocation at a place of the row gave, as a session reads it. None where memory is wanted, where it hasn't
+    /// seen that place, or where another call's record stands there.
+    fn name_read(session: &mut Self::Session, at: usize) -> Option<u32>;
+
     /// How many records two sessions have seen once they met. None where they couldn't.
     fn seen_together(one: Self::Session, other: Self::Session) -> Option<[usize; 2]>;
 
@@ -73,6 +77,14 @@ impl<L: Founding + Send + Sync, D: Disk + Drop, G: Gate> Service for Shared<L, D
     ) -> (Session<L>, Option<Reply>) {
         let (session, told) = self.redeem(rt, session, ticket);
         (session, told.ok())
+    }
+
+    fn name_read(session: &mut Session<L>, at: usize) -> Option<u32> {
+        session.read().ok()?;
+        match session.record(at)?.reply {
+            Reply::Allocate { name } => Some(name),
+            _ => None,
+        }
     }
 
     fn seen_together(one: Session<L>, other: Session<L>) -> Option<[usize; 2]> {

@@ -27,6 +27,8 @@ struct Seen {
     /// What both calls were answered.
     name: Option<u32>,
     bits: Option<u32>,
+    /// The names in the two records that there are then, and in one more, as the second session reads them.
+    read: [Option<u32>; 3],
     /// How many records both have seen once they met.
     together: Option<[usize; 2]>,
 }
@@ -74,11 +76,14 @@ fn call_in_both<S: Service + Sync, R: Threads + Wait + Clock + Sync>(
     let (held, (other, second)) = watched(rt, service, other, second, stay);
     let (one, first) = told(rt, service, one, first);
     let (other, _) = asked(rt, service, other, &Call::Allocate { right: 1 });
+    let mut other = other;
+    let read = [0, 1, 2].map(|at| S::name_read(&mut other, at));
     Seen {
         was_held: held.0,
         came_early: held.1,
         name: name_in(first),
         bits: bits_in(second),
+        read,
         together: S::seen_together(one, other),
     }
 }
@@ -159,6 +164,7 @@ fn a_reply_waits_for_what_its_call_saw(rt: HostRuntime) {
         came_early: false,
         name: Some(0x100),
         bits: Some(0x2_0000),
+        read: [Some(0x100), Some(0x101), None],
         together: Some([2, 2]),
     };
     same(&rt, seen, Some(wanted));

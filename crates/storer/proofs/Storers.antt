@@ -27,6 +27,8 @@ use Rattle.phases.proofs.Passed.{run_join}
 use Rattle.phases.specs.Batches.{IsReadyBatch, with_more}
 use Rattle.phases.specs.Passed.{IsKept}
 use Rattle.phases.specs.Phases.{Keeps}
+use Rattle.storer.specs.Faults.{IsWhyNotStored}
+use Rattle.storer.specs.declared.fault.NotStored.TheVariants.{Store}
 use Rattle.storer.specs.Storing.{CanBegin, EndValue, IsEnd, IsLoad, IsNext, IsRecorded, IsStorer, KeptAt, LoadValue, LosesNothing, StandsFor, StorerValue}
 use Rattle.slot_steps.proofs.Moments.{left_now, passes_as}
 use Rattle.slot_steps.specs.Steps.{segment_slot}
@@ -344,3 +346,7 @@ module _ {D : Type 0} (honest : Type 0) (view : D → View) (base : State) where
         → (fault ≡ Device → new.failed ≡ true) → (fault ≡ Device) ⊎ (((fault ≡ Failed) ⊎ (fault ≡ Full)) × (new ≡ old.store)) → Stepped old new
     not_appended fault failed full device (inl is_device) = fails_now old.store.failed refl fault is_device failed full (device is_device)
     not_appended fault failed full device (inr same) = stepped old new is (inr same.1)
+
+-- why the half that stores didn't append a batch
+pub why_not_appended : (fault : StoreFault) {Same : Type 0} → (fault ≡ Device) ⊎ (((fault ≡ Failed) ⊎ (fault ≡ Full)) × Same) → IsWhyNotStored (Store fault)
+why_not_appended fault why = elim why as (λ _. IsWhyNotStored (Store fault)) [ inl device ↦ inl device | inr other ↦ inr other.0 ]

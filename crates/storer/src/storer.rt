@@ -7,6 +7,7 @@ ghost use Rattle.ipc_model.specs.state.Circular.{Grounded};
 ghost use Rattle.ipc_model.specs.state.Lawful.{Lawful};
 ghost use Rattle.phases.specs.Passed.{IsKept};
 ghost use Rattle.journal.specs.declared.fault.StoreFault.{StoreFault};
+ghost use Rattle.storer.specs.Faults.{IsWhyNotStored};
 ghost use Rattle.storer.specs.Storing.{CanBegin, IsNext, IsRecorded, LosesNothing, StandsFor};
 ghost use Rattle.storing.specs.Values.{begun};
 
@@ -162,6 +163,7 @@ impl<L: Founding, D: Disk> Storer<L, D> {
         ensures device { IfErr result (λ fault. fault.0 ≡ NotStored.Store StoreFault.Device → D.failed_calls self.new.store.disk ≡ one_more (D.failed_calls self.old.store.disk)) }
         ensures failed { IfErr result (λ fault. fault.0 ≡ NotStored.Store StoreFault.Failed → self.old.store.failed ≡ true) }
         ensures full { IfErr result (λ fault. fault.0 ≡ NotStored.Store StoreFault.Full → MAX_RECORDS < self.old.store.segment.records + load.batch.count) }
+        ensures faults { IfErr result (λ fault. IsWhyNotStored fault.0) }
         ensures earlier { self.new.earlier ≡ self.old.earlier }
         ensures begins { Begins self.old.entries self.new.entries }
         ensures any_moment { D.honest → LosesNothing D.view L.base self.old self.new }
@@ -197,6 +199,7 @@ impl<L: Founding, D: Disk> Storer<L, D> {
         ensures device { IfErr result (λ fault. fault.0 ≡ NotStored.Store StoreFault.Device → D.failed_calls self.new.store.disk ≡ one_more (D.failed_calls self.old.store.disk)) }
         ensures failed { IfErr result (λ fault. fault.0 ≡ NotStored.Store StoreFault.Failed → self.old.store.failed ≡ true) }
         ensures full { IfErr result (λ fault. fault.0 ≡ NotStored.Store StoreFault.Full → MAX_RECORDS < self.old.store.segment.records + load.batch.count) }
+        ensures faults { IfErr result (λ fault. IsWhyNotStored fault.0) }
         ensures earlier { self.new.earlier ≡ self.old.earlier }
         ensures entries { self.new.entries ≡ self.old.entries }
         ensures any_moment { D.honest → LosesNothing D.view L.base self.old self.new }

@@ -263,6 +263,7 @@ impl<D: Disk> System<D> {
         ensures answered { IfOk result (λ answer. Calls D.honest D.view self.old space call.now answer self.new) }
         ensures frame { IfOk result (λ answer. length (reply_text answer) ≤ MAX_FRAME_CONTENT) }
         ensures faults { IfErr result (λ fault. NotCalled D.honest D.view self.old space call.now fault self.new) }
+        ensures full { IsErrOf result (CallFault.Submit SubmitFault.EpochFull) → IsFullNow self.old space call.now }
         ensures failures { D.failed_calls self.new.store.disk ≡ counted_call result (D.failed_calls self.old.store.disk) }
     {
         let number = self.submit(space, call)?;

@@ -8,6 +8,7 @@ pub returns-then-self-clause-fails : goal.returns-then-self-clause-fails
 returns-then-self-clause-fails g c =
     rw (← c.self.view_is) (record {
       failed = c.if-self.true;
+      device = λ well. absurd (cc (well, c.if-self.true));
       failed_before = λ _. (refl, refl);
       passes = λ _. no_time g.D.Disk.view c.self.inside.system.store.disk c.self.inside.system.store.disk _ refl;
     })

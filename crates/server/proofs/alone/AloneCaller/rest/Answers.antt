@@ -2,7 +2,7 @@ use Rattle.std.proofs.Common.{rules, ◌≡◌, inl, inr, refl, subst, sym}
 use Rattle.journal.specs.declared.fault.StoreFault.TheVariants.{NoMemory}
 use Rattle.system.specs.Calling.{IsResting}
 use Rattle.system.specs.GoingOn.{IsStanding}
-use Rattle.server.proofs.Keeping.{is_wanted, kept_held, no_time}
+use Rattle.server.proofs.Keeping.{is_of_device, is_wanted, kept_held, no_time}
 use Rattle.server.proofs.Stopping.{left_within}
 use Rattle.server.specs.Keeping.{IsHeld}
 use Rattle.codes.specs.declared.limits.TheConstants.{CHECKPOINT_RECORDS}
@@ -12,6 +12,7 @@ pub returns-then-self-clause-breaks : goal.returns-then-self-clause-breaks
 returns-then-self-clause-breaks g c =
     rw (← c.self.view_is) (record {
       failed = c.if-self.true;
+      device = λ well. absurd (cc (well, c.if-self.true));
       kernel = refl;
       space = refl;
       failed_before = λ _. (refl, refl);
@@ -70,8 +71,10 @@ invariant_of-self-then-eq g c = λ _.
 pub returns-else-eq-clause-breaks : goal.returns-else-eq-clause-breaks
 returns-else-eq-clause-breaks g c =
     let standing = (c.self.invariant c.if-self.false).1 in
+    let other : c.in-Err.broken ≡ NoMemory → ⊥ = search rules in
     rw (← c.self.view_is) (record {
       failed = refl;
+      device = λ _. is_of_device CHECKPOINT_RECORDS c.self.inside.system c.go_on.new.self c.in-Err.broken other c.in-Err.ensures.faults;
       kernel = c.go_on.ensures.kernel;
       space = refl;
       failed_before = λ was. absurd (cc (was, c.if-self.false));

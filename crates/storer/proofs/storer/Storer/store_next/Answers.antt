@@ -1,6 +1,6 @@
 use Rattle.std.proofs.Common.{rules, ◌∙◌, ℕ, ◌+◌, sym, subst}
 use Rattle.storer.specs.Storing.{IsStorer, LoadValue, StorerValue}
-use Rattle.storer.proofs.Storers.{appended, begins_here, loses_from, next_here, not_appended}
+use Rattle.storer.proofs.Storers.{appended, begins_here, loses_from, next_here, not_appended, why_not_appended}
 use Rattle.storer.proofs.storer.Storer.store_next.Goals as goal
 
 pub invariant_of-self : goal.invariant_of-self
@@ -40,3 +40,6 @@ returns-in-Err-clause-any_moment g c =
 
 pub returns-in-Err-clause-back : goal.returns-in-Err-clause-back
 returns-in-Err-clause-back g c = search rules
+
+pub returns-in-Err-clause-faults : goal.returns-in-Err-clause-faults
+returns-in-Err-clause-faults g c = why_not_appended c.in-Err.fault c.in-Err.ensures.faults
