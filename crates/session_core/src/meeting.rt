@@ -13,7 +13,8 @@ pub struct Unmet<L: Founding> {
 
 /// Two sessions meet: both have then seen what either had, and no place belongs to both. It takes no lock.
 ///
-/// With `Unmet` they come back as they were: a growth was refused. Two of one history can't fail otherwise.
+/// With `Unmet` they come back as they were, where a growth was refused. It also comes for two of one number, and where one isn't
+/// seen to be in a beginning of what the other has seen; sessions of one `Shared` are neither, which no clause says.
 pub fn meet<L: Founding>(
     one: Session<L>,
     other: Session<L>,
