@@ -1,20 +1,29 @@
-.PHONY: demo test bin bench load stress shortage
+.PHONY: demo test quick bin bench load mutants gate-cost stress shortage
 
 # The main job on a new folder, with its bytes explained. It proves nothing: the program runs checked, and where bin/ has
 # the proved one, that.
 demo:
 	./demo/run
 
-# The gate: every proof, wrong body, test and stored run, from nothing.
+# The gate, from nothing: every proof, named mutant, test and stored run, and a round of stress and shortage.
 test:
 	.ci/run
 
-# The programs, proved and built, in bin/. (Nobody listens for machc, and load wants other words, so these end with a fault.)
+# The tests and the scripts checked and not proved, in a few minutes: for a first change, and while one is made.
+quick:
+	.ci/quick
+
+# The programs, proved and built, in bin/.
 bin:
-	@mkdir -p bin
-	@empty=$$(mktemp -d) && for program in machipcd machls machmap machc load; do \
-	  rm -f crates/$$program/out/$$program && (cd crates/$$program && rt run -- "$$empty" < /dev/null > /dev/null || [ $$program = machc ] || [ $$program = load ]) && cp crates/$$program/out/$$program bin/ || exit 1; \
-	done; rm -r "$$empty"
+	.ci/bin
+
+# Every mutant, or with CRATES="NAME .." those of some crates: each has to be refused.
+mutants:
+	.ci/mutants $(CRATES)
+
+# What the gate costs, as a multiple of one crate's check. It wants nothing beside it, and takes as long as the gate.
+gate-cost:
+	.ci/cost
 
 # What calls, messages, deaths, batches, openings and checkpoints cost, in a new folder: it proves the program first.
 bench:
@@ -22,7 +31,8 @@ bench:
 
 # How many calls a second a server on a socket answers, for several numbers of connections and of frames that are written at once,
 # in a new folder: it proves the programs first.
-load: bin
+load:
+	.ci/bin machipcd load
 	@demo/load
 
 # Calls at random, to servers that are killed amid them, compared with the machine written down a second time. It proves the
