@@ -2,5 +2,6 @@ mod Asked
 mod Lengths
 mod Masks
 mod Messages
+mod Options
 mod Replies
 mod Spelled

@@ -1,5 +1,5 @@
 -- What a frame asks for.
-use Rattle.std.specs.Prelude.{◌≡◌, ◌≢◌, ℕ, ◌<◌, ◌^◌, Bool, false, not, IsTrue, ◌==◌, ◌||◌, List, ◌++◌, Option, None, Some, bit_and, if◌then◌else◌}
+use Rattle.std.specs.Prelude.{◌≡◌, ◌≢◌, ℕ, ◌<◌, ◌^◌, Bool, false, IsTrue, ◌==◌, ◌||◌, List, ◌++◌, Option, None, Some, bit_and, if◌then◌else◌}
 use Rattle.codes.specs.declared.call_number.TheConstants.{MACH_MSG}
 use Rattle.codes.specs.declared.kern_return.KernReturn.TheVariants.{Success, InvalidArgument}
 use Rattle.ipc_model.specs.declared.call.Call.{Call}
@@ -31,8 +31,9 @@ rcv_large = 0x800
 abbrev pub known_options : ℕ
 known_options = 0x913
 
+-- each of these bits is among the options
 abbrev pub has_option : ℕ → ℕ → Bool
-has_option option bit = not (bit_and option bit == 0)
+has_option option bit = bit_and option bit == bit
 
 -- the arguments of mach_msg: four words, and the message behind them
 pub record MachMsg : Type 0 where

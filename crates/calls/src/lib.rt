@@ -4,8 +4,8 @@
 mod arguments;
 mod frame;
 mod kept_message;
-mod options;
 mod read;
+mod record_options;
 mod request;
 mod results;
 mod spell;

@@ -7,15 +7,13 @@ ghost use Rattle.words.specs.Words.{word};
 
 use crate::arguments::read_arguments;
 use crate::kept_message::keep_message;
-use crate::options::{RCV_LARGE, RCV_MSG, SEND_MSG};
+use crate::record_options::receives_large;
 use crate::word_rows::three_words;
-use codes::{HEADER_LENGTH, MACH_MSG};
+use bitflags::Flags;
+use codes::{HEADER_LENGTH, MACH_MSG, MessageOptions};
 use ipc_model::{Call, Sequence};
 use std::alloc::{AllocError, Global};
 use words::take_word;
-
-/// The option of a receipt whose message stays queued where it is too large.
-const RCV_MSG_LARGE: u32 = RCV_MSG | RCV_LARGE;
 
 /// The flag of a number that is 0 or 1.
 fn flag_of(number: u32) -> Option<bool>
@@ -89,11 +87,15 @@ fn read_message_call(alloc: Global, arguments: &[u8]) -> Result<Option<Call>, Al
     let Some((option, words)) = take_word(arguments) else {
         return Ok(None);
     };
-    match option {
-        SEND_MSG => read_send(alloc, words),
-        RCV_MSG => Ok(read_receive(false, words)),
-        RCV_MSG_LARGE => Ok(read_receive(true, words)),
-        _ => Ok(None),
+    let Some(options) = MessageOptions::from_bits(option) else {
+        return Ok(None);
+    };
+    if options == MessageOptions::SEND {
+        return read_send(alloc, words);
+    }
+    match receives_large(options) {
+        Some(large) => Ok(read_receive(large, words)),
+        None => Ok(None),
     }
 }
 

@@ -1,11 +1,12 @@
 ghost use Rattle.std.specs.Prelude.{◌≡◌, ◌⊎◌, ◌<◌, ◌^◌, ◌++◌, ◌||◌, ℕ, List, Ok, Err, IsTrue, IfOk, IfSome, IfNone, OnErr, IsErrOf, length};
+ghost use Rattle.codes.specs.MessageOptions.{bits_of};
 ghost use Rattle.words.specs.Words.{word};
 ghost use Rattle.calls.specs.declared.request.Request.{Request};
 ghost use Rattle.calls.specs.Requests as requests;
 
 use crate::arguments::read_arguments;
-use crate::options::{KNOWN_OPTIONS, RCV_LARGE, RCV_MSG, RCV_TIMEOUT, SEND_MSG, SEND_TIMEOUT};
-use codes::{KernReturn, MACH_MSG};
+use bitflags::Flags;
+use codes::{KernReturn, MACH_MSG, MessageOptions};
 use ipc_model::{Call, Sequence};
 use std::alloc::{AllocError, Global};
 use wire::Frame;
@@ -46,26 +47,23 @@ pub enum CallFault {
     NoMemory = 2,
 }
 
-/// Whether one of these bits is among the options.
-fn has_option(option: u32, bit: u32) -> bool
-    ensures { result ≡ requests.has_option option bit }
-{
-    option & bit != 0
-}
-
 /// Whether the options ask for a send or a receipt.
-fn asks_for_some(option: u32) -> bool
-    ensures { result ≡ (requests.has_option option requests.send_msg || requests.has_option option requests.rcv_msg) }
+fn asks_for_some(options: MessageOptions) -> bool
+    ensures { result ≡ (requests.has_option (bits_of options) requests.send_msg || requests.has_option (bits_of options) requests.rcv_msg) }
 {
-    has_option(option, SEND_MSG) || has_option(option, RCV_MSG)
+    options.contains(MessageOptions::SEND) || options.contains(MessageOptions::RECEIVE)
 }
 
 /// The send that the options ask for.
-fn asked_send(alloc: Global, option: u32, message: &[u8]) -> Result<Option<Call>, AllocError>
-    ensures asked { IfOk result (λ send. send ≡ requests.asked_send option message.now) }
-    ensures memory { OnErr result (IsTrue (requests.has_option option requests.send_msg)) }
+fn asked_send(
+    alloc: Global,
+    options: MessageOptions,
+    message: &[u8],
+) -> Result<Option<Call>, AllocError>
+    ensures asked { IfOk result (λ send. send ≡ requests.asked_send (bits_of options) message.now) }
+    ensures memory { OnErr result (IsTrue (requests.has_option (bits_of options) requests.send_msg)) }
 {
-    if !has_option(option, SEND_MSG) {
+    if !options.contains(MessageOptions::SEND) {
         return Ok(None);
     }
     let message = Sequence::new(Vec::from_slice(alloc, message)?);
@@ -73,32 +71,32 @@ fn asked_send(alloc: Global, option: u32, message: &[u8]) -> Result<Option<Call>
 }
 
 /// The receipt that the options ask for.
-fn asked_receive(option: u32, limit: u32, name: u32) -> Option<Call>
-    ensures { result ≡ requests.asked_receive option limit name }
+fn asked_receive(options: MessageOptions, limit: u32, name: u32) -> Option<Call>
+    ensures { result ≡ requests.asked_receive (bits_of options) limit name }
 {
-    if !has_option(option, RCV_MSG) {
+    if !options.contains(MessageOptions::RECEIVE) {
         return None;
     }
     Some(Call::Receive {
         limit,
-        large: has_option(option, RCV_LARGE),
+        large: options.contains(MessageOptions::LARGE),
         name,
         waited: false,
     })
 }
 
 /// The bound on a wait, if the options have this one.
-fn asked_timeout(option: u32, bit: u32, timeout: u32) -> Option<u32>
-    ensures { result ≡ requests.asked_timeout option bit timeout }
+fn asked_timeout(options: MessageOptions, bound: MessageOptions, timeout: u32) -> Option<u32>
+    ensures { result ≡ requests.asked_timeout (bits_of options) (bits_of bound) timeout }
 {
-    if has_option(option, bit) {
+    if options.contains(bound) {
         Some(timeout)
     } else {
         None
     }
 }
 
-#[tactic(auto, unfolding(crate::specs::Requests::asked))]
+#[tactic(auto, unfolding(crate::specs::Requests::asked, bitflags::specs::Sets::known_from))]
 /// What these arguments of `mach_msg` ask for.
 fn request_of(
     alloc: Global,
@@ -117,18 +115,18 @@ fn request_of(
     })) }
     ensures memory { OnErr result (IsTrue (requests.has_option option requests.send_msg)) }
 {
-    if option & KNOWN_OPTIONS != option {
+    let Some(options) = MessageOptions::from_bits(option) else {
         return Ok(Request::Answered(KernReturn::InvalidArgument));
-    }
-    if !asks_for_some(option) {
+    };
+    if !asks_for_some(options) {
         return Ok(Request::Answered(KernReturn::Success));
     }
-    let send = asked_send(alloc, option, message)?;
+    let send = asked_send(alloc, options, message)?;
     Ok(Request::Message(MessageRequest {
         send,
-        receive: asked_receive(option, limit, name),
-        send_timeout: asked_timeout(option, SEND_TIMEOUT, timeout),
-        receive_timeout: asked_timeout(option, RCV_TIMEOUT, timeout),
+        receive: asked_receive(options, limit, name),
+        send_timeout: asked_timeout(options, MessageOptions::SEND_TIMEOUT, timeout),
+        receive_timeout: asked_timeout(options, MessageOptions::RECEIVE_TIMEOUT, timeout),
     }))
 }
 

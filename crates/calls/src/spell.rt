@@ -1,18 +1,20 @@
 ghost use Rattle.std.specs.Prelude.{◌≡◌, ◌++◌, ◌<◌, ◌^◌, OnOk, flat_map, length};
 ghost use Rattle.ipc_model.specs.declared.call.Call.TheVariants as call;
-ghost use Rattle.ipc_model.specs.texts.Texts.{call_text, kept_call, reply_text, done_text, status_text, receive_option, number_of_bool};
+ghost use Rattle.ipc_model.specs.texts.Texts.{call_text, kept_call, reply_text, done_text, status_text, number_of_bool};
 ghost use Rattle.words.specs.Words.{word};
 ghost use Rattle.calls.specs.Rows.{names_text};
 
 use crate::kept_message::keep_message;
-use crate::options::{RCV_LARGE, RCV_MSG, SEND_MSG};
+use crate::record_options::receive_options;
 use crate::word_rows::push_words;
+use bitflags::Flags;
 use codes::{
     ATTACH, MACH_MSG, MACH_PORT_ALLOCATE, MACH_PORT_ALLOCATE_NAME, MACH_PORT_DEALLOCATE,
     MACH_PORT_DESTROY, MACH_PORT_EXTRACT_RIGHT, MACH_PORT_GET_RECEIVE_STATUS, MACH_PORT_GET_REFS,
     MACH_PORT_GET_SET_STATUS, MACH_PORT_INSERT_RIGHT, MACH_PORT_MOD_REFS, MACH_PORT_MOVE_MEMBER,
     MACH_PORT_NAMES, MACH_PORT_RENAME, MACH_PORT_REQUEST_NOTIFICATION, MACH_PORT_SET_MSCOUNT,
-    MACH_PORT_SET_QLIMIT, MACH_PORT_SET_SEQNO, MACH_PORT_TYPE, SPACE_CREATE, SPACE_DESTROY,
+    MACH_PORT_SET_QLIMIT, MACH_PORT_SET_SEQNO, MACH_PORT_TYPE, MessageOptions, SPACE_CREATE,
+    SPACE_DESTROY,
 };
 use ipc_model::{Call, NamedType, ReceiveStatus, Reply, RightKind};
 use std::alloc::{AllocError, Global};
@@ -43,7 +45,7 @@ fn push_four(out: &mut Vec<u8>, a: u32, b: u32, c: u32, d: u32) -> Result<(), Al
 fn push_send(out: &mut Vec<u8>, message: &[u8]) -> Result<(), AllocError>
     ensures ok { OnOk result (out.new.items ≡ out.old.items ++ call_text (call.Send message.now)) }
 {
-    push_words(out, &[MACH_MSG, SEND_MSG, 0, 0, 0])?;
+    push_words(out, &[MACH_MSG, MessageOptions::SEND.bits(), 0, 0, 0])?;
     out.extend_from_slice(message)
 }
 
@@ -126,7 +128,7 @@ pub fn push_call(out: &mut Vec<u8>, call: &Call) -> Result<(), AllocError>
                 out,
                 &[
                     MACH_MSG,
-                    option_to_receive(large),
+                    receive_options(large).bits(),
                     limit,
                     name,
                     bool_number(waited),
@@ -154,13 +156,6 @@ pub fn push_kept_call(alloc: Global, out: &mut Vec<u8>, call: &Call) -> Result<(
     };
     let kept = keep_message(alloc, message.as_slice())?;
     push_send(out, &kept)
-}
-
-/// `MACH_RCV_MSG`, with `MACH_RCV_LARGE` where a message that is too large stays queued.
-fn option_to_receive(large: bool) -> u32
-    ensures { result ≡ receive_option large }
-{
-    if large { RCV_MSG | RCV_LARGE } else { RCV_MSG }
 }
 
 /// A yes or no in a word.

@@ -1,3 +1,4 @@
 pub mod Disposition
 pub mod KernReturn
+pub mod MessageOptions
 pub mod Right

@@ -5,6 +5,7 @@ mod call_number;
 mod disposition;
 mod kern_return;
 mod limits;
+mod message_options;
 mod name;
 mod notification;
 mod right;
@@ -23,6 +24,7 @@ pub use limits::{
     MAX_MESSAGE_SIZE, MAX_NAMES, MAX_PORTS, MAX_RECORDS, MAX_SEND_REFERENCES, MAX_SPACES,
     MIN_FRAME_CONTENT,
 };
+pub use message_options::MessageOptions;
 pub use name::{
     DEFAULT_QUEUE_LIMIT, FIRST_NAME, FIRST_SPACE, MACH_PORT_DEAD, MACH_PORT_NULL, MAX_QUEUE_LIMIT,
 };

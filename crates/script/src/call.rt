@@ -9,6 +9,7 @@ ghost use Rattle.script.specs.Verbs.{verb_word};
 use crate::fault::{Expected, Fault};
 use crate::kind::{Kind, push_value};
 use crate::message::{push_flag, push_labelled, push_message, read_message};
+use crate::option::large_word;
 use crate::plain::read_plain;
 use crate::spaced::take_word;
 use crate::values::{push_three, push_two, read_flag, read_labelled, read_value};
@@ -60,7 +61,7 @@ fn push_receive(
 {
     push_value(line, Kind::Hexadecimal, name)?;
     push_labelled(line, b"limit", Kind::Decimal, limit)?;
-    push_flag(line, b"large", large)?;
+    push_flag(line, large_word(), large)?;
     push_flag(line, b"waited", waited)
 }
 
@@ -191,7 +192,7 @@ fn read_receive(text: &[u8]) -> Result<(Call, &[u8]), Fault>
 {
     let (name, rest) = read_value(Kind::Hexadecimal, text)?;
     let (limit, rest) = read_labelled(b"limit", Kind::Decimal, rest)?;
-    let (large, rest) = read_flag(b"large", rest);
+    let (large, rest) = read_flag(large_word(), rest);
     let (waited, rest) = read_flag(b"waited", rest);
     let call = Call::Receive {
         limit,

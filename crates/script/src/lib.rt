@@ -10,6 +10,7 @@ mod kind;
 mod line;
 mod message;
 mod number;
+mod option;
 mod plain;
 mod reply;
 mod spaced;

@@ -2,6 +2,8 @@ ghost use Rattle.std.specs.Prelude.{◌≡◌, find};
 ghost use Rattle.std.specs.Str.{bytes_eq};
 ghost use Rattle.script.specs.Verbs.{verb_word, all_verbs};
 
+use crate::option::{receive_word, send_word};
+
 /// What a line asks for, by its first word.
 #[derive(Clone, Copy)]
 pub(crate) enum Verb {
@@ -81,8 +83,8 @@ impl Verb {
             Verb::RequestNotification => b"request_notification",
             Verb::InsertRight => b"insert_right",
             Verb::ExtractRight => b"extract_right",
-            Verb::Send => b"send",
-            Verb::Receive => b"receive",
+            Verb::Send => send_word(),
+            Verb::Receive => receive_word(),
             Verb::SpaceCreate => b"space_create",
             Verb::SpaceDestroy => b"space_destroy",
         }

@@ -1,0 +1,31 @@
+ghost use Rattle.std.specs.Prelude.{◌≡◌, ◌≢◌, false, true, IfNone, IfSome};
+ghost use Rattle.codes.specs.MessageOptions.{bits_of};
+ghost use Rattle.ipc_model.specs.texts.Texts.{receive_option};
+
+use bitflags::Flags;
+use codes::MessageOptions;
+
+/// The options of a receipt in a record: `LARGE` beside `RECEIVE` where a message that is too large stays queued.
+pub(crate) fn receive_options(large: bool) -> MessageOptions
+    ensures { bits_of result ≡ receive_option large }
+{
+    if large {
+        MessageOptions::RECEIVE.union(MessageOptions::LARGE)
+    } else {
+        MessageOptions::RECEIVE
+    }
+}
+
+/// Whether a message that is too large stays queued, if these are the options of a receipt in a record.
+pub(crate) fn receives_large(options: MessageOptions) -> Option<bool>
+    ensures found { IfSome result (λ large. bits_of options ≡ receive_option large) }
+    ensures none { IfNone result ((bits_of options ≢ receive_option false) × (bits_of options ≢ receive_option true)) }
+{
+    if options == receive_options(false) {
+        return Some(false);
+    }
+    if options == receive_options(true) {
+        return Some(true);
+    }
+    None
+}
