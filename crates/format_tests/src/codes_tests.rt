@@ -1,5 +1,5 @@
 use crate::expect::{same, same_in_row};
-use codes::{KernReturn, Right};
+use codes::{KernReturn, MessageOptions, Right};
 
 static CODES: [(KernReturn, u32); 6] = [
     (KernReturn::NoSpace, 3),
@@ -18,6 +18,14 @@ static RIGHTS: [(Right, u32); 5] = [
     (Right::DeadName, 0x10_0000),
 ];
 
+static OPTIONS: [(MessageOptions, &str); 5] = [
+    (MessageOptions::SEND, "send"),
+    (MessageOptions::RECEIVE, "receive"),
+    (MessageOptions::SEND_TIMEOUT, "send_timeout"),
+    (MessageOptions::RECEIVE_TIMEOUT, "receive_timeout"),
+    (MessageOptions::LARGE, "large"),
+];
+
 // Numbers that are on the wire, against the definitions that the clauses cite.
 #[test]
 fn numbers_on_the_wire(rt: HostRuntime) {
@@ -27,5 +35,12 @@ fn numbers_on_the_wire(rt: HostRuntime) {
     for (right, bit) in &RIGHTS {
         same_in_row(&rt, *right, right.type_bit(), *bit);
         same(&rt, Right::from_number(right.number()), Some(*right));
+    }
+}
+
+#[test]
+fn names_of_options(rt: HostRuntime) {
+    for (option, name) in &OPTIONS {
+        same(&rt, option.first_name(), *name);
     }
 }
