@@ -9,8 +9,8 @@ use crate::arguments::read_arguments;
 use crate::kept_message::keep_message;
 use crate::options::{RCV_LARGE, RCV_MSG, SEND_MSG};
 use crate::word_rows::three_words;
-use codes::{HEADER_LENGTH, MACH_MSG};
-use ipc_model::{Call, Sequence};
+use codes::MACH_MSG;
+use ipc_model::{Call, Sequence, is_message_size};
 use std::alloc::{AllocError, Global};
 use words::take_word;
 
@@ -68,7 +68,7 @@ fn read_send(alloc: Global, words: &[u8]) -> Result<Option<Call>, AllocError>
     let Some(message) = behind_zeros(words) else {
         return Ok(None);
     };
-    if message.len() < HEADER_LENGTH {
+    if !is_message_size(message.len()) {
         return Ok(None);
     }
     let kept = keep_message(alloc, message)?;

@@ -21,7 +21,7 @@ use Rattle.ipc_model.specs.messages.Messages.{Parts, parts_of, bits_of, is_compl
 use Rattle.ipc_model.specs.messages.Receiving.{without_message}
 use Rattle.ipc_model.specs.messages.Sending.{Ready, ready_by_parts, ready_to_send, sent}
 use Rattle.ipc_model.specs.state.State.{State, Names}
-use Rattle.ipc_model.specs.texts.Texts.{call_text, reply_text, kept_call, kept_record, FitsCall, IsWholeCall, IsKeptCall, IsRecord, IsRecordedReply}
+use Rattle.ipc_model.specs.texts.Texts.{call_text, reply_text, kept_call, kept_record, FitsCall, IsMessageSize, IsWholeCall, IsKeptCall, IsRecord, IsRecordedReply}
 use Rattle.words.specs.Words.{AreBytes}
 
 pub length-masked : (masks bytes : List ℕ) → length (masked masks bytes) ≡ length bytes
@@ -176,7 +176,7 @@ pub kept_is_kept : (c : Call) → FitsCall c → IsWholeCall c → IsKeptCall (k
 kept_is_kept c fits whole = record { fits = kept_fits c fits; whole = whole_kept c whole; kept = kept_call_again c }
   where
     whole_kept : (d : Call) → IsWholeCall d → IsWholeCall (kept_call d)
-    whole_kept (call.Send message) whole = let same = kept_long message in omega (arith, whole, same)
+    whole_kept (call.Send message) whole = subst IsMessageSize (sym (kept_long message)) whole
     whole_kept d whole = whole
 
 -- a reply is one to what is kept of its call

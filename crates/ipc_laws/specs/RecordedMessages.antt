@@ -1,9 +1,9 @@
 -- What sends and receipts that have records answer.
-use Rattle.std.specs.Prelude.{◌≡◌, ℕ, zero, suc, ◌≤◌, Bool, true, false, ◌==◌, ◌&&◌, ◌||◌, nat_lt, List, [], ◌∷◌, length, Option, None, Some, Result, Ok, Err, IfErr, MatchResult, if◌then◌else◌, refl}
+use Rattle.std.specs.Prelude.{◌≡◌, ℕ, zero, suc, Bool, true, false, ◌==◌, ◌&&◌, ◌||◌, nat_lt, List, [], ◌∷◌, length, Option, None, Some, Result, Ok, Err, IfErr, MatchResult, if◌then◌else◌, refl}
 use Rattle.std.proofs.Common.{subst}
 use Rattle.codes.specs.declared.kern_return.KernReturn.{KernReturn}
 use Rattle.codes.specs.declared.kern_return.KernReturn.TheVariants.{Success, SendInvalidDest, SendInvalidReply, SendInvalidRight, SendInvalidHeader, SendNoBuffer}
-use Rattle.codes.specs.declared.limits.TheConstants.{MAX_MESSAGE_SIZE, MAX_MESSAGE_PORTS}
+use Rattle.codes.specs.declared.limits.TheConstants.{MAX_MESSAGE_PORTS}
 use Rattle.codes.specs.declared.name.TheConstants.{MACH_PORT_NULL}
 use Rattle.ipc_model.specs.calls.Step.{ActsIn, IsRefusedWith, has_record, is_success}
 use Rattle.ipc_model.specs.calls.Tests.{Tests, and_then, or_refused, unless_failing}
@@ -18,6 +18,7 @@ use Rattle.ipc_model.specs.messages.Sending.{TakenHeader, TakenReply, TakenRight
 use Rattle.ipc_model.specs.rights.CopyIn.{Taken, copy_in}
 use Rattle.ipc_model.specs.rights.Dispositions.{Disposition}
 use Rattle.ipc_model.specs.state.State.{State, Names, is_null_or_dead}
+use Rattle.ipc_model.specs.texts.Texts.{IsMessageSize}
 use Rattle.ipc_laws.specs.ItemLaws.{passed_tests}
 use Rattle.ipc_laws.specs.ReadyKeep.{size_fits}
 
@@ -99,17 +100,16 @@ ready_fails state space message =
     and_then_fails (sending.reply_disposition parts.local_disposition parts.local) _ (reply_disposition_fails parts.local_disposition parts.local) (λ (reply : Option Disposition).
     and_then_fails (sending.items_if_complex parts.complex parts.body) _ (items_fail parts.complex parts.body) (λ (items : List Item). of_items_fails state space parts destination reply items))))
 
--- A send that has a record was done: its message is whole and not too large, and nothing comes back.
+-- A send that has a record was done: its message has a size that messages may have, and nothing comes back.
 pub record SendDone (message : List ℕ) (answer : Reply) : Type 0 where
-  pub whole : header_length ≤ length message
-  pub small : length message ≤ MAX_MESSAGE_SIZE
+  pub size : IsMessageSize (length message)
   pub answer_is : answer ≡ without_message Success 0 MACH_PORT_NULL
 
 done_of : (old : State) (space : ℕ) (message : List ℕ) (answer : Reply) (ready : Ready) → ready_to_send old space message ≡ Ok ready → answer ≡ without_message Success 0 MACH_PORT_NULL → SendDone message answer
 unfolding ready_to_send
 done_of old space message answer ready is answered =
     let fits = size_fits message (passed_tests (sending.tests_of_size (length message)) _ ready is).0 in
-    record { whole = fits.whole; small = fits.small; answer_is = answered }
+    record { size = (fits.whole, fits.small, fits.words); answer_is = answered }
 
 pub send_done : (old : State) (space : ℕ) (names : Names) (message : List ℕ) (answer : Reply) (new : State) (effects : List Effect) → ActsIn old space names (call.Send message) answer new effects → has_record (call.Send message) answer ≡ true → SendDone message answer
 send_done old space names message answer new effects acts recorded =

@@ -135,8 +135,8 @@ pub fn records_run_as_kept()
     ensures { RecordsRunAsKept }
 {}
 
-/// A send that has a record was done: its message has 24 to 8,192 bytes, and nothing comes back. No refusal of a send
-/// is a success.
+/// A send that has a record was done: its message has a size that messages may have, and nothing comes back. No refusal
+/// of a send is a success.
 pub fn recorded_sends_are_done()
     ensures { RecordedSendsAreDone }
 {}

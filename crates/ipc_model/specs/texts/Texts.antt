@@ -158,9 +158,13 @@ FitsReply (reply.Extracted name kind) = name < 2 ^ 32
 FitsReply (reply.Message code size member message) = (size < 2 ^ 32) × (member < 2 ^ 32) × AreBytes message
 FitsReply (reply.SpaceCreated space name) = (space < 2 ^ 32) × (name < 2 ^ 32)
 
--- a send's message has its header
+-- the sizes that a message may have
+abbrev pub IsMessageSize : ℕ → Type 0
+IsMessageSize size = (header_length ≤ size) × (size ≤ MAX_MESSAGE_SIZE) × (size % 4 ≡ 0)
+
+-- a send's message has such a size
 abbrev pub IsWholeCall : Call → Type 0
-IsWholeCall (call.Send message) = header_length ≤ length message
+IsWholeCall (call.Send message) = IsMessageSize (length message)
 IsWholeCall c = Unit {0}
 
 -- A call that stands in a record is in range, whole, and as a record keeps it.
@@ -194,10 +198,6 @@ has_no_results (call.Send message) = false
 has_no_results (call.Receive limit large name waited) = false
 has_no_results (call.SpaceCreate name disposition) = false
 has_no_results call.SpaceDestroy = true
-
--- the sizes that a message may have
-abbrev pub IsMessageSize : ℕ → Type 0
-IsMessageSize size = (header_length ≤ size) × (size ≤ MAX_MESSAGE_SIZE) × (size % 4 ≡ 0)
 
 -- What a receipt with this limit tells: the size of the message that it took out and the name of the port. It brings the
 -- message, or nothing where the message was larger than the limit and was destroyed.
