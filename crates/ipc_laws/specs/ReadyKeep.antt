@@ -16,8 +16,8 @@ use Rattle.ipc_laws.specs.CallsKeep.{first_passes}
 use Rattle.ipc_model.specs.rights.Dispositions.{Disposition, disposition_of, received_kind}
 use Rattle.ipc_laws.specs.EffectParts.{word_more, byte_more}
 use Rattle.ipc_laws.specs.Hands.{Hand, MidCall, empty_hand, mid_hand}
-use Rattle.ipc_model.specs.messages.Items.{Item, items_of, items_text, item_text, descriptor_text, names_of_item, words_of, is_port_item, as_stored}
-use Rattle.ipc_laws.specs.ItemLaws.{ItemFits, AllFit, items_read, items_back, back_bytes}
+use Rattle.ipc_model.specs.messages.Items.{Item, items_of, items_text, item_text, descriptor_text, names_of_item, words_of, is_port_item, as_stored, IsItem, AreItems}
+use Rattle.ipc_laws.specs.ItemLaws.{items_read, items_back, back_bytes}
 use Rattle.ipc_model.specs.state.Lawful.{LawfulMessage, HoldsPorts, kinds_of_item}
 use Rattle.ipc_model.specs.messages.Messages.{parts_of, bits_of, remote_of, local_of, body_of, remote_disposition, local_disposition, is_complex, header_length}
 use Rattle.ipc_laws.specs.PortItems.{is_kept, stored_fit, stored_long, all_stored, kinds_of_type, stored_kinds, no_kinds}
@@ -40,7 +40,7 @@ both_bytes (x ∷ xs) ys first second = byte_more x (xs ++ ys) (first 0) (both_b
 two_more : (n : ℕ) (bytes : List ℕ) → AreBytes bytes → AreBytes (little_bytes 2 n ++ bytes)
 two_more n bytes rest = byte_more (n % 256) (n / 256 % 256 ∷ bytes) (omega arith) (byte_more (n / 256 % 256) bytes (omega arith) rest)
 
-item_bytes : (item : Item) → ItemFits item → AreBytes (item_text item)
+item_bytes : (item : Item) → IsItem item → AreBytes (item_text item)
 item_bytes item fits = elim item.is_long as (λ (b : Bool). AreBytes (descriptor_text item b ++ item.content)) [
   | true ↦ word_more (2 ^ 28 + 2 ^ 29) (little_bytes 2 item.type_name ++ (little_bytes 2 item.bits ++ (word item.number ++ item.content)))
       (two_more item.type_name (little_bytes 2 item.bits ++ (word item.number ++ item.content)) (two_more item.bits (word item.number ++ item.content) (word_more item.number item.content fits.bytes)))
@@ -50,13 +50,13 @@ item_bytes item fits = elim item.is_long as (λ (b : Bool). AreBytes (descriptor
 no_bytes : AreBytes []
 no_bytes i = omega arith
 
-items_bytes : (items : List Item) → AllFit items → AreBytes (items_text items)
+items_bytes : (items : List Item) → AreItems items → AreBytes (items_text items)
 items_bytes [] fits = no_bytes
 items_bytes (item ∷ items) fits = both_bytes (item_text item) (items_text items) (item_bytes item fits.0) (items_bytes items fits.1)
 
 -- what is known of the items of a body: they were read from it, or it isn't looked at
 pub record BodyItems (bytes : List ℕ) (items : List Item) : Type 0 where
-  pub fit : AllFit items
+  pub fit : AreItems items
   pub complex : is_complex (bits_of bytes) ≡ true → length (items_text items) ≡ length (body_of bytes)
   pub plain : is_complex (bits_of bytes) ≡ false → items ≡ []
 
@@ -98,7 +98,7 @@ record HasPort (items : List Item) : Type 0 where
 later_port : (item : Item) (items : List Item) → HasPort items → HasPort (item ∷ items)
 later_port item items has = record { item = has.item; among = (suc has.among.0, omega (arith, has.among.1), has.among.2); port = has.port }
 
-stored_has_port : (items : List Item) → AllFit items → list_any is_port_item items ≡ true → HasPort (map as_stored items)
+stored_has_port : (items : List Item) → AreItems items → list_any is_port_item items ≡ true → HasPort (map as_stored items)
 stored_has_port [] fits any = absurd (cc any)
 stored_has_port (item ∷ items) fits any = elim (is_port_item item) as (λ (b : Bool). is_port_item item ≡ b → (b || list_any is_port_item items) ≡ true → HasPort (map as_stored (item ∷ items))) [
   | true ↦ λ (port : _) (_ : _). record { item = as_stored item; among = (0, omega arith, refl); port = (is_kept item fits.0).port ∙ port }

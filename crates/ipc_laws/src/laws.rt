@@ -5,7 +5,7 @@ ghost use Rattle.ipc_laws.specs.EffectRanks.{EffectsKeepGrounded, SettledIsLawfu
 ghost use Rattle.ipc_laws.specs.EffectsKeep.{EffectsKeepLawful};
 ghost use Rattle.ipc_laws.specs.HistoryLaws.{LegalIsInOrder, LegalStaysLegal, MeetingIsLegal, PlacesHoldCalls, ReadsOwnWrites};
 ghost use Rattle.ipc_laws.specs.ImageLaws.{ImagesHaveOneText};
-ghost use Rattle.ipc_laws.specs.ItemLaws.{ItemsTileBodies};
+ghost use Rattle.ipc_laws.specs.ItemLaws.{ItemsTileBodies, TiledBodiesHaveItems};
 ghost use Rattle.ipc_laws.specs.KeptLaws.{CallsAreMadeAsKept, MessagesAreSentAsKept};
 ghost use Rattle.ipc_laws.specs.NameChanges.{NamesMoveLawfully};
 ghost use Rattle.ipc_laws.specs.LawfulLaws.{LawfulIsAtRest};
@@ -118,6 +118,11 @@ pub fn one_run()
 /// The items that are found in a body of bytes tile it: their texts joined are the body.
 pub fn items_tile_bodies()
     ensures { ItemsTileBodies }
+{}
+
+/// Items that tile a body of bytes are those that are found in it: it is answered by a code exactly where none tile it.
+pub fn tiled_bodies_have_items()
+    ensures { TiledBodiesHaveItems }
 {}
 
 /// A message and what a record keeps of it, with 0 in place of what a send ignores, are sent alike.

@@ -8,7 +8,7 @@ use Rattle.std.specs.FinMap as finmap
 use Rattle.byteorder.specs.Endian.{little_number}
 use Rattle.codes.specs.declared.kern_return.KernReturn.{KernReturn}
 use Rattle.ipc_laws.specs.EffectParts.{word_more}
-use Rattle.ipc_laws.specs.ItemLaws.{AllFit, items_back, items_read}
+use Rattle.ipc_laws.specs.ItemLaws.{items_back, items_read}
 use Rattle.ipc_laws.specs.Arrivals.{named_there}
 use Rattle.ipc_laws.specs.MapLaws.{get-there}
 use Rattle.ipc_laws.specs.ReceiptLaws.{port_count, length-kinds, length-words-take}
@@ -19,8 +19,8 @@ use Rattle.ipc_model.specs.declared.message.PortInMessage.{PortInMessage}
 use Rattle.ipc_model.specs.declared.message.PortInMessage.TheVariants as in_message
 use Rattle.ipc_model.specs.declared.message.RightKind.{RightKind}
 use Rattle.ipc_model.specs.declared.message.RightKind.TheVariants as kind
-use Rattle.ipc_model.specs.messages.Items.{Item, items_of, filled, body_filled, names_of_item, is_port_item, padded, words_of}
-use Rattle.ipc_model.specs.messages.Messages.{Parts, IsMessage, parts_of, header_length, message_text, remote_disposition, is_complex, complex_bit}
+use Rattle.ipc_model.specs.messages.Items.{Item, items_of, filled, body_filled, names_of_item, is_port_item, padded, words_of, AreItems}
+use Rattle.ipc_model.specs.messages.Messages.{UsedParts, HasUsedParts, used_parts, header_length, message_text, remote_disposition, is_complex, complex_bit}
 use Rattle.ipc_model.specs.messages.Receiving.{arriving, reply_right, reply_name, reply_kind_number, body_names, received_body, received_text}
 use Rattle.ipc_model.specs.messages.Sending.{items_if_complex}
 use Rattle.ipc_model.specs.rights.CopyOut.{Arrives, MayArrive, names_after, merged_entry}
@@ -80,12 +80,12 @@ words_are_bytes (name ∷ names) i = word_more name (flat_map word names) (words
 
 -- Items with names filled in fit, and hold these names.
 
-filled_fit : (items : List Item) (names : List ℕ) → AllFit items → length names ≡ port_count items → AllFit (filled items names)
+filled_fit : (items : List Item) (names : List ℕ) → AreItems items → length names ≡ port_count items → AreItems (filled items names)
 unfolding port_count
 filled_fit [] names fit many = tt
 filled_fit (item ∷ items) names fit many =
     elim (is_port_item item) as (λ (b : Bool). is_port_item item ≡ b → length names ≡ (elim b as (λ _. ℕ) [ true ↦ item.number | false ↦ 0 ]) + port_count items
-    → AllFit (if b then record item { content = flat_map word (take item.number names) } ∷ filled items (drop item.number names) else item ∷ filled items names)) [
+    → AreItems (if b then record item { content = flat_map word (take item.number names) } ∷ filled items (drop item.number names) else item ∷ filled items names)) [
       | false ↦ λ (_ : _) (here : _). (fit.0, filled_fit items names fit.1 (omega (arith, here)))
       | true ↦ λ (port : _) (here : _).
           let n : ℕ = item.number in
