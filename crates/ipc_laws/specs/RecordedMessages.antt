@@ -11,7 +11,7 @@ use Rattle.ipc_model.specs.declared.call.Call.TheVariants as call
 use Rattle.ipc_model.specs.declared.call.Reply.{Reply}
 use Rattle.ipc_model.specs.effects.Effects.{Effect}
 use Rattle.ipc_model.specs.messages.Items.{Item, items_of, items_within, tests_of_item}
-use Rattle.ipc_model.specs.messages.Messages.{Parts, parts_of, header_length}
+use Rattle.ipc_model.specs.messages.Messages.{UsedParts, used_parts}
 use Rattle.ipc_model.specs.messages.Receiving.{without_message}
 use Rattle.ipc_model.specs.messages.Sending as sending
 use Rattle.ipc_model.specs.messages.Sending.{TakenHeader, TakenReply, TakenRights, Ready, ready_to_send, ready_of_items, take_destination, take_reply, take_header, sent}
@@ -84,7 +84,7 @@ reply_disposition_fails : (n name : ℕ) → Fails (sending.reply_disposition n 
 reply_disposition_fails n name =
     if_fails (n == 0 && name == MACH_PORT_NULL) _ _ (fine _) (and_then_fails (or_refused SendInvalidHeader _) _ (or_fails SendInvalidHeader _ refl) (λ (disposition : Disposition). fine _))
 
-of_items_fails : (state : State) (space : ℕ) (parts : Parts) (destination : Disposition) (reply : Option Disposition) (items : List Item) → Fails (ready_of_items state space parts destination reply items)
+of_items_fails : (state : State) (space : ℕ) (parts : UsedParts) (destination : Disposition) (reply : Option Disposition) (items : List Item) → Fails (ready_of_items state space parts destination reply items)
 of_items_fails state space parts destination reply items =
     unless_fails ((nat_lt MAX_MESSAGE_PORTS (sending.ports_in items), SendNoBuffer) ∷ (is_null_or_dead parts.remote, SendInvalidDest) ∷ []) _ (refl, (refl, tt))
     (and_then_fails (take_header state space parts.remote destination parts.local reply) _ (header_fails state space parts.remote destination parts.local reply) (λ (header : TakenHeader).
@@ -94,7 +94,7 @@ of_items_fails state space parts destination reply items =
 ready_fails : (state : State) (space : ℕ) (message : List ℕ) → Fails (ready_to_send state space message)
 unfolding ready_to_send
 ready_fails state space message =
-    let parts : Parts = parts_of message in
+    let parts : UsedParts = used_parts message in
     unless_fails (sending.tests_of_size parts.size) _ (refl, (refl, tt))
     (and_then_fails (or_refused SendInvalidHeader _) _ (or_fails SendInvalidHeader _ refl) (λ (destination : Disposition).
     and_then_fails (sending.reply_disposition parts.local_disposition parts.local) _ (reply_disposition_fails parts.local_disposition parts.local) (λ (reply : Option Disposition).

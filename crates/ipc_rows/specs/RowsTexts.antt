@@ -9,6 +9,7 @@ use Rattle.ipc_model.specs.declared.call.Reply.{Reply}
 use Rattle.ipc_model.specs.declared.call.Reply.TheVariants as reply
 use Rattle.ipc_model.specs.declared.record.Record.{Record}
 use Rattle.ipc_model.specs.messages.Kept.{kept_message}
+use Rattle.ipc_model.specs.messages.Messages.{used_parts}
 use Rattle.ipc_model.specs.texts.Images.{image_text}
 use Rattle.ipc_rows.specs.RowRules.{rows}
 use Rattle.ipc_rows.specs.RowStates.{rights_to}
@@ -102,6 +103,10 @@ few_bytes (b ∷ bytes) few (suc i) = few_bytes bytes few.1 i
 pub raw_send-kept : kept_message raw_send ≡ kept_send
 unfolding kept_message
 raw_send-kept = refl
+
+-- they differ in what a send ignores alone
+pub raw_send-parts : used_parts raw_send ≡ used_parts kept_send
+raw_send-parts = refl
 
 pub raw_send-record : record_text 0 (of_send raw_send (reply.Message Success 0 0 [])) ≡ record_text 0 (of_send kept_send (reply.Message Success 0 0 []))
 unfolding record_text kept_message

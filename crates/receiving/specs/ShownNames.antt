@@ -39,23 +39,23 @@ abbrev pub names_in_items : Result (List Item) KernReturn → List ℕ
 names_in_items (Ok items) = flat_map names_of_item items
 names_in_items (Err code) = []
 
-abbrev pub names_in_parts : Parts → List ℕ
+abbrev pub names_in_parts : UsedParts → List ℕ
 names_in_parts parts = name_in_header parts.remote_disposition parts.remote ++ names_in_items (items_if_complex parts.complex parts.body)
 
 -- The names that a message's bytes show: that of the reply right, and behind it those of the body's ports, from the left.
 -- Bytes that are fewer than a header's show none.
 unfoldable pub names_shown : List ℕ → List ℕ
-names_shown bytes = if nat_lt (length bytes) header_length then [] else names_in_parts (parts_of bytes)
+names_shown bytes = if nat_lt (length bytes) header_length then [] else names_in_parts (used_parts bytes)
 
 -- what a message with these parts shows
-pub parts_shown : (bytes : List ℕ) (parts : Parts) → IsMessage bytes parts → names_shown bytes ≡ names_in_parts parts
+pub parts_shown : (bytes : List ℕ) (parts : UsedParts) → HasUsedParts bytes parts → names_shown bytes ≡ names_in_parts parts
 unfolding names_shown
 parts_shown bytes parts is =
-    ap (λ (short : Bool). if short then [] else names_in_parts (parts_of bytes)) (le-ltb (length bytes) header_length is.whole) ∙ ap names_in_parts (sym is.parts_are)
+    ap (λ (short : Bool). if short then [] else names_in_parts (used_parts bytes)) (le-ltb (length bytes) header_length is.whole) ∙ ap names_in_parts (sym is.parts_are)
 
 pub none_shown : (bytes : List ℕ) → length bytes < header_length → names_shown bytes ≡ []
 unfolding names_shown
-none_shown bytes short = ap (λ (b : Bool). if b then [] else names_in_parts (parts_of bytes)) (lt-ltb (length bytes) header_length short)
+none_shown bytes short = ap (λ (b : Bool). if b then [] else names_in_parts (used_parts bytes)) (lt-ltb (length bytes) header_length short)
 
 -- numbers that four bytes hold
 abbrev pub FitWords : List ℕ → Type 0
@@ -151,7 +151,7 @@ text_shown bits remote local seqno id body bits_fit remote_fits =
     let behind_remote : List ℕ = word local ++ (word seqno ++ (word id ++ body)) in
     let bits_is : little_number 4 text ≡ bits = little_number-word bits (word (header_length + length body) ++ (word remote ++ behind_remote)) bits_fit in
     let remote_is : little_number 4 (word remote ++ behind_remote) ≡ remote = little_number-word remote behind_remote remote_fits in
-    ap (λ (short : Bool). if short then [] else names_in_parts (parts_of text)) (le-ltb (length text) header_length (omega arith))
+    ap (λ (short : Bool). if short then [] else names_in_parts (used_parts text)) (le-ltb (length text) header_length (omega arith))
     ∙ (λ i. name_in_header (remote_disposition (bits_is i)) (remote_is i) ++ names_in_items (items_if_complex (is_complex (bits_is i)) body))
 
 -- the bits as received, of a message with this reply right
