@@ -11,7 +11,7 @@ ghost use Rattle.ipc_laws.specs.NameChanges.{NamesMoveLawfully};
 ghost use Rattle.ipc_laws.specs.LawfulLaws.{LawfulIsAtRest};
 ghost use Rattle.ipc_laws.specs.OpeningLaws.{OpeningIsLawful};
 ghost use Rattle.ipc_laws.specs.OtherSpaces.{OthersFade, SpacesAreMade};
-ghost use Rattle.ipc_laws.specs.OwnedPlaces.{NewRecordsAreOwned};
+ghost use Rattle.ipc_laws.specs.OwnedPlaces.{RecordsAreOwned};
 ghost use Rattle.ipc_laws.specs.PortChanges.{PortMovesLawfully};
 ghost use Rattle.ipc_laws.specs.RecordedMessages.{RecordedSendsAreDone};
 ghost use Rattle.ipc_laws.specs.RecordedReceipts.{RecordedReceiptsAreDone};
@@ -230,8 +230,8 @@ pub fn nothing_new_is_told()
     ensures { NothingNewIsTold }
 {}
 
-/// A legal session has seen a beginning of its history, was told within what it saw, and its places rise among the new
-/// records that it saw.
+/// A legal session has seen a beginning of its history, was told within what it saw, and its places rise among the records
+/// that it saw.
 pub fn legal_is_in_order()
     ensures { LegalIsInOrder }
 {}
@@ -256,7 +256,7 @@ pub fn meeting_is_legal()
     ensures { MeetingIsLegal }
 {}
 
-/// Where the sessions are all that there were, each new record of a legal history stands at a place of one of them.
-pub fn new_records_are_owned()
-    ensures { NewRecordsAreOwned }
+/// Where the sessions are all that there were, each record of a legal history stands at a place of one of them.
+pub fn records_are_owned()
+    ensures { RecordsAreOwned }
 {}
