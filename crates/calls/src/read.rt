@@ -10,8 +10,8 @@ use crate::kept_message::keep_message;
 use crate::record_options::receives_large;
 use crate::word_rows::three_words;
 use bitflags::Flags;
-use codes::{HEADER_LENGTH, MACH_MSG, MessageOptions};
-use ipc_model::{Call, Sequence};
+use codes::{MACH_MSG, MessageOptions};
+use ipc_model::{Call, Sequence, is_message_size};
 use std::alloc::{AllocError, Global};
 use words::take_word;
 
@@ -66,7 +66,7 @@ fn read_send(alloc: Global, words: &[u8]) -> Result<Option<Call>, AllocError>
     let Some(message) = behind_zeros(words) else {
         return Ok(None);
     };
-    if message.len() < HEADER_LENGTH {
+    if !is_message_size(message.len()) {
         return Ok(None);
     }
     let kept = keep_message(alloc, message)?;

@@ -4,16 +4,15 @@ ghost use Rattle.codes.specs.declared.kern_return.KernReturn.{KernReturn};
 ghost use Rattle.ipc_model.specs.declared.call.Call.{Call};
 ghost use Rattle.ipc_model.specs.declared.call.Reply.{Reply};
 ghost use Rattle.ipc_model.specs.calls.Step.{number_of_call, has_destroyed, is_recorded, is_success, succeeded};
-ghost use Rattle.ipc_model.specs.texts.Texts.{reply_text, done_text, has_no_results, number_of_reply, Brings, FitsReply, HasItsResults, IsMessageSize, IsOfReceipt, IsRecordedReply};
+ghost use Rattle.ipc_model.specs.texts.Texts.{reply_text, done_text, has_no_results, number_of_reply, Brings, FitsReply, HasItsResults, IsOfReceipt, IsRecordedReply};
 ghost use Rattle.words.specs.Words.{word};
 
 use crate::word_rows::{one_word, two_words};
 use codes::{
-    HEADER_LENGTH, KernReturn, MACH_MSG, MACH_PORT_ALLOCATE, MACH_PORT_DEAD,
-    MACH_PORT_EXTRACT_RIGHT, MACH_PORT_NULL, MACH_PORT_REQUEST_NOTIFICATION, MAX_MESSAGE_SIZE,
-    SPACE_CREATE,
+    KernReturn, MACH_MSG, MACH_PORT_ALLOCATE, MACH_PORT_DEAD, MACH_PORT_EXTRACT_RIGHT,
+    MACH_PORT_NULL, MACH_PORT_REQUEST_NOTIFICATION, SPACE_CREATE,
 };
-use ipc_model::{Call, Reply, RightKind, Sequence};
+use ipc_model::{Call, Reply, RightKind, Sequence, is_message_size};
 use std::alloc::{AllocError, Global};
 use words::take_word;
 
@@ -55,21 +54,13 @@ fn has_no_results(call: &Call) -> bool
     )
 }
 
-/// Whether a message may have this size.
-fn is_message_size(size: u32) -> bool
-    ensures yes { result ≡ true → IsMessageSize size }
-    ensures no { result ≡ false → IsMessageSize size → ⊥ }
-{
-    size as usize >= HEADER_LENGTH && size <= MAX_MESSAGE_SIZE && size % 4 == 0
-}
-
 /// Whether a receipt with this limit tells this of the message that it took out: its size, the name of its port and,
 /// where it wasn't destroyed, its bytes.
 fn is_of_receipt(limit: u32, code: KernReturn, size: u32, member: u32, message: &[u8]) -> bool
     ensures yes { result ≡ true → IsOfReceipt limit code size member message.now }
     ensures no { result ≡ false → IsOfReceipt limit code size member message.now → ⊥ }
 {
-    if !is_message_size(size) || member == MACH_PORT_NULL || member == MACH_PORT_DEAD {
+    if !is_message_size(size as usize) || member == MACH_PORT_NULL || member == MACH_PORT_DEAD {
         return false;
     }
     if code == KernReturn::Success {

@@ -179,8 +179,10 @@ fn a_send_as_records_have_it(rt: HostRuntime) {
     let mut sized = SEND;
     sized[24] = 28;
     let refused = is_no_call_of_record(alloc, &sized);
-    let seen = [spelled, is_found_as(alloc, read.flatten(), &SEND), refused];
-    same(&rt, seen, [Some(true); 3]);
+    // A message of 25 bytes, a size that none has.
+    let odd = is_no_call_of_record(alloc, &SEND[..45]);
+    let found = is_found_as(alloc, read.flatten(), &SEND);
+    same(&rt, [spelled, found, refused, odd], [Some(true); 4]);
 }
 
 // The same of a text of these numbers.

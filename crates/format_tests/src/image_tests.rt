@@ -81,6 +81,35 @@ fn is_none_changed(alloc: Global, place: usize, byte: u8) -> Option<bool> {
     Some(is_none(alloc, &text))
 }
 
+/// Where the body of its message is cut, the size that the message then has, and whether it is an image still: a size is a
+/// multiple of 4.
+static BODIES: [(usize, u8, bool); 5] = [
+    (171, 24, true),
+    (173, 26, false),
+    (175, 28, true),
+    (178, 31, false),
+    (179, 32, true),
+];
+
+/// The last text with its message's body cut, and this size.
+fn with_body(alloc: Global, end: usize, size: u8) -> Option<Vec<u8>> {
+    if end > 179 {
+        return None;
+    }
+    let mut text = Vec::from_slice(alloc, &EVERY_KIND[..end]).ok()?;
+    text.extend_from_slice(&EVERY_KIND[179..]).ok()?;
+    if let Some(at) = text.as_mut_slice().get_mut(152) {
+        *at = size;
+    }
+    Some(text)
+}
+
+/// Whether it is an image then, and whether it is none.
+fn seen_with_body(alloc: Global, end: usize, size: u8) -> Option<(bool, bool)> {
+    let text = with_body(alloc, end, size)?;
+    Some((is_kept(alloc, &text), is_none(alloc, &text)))
+}
+
 /// Whether it is none with one byte more.
 fn is_none_longer(alloc: Global) -> Option<bool> {
     let mut text = Vec::from_slice(alloc, &EVERY_KIND).ok()?;
@@ -119,4 +148,12 @@ fn other_texts_are_refused(rt: HostRuntime) {
         same_in_row(&rt, *place, is_none, Some(true));
     }
     same(&rt, is_none_longer(rt.alloc()), Some(true));
+}
+
+#[test]
+fn sizes_of_messages_are_multiples_of_4(rt: HostRuntime) {
+    for (end, size, is_image) in &BODIES {
+        let seen = seen_with_body(rt.alloc(), *end, *size);
+        same_in_row(&rt, *end, seen, Some((*is_image, !*is_image)));
+    }
 }

@@ -5,6 +5,7 @@ use Rattle.ipc_model.specs.declared.message.Message.{Message}
 use Rattle.ipc_model.specs.declared.message.RightKind.TheVariants as kind
 use Rattle.ipc_model.specs.declared.port.PortState.{PortState}
 use Rattle.ipc_model.specs.messages.Receiving.{message_size}
+use Rattle.ipc_model.specs.texts.Texts.{IsMessageSize}
 pub use Rattle.snapshot.specs.Rising.{RisesFrom, name_of, number_of, serial_of}
 use Rattle.snapshot.specs.declared.rows.LivePort.{LivePort}
 use Rattle.snapshot.specs.declared.rows.NamedEntry.{NamedEntry}
@@ -12,12 +13,13 @@ use Rattle.snapshot.specs.declared.rows.Snapshot.{Snapshot}
 use Rattle.snapshot.specs.declared.rows.Space.{Space}
 use Rattle.words.specs.Words.{AreBytes}
 
--- a queued message: sent by a send right or a send-once right, its body bytes, its numbers within their words
+-- a queued message: sent by a send right or a send-once right, of a size that messages may have, its body bytes, its other
+-- numbers within their words
 pub record FitsMessage (message : Message) : Type 0 where
   pub destination : message.destination ≢ kind.Receive
   pub reply : SpellableReplyRight message.reply
   pub id : message.id < 2 ^ 32
-  pub size : message_size message < 2 ^ 32
+  pub size : IsMessageSize (message_size message)
   pub few_rights : length message.rights < 2 ^ 32
   pub rights : All SpellableRight message.rights
   pub bytes : AreBytes message.body

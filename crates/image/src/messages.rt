@@ -6,13 +6,13 @@ ghost use Rattle.ipc_model.specs.declared.message.RightKind.{RightKind};
 ghost use Rattle.ipc_model.specs.declared.message.RightKind.TheVariants as kind_variants;
 ghost use Rattle.ipc_model.specs.rights.Dispositions.{number_of_kind};
 ghost use Rattle.ipc_model.specs.texts.Images.{carried_text, place_text, reply_right_text};
-ghost use Rattle.ipc_model.specs.texts.Texts.{number_of_bool};
+ghost use Rattle.ipc_model.specs.texts.Texts.{number_of_bool, IsMessageSize};
 ghost use Rattle.words.specs.Words.{AreBytes, word, long_word};
 
 use crate::entries::{byte_of, push_byte, take_byte, take_flag};
 use crate::spelled::{Spelled, push_length, push_rows, take_rows};
 use codes::HEADER_LENGTH;
-use ipc_model::{CarriedRight, Message, PortInMessage, RightKind, Sequence};
+use ipc_model::{CarriedRight, Message, PortInMessage, RightKind, Sequence, is_message_size};
 use std::alloc::{AllocError, Global};
 use words::{push_long_word, push_word, take_long_word, take_word};
 
@@ -156,13 +156,27 @@ struct Head {
     complex: bool,
 }
 
+/// The size of a message, and the bytes behind it.
+fn take_size(bytes: &[u8]) -> Option<(u32, &[u8])>
+    ensures found { IfSome result (λ r. bytes.now ≡ word r.0 ++ r.1.now) }
+    ensures fits { IfSome result (λ r. IsMessageSize r.0) }
+    ensures only { (size : ℕ) (rest : List ℕ) → IsMessageSize size → bytes.now ≡ word size ++ rest
+        → IsSomeAnd result (λ r. (r.0 ≡ size) × (r.1.now ≡ rest)) }
+{
+    let (size, rest) = take_word(bytes)?;
+    if !is_message_size(size as usize) {
+        return None;
+    }
+    Some((size, rest))
+}
+
 /// What stands of a message before its rights, and the bytes behind it.
 fn take_head(bytes: &[u8]) -> Option<(Head, &[u8])>
     ensures found { IfSome result (λ r. bytes.now ≡ number_of_kind r.0.destination ∷ (reply_right_text r.0.reply
         ++ (word r.0.id ++ (word r.0.size ++ (number_of_bool r.0.complex ∷ r.1.now))))) }
-    ensures fits { IfSome result (λ r. (r.0.destination ≢ kind_variants.Receive) × SpellableReplyRight r.0.reply × (r.0.id < 2 ^ 32) × (r.0.size < 2 ^ 32)) }
+    ensures fits { IfSome result (λ r. (r.0.destination ≢ kind_variants.Receive) × SpellableReplyRight r.0.reply × (r.0.id < 2 ^ 32) × IsMessageSize r.0.size) }
     ensures only { (destination : RightKind) (reply : Option CarriedRight) (id size : ℕ) (complex : Bool) (rest : List ℕ)
-        → destination ≢ kind_variants.Receive → SpellableReplyRight reply → id < 2 ^ 32 → size < 2 ^ 32
+        → destination ≢ kind_variants.Receive → SpellableReplyRight reply → id < 2 ^ 32 → IsMessageSize size
         → bytes.now ≡ number_of_kind destination ∷ (reply_right_text reply ++ (word id ++ (word size ++ (number_of_bool complex ∷ rest))))
         → IsSomeAnd result (λ r. (r.0.destination ≡ destination) × (r.0.reply ≡ reply) × (r.0.id ≡ id) × (r.0.size ≡ size) × (r.0.complex ≡ complex) × (r.1.now ≡ rest)) }
 {
@@ -172,7 +186,7 @@ fn take_head(bytes: &[u8]) -> Option<(Head, &[u8])>
     }
     let (reply, rest) = take_reply(rest)?;
     let (id, rest) = take_word(rest)?;
-    let (size, rest) = take_word(rest)?;
+    let (size, rest) = take_size(rest)?;
     let (complex, rest) = take_flag(rest)?;
     let head = Head {
         destination,

@@ -24,52 +24,52 @@ rise_more least end further place [] le below rise = (omega (arith, le, rise), o
 rise_more least end further place (first ∷ places) le below rise = (rise.0, rise_more (first + 1) end further place places le below rise.1)
 
 -- What holds of every legal session: it has seen a beginning of the history, was told within what it saw, and its places
--- rise among the new records that it saw.
-pub record IsInOrder (opened : ℕ) (history : List Record) (session : Session) : Type 0 where
+-- rise among the records that it saw.
+pub record IsInOrder (history : List Record) (session : Session) : Type 0 where
   pub seen : session.seen ≤ length history
   pub told : session.told ≤ session.seen
-  pub places : RiseWithin opened session.seen session.places
+  pub places : RiseWithin 0 session.seen session.places
 
-led_order : (base : State) (opened : ℕ) (history : List Record) (old : Session) (operation : Operation) (new : Session) → old.seen ≤ new.seen → new.seen ≤ length history → Leads base history old operation new
-    → IsInOrder opened history old → IsInOrder opened history new
-led_order base opened history old (called c answer) new more within (inl at) order = subst (IsInOrder opened history) (sym at.after) (record {
+led_order : (base : State) (history : List Record) (old : Session) (operation : Operation) (new : Session) → old.seen ≤ new.seen → new.seen ≤ length history → Leads base history old operation new
+    → IsInOrder history old → IsInOrder history new
+led_order base history old (called c answer) new more within (inl at) order = subst (IsInOrder history) (sym at.after) (record {
   seen = within;
   told = omega (arith, more, order.told);
-  places = rise_more opened old.seen new.seen at.place old.places at.unseen at.seen order.places;
+  places = rise_more 0 old.seen new.seen at.place old.places at.unseen at.seen order.places;
 })
-led_order base opened history old (called c answer) new more within (inr is) order =
-    subst (IsInOrder opened history) (sym is.after) (record { seen = within; told = omega (arith, more, order.told); places = rise_further opened old.seen new.seen old.places more order.places })
-led_order base opened history old (redeemed seen) new more within led order =
-    subst (IsInOrder opened history) (sym led.1) (record { seen = within; told = omega (arith, more, order.told, led.0); places = rise_further opened old.seen new.seen old.places more order.places })
-led_order base opened history old looked new more within led order =
-    subst (IsInOrder opened history) (sym led) (record { seen = within; told = omega (arith, more, order.told); places = rise_further opened old.seen new.seen old.places more order.places })
+led_order base history old (called c answer) new more within (inr is) order =
+    subst (IsInOrder history) (sym is.after) (record { seen = within; told = omega (arith, more, order.told); places = rise_further 0 old.seen new.seen old.places more order.places })
+led_order base history old (redeemed seen) new more within led order =
+    subst (IsInOrder history) (sym led.1) (record { seen = within; told = omega (arith, more, order.told, led.0); places = rise_further 0 old.seen new.seen old.places more order.places })
+led_order base history old looked new more within led order =
+    subst (IsInOrder history) (sym led) (record { seen = within; told = omega (arith, more, order.told); places = rise_further 0 old.seen new.seen old.places more order.places })
 
-lived_order : (base : State) (opened : ℕ) (history : List Record) (old : Session) (operations : List Operation) (new : Session) → AfterAll base history old operations new → IsInOrder opened history old → IsInOrder opened history new
-lived_order base opened history old [] new after order = subst (IsInOrder opened history) (sym after) order
-lived_order base opened history old (operation ∷ operations) new (mid, after, rest) order =
-    lived_order base opened history mid operations new rest (led_order base opened history old operation mid after.more after.within after.leads order)
+lived_order : (base : State) (history : List Record) (old : Session) (operations : List Operation) (new : Session) → AfterAll base history old operations new → IsInOrder history old → IsInOrder history new
+lived_order base history old [] new after order = subst (IsInOrder history) (sym after) order
+lived_order base history old (operation ∷ operations) new (mid, after, rest) order =
+    lived_order base history mid operations new rest (led_order base history old operation mid after.more after.within after.leads order)
 
-new_order : (opened : ℕ) (history : List Record) (session : Session) → IsNew opened history session → IsInOrder opened history session
-new_order opened history session new =
-    record { seen = new.within; told = omega (arith, new.told); places = subst (RiseWithin opened session.seen) (sym new.places) new.least }
+new_order : (history : List Record) (session : Session) → IsNew history session → IsInOrder history session
+new_order history session new =
+    record { seen = new.within; told = omega (arith, new.told); places = subst (RiseWithin 0 session.seen) (sym new.places) (omega arith) }
 
 -- A legal session has seen a beginning of the history, was told within what it saw, and its places rise.
 abbrev pub LegalIsInOrder : Type 0
-LegalIsInOrder = (base : State) (opened : ℕ) (history : List Record) (operations : List Operation) (session : Session) → Legal base opened history operations session → IsInOrder opened history session
+LegalIsInOrder = (base : State) (history : List Record) (operations : List Operation) (session : Session) → Legal base history operations session → IsInOrder history session
 
 pub legal_is_in_order : LegalIsInOrder
-legal_is_in_order base opened history operations session legal = lived_order base opened history legal.start operations session legal.after (new_order opened history legal.start legal.new)
+legal_is_in_order base history operations session legal = lived_order base history legal.start operations session legal.after (new_order history legal.start legal.new)
 
 -- A session reads its own writes: each answer without a record is from a state behind all records of its session, and behind
 -- all that its session was told of.
 abbrev pub ReadsOwnWrites : Type 0
-ReadsOwnWrites = (base : State) (opened : ℕ) (history : List Record) (operations : List Operation) (old : Session) (c : Call) (answer : Reply) (new : Session) → Legal base opened history operations old
-    → (answered : IsAnswered base history old c answer new) → RiseWithin opened answered.beginning old.places × (old.told ≤ answered.beginning)
+ReadsOwnWrites = (base : State) (history : List Record) (operations : List Operation) (old : Session) (c : Call) (answer : Reply) (new : Session) → Legal base history operations old
+    → (answered : IsAnswered base history old c answer new) → RiseWithin 0 answered.beginning old.places × (old.told ≤ answered.beginning)
 
 pub reads_own_writes : ReadsOwnWrites
-reads_own_writes base opened history operations old c answer new legal answered =
-    let order = legal_is_in_order base opened history operations old legal in
-    (rise_further opened old.seen answered.beginning old.places answered.unseen order.places, omega (arith, answered.unseen, order.told))
+reads_own_writes base history operations old c answer new legal answered =
+    let order = legal_is_in_order base history operations old legal in
+    (rise_further 0 old.seen answered.beginning old.places answered.unseen order.places, omega (arith, answered.unseen, order.told))
 
 -- the calls with records among a session's operations
 abbrev pub recorded_calls : List Operation → List (Call × Reply)
@@ -110,11 +110,11 @@ lived_calls base history old (looked ∷ operations) new (mid, after, rest) =
 
 -- At a legal session's places stand its calls with records, in their order, and nothing else.
 abbrev pub PlacesHoldCalls : Type 0
-PlacesHoldCalls = (base : State) (opened : ℕ) (history : List Record) (operations : List Operation) (session : Session) → Legal base opened history operations session
+PlacesHoldCalls = (base : State) (history : List Record) (operations : List Operation) (session : Session) → Legal base history operations session
     → map (call_at history) session.places ≡ map (λ (c : Call × Reply). Some c) (recorded_calls operations)
 
 pub places_hold_calls : PlacesHoldCalls
-places_hold_calls base opened history operations session legal =
+places_hold_calls base history operations session legal =
     lived_calls base history legal.start operations session legal.after ∙ ap (λ (places : List ℕ). map (call_at history) places ++ some_calls (recorded_calls operations)) legal.new.places
 
 -- what stands in a list stands there still once it is longer
@@ -146,12 +146,12 @@ lived_further base history more old (operation ∷ operations) new (mid, after, 
 
 -- A legal session stays legal when the history grows.
 abbrev pub LegalStaysLegal : Type 0
-LegalStaysLegal = (base : State) (opened : ℕ) (history more : List Record) (operations : List Operation) (session : Session) → Legal base opened history operations session → Legal base opened (history ++ more) operations session
+LegalStaysLegal = (base : State) (history more : List Record) (operations : List Operation) (session : Session) → Legal base history operations session → Legal base (history ++ more) operations session
 
 pub legal_stays_legal : LegalStaysLegal
-legal_stays_legal base opened history more operations session legal = record {
+legal_stays_legal base history more operations session legal = record {
   start = legal.start;
-  new = record { space = legal.new.space; least = legal.new.least; within = omega (arith, legal.new.within, length-append history more); told = legal.new.told; places = legal.new.places };
+  new = record { space = legal.new.space; within = omega (arith, legal.new.within, length-append history more); told = legal.new.told; places = legal.new.places };
   after = lived_further base history more legal.start operations session legal.after;
 }
 
@@ -161,22 +161,22 @@ pub after_more : (base : State) (history : List Record) (old : Session) (operati
 after_more base history old [] mid operation new all next = (new, subst (λ (s : Session). After base history s operation new) all next, refl)
 after_more base history old (first ∷ operations) mid operation new all next = (all.0, all.1, after_more base history all.0 operations mid operation new all.2 next)
 
-seen_more : (base : State) (opened : ℕ) (history : List Record) (operations : List Operation) (session after : Session) (seen : ℕ) → Legal base opened history operations session → after ≡ record session { seen = seen } → session.seen ≤ seen → seen ≤ length history
-    → Legal base opened history (operations ++ looked ∷ []) after
-seen_more base opened history operations session after seen legal is more within =
+seen_more : (base : State) (history : List Record) (operations : List Operation) (session after : Session) (seen : ℕ) → Legal base history operations session → after ≡ record session { seen = seen } → session.seen ≤ seen → seen ≤ length history
+    → Legal base history (operations ++ looked ∷ []) after
+seen_more base history operations session after seen legal is more within =
     let looks : After base history session looked (record session { seen = seen }) = record { leads = refl; more = more; within = within } in
     record { start = legal.start; new = legal.new; after = after_more base history legal.start operations session looked after legal.after (subst (After base history session looked) (sym is) looks) }
 
 -- Two legal sessions of one history are legal where they have met.
 abbrev pub MeetingIsLegal : Type 0
-MeetingIsLegal = (base : State) (opened : ℕ) (history : List Record) (first second : List Operation) (one other one_after other_after : Session)
-    → Legal base opened history first one → Legal base opened history second other → Meet one other one_after other_after
-    → Legal base opened history (first ++ looked ∷ []) one_after × Legal base opened history (second ++ looked ∷ []) other_after
+MeetingIsLegal = (base : State) (history : List Record) (first second : List Operation) (one other one_after other_after : Session)
+    → Legal base history first one → Legal base history second other → Meet one other one_after other_after
+    → Legal base history (first ++ looked ∷ []) one_after × Legal base history (second ++ looked ∷ []) other_after
 
 pub meeting_is_legal : MeetingIsLegal
-meeting_is_legal base opened history first second one other one_after other_after legal legal_too meet =
-    let one_seen : one.seen ≤ length history = (legal_is_in_order base opened history first one legal).seen in
-    let other_seen : other.seen ≤ length history = (legal_is_in_order base opened history second other legal_too).seen in (
-      seen_more base opened history first one one_after (max one.seen other.seen) legal meet.one_sees (omega arith) (omega (arith, one_seen, other_seen)),
-      seen_more base opened history second other other_after (max one.seen other.seen) legal_too meet.other_sees (omega arith) (omega (arith, one_seen, other_seen)),
+meeting_is_legal base history first second one other one_after other_after legal legal_too meet =
+    let one_seen : one.seen ≤ length history = (legal_is_in_order base history first one legal).seen in
+    let other_seen : other.seen ≤ length history = (legal_is_in_order base history second other legal_too).seen in (
+      seen_more base history first one one_after (max one.seen other.seen) legal meet.one_sees (omega arith) (omega (arith, one_seen, other_seen)),
+      seen_more base history second other other_after (max one.seen other.seen) legal_too meet.other_sees (omega arith) (omega (arith, one_seen, other_seen)),
     )

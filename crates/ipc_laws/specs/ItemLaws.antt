@@ -1,13 +1,13 @@
 -- Items that are read from a body tile it: they fit their descriptors, and their texts joined are the body. They are read
 -- back from these.
-use Rattle.std.specs.Prelude.{◌≡◌, ℕ, zero, suc, ◌+◌, ◌*◌, ◌/◌, ◌%◌, ◌^◌, ◌<◌, ◌≤◌, Bool, true, false, ◌==◌, ◌&&◌, ◌||◌, not, nat_lt, List, [], ◌∷◌, ◌++◌, length, take, drop, None, Some, Result, Ok, Err, if◌then◌else◌, refl}
-use Rattle.std.proofs.Common.{sym, ◌∙◌, ap, subst, arith, append_assoc, length-append, length-take, length-drop, take_at, drop_at, take-add, drop-drop, take-append-drop}
+use Rattle.std.specs.Prelude.{◌≡◌, ◌↔◌, ◌⊎◌, ℕ, zero, suc, ◌+◌, ◌*◌, ◌/◌, ◌%◌, ◌^◌, ◌<◌, ◌≤◌, Bool, true, false, ◌==◌, ◌&&◌, ◌||◌, not, nat_lt, List, [], ◌∷◌, ◌++◌, length, take, drop, None, Some, Result, Ok, Err, if◌then◌else◌, refl}
+use Rattle.std.proofs.Common.{inl, inr, sym, ◌∙◌, ap, subst, arith, append_assoc, length-append, length-take, length-drop, take_at, drop_at, take-add, drop-drop, take-append-drop}
 use Rattle.std.proofs.lemmas.Bool.{ltb-false, ltb-true as ltb-is, eqb-true, eqb-false, eq-eqb}
 use Rattle.words.specs.Numbers.{little_number, little_bytes, little_from-lt, little_number-reads_back}
 use Rattle.codes.specs.declared.kern_return.KernReturn.{KernReturn}
 use Rattle.codes.specs.declared.kern_return.KernReturn.TheVariants.{SendMsgTooSmall, SendInvalidMemory, SendInvalidType}
 use Rattle.ipc_laws.specs.CallsKeep.{first_passes}
-use Rattle.ipc_model.specs.messages.Items.{Item, items_of, items_within, item_of, item_text, items_text, after_item, is_long_form, is_inline, has_other_bit, type_name_in, bits_in, number_in, descriptor_length, descriptor_text, data_length, padded, is_port_type, is_port_item}
+use Rattle.ipc_model.specs.messages.Items.{Item, items_of, items_within, item_of, item_text, items_text, after_item, is_long_form, is_inline, has_other_bit, type_name_in, bits_in, number_in, descriptor_length, descriptor_text, data_length, padded, is_port_type, IsItem, AreItems, Tile, name_bound, number_bound}
 use Rattle.ipc_model.specs.calls.Tests.{Tests, first_failing, and_then, unless_failing}
 use Rattle.words.specs.WordLaws.{little_number-word, length-word, word-little_number}
 use Rattle.words.specs.Words.{AreBytes, word}
@@ -24,28 +24,6 @@ pub back_bytes : (n : ℕ) (bytes : List ℕ) → AreBytes bytes → AreBytes (d
 back_bytes zero bytes fits = fits
 back_bytes (suc n) [] fits = fits
 back_bytes (suc n) (a ∷ bytes) fits = back_bytes n bytes (λ k. fits (suc k))
-
--- the greatest numbers in a descriptor's fields
-abbrev pub name_bound : Bool → ℕ
-name_bound false = 2 ^ 8
-name_bound true = 2 ^ 16
-
-abbrev number_bound : Bool → ℕ
-number_bound false = 2 ^ 12
-number_bound true = 2 ^ 32
-
--- An item fits its descriptor: its fields have room there, a port has 32 bits, and its data is as long as they say.
-pub record ItemFits (item : Item) : Type 0 where
-  pub type_name : item.type_name < name_bound item.is_long
-  pub bits : item.bits < name_bound item.is_long
-  pub number : item.number < number_bound item.is_long
-  pub ports : is_port_item item ≡ true → item.bits ≡ 32
-  pub long : length item.content ≡ padded (item.number * item.bits)
-  pub bytes : AreBytes item.content
-
-abbrev pub AllFit : List Item → Type 0
-AllFit [] = Unit {0}
-AllFit (item ∷ items) = ItemFits item × AllFit items
 
 -- tests that pass
 
@@ -120,7 +98,7 @@ append_back front content rest n is = ap (drop n) (sym (append_assoc front conte
 abbrev short_word : ℕ → ℕ → ℕ → ℕ
 short_word type_name bits number = type_name + bits * 2 ^ 8 + number * 2 ^ 16 + 2 ^ 28
 
-finds_short : (type_name bits number : ℕ) (content rest : List ℕ) → ItemFits (record { type_name = type_name; bits = bits; number = number; is_long = false; content = content })
+finds_short : (type_name bits number : ℕ) (content rest : List ℕ) → IsItem (record { type_name = type_name; bits = bits; number = number; is_long = false; content = content })
     → Finds (short_word type_name bits number) (word (short_word type_name bits number) ++ (content ++ rest)) (record { type_name = type_name; bits = bits; number = number; is_long = false; content = content }) rest
 finds_short type_name bits number content rest fits =
     let w : ℕ = short_word type_name bits number in
@@ -159,7 +137,7 @@ long_text type_name bits number behind = word (2 ^ 28 + 2 ^ 29) ++ (little_bytes
 long_length : (type_name bits number : ℕ) (behind : List ℕ) → length (long_text type_name bits number behind) ≡ 12 + length behind
 long_length type_name bits number behind = omega arith
 
-finds_long : (type_name bits number : ℕ) (content rest : List ℕ) → ItemFits (record { type_name = type_name; bits = bits; number = number; is_long = true; content = content })
+finds_long : (type_name bits number : ℕ) (content rest : List ℕ) → IsItem (record { type_name = type_name; bits = bits; number = number; is_long = true; content = content })
     → Finds (2 ^ 28 + 2 ^ 29) (long_text type_name bits number (content ++ rest)) (record { type_name = type_name; bits = bits; number = number; is_long = true; content = content }) rest
 finds_long type_name bits number content rest fits =
     let text : List ℕ = long_text type_name bits number (content ++ rest) in
@@ -188,9 +166,9 @@ finds_long type_name bits number content rest fits =
     }
 
 -- An item that fits is read back, whatever follows it.
-item_back : (n : ℕ) (item : Item) (rest : List ℕ) → ItemFits item → items_within (suc n) (item_text item ++ rest) ≡ and_then (items_within n rest) (λ items. Ok (item ∷ items))
+item_back : (n : ℕ) (item : Item) (rest : List ℕ) → IsItem item → items_within (suc n) (item_text item ++ rest) ≡ and_then (items_within n rest) (λ items. Ok (item ∷ items))
 item_back n item rest fits =
-    elim item.is_long as (λ (b : Bool). ItemFits (record { type_name = item.type_name; bits = item.bits; number = item.number; is_long = b; content = item.content })
+    elim item.is_long as (λ (b : Bool). IsItem (record { type_name = item.type_name; bits = item.bits; number = item.number; is_long = b; content = item.content })
     → items_within (suc n) ((descriptor_text item b ++ item.content) ++ rest) ≡ and_then (items_within n rest) (λ items. Ok ((record { type_name = item.type_name; bits = item.bits; number = item.number; is_long = b; content = item.content }) ∷ items))) [
       | true ↦ λ (f : _). step_on n (2 ^ 28 + 2 ^ 29) _ _ rest _ (finds_long item.type_name item.bits item.number item.content rest f)
       | false ↦ λ (f : _). step_on n (short_word item.type_name item.bits item.number) _ _ rest _ (finds_short item.type_name item.bits item.number item.content rest f)
@@ -203,7 +181,7 @@ at_least_four : (b : Bool) → 4 ≤ descriptor_length b
 at_least_four true = omega arith
 at_least_four false = omega arith
 
-pub all_back : (n : ℕ) (items : List Item) → AllFit items → length (items_text items) ≤ n → items_within n (items_text items) ≡ Ok items
+pub all_back : (n : ℕ) (items : List Item) → AreItems items → length (items_text items) ≤ n → items_within n (items_text items) ≡ Ok items
 all_back zero [] fits few = refl
 all_back (suc n) [] fits few = refl
 all_back zero (item ∷ items) fits few = absurd (omega (arith, few, length-append (item_text item) (items_text items), item_length item, at_least_four item.is_long))
@@ -212,7 +190,7 @@ all_back (suc n) (item ∷ items) fits few =
     ∙ ap (λ (r : Result (List Item) KernReturn). and_then r (λ items. Ok (item ∷ items)))
     (all_back n items fits.1 (omega (arith, few, length-append (item_text item) (items_text items), item_length item, at_least_four item.is_long)))
 
-pub items_back : (items : List Item) → AllFit items → items_of (items_text items) ≡ Ok items
+pub items_back : (items : List Item) → AreItems items → items_of (items_text items) ≡ Ok items
 unfolding items_of
 items_back items fits = all_back (length (items_text items)) items fits (omega arith)
 
@@ -329,7 +307,7 @@ read_long : (w : ℕ) (bytes : List ℕ) (long : Bool) → Passed w bytes long �
 read_long w bytes long tests =
     length-take (data_length bytes long) (drop (descriptor_length long) bytes) ∙ omega (arith, length-drop (descriptor_length long) bytes, tests.enough)
 
-read_fits : (w : ℕ) (bytes : List ℕ) (long : Bool) → AreBytes bytes → Passed w bytes long → ItemFits (item_of bytes long)
+read_fits : (w : ℕ) (bytes : List ℕ) (long : Bool) → AreBytes bytes → Passed w bytes long → IsItem (item_of bytes long)
 read_fits w bytes long fits tests = record {
   type_name = name_fits bytes long fits;
   bits = bits_fit bytes long fits;
@@ -341,7 +319,7 @@ read_fits w bytes long fits tests = record {
 
 -- items that are read fit, and tile the body
 pub record ItemsRead (body : List ℕ) (items : List Item) : Type 0 where
-  pub fit : AllFit items
+  pub fit : AreItems items
   pub tile : items_text items ≡ body
   pub long : length (items_text items) ≡ length body
 
@@ -393,3 +371,33 @@ ItemsTileBodies = (body : List ℕ) (items : List Item) → AreBytes body → it
 
 pub items_tile_bodies : ItemsTileBodies
 items_tile_bodies body items fits is = (items_read body items fits is).tile
+
+code_or_items : (body : List ℕ) → ((items : List Item) × (items_of body ≡ Ok items)) ⊎ ((code : KernReturn) × (items_of body ≡ Err code))
+code_or_items body =
+    elim (items_of body) as (λ (r : Result (List Item) KernReturn). items_of body ≡ r → ((items : List Item) × (items_of body ≡ Ok items)) ⊎ ((code : KernReturn) × (items_of body ≡ Err code))) [
+      | Ok items ↦ λ is. inl (items, is)
+      | Err code ↦ λ is. inr (code, is)
+    ] refl
+
+-- The converse: items that tile a body are those that are found in it. So a body of bytes is answered by a code exactly where
+-- no items tile it.
+pub record IsItemized (body : List ℕ) : Type 0 where
+  pub found : (items : List Item) → Tile items body ↔ (items_of body ≡ Ok items)
+  pub refused : ((items : List Item) → Tile items body → ⊥) ↔ ((code : KernReturn) × (items_of body ≡ Err code))
+
+abbrev pub TiledBodiesHaveItems : Type 0
+TiledBodiesHaveItems = (body : List ℕ) → AreBytes body → IsItemized body
+
+tiled : (body : List ℕ) (items : List Item) → Tile items body → items_of body ≡ Ok items
+tiled body items tile = subst (λ (l : List ℕ). items_of l ≡ Ok items) tile.1 (items_back items tile.0)
+
+pub tiled_bodies_have_items : TiledBodiesHaveItems
+tiled_bodies_have_items body fits =
+    let found : (items : List Item) → items_of body ≡ Ok items → Tile items body = λ items is. (let read = items_read body items fits is in (read.fit, read.tile)) in
+    record {
+      found = λ items. (tiled body items, found items);
+      refused = (
+        λ none. elim (code_or_items body) as (λ _. (code : KernReturn) × (items_of body ≡ Err code)) [ inl ok ↦ absurd (none ok.0 (found ok.0 ok.1)) | inr err ↦ err ],
+        λ err items tile. absurd (cc (tiled body items tile, err.1)),
+      );
+    }

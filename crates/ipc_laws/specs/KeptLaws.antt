@@ -17,11 +17,11 @@ use Rattle.ipc_model.specs.declared.call.Reply.TheVariants as reply
 use Rattle.ipc_model.specs.declared.record.Record.{Record}
 use Rattle.ipc_model.specs.effects.Effects.{Effect}
 use Rattle.ipc_model.specs.messages.Kept.{kept_message, masked, used_bits}
-use Rattle.ipc_model.specs.messages.Messages.{Parts, parts_of, bits_of, is_complex, remote_disposition, local_disposition, remote_of, local_of, id_of, body_of}
+use Rattle.ipc_model.specs.messages.Messages.{UsedParts, used_parts, bits_of, is_complex, remote_disposition, local_disposition, remote_of, local_of, id_of, body_of}
 use Rattle.ipc_model.specs.messages.Receiving.{without_message}
 use Rattle.ipc_model.specs.messages.Sending.{Ready, ready_by_parts, ready_to_send, sent}
 use Rattle.ipc_model.specs.state.State.{State, Names}
-use Rattle.ipc_model.specs.texts.Texts.{call_text, reply_text, kept_call, kept_record, FitsCall, IsWholeCall, IsKeptCall, IsRecord, IsRecordedReply}
+use Rattle.ipc_model.specs.texts.Texts.{call_text, reply_text, kept_call, kept_record, FitsCall, IsMessageSize, IsWholeCall, IsKeptCall, IsRecord, IsRecordedReply}
 use Rattle.words.specs.Words.{AreBytes}
 
 pub length-masked : (masks bytes : List ℕ) → length (masked masks bytes) ≡ length bytes
@@ -109,7 +109,7 @@ bits_kept message are =
     }
 
 -- A send reads the same parts of a message and of what is kept of it.
-pub kept_parts : (message : List ℕ) → AreBytes message → parts_of (kept_message message) ≡ parts_of message
+pub kept_parts : (message : List ℕ) → AreBytes message → used_parts (kept_message message) ≡ used_parts message
 unfolding kept_message
 kept_parts message are =
     let kept = masked used_bits message in
@@ -134,15 +134,15 @@ kept_parts message are =
     }
 
 -- messages of the same parts are sent alike
-acts_alike : (a b : List ℕ) (old : State) (space : ℕ) (o : Option Names) (answer : Reply) (acted : State) (effects : List Effect) → parts_of a ≡ parts_of b → ActsFrom old space o (call.Send a) answer acted effects → ActsFrom old space o (call.Send b) answer acted effects
+acts_alike : (a b : List ℕ) (old : State) (space : ℕ) (o : Option Names) (answer : Reply) (acted : State) (effects : List Effect) → used_parts a ≡ used_parts b → ActsFrom old space o (call.Send a) answer acted effects → ActsFrom old space o (call.Send b) answer acted effects
 unfolding ready_to_send
 acts_alike a b old space None answer acted effects same acts = acts
 acts_alike a b old space (Some names) answer acted effects same acts =
-    subst (λ (parts : Parts). MatchResult (ready_by_parts old space parts)
+    subst (λ (parts : UsedParts). MatchResult (ready_by_parts old space parts)
     (λ (ready : Ready). (answer ≡ without_message Success 0 MACH_PORT_NULL) × (acted ≡ (sent ready).0) × (effects ≡ (sent ready).1))
     (λ code. IsRefusedWith (without_message code 0 MACH_PORT_NULL) old answer acted effects)) same acts
 
-sent_alike : (a b : List ℕ) (old : State) (space : ℕ) (answer : Reply) (new : State) → parts_of a ≡ parts_of b → Step old space (call.Send a) answer new → Step old space (call.Send b) answer new
+sent_alike : (a b : List ℕ) (old : State) (space : ℕ) (answer : Reply) (new : State) → used_parts a ≡ used_parts b → Step old space (call.Send a) answer new → Step old space (call.Send b) answer new
 unfolding Step
 sent_alike a b old space answer new same (acted, effects, acts, settles) = (acted, effects, acts_alike a b old space (finmap.get old.spaces space) answer acted effects same acts, settles)
 
@@ -176,7 +176,7 @@ pub kept_is_kept : (c : Call) → FitsCall c → IsWholeCall c → IsKeptCall (k
 kept_is_kept c fits whole = record { fits = kept_fits c fits; whole = whole_kept c whole; kept = kept_call_again c }
   where
     whole_kept : (d : Call) → IsWholeCall d → IsWholeCall (kept_call d)
-    whole_kept (call.Send message) whole = let same = kept_long message in omega (arith, whole, same)
+    whole_kept (call.Send message) whole = subst IsMessageSize (sym (kept_long message)) whole
     whole_kept d whole = whole
 
 -- a reply is one to what is kept of its call

@@ -1,4 +1,4 @@
--- Where all sessions are there, each new record of a legal history is one of theirs.
+-- Where all sessions are there, each record of a legal history is one of theirs.
 use Rattle.std.specs.Prelude.{◌≡◌, ◌≢◌, ℕ, zero, suc, ◌+◌, ◌<◌, ◌≤◌, Bool, true, false, ◌||◌, List, [], ◌∷◌, ◌++◌, length, map, Contains, AllPairs, eqb, slice_index_or, refl}
 use Rattle.std.specs.List.{IsDistinct, list_any}
 use Rattle.std.specs.Cmp.{nat_eq_equiv}
@@ -36,12 +36,12 @@ rise_in least end (place ∷ places) rise =
     let rest : place + 1 ≤ end = rise_le (place + 1) end places rise.1 in
     (rise.0, omega (arith, rest), in_wider (place + 1) least end end places (omega (arith, rise.0)) (omega arith) (rise_in (place + 1) end places rise.1))
 
-places_in : (base : State) (opened : ℕ) (history : List Record) (sessions : Sessions) → AllLegal base opened history sessions → AllIn opened (length history) (places_of (map (λ session. session.1) sessions))
-places_in base opened history [] legal = tt
-places_in base opened history (first ∷ sessions) legal =
-    let order = legal_is_in_order base opened history first.0 first.1 legal.0 in
-    in_both opened (length history) first.1.places (places_of (map (λ session. session.1) sessions)) (in_wider opened opened first.1.seen (length history) first.1.places (omega arith) order.seen (rise_in opened first.1.seen first.1.places order.places))
-    (places_in base opened history sessions legal.1)
+places_in : (base : State) (history : List Record) (sessions : Sessions) → AllLegal base history sessions → AllIn 0 (length history) (places_of (map (λ session. session.1) sessions))
+places_in base history [] legal = tt
+places_in base history (first ∷ sessions) legal =
+    let order = legal_is_in_order base history first.0 first.1 legal.0 in
+    in_both 0 (length history) first.1.places (places_of (map (λ session. session.1) sessions)) (in_wider 0 0 first.1.seen (length history) first.1.places (omega arith) order.seen (rise_in 0 first.1.seen first.1.places order.places))
+    (places_in base history sessions legal.1)
 
 -- what is among numbers of a range is in it
 member_in : (low high q : ℕ) (places : List ℕ) → AllIn low high places → list_any (eqb q) places ≡ true → (low ≤ q) × (q < high)
@@ -79,23 +79,23 @@ differ_more place places absent apart (suc i) (suc j) d before within =
     ne_eqb (slice_index_or places i d) (slice_index_or places j d) (apart i j d (omega (arith, before)) (omega (arith, within)))
 
 -- As many different numbers of a range as it has are all that it has.
-owned : (opened most place : ℕ) (places : List ℕ) → AllIn opened most places → AllPairs (λ one other. one ≢ other) places → opened + length places ≡ most → opened ≤ place → place < most → list_any (eqb place) places ≡ true
-owned opened most place places all apart many least below = elim (list_any (eqb place) places) as (λ (b : Bool). list_any (eqb place) places ≡ b → b ≡ true) [
+owned : (low most place : ℕ) (places : List ℕ) → AllIn low most places → AllPairs (λ one other. one ≢ other) places → low + length places ≡ most → low ≤ place → place < most → list_any (eqb place) places ≡ true
+owned low most place places all apart many least below = elim (list_any (eqb place) places) as (λ (b : Bool). list_any (eqb place) places ≡ b → b ≡ true) [
   | true ↦ λ (_ : _). refl
   | false ↦ λ (absent : _).
       (let distinct : IsDistinct eqb (place ∷ places) = IsDistinct-from_apart eqb (place ∷ places) (differ_more place places absent apart) in
-      let few : length (place ∷ places) ≤ length (range opened (length places)) =
-      length-le_from_is_member nat_eq_equiv (place ∷ places) (range opened (length places)) distinct (λ q is.
-      (let bounds = member_in opened most q (place ∷ places) (least, below, all) is in in_range opened (length places) q bounds.0 (omega (arith, bounds.1, many)))) in
-      absurd (omega (arith, few, length-range opened (length places))))
+      let few : length (place ∷ places) ≤ length (range low (length places)) =
+      length-le_from_is_member nat_eq_equiv (place ∷ places) (range low (length places)) distinct (λ q is.
+      (let bounds = member_in low most q (place ∷ places) (least, below, all) is in in_range low (length places) q bounds.0 (omega (arith, bounds.1, many)))) in
+      absurd (omega (arith, few, length-range low (length places))))
 ] refl
 
--- Where the sessions are all that there were, each new record of a legal history stands at a place of one of them.
-abbrev pub NewRecordsAreOwned : Type 0
-NewRecordsAreOwned = (base : State) (opened : ℕ) (history : List Record) (sessions : Sessions) → IsLegalHistory base opened history sessions → AreAll opened history (map (λ session. session.1) sessions)
-    → (place : ℕ) → opened ≤ place → place < length history → Contains (places_of (map (λ session. session.1) sessions)) place
+-- Where the sessions are all that there were, each record of a legal history stands at a place of one of them.
+abbrev pub RecordsAreOwned : Type 0
+RecordsAreOwned = (base : State) (history : List Record) (sessions : Sessions) → IsLegalHistory base history sessions → AreAll history (map (λ session. session.1) sessions)
+    → (place : ℕ) → place < length history → Contains (places_of (map (λ session. session.1) sessions)) place
 
-pub new_records_are_owned : NewRecordsAreOwned
-new_records_are_owned base opened history sessions legal all place least below =
+pub records_are_owned : RecordsAreOwned
+records_are_owned base history sessions legal all place below =
     let places : List ℕ = places_of (map (λ session. session.1) sessions) in
-    Contains-from_any eqb-true place places (owned opened (length history) place places (places_in base opened history sessions legal.legal) legal.apart all least below)
+    Contains-from_any eqb-true place places (owned 0 (length history) place places (places_in base history sessions legal.legal) legal.apart (omega (arith, all)) (omega arith) below)

@@ -5,8 +5,8 @@ use Rattle.std.proofs.lemmas.Bool.{leb-true, eqb-true, eqb-false}
 use Rattle.std.proofs.lemmas.List.{length-replicate}
 use Rattle.std.proofs.lemmas.List.Elements.{All-replicate, All-cons, All-nil}
 use Rattle.ipc_model.specs.rights.Dispositions.{Disposition, MoveReceive, MoveSend, MoveSendOnce, CopySend, MakeSend, MakeSendOnce, disposition_of, received_kind}
-use Rattle.ipc_model.specs.messages.Items.{Item, item_text, items_text, as_stored, is_port_type, is_port_item, received_type, padded}
-use Rattle.ipc_laws.specs.ItemLaws.{ItemFits, AllFit, name_bound, item_length}
+use Rattle.ipc_model.specs.messages.Items.{Item, item_text, items_text, as_stored, is_port_type, is_port_item, received_type, padded, IsItem, AreItems, name_bound}
+use Rattle.ipc_laws.specs.ItemLaws.{item_length}
 use Rattle.ipc_model.specs.state.Lawful.{IsStoredItem, kinds_of_item, kind_of_number}
 use Rattle.ipc_laws.specs.ListLaws.{some_same}
 use Rattle.words.specs.Words.{AreBytes}
@@ -74,7 +74,7 @@ bound_of_names : (b : Bool) (n : ℕ) → n ≤ 18 → n < name_bound b
 bound_of_names true n le = omega arith
 bound_of_names false n le = omega arith
 
-port_fits : (item : Item) → is_port_item item ≡ true → ItemFits item → ItemFits (stored_port item)
+port_fits : (item : Item) → is_port_item item ≡ true → IsItem item → IsItem (stored_port item)
 port_fits item port fits = record {
   type_name = bound_of_names item.is_long (received_type item.type_name) ((received_of item.type_name).small port);
   bits = fits.bits;
@@ -86,49 +86,49 @@ port_fits item port fits = record {
 
 -- what is shown of an item that is stored
 pub record IsKept (item : Item) : Type 0 where
-  pub fits : ItemFits (as_stored item)
+  pub fits : IsItem (as_stored item)
   pub long : length (item_text (as_stored item)) ≡ length (item_text item)
   pub stored : IsStoredItem (as_stored item)
   pub port : is_port_item (as_stored item) ≡ is_port_item item
 
-port_kept : (item : Item) → is_port_item item ≡ true → ItemFits item → IsKept item
+port_kept : (item : Item) → is_port_item item ≡ true → IsItem item → IsKept item
 port_kept item port fits =
     let as_port : as_stored item ≡ stored_port item = ap (λ (b : Bool). if b then stored_port item else item) port in
     let still : is_port_item (stored_port item) ≡ true = (received_of item.type_name).port port in
     record {
-      fits = subst ItemFits (sym as_port) (port_fits item port fits);
+      fits = subst IsItem (sym as_port) (port_fits item port fits);
       long = ap (λ (i : Item). length (item_text i)) as_port ∙ omega (arith, item_length item, item_length (stored_port item), fits.long, (port_fits item port fits).long);
       stored = subst IsStoredItem (sym as_port) (subst (λ (b : Bool). MatchBool b ((received_type item.type_name ≤ 18) × All (λ (byte : ℕ). byte ≡ 0) (replicate (4 * item.number) 0)) (Unit {0})) (sym still)
           ((received_of item.type_name).small port, All-replicate (λ (byte : ℕ). byte ≡ 0) (4 * item.number) 0 refl));
       port = ap is_port_item as_port ∙ still ∙ sym port;
     }
 
-data_kept : (item : Item) → is_port_item item ≡ false → ItemFits item → IsKept item
+data_kept : (item : Item) → is_port_item item ≡ false → IsItem item → IsKept item
 data_kept item data_item fits =
     let as_data : as_stored item ≡ item = ap (λ (b : Bool). if b then stored_port item else item) data_item in
     record {
-      fits = subst ItemFits (sym as_data) fits;
+      fits = subst IsItem (sym as_data) fits;
       long = ap (λ (i : Item). length (item_text i)) as_data;
       stored = subst IsStoredItem (sym as_data) (subst (λ (b : Bool). MatchBool b ((item.type_name ≤ 18) × All (λ (byte : ℕ). byte ≡ 0) item.content) (Unit {0})) (sym data_item) tt);
       port = ap is_port_item as_data;
     }
 
-pub is_kept : (item : Item) → ItemFits item → IsKept item
+pub is_kept : (item : Item) → IsItem item → IsKept item
 is_kept item fits = elim (is_port_item item) as (λ (b : Bool). is_port_item item ≡ b → IsKept item) [
   | true ↦ λ (port : _). port_kept item port fits
   | false ↦ λ (data_item : _). data_kept item data_item fits
 ] refl
 
-pub stored_fit : (items : List Item) → AllFit items → AllFit (map as_stored items)
+pub stored_fit : (items : List Item) → AreItems items → AreItems (map as_stored items)
 stored_fit [] fits = tt
 stored_fit (item ∷ items) fits = ((is_kept item fits.0).fits, stored_fit items fits.1)
 
-pub stored_long : (items : List Item) → AllFit items → length (items_text (map as_stored items)) ≡ length (items_text items)
+pub stored_long : (items : List Item) → AreItems items → length (items_text (map as_stored items)) ≡ length (items_text items)
 stored_long [] fits = refl
 stored_long (item ∷ items) fits =
     length-append (item_text (as_stored item)) (items_text (map as_stored items)) ∙ omega (arith, length-append (item_text item) (items_text items), (is_kept item fits.0).long, stored_long items fits.1)
 
-pub all_stored : (items : List Item) → AllFit items → All IsStoredItem (map as_stored items)
+pub all_stored : (items : List Item) → AreItems items → All IsStoredItem (map as_stored items)
 all_stored [] fits = All-nil IsStoredItem
 all_stored (item ∷ items) fits = All-cons IsStoredItem (as_stored item) (map as_stored items) (is_kept item fits.0).stored (all_stored items fits.1)
 

@@ -16,10 +16,10 @@ use Rattle.ipc_laws.specs.CallsKeep.{first_passes}
 use Rattle.ipc_model.specs.rights.Dispositions.{Disposition, disposition_of, received_kind}
 use Rattle.ipc_laws.specs.EffectParts.{word_more, byte_more}
 use Rattle.ipc_laws.specs.Hands.{Hand, MidCall, empty_hand, mid_hand}
-use Rattle.ipc_model.specs.messages.Items.{Item, items_of, items_text, item_text, descriptor_text, names_of_item, words_of, is_port_item, as_stored}
-use Rattle.ipc_laws.specs.ItemLaws.{ItemFits, AllFit, items_read, items_back, back_bytes}
+use Rattle.ipc_model.specs.messages.Items.{Item, items_of, items_text, item_text, descriptor_text, names_of_item, words_of, is_port_item, as_stored, IsItem, AreItems}
+use Rattle.ipc_laws.specs.ItemLaws.{items_read, items_back, back_bytes}
 use Rattle.ipc_model.specs.state.Lawful.{LawfulMessage, HoldsPorts, kinds_of_item}
-use Rattle.ipc_model.specs.messages.Messages.{parts_of, bits_of, remote_of, local_of, body_of, remote_disposition, local_disposition, is_complex, header_length}
+use Rattle.ipc_model.specs.messages.Messages.{used_parts, bits_of, remote_of, local_of, body_of, remote_disposition, local_disposition, is_complex, header_length}
 use Rattle.ipc_laws.specs.PortItems.{is_kept, stored_fit, stored_long, all_stored, kinds_of_type, stored_kinds, no_kinds}
 use Rattle.ipc_model.specs.messages.Sending as sending
 use Rattle.ipc_model.specs.messages.Sending.{TakenRights, TakenHeader, Ready, ready_to_send, ready_message, take_items, take_header}
@@ -40,7 +40,7 @@ both_bytes (x ∷ xs) ys first second = byte_more x (xs ++ ys) (first 0) (both_b
 two_more : (n : ℕ) (bytes : List ℕ) → AreBytes bytes → AreBytes (little_bytes 2 n ++ bytes)
 two_more n bytes rest = byte_more (n % 256) (n / 256 % 256 ∷ bytes) (omega arith) (byte_more (n / 256 % 256) bytes (omega arith) rest)
 
-item_bytes : (item : Item) → ItemFits item → AreBytes (item_text item)
+item_bytes : (item : Item) → IsItem item → AreBytes (item_text item)
 item_bytes item fits = elim item.is_long as (λ (b : Bool). AreBytes (descriptor_text item b ++ item.content)) [
   | true ↦ word_more (2 ^ 28 + 2 ^ 29) (little_bytes 2 item.type_name ++ (little_bytes 2 item.bits ++ (word item.number ++ item.content)))
       (two_more item.type_name (little_bytes 2 item.bits ++ (word item.number ++ item.content)) (two_more item.bits (word item.number ++ item.content) (word_more item.number item.content fits.bytes)))
@@ -50,13 +50,13 @@ item_bytes item fits = elim item.is_long as (λ (b : Bool). AreBytes (descriptor
 no_bytes : AreBytes []
 no_bytes i = omega arith
 
-items_bytes : (items : List Item) → AllFit items → AreBytes (items_text items)
+items_bytes : (items : List Item) → AreItems items → AreBytes (items_text items)
 items_bytes [] fits = no_bytes
 items_bytes (item ∷ items) fits = both_bytes (item_text item) (items_text items) (item_bytes item fits.0) (items_bytes items fits.1)
 
 -- what is known of the items of a body: they were read from it, or it isn't looked at
 pub record BodyItems (bytes : List ℕ) (items : List Item) : Type 0 where
-  pub fit : AllFit items
+  pub fit : AreItems items
   pub complex : is_complex (bits_of bytes) ≡ true → length (items_text items) ≡ length (body_of bytes)
   pub plain : is_complex (bits_of bytes) ≡ false → items ≡ []
 
@@ -98,7 +98,7 @@ record HasPort (items : List Item) : Type 0 where
 later_port : (item : Item) (items : List Item) → HasPort items → HasPort (item ∷ items)
 later_port item items has = record { item = has.item; among = (suc has.among.0, omega (arith, has.among.1), has.among.2); port = has.port }
 
-stored_has_port : (items : List Item) → AllFit items → list_any is_port_item items ≡ true → HasPort (map as_stored items)
+stored_has_port : (items : List Item) → AreItems items → list_any is_port_item items ≡ true → HasPort (map as_stored items)
 stored_has_port [] fits any = absurd (cc any)
 stored_has_port (item ∷ items) fits any = elim (is_port_item item) as (λ (b : Bool). is_port_item item ≡ b → (b || list_any is_port_item items) ≡ true → HasPort (map as_stored (item ∷ items))) [
   | true ↦ λ (port : _) (_ : _). record { item = as_stored item; among = (0, omega arith, refl); port = (is_kept item fits.0).port ∙ port }
@@ -193,7 +193,7 @@ ports_of_body bytes items rights body told few =
     ] refl
 
 ready_lawful : (bytes : List ℕ) (items : List Item) (header : TakenHeader) (taken : TakenRights) (space : ℕ) (hand : Hand) → AreBytes bytes → SizeFits bytes → BodyItems bytes items → sending.ports_in items ≤ MAX_MESSAGE_PORTS → MidHeader space header
-    → MidRights space hand ([] ++ flat_map kinds_of_item (map as_stored items)) taken → LawfulMessage (ready_message (parts_of bytes) items header taken).message
+    → MidRights space hand ([] ++ flat_map kinds_of_item (map as_stored items)) taken → LawfulMessage (ready_message (used_parts bytes) items header taken).message
 ready_lawful bytes items header taken space hand fits size body few head rights =
     let long : length (kept_body bytes items) ≡ length (body_of bytes) = body_long bytes items body in
     let left : length (body_of bytes) ≡ length bytes - header_length = length-drop header_length bytes in
@@ -212,9 +212,9 @@ abbrev header_hand : TakenHeader → Hand
 header_hand header w = w header.kind header.port + reply_weigh w header.reply
 
 ready_of_taken : (bytes : List ℕ) (items : List Item) (header : TakenHeader) (taken : TakenRights) (space : ℕ) → AreBytes bytes → SizeFits bytes → BodyItems bytes items → sending.ports_in items ≤ MAX_MESSAGE_PORTS → MidHeader space header
-    → MidRights space (header_hand header) ([] ++ flat_map kinds_of_item (map as_stored items)) taken → MidReady (ready_message (parts_of bytes) items header taken)
+    → MidRights space (header_hand header) ([] ++ flat_map kinds_of_item (map as_stored items)) taken → MidReady (ready_message (used_parts bytes) items header taken)
 ready_of_taken bytes items header taken space fits size body few head rights = record {
-  mid = mid_hand taken.state (rights_hand (header_hand header) taken.rights) (λ w. message_weigh w header.port (ready_message (parts_of bytes) items header taken).message) rights.mid (λ (q : ℕ). omega arith) (λ (q : ℕ) (dead : _). omega arith);
+  mid = mid_hand taken.state (rights_hand (header_hand header) taken.rights) (λ w. message_weigh w header.port (ready_message (used_parts bytes) items header taken).message) rights.mid (λ (q : ℕ). omega arith) (λ (q : ℕ) (dead : _). omega arith);
   quiet = quiet_both header.notices taken.notices head.quiet rights.quiet;
   lawful = ready_lawful bytes items header taken space (header_hand header) fits size body few head rights;
 }
@@ -229,7 +229,7 @@ start_rights space header head = record {
 }
 
 of_items_mid : (old : State) (space : ℕ) (names : Names) (bytes : List ℕ) (destination : Disposition) (reply : Option Disposition) (items : List Item) → MidCall old empty_hand → finmap.get old.spaces space ≡ Some names → AreBytes bytes → SizeFits bytes
-    → received_kind destination ≢ kind.Receive → RepliesBy reply → BodyItems bytes items → IfOk (sending.ready_of_items old space (parts_of bytes) destination reply items) MidReady
+    → received_kind destination ≢ kind.Receive → RepliesBy reply → BodyItems bytes items → IfOk (sending.ready_of_items old space (used_parts bytes) destination reply items) MidReady
 of_items_mid old space names bytes destination reply items mid there fits size sends by body =
     pass_if MidReady ((nat_lt MAX_MESSAGE_PORTS (sending.ports_in items), SendNoBuffer) ∷ (is_null_or_dead (remote_of bytes), SendInvalidDest) ∷ []) _ (λ (passes : _).
     let few : sending.ports_in items ≤ MAX_MESSAGE_PORTS = ltb-false MAX_MESSAGE_PORTS (sending.ports_in items) (first_passes (nat_lt MAX_MESSAGE_PORTS (sending.ports_in items), SendNoBuffer) ((is_null_or_dead (remote_of bytes), SendInvalidDest) ∷ []) passes).0 in
@@ -237,7 +237,7 @@ of_items_mid old space names bytes destination reply items mid there fits size s
     let start : TakenRights = record { rights = []; state = header.state; notices = [] } in
     and_then_if (MidRights space (header_hand header) ([] ++ flat_map kinds_of_item (map as_stored items))) MidReady (or_refused SendInvalidRight (take_items space items start)) _
     (or_if (MidRights space (header_hand header) ([] ++ flat_map kinds_of_item (map as_stored items))) SendInvalidRight (take_items space items start) (items_mid space (header_hand header) [] items start (start_rights space header head)))
-    (λ (taken : TakenRights) (rights : _). unless_if MidReady (sending.tests_of_queue (ready_message (parts_of bytes) items header taken)) (Ok (ready_message (parts_of bytes) items header taken)) (ready_of_taken bytes items header taken space fits size body few head rights))))
+    (λ (taken : TakenRights) (rights : _). unless_if MidReady (sending.tests_of_queue (ready_message (used_parts bytes) items header taken)) (Ok (ready_message (used_parts bytes) items header taken)) (ready_of_taken bytes items header taken space fits size body few head rights))))
 
 -- What a task's bytes become is ready with its rights in hand.
 pub ready_mid : (old : State) (space : ℕ) (names : Names) (bytes : List ℕ) → AreBytes bytes → MidCall old empty_hand → finmap.get old.spaces space ≡ Some names → IfOk (ready_to_send old space bytes) MidReady

@@ -1,9 +1,9 @@
 -- What sends and receipts that have records answer.
-use Rattle.std.specs.Prelude.{◌≡◌, ℕ, zero, suc, ◌≤◌, Bool, true, false, ◌==◌, ◌&&◌, ◌||◌, nat_lt, List, [], ◌∷◌, length, Option, None, Some, Result, Ok, Err, IfErr, MatchResult, if◌then◌else◌, refl}
+use Rattle.std.specs.Prelude.{◌≡◌, ℕ, zero, suc, Bool, true, false, ◌==◌, ◌&&◌, ◌||◌, nat_lt, List, [], ◌∷◌, length, Option, None, Some, Result, Ok, Err, IfErr, MatchResult, if◌then◌else◌, refl}
 use Rattle.std.proofs.Common.{subst}
 use Rattle.codes.specs.declared.kern_return.KernReturn.{KernReturn}
 use Rattle.codes.specs.declared.kern_return.KernReturn.TheVariants.{Success, SendInvalidDest, SendInvalidReply, SendInvalidRight, SendInvalidHeader, SendNoBuffer}
-use Rattle.codes.specs.declared.limits.TheConstants.{MAX_MESSAGE_SIZE, MAX_MESSAGE_PORTS}
+use Rattle.codes.specs.declared.limits.TheConstants.{MAX_MESSAGE_PORTS}
 use Rattle.codes.specs.declared.name.TheConstants.{MACH_PORT_NULL}
 use Rattle.ipc_model.specs.calls.Step.{ActsIn, IsRefusedWith, has_record, is_success}
 use Rattle.ipc_model.specs.calls.Tests.{Tests, and_then, or_refused, unless_failing}
@@ -11,13 +11,14 @@ use Rattle.ipc_model.specs.declared.call.Call.TheVariants as call
 use Rattle.ipc_model.specs.declared.call.Reply.{Reply}
 use Rattle.ipc_model.specs.effects.Effects.{Effect}
 use Rattle.ipc_model.specs.messages.Items.{Item, items_of, items_within, tests_of_item}
-use Rattle.ipc_model.specs.messages.Messages.{Parts, parts_of, header_length}
+use Rattle.ipc_model.specs.messages.Messages.{UsedParts, used_parts}
 use Rattle.ipc_model.specs.messages.Receiving.{without_message}
 use Rattle.ipc_model.specs.messages.Sending as sending
 use Rattle.ipc_model.specs.messages.Sending.{TakenHeader, TakenReply, TakenRights, Ready, ready_to_send, ready_of_items, take_destination, take_reply, take_header, sent}
 use Rattle.ipc_model.specs.rights.CopyIn.{Taken, copy_in}
 use Rattle.ipc_model.specs.rights.Dispositions.{Disposition}
 use Rattle.ipc_model.specs.state.State.{State, Names, is_null_or_dead}
+use Rattle.ipc_model.specs.texts.Texts.{IsMessageSize}
 use Rattle.ipc_laws.specs.ItemLaws.{passed_tests}
 use Rattle.ipc_laws.specs.ReadyKeep.{size_fits}
 
@@ -83,7 +84,7 @@ reply_disposition_fails : (n name : ℕ) → Fails (sending.reply_disposition n 
 reply_disposition_fails n name =
     if_fails (n == 0 && name == MACH_PORT_NULL) _ _ (fine _) (and_then_fails (or_refused SendInvalidHeader _) _ (or_fails SendInvalidHeader _ refl) (λ (disposition : Disposition). fine _))
 
-of_items_fails : (state : State) (space : ℕ) (parts : Parts) (destination : Disposition) (reply : Option Disposition) (items : List Item) → Fails (ready_of_items state space parts destination reply items)
+of_items_fails : (state : State) (space : ℕ) (parts : UsedParts) (destination : Disposition) (reply : Option Disposition) (items : List Item) → Fails (ready_of_items state space parts destination reply items)
 of_items_fails state space parts destination reply items =
     unless_fails ((nat_lt MAX_MESSAGE_PORTS (sending.ports_in items), SendNoBuffer) ∷ (is_null_or_dead parts.remote, SendInvalidDest) ∷ []) _ (refl, (refl, tt))
     (and_then_fails (take_header state space parts.remote destination parts.local reply) _ (header_fails state space parts.remote destination parts.local reply) (λ (header : TakenHeader).
@@ -93,23 +94,22 @@ of_items_fails state space parts destination reply items =
 ready_fails : (state : State) (space : ℕ) (message : List ℕ) → Fails (ready_to_send state space message)
 unfolding ready_to_send
 ready_fails state space message =
-    let parts : Parts = parts_of message in
+    let parts : UsedParts = used_parts message in
     unless_fails (sending.tests_of_size parts.size) _ (refl, (refl, tt))
     (and_then_fails (or_refused SendInvalidHeader _) _ (or_fails SendInvalidHeader _ refl) (λ (destination : Disposition).
     and_then_fails (sending.reply_disposition parts.local_disposition parts.local) _ (reply_disposition_fails parts.local_disposition parts.local) (λ (reply : Option Disposition).
     and_then_fails (sending.items_if_complex parts.complex parts.body) _ (items_fail parts.complex parts.body) (λ (items : List Item). of_items_fails state space parts destination reply items))))
 
--- A send that has a record was done: its message is whole and not too large, and nothing comes back.
+-- A send that has a record was done: its message has a size that messages may have, and nothing comes back.
 pub record SendDone (message : List ℕ) (answer : Reply) : Type 0 where
-  pub whole : header_length ≤ length message
-  pub small : length message ≤ MAX_MESSAGE_SIZE
+  pub size : IsMessageSize (length message)
   pub answer_is : answer ≡ without_message Success 0 MACH_PORT_NULL
 
 done_of : (old : State) (space : ℕ) (message : List ℕ) (answer : Reply) (ready : Ready) → ready_to_send old space message ≡ Ok ready → answer ≡ without_message Success 0 MACH_PORT_NULL → SendDone message answer
 unfolding ready_to_send
 done_of old space message answer ready is answered =
     let fits = size_fits message (passed_tests (sending.tests_of_size (length message)) _ ready is).0 in
-    record { whole = fits.whole; small = fits.small; answer_is = answered }
+    record { size = (fits.whole, fits.small, fits.words); answer_is = answered }
 
 pub send_done : (old : State) (space : ℕ) (names : Names) (message : List ℕ) (answer : Reply) (new : State) (effects : List Effect) → ActsIn old space names (call.Send message) answer new effects → has_record (call.Send message) answer ≡ true → SendDone message answer
 send_done old space names message answer new effects acts recorded =

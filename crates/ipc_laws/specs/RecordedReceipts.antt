@@ -17,13 +17,13 @@ use Rattle.ipc_model.specs.declared.message.CarriedRight.{CarriedRight}
 use Rattle.ipc_model.specs.declared.message.Message.{Message}
 use Rattle.ipc_model.specs.declared.port.PortState.{PortState}
 use Rattle.ipc_model.specs.effects.Effects.{Effect}
-use Rattle.ipc_model.specs.messages.Items.{Item, item_text, items_text, items_of, filled, body_filled, is_port_item, padded}
+use Rattle.ipc_model.specs.messages.Items.{Item, item_text, items_text, items_of, filled, body_filled, is_port_item, padded, AreItems}
 use Rattle.ipc_model.specs.messages.Messages.{header_length, message_text}
 use Rattle.ipc_model.specs.messages.Receiving.{Receipt, Receives, TakesOut, TooLarge, Received, lacks_names, arriving, reply_right, reply_name, body_names, received_bits, received_body, received_text, receive_refusal, refusal_of_sources, sources, is_in_set, all_empty, message_size, without_message}
 use Rattle.ipc_model.specs.state.Lawful.{LawfulMessage, HoldsPorts}
 use Rattle.ipc_model.specs.state.State.{State, Names}
 use Rattle.ipc_model.specs.texts.Texts.{IsOfReceipt}
-use Rattle.ipc_laws.specs.ItemLaws.{AllFit, item_length, items_read}
+use Rattle.ipc_laws.specs.ItemLaws.{item_length, items_read}
 use Rattle.ipc_laws.specs.LawfulLaws.{LawfulAtRest}
 use Rattle.ipc_laws.specs.ReceiptLaws.{as_many_names, length-kinds, length-words-take, port_count}
 use Rattle.ipc_laws.specs.ReceiveKeep.{oldest_lawful}
@@ -32,7 +32,7 @@ use Rattle.words.specs.WordLaws.{length-word}
 use Rattle.words.specs.Words.{word}
 
 -- A body is as long with its ports' names as without them.
-filled_long : (items : List Item) (names : List ℕ) → AllFit items → length names ≡ port_count items → length (items_text (filled items names)) ≡ length (items_text items)
+filled_long : (items : List Item) (names : List ℕ) → AreItems items → length names ≡ port_count items → length (items_text (filled items names)) ≡ length (items_text items)
 unfolding port_count
 filled_long [] names fit many = refl
 filled_long (item ∷ items) names fit many =

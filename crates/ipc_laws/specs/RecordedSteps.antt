@@ -33,10 +33,10 @@ sent_whole : (old : State) (space : ℕ) (names : Names) (message : List ℕ) (a
 sent_whole old space names message answer new effects acts recorded =
     let done = send_done old space names message answer new effects acts recorded in
     subst (IsAnsweredWhole (call.Send message)) (sym done.answer_is) (record {
-      whole = done.whole;
+      whole = done.size;
       number_is = refl;
       results = (refl, refl, refl);
-      call_frame = omega (arith, done.small, send_length message);
+      call_frame = omega (arith, done.size.1, send_length message);
       reply_frame = omega (arith, message_length Success 0 0 []);
     })
 

@@ -12,7 +12,7 @@ use Rattle.ipc_model.specs.rights.CopyIn.{Taken, copy_in}
 use Rattle.ipc_model.specs.rights.Dispositions.{Disposition, disposition_of, received_kind}
 use Rattle.ipc_model.specs.effects.Effects.{Outcome, Effect, queued, release, releases_of}
 use Rattle.ipc_model.specs.messages.Items.{Item, names_of_item}
-use Rattle.ipc_model.specs.messages.Messages.{Parts, parts_of}
+use Rattle.ipc_model.specs.messages.Messages.{UsedParts, used_parts}
 use Rattle.ipc_laws.specs.ReceiveLaws.{Outcomes, was_large, was_lacking, was_received, outcome_of, Refuses, taking_of}
 use Rattle.ipc_model.specs.messages.Receiving.{Receipt, Receives, Received, TooLarge, without_oldest, receive_refusal}
 use Rattle.ipc_model.specs.messages.Sending as sending
@@ -112,42 +112,42 @@ abbrev pub ReadyConfined : State → ℕ → Ready → Type 0
 ReadyConfined old space ready = Confined old ready.state space
 
 -- the parts of the way from items to a message that is ready
-abbrev ready_of_taken : Parts → List Item → TakenHeader → TakenRights → Result Ready KernReturn
+abbrev ready_of_taken : UsedParts → List Item → TakenHeader → TakenRights → Result Ready KernReturn
 ready_of_taken parts items header taken = unless_failing (sending.tests_of_queue (sending.ready_message parts items header taken)) (Ok (sending.ready_message parts items header taken))
 
-abbrev ready_of_header : ℕ → Parts → List Item → TakenHeader → Result Ready KernReturn
+abbrev ready_of_header : ℕ → UsedParts → List Item → TakenHeader → Result Ready KernReturn
 ready_of_header space parts items header =
     and_then (or_refused SendInvalidRight (take_items space items (record { rights = []; state = header.state; notices = [] }))) (ready_of_taken parts items header)
 
-of_taken_there : (old : State) (space : ℕ) (parts : Parts) (items : List Item) (header : TakenHeader) (taken : TakenRights) → Confined old taken.state space → IfOk (ready_of_taken parts items header taken) (ReadyConfined old space)
+of_taken_there : (old : State) (space : ℕ) (parts : UsedParts) (items : List Item) (header : TakenHeader) (taken : TakenRights) → Confined old taken.state space → IfOk (ready_of_taken parts items header taken) (ReadyConfined old space)
 of_taken_there old space parts items header taken here =
     let ready : Ready = sending.ready_message parts items header taken in
     unless_if (ReadyConfined old space) (sending.tests_of_queue ready) (Ok ready) here
 
-of_header_there : (old : State) (space : ℕ) (parts : Parts) (items : List Item) (header : TakenHeader) → Confined old header.state space → IfOk (ready_of_header space parts items header) (ReadyConfined old space)
+of_header_there : (old : State) (space : ℕ) (parts : UsedParts) (items : List Item) (header : TakenHeader) → Confined old header.state space → IfOk (ready_of_header space parts items header) (ReadyConfined old space)
 of_header_there old space parts items header here =
     let start : TakenRights = record { rights = []; state = header.state; notices = [] } in
     and_then_if (λ (t : TakenRights). Confined old t.state space) (ReadyConfined old space) (or_refused SendInvalidRight (take_items space items start)) (ready_of_taken parts items header)
     (or_if (λ (t : TakenRights). Confined old t.state space) SendInvalidRight (take_items space items start) (items_there old space items start here))
     (λ (taken : TakenRights) (there : _). of_taken_there old space parts items header taken there)
 
-of_items_there : (old : State) (space : ℕ) (parts : Parts) (destination : Disposition) (reply : Option Disposition) (items : List Item) → IfOk (ready_of_items old space parts destination reply items) (ReadyConfined old space)
+of_items_there : (old : State) (space : ℕ) (parts : UsedParts) (destination : Disposition) (reply : Option Disposition) (items : List Item) → IfOk (ready_of_items old space parts destination reply items) (ReadyConfined old space)
 of_items_there old space parts destination reply items =
     unless_if (ReadyConfined old space) ((nat_lt MAX_MESSAGE_PORTS (sending.ports_in items), SendNoBuffer) ∷ (is_null_or_dead parts.remote, SendInvalidDest) ∷ [])
     (and_then (take_header old space parts.remote destination parts.local reply) (ready_of_header space parts items))
     (and_then_if (λ (t : TakenHeader). Confined old t.state space) (ReadyConfined old space) (take_header old space parts.remote destination parts.local reply) (ready_of_header space parts items)
     (header_there old space parts.remote destination parts.local reply) (λ (header : TakenHeader) (here : _). of_header_there old space parts items header here))
 
-abbrev ready_of_reply : State → ℕ → Parts → Disposition → Option Disposition → Result Ready KernReturn
+abbrev ready_of_reply : State → ℕ → UsedParts → Disposition → Option Disposition → Result Ready KernReturn
 ready_of_reply old space parts destination reply = and_then (sending.items_if_complex parts.complex parts.body) (ready_of_items old space parts destination reply)
 
-abbrev ready_of_destination : State → ℕ → Parts → Disposition → Result Ready KernReturn
+abbrev ready_of_destination : State → ℕ → UsedParts → Disposition → Result Ready KernReturn
 ready_of_destination old space parts destination = and_then (sending.reply_disposition parts.local_disposition parts.local) (ready_of_reply old space parts destination)
 
 pub ready_there : (old : State) (space : ℕ) (bytes : List ℕ) → IfOk (ready_to_send old space bytes) (ReadyConfined old space)
 unfolding ready_to_send
 ready_there old space bytes =
-    let parts : Parts = parts_of bytes in
+    let parts : UsedParts = used_parts bytes in
     unless_if (ReadyConfined old space) (sending.tests_of_size parts.size)
     (and_then (or_refused SendInvalidHeader (sending.header_disposition parts.remote_disposition)) (ready_of_destination old space parts))
     (and_then_if (λ (d : Disposition). Unit {0}) (ReadyConfined old space) (or_refused SendInvalidHeader (sending.header_disposition parts.remote_disposition)) (ready_of_destination old space parts) (any_ok _) (λ (destination : Disposition) (_ : _).

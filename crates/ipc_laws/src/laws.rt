@@ -5,13 +5,13 @@ ghost use Rattle.ipc_laws.specs.EffectRanks.{EffectsKeepGrounded, SettledIsLawfu
 ghost use Rattle.ipc_laws.specs.EffectsKeep.{EffectsKeepLawful};
 ghost use Rattle.ipc_laws.specs.HistoryLaws.{LegalIsInOrder, LegalStaysLegal, MeetingIsLegal, PlacesHoldCalls, ReadsOwnWrites};
 ghost use Rattle.ipc_laws.specs.ImageLaws.{ImagesHaveOneText};
-ghost use Rattle.ipc_laws.specs.ItemLaws.{ItemsTileBodies};
+ghost use Rattle.ipc_laws.specs.ItemLaws.{ItemsTileBodies, TiledBodiesHaveItems};
 ghost use Rattle.ipc_laws.specs.KeptLaws.{CallsAreMadeAsKept, MessagesAreSentAsKept};
 ghost use Rattle.ipc_laws.specs.NameChanges.{NamesMoveLawfully};
 ghost use Rattle.ipc_laws.specs.LawfulLaws.{LawfulIsAtRest};
 ghost use Rattle.ipc_laws.specs.OpeningLaws.{OpeningIsLawful};
 ghost use Rattle.ipc_laws.specs.OtherSpaces.{OthersFade, SpacesAreMade};
-ghost use Rattle.ipc_laws.specs.OwnedPlaces.{NewRecordsAreOwned};
+ghost use Rattle.ipc_laws.specs.OwnedPlaces.{RecordsAreOwned};
 ghost use Rattle.ipc_laws.specs.PortChanges.{PortMovesLawfully};
 ghost use Rattle.ipc_laws.specs.RecordedMessages.{RecordedSendsAreDone};
 ghost use Rattle.ipc_laws.specs.RecordedReceipts.{RecordedReceiptsAreDone};
@@ -120,6 +120,11 @@ pub fn items_tile_bodies()
     ensures { ItemsTileBodies }
 {}
 
+/// Items that tile a body of bytes are those that are found in it: it is answered by a code exactly where none tile it.
+pub fn tiled_bodies_have_items()
+    ensures { TiledBodiesHaveItems }
+{}
+
 /// A message and what a record keeps of it, with 0 in place of what a send ignores, are sent alike.
 pub fn messages_are_sent_as_kept()
     ensures { MessagesAreSentAsKept }
@@ -135,8 +140,8 @@ pub fn records_run_as_kept()
     ensures { RecordsRunAsKept }
 {}
 
-/// A send that has a record was done: its message has 24 to 8,192 bytes, and nothing comes back. No refusal of a send
-/// is a success.
+/// A send that has a record was done: its message has a size that messages may have, and nothing comes back. No refusal
+/// of a send is a success.
 pub fn recorded_sends_are_done()
     ensures { RecordedSendsAreDone }
 {}
@@ -225,8 +230,8 @@ pub fn nothing_new_is_told()
     ensures { NothingNewIsTold }
 {}
 
-/// A legal session has seen a beginning of its history, was told within what it saw, and its places rise among the new
-/// records that it saw.
+/// A legal session has seen a beginning of its history, was told within what it saw, and its places rise among the records
+/// that it saw.
 pub fn legal_is_in_order()
     ensures { LegalIsInOrder }
 {}
@@ -251,7 +256,7 @@ pub fn meeting_is_legal()
     ensures { MeetingIsLegal }
 {}
 
-/// Where the sessions are all that there were, each new record of a legal history stands at a place of one of them.
-pub fn new_records_are_owned()
-    ensures { NewRecordsAreOwned }
+/// Where the sessions are all that there were, each record of a legal history stands at a place of one of them.
+pub fn records_are_owned()
+    ensures { RecordsAreOwned }
 {}

@@ -8,6 +8,7 @@ mod port;
 mod ranges;
 mod record;
 mod sequence;
+mod size;
 
 pub use call::{Call, NamedType, ReceiveStatus, Reply};
 pub use entry::{Entry, PortRights};
@@ -16,3 +17,4 @@ pub use port::PortState;
 pub use ranges::{call_in_range, reply_in_range};
 pub use record::Record;
 pub use sequence::Sequence;
+pub use size::is_message_size;

@@ -50,10 +50,10 @@ type-answer = (two_allocated, [], simp rows (refl, refl, refl), settled)
 pub two_records-run : Run opening_state two_records two_allocated
 two_records-run = (one_allocated, allocate-step, (two_allocated, second-step, refl))
 
-new-session : IsNew 0 two_records new_session
-new-session = record { space = refl; least = omega arith; within = omega arith; told = refl; places = refl }
+new-session : IsNew two_records new_session
+new-session = record { space = refl; within = omega arith; told = refl; places = refl }
 
-pub first-legal : Legal opening_state 0 two_records first_operations first_session
+pub first-legal : Legal opening_state two_records first_operations first_session
 first-legal = record {
   start = new_session;
   new = new-session;
@@ -72,7 +72,7 @@ first-legal = record {
   );
 }
 
-pub other-legal : Legal opening_state 0 two_records other_operations other_session
+pub other-legal : Legal opening_state two_records other_operations other_session
 other-legal = record {
   start = new_session;
   new = new-session;
@@ -94,10 +94,10 @@ apart-two zero (suc (suc j)) d below end = absurd (omega (arith, end))
 apart-two (suc i) zero d below end = absurd (omega (arith, below))
 apart-two (suc i) (suc j) d below end = absurd (omega (arith, below, end))
 
-pub both-legal : IsLegalHistory opening_state 0 two_records both
-both-legal = record { end = two_allocated; run = two_records-run; read = omega arith; legal = (first-legal, (other-legal, tt)); apart = apart-two }
+pub both-legal : IsLegalHistory opening_state two_records both
+both-legal = record { end = two_allocated; run = two_records-run; legal = (first-legal, (other-legal, tt)); apart = apart-two }
 
-pub both-all : AreAll 0 two_records (first_session ∷ other_session ∷ [])
+pub both-all : AreAll two_records (first_session ∷ other_session ∷ [])
 both-all = refl
 
 -- where one has seen less, the two have seen the same once they met
@@ -117,25 +117,25 @@ attach-moves = (refl, refl)
 -- Histories that aren't legal.
 
 -- two sessions at one place
-pub one_place-twice : (operations others : List Operation) → IsLegalHistory opening_state 0 two_records ((operations, first_session) ∷ (others, first_session) ∷ []) → ⊥
+pub one_place-twice : (operations others : List Operation) → IsLegalHistory opening_state two_records ((operations, first_session) ∷ (others, first_session) ∷ []) → ⊥
 one_place-twice operations others legal = legal.apart 0 1 0 (omega arith) (omega arith) refl
 
--- a place before what was seen: the opening read the record already
-pub place-before : (session : Session) → Legal opening_state 1 (allocated_name 0x100 ∷ []) (called allocation (reply.Allocate 0x100) ∷ []) session → ⊥
-place-before session legal = elim legal.after.1.leads as (λ _. ⊥) [
-  | inl at ↦ absurd (omega (arith, legal.new.least, at.unseen, at.seen, legal.after.1.within))
+-- a place before what was seen: the session was told a reply that saw the record before it made the call
+pub place-before : (session : Session) → Legal opening_state (allocated_name 0x100 ∷ []) (redeemed 1 ∷ called allocation (reply.Allocate 0x100) ∷ []) session → ⊥
+place-before session legal = elim legal.after.2.1.leads as (λ _. ⊥) [
+  | inl at ↦ absurd (omega (arith, legal.after.1.leads.0, at.unseen, at.seen, legal.after.2.1.within))
   | inr is ↦ absurd (cc is.unrecorded)
 ]
 
 -- a call with a record that stands nowhere
-pub place-nowhere : (session : Session) → Legal opening_state 0 [] (called allocation (reply.Allocate 0x100) ∷ []) session → ⊥
+pub place-nowhere : (session : Session) → Legal opening_state [] (called allocation (reply.Allocate 0x100) ∷ []) session → ⊥
 place-nowhere session legal = elim legal.after.1.leads as (λ _. ⊥) [
   | inl at ↦ absurd (omega (arith, at.seen, legal.after.1.within))
   | inr is ↦ absurd (cc is.unrecorded)
 ]
 
 -- a reply that no state gives
-pub no_answer : (session : Session) → Legal opening_state 0 [] (called (call.Type 0x200) (reply.Type 0x20000) ∷ []) session → ⊥
+pub no_answer : (session : Session) → Legal opening_state [] (called (call.Type 0x200) (reply.Type 0x20000) ∷ []) session → ⊥
 no_answer session legal = elim legal.after.1.leads as (λ _. ⊥) [
   | inl at ↦ absurd (cc at.recorded)
   | inr is ↦
@@ -159,7 +159,7 @@ pub was-unknown : Answer opening_state 1 (call.Type 0x100) (reply.Refused 2 Inva
 unfolding Step Done tests_of
 was-unknown = (opening_state, [], simp rows (refl, refl, refl), settled)
 
-pub older_answer : (session : Session) → Legal opening_state 0 (allocated_name 0x100 ∷ []) (called allocation (reply.Allocate 0x100) ∷ called (call.Type 0x100) (reply.Refused 2 InvalidName) ∷ []) session → ⊥
+pub older_answer : (session : Session) → Legal opening_state (allocated_name 0x100 ∷ []) (called allocation (reply.Allocate 0x100) ∷ called (call.Type 0x100) (reply.Refused 2 InvalidName) ∷ []) session → ⊥
 older_answer session legal = elim legal.after.1.leads as (λ _. ⊥) [
   | inr is ↦ absurd (cc is.unrecorded)
   | inl at ↦
@@ -176,10 +176,10 @@ older_answer session legal = elim legal.after.1.leads as (λ _. ⊥) [
 ]
 
 -- it would be legal without the record that the session has seen
-pub older-was_legal : Legal opening_state 0 [] (called (call.Type 0x100) (reply.Refused 2 InvalidName) ∷ []) new_session
+pub older-was_legal : Legal opening_state [] (called (call.Type 0x100) (reply.Refused 2 InvalidName) ∷ []) new_session
 older-was_legal = record {
   start = new_session;
-  new = record { space = refl; least = omega arith; within = omega arith; told = refl; places = refl };
+  new = record { space = refl; within = omega arith; told = refl; places = refl };
   after = (
     new_session,
     record {
@@ -192,7 +192,7 @@ older-was_legal = record {
 }
 
 -- told of more than there is
-pub told-too_much : (session : Session) → Legal opening_state 0 [] (redeemed 1 ∷ []) session → ⊥
+pub told-too_much : (session : Session) → Legal opening_state [] (redeemed 1 ∷ []) session → ⊥
 told-too_much session legal = absurd (omega (arith, legal.after.1.leads.0, legal.after.1.within))
 
 -- an invented record: the records aren't a run
@@ -204,5 +204,5 @@ unallocated-step : (new : State) → Step opening_state 1 (call.Deallocate 0x100
 unfolding Step
 unallocated-step new step = unallocated-acts step.0 step.1 step.2
 
-pub invented_record : (sessions : Sessions) → IsLegalHistory opening_state 0 (record { space = 1; call = call.Deallocate 0x100; reply = reply.Done 7 } ∷ []) sessions → ⊥
+pub invented_record : (sessions : Sessions) → IsLegalHistory opening_state (record { space = 1; call = call.Deallocate 0x100; reply = reply.Done 7 } ∷ []) sessions → ⊥
 invented_record sessions legal = absurd (cc (unallocated-step legal.run.0 legal.run.1))

@@ -1,6 +1,6 @@
 -- Worked examples of bytes: a state as an image has it, and a record.
-use Rattle.std.specs.Prelude.{◌≡◌, ℕ, zero, suc, ◌<◌, true, false, List, [], ◌∷◌, length, slice_index, refl}
-use Rattle.std.proofs.Common.{ap, arith}
+use Rattle.std.specs.Prelude.{◌≡◌, ◌⊎◌, ℕ, zero, suc, ◌<◌, true, false, List, [], ◌∷◌, length, replicate, slice_index, refl}
+use Rattle.std.proofs.Common.{ap, inl, inr, arith}
 use Rattle.std.specs.FinMap as finmap
 use Rattle.codes.specs.declared.kern_return.KernReturn.TheVariants.{Success, InvalidValue, RcvTooLarge}
 use Rattle.ipc_model.specs.declared.call.Call.{Call}
@@ -9,6 +9,7 @@ use Rattle.ipc_model.specs.declared.call.Reply.{Reply}
 use Rattle.ipc_model.specs.declared.call.Reply.TheVariants as reply
 use Rattle.ipc_model.specs.declared.record.Record.{Record}
 use Rattle.ipc_model.specs.messages.Kept.{kept_message}
+use Rattle.ipc_model.specs.messages.Messages.{used_parts}
 use Rattle.ipc_model.specs.texts.Images.{image_text}
 use Rattle.ipc_rows.specs.RowRules.{rows}
 use Rattle.ipc_rows.specs.RowStates.{rights_to}
@@ -103,6 +104,10 @@ pub raw_send-kept : kept_message raw_send ≡ kept_send
 unfolding kept_message
 raw_send-kept = refl
 
+-- they differ in what a send ignores alone
+pub raw_send-parts : used_parts raw_send ≡ used_parts kept_send
+raw_send-parts = refl
+
 pub raw_send-record : record_text 0 (of_send raw_send (reply.Message Success 0 0 [])) ≡ record_text 0 (of_send kept_send (reply.Message Success 0 0 []))
 unfolding record_text kept_message
 raw_send-record = refl
@@ -116,15 +121,24 @@ kept_send-is_record = record {
   frames = (omega arith, omega arith);
 }
 
--- What is no record: a send that isn't kept, one without its header, results that a call of its number hasn't, and a
--- receipt of another size, above its limit or destroyed within it, of an odd size, or of no name.
+-- What is no record: a send that isn't kept, one of a size that no message has, results that a call of its number
+-- hasn't, and a receipt of another size, above its limit or destroyed within it, of an odd size, or of no name.
 
 pub raw_send-no_record : (answer : Reply) → IsRecord (of_send raw_send answer) → ⊥
 unfolding kept_message
 raw_send-no_record answer is = absurd (omega (arith, ap (λ (c : Call). slice_index (arguments_text c) 18) is.call.kept))
 
 pub short_send-no_record : (answer : Reply) → IsRecord (of_send (19 ∷ 0 ∷ 0 ∷ 0 ∷ []) answer) → ⊥
-short_send-no_record answer is = absurd (omega (arith, is.call.whole))
+short_send-no_record answer is = absurd (omega (arith, is.call.whole.0))
+
+-- a header with one byte behind it
+pub odd_send-no_record : (answer : Reply) → IsRecord (of_send (replicate 25 0) answer) → ⊥
+odd_send-no_record answer is = absurd (omega (arith, is.call.whole.2))
+
+-- the sizes next above the greatest, and the greatest of which a frame has room
+pub large_send-no_record : (message : List ℕ) (answer : Reply) → (length message ≡ 8196) ⊎ (length message ≡ 65512) → IsRecord (of_send message answer) → ⊥
+large_send-no_record message answer (inl long) is = absurd (omega (arith, long, is.call.whole.1))
+large_send-no_record message answer (inr long) is = absurd (omega (arith, long, is.call.whole.1))
 
 pub answered_send-no_record : IsRecord (of_send kept_send (reply.Message Success 28 0 [])) → ⊥
 answered_send-no_record is = absurd (omega (arith, is.reply.results.0))

@@ -3,7 +3,7 @@ use Rattle.std.specs.Prelude.{◌≡◌, ℕ, ◌+◌, ◌*◌, ◌/◌, ◌%◌
 use Rattle.std.proofs.Common.{sym, ◌∙◌, ap, arith}
 use Rattle.std.proofs.lemmas.Bool.{eq-eqb}
 use Rattle.byteorder.specs.Endian.{little_number}
-use Rattle.ipc_model.specs.messages.Messages.{IsMessage, message_text, header_length, complex_bit, is_complex}
+use Rattle.ipc_model.specs.messages.Messages.{HasUsedParts, message_text, header_length, complex_bit, is_complex}
 use Rattle.msg_header.specs.declared.header.Header.{Header}
 use Rattle.msg_header.specs.Headers.{parts_by, header_bits, header_text, HeaderFits}
 use Rattle.words.specs.WordLaws.{little_number-word}
@@ -22,7 +22,7 @@ header_and_body header seqno body whole =
 -- What is written of a header is read: the bytes are a message with its fields, where its size is theirs.
 abbrev pub WrittenHeadersAreRead : Type 0
 WrittenHeadersAreRead = (header : Header) (seqno : ℕ) (body : List ℕ) → HeaderFits header → header.size ≡ header_length + length body
-    → IsMessage (header_text header seqno ++ body) (parts_by header body)
+    → HasUsedParts (header_text header seqno ++ body) (parts_by header body)
 
 complex_back : (remote local : ℕ) (complex : Bool) → remote < 2 ^ 8 → local < 2 ^ 8 → is_complex (remote + local * 2 ^ 8 + complex_bit complex) ≡ complex
 complex_back remote local true r l = eq-eqb (((remote + local * 2 ^ 8 + 2 ^ 31) / 2 ^ 31) % 2) 1 (omega (arith, r, l))

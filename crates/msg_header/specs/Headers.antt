@@ -1,11 +1,11 @@
 -- Headers as declared, in the words of messages. (Kernel Interfaces, mach_msg, mach_msg_header_t.)
 use Rattle.std.specs.Prelude.{ℕ, ◌+◌, ◌*◌, ◌^◌, ◌<◌, List, [], ◌∷◌, flat_map}
-use Rattle.ipc_model.specs.messages.Messages.{Parts, complex_bit}
+use Rattle.ipc_model.specs.messages.Messages.{UsedParts, complex_bit}
 use Rattle.msg_header.specs.declared.header.Header.{Header}
 use Rattle.words.specs.Words.{word}
 
 -- the parts of a message with this header and this body
-abbrev pub parts_by : Header → List ℕ → Parts
+abbrev pub parts_by : Header → List ℕ → UsedParts
 parts_by header body = record {
   size = header.size;
   remote_disposition = header.remote_disposition;

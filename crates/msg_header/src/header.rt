@@ -1,6 +1,6 @@
 ghost use Rattle.std.specs.Prelude.{◌≡◌, ◌<◌, ◌^◌, ◌++◌, ◌+◌, length, IfOk, IfErr, OnOk, OnErr};
 ghost use Rattle.std.specs.Vec.{vec_len, vec_capacity};
-ghost use Rattle.ipc_model.specs.messages.Messages.{IsMessage, body_of, header_length};
+ghost use Rattle.ipc_model.specs.messages.Messages.{HasUsedParts, body_of, header_length};
 ghost use Rattle.msg_header.specs.Headers.{parts_by, header_bits, header_text};
 
 use byteorder::{ByteOrder, LittleEndian};
@@ -34,7 +34,7 @@ pub struct Header {
 ///
 /// `SendMsgTooSmall`: they are fewer than 24. No memory is taken.
 pub fn parse(bytes: &[u8]) -> Result<Header, KernReturn>
-    ensures found { IfOk result (λ header. IsMessage bytes.now (parts_by header (body_of bytes.now))) }
+    ensures found { IfOk result (λ header. HasUsedParts bytes.now (parts_by header (body_of bytes.now))) }
     ensures refused { IfErr result (λ code. code ≡ KernReturn.SendMsgTooSmall) }
     ensures short { OnErr result (length bytes.now < header_length) }
 {

@@ -11,7 +11,7 @@ use Rattle.ipc_model.specs.calls.Step.{Run}
 use Rattle.ipc_model.specs.declared.call.Call.{Call}
 use Rattle.ipc_model.specs.declared.record.Record.{Record}
 use Rattle.ipc_model.specs.state.State.{State}
-use Rattle.ipc_model.specs.store.Recovery.{Recovered}
+use Rattle.ipc_model.specs.store.Recovery.{IsImageOf, Recovered}
 use Rattle.ipc_model.specs.store.Store.{IsInUse, IsMidAppend, SpellsSegment, batch_text, with_batch}
 use Rattle.ipc_model.specs.texts.Texts.{call_text, kept_record, record_text, records_text, reply_text}
 use Rattle.journal.specs.Batch.{BatchValue, Holds, content_of}
@@ -20,7 +20,7 @@ use Rattle.journal.specs.declared.segment.Segment.{Segment}
 use Rattle.phases.proofs.Beside.{imaging_beside, without_beside}
 use Rattle.phases.proofs.Stops.{first_left, imaging_synced, second_left}
 use Rattle.phases.specs.Batches.{IsReadyBatch, with_more}
-use Rattle.phases.specs.Phases.{InFirst, InSecond, IsImageOf, IsRolling, Keeps, without_image}
+use Rattle.phases.specs.Phases.{InFirst, InSecond, IsRolling, Keeps, without_image}
 use Rattle.recover.proofs.Rest.{rest_after, rest_but, rest_is_synced}
 use Rattle.recover.proofs.Stages.{one_recovered, run_join, two_recovered}
 use Rattle.recover.specs.Kept.{IsKept}

@@ -5,13 +5,13 @@ use Rattle.checkpoint.specs.Images.{IsFinishing, open_image}
 use Rattle.disk.specs.Moments.{View, Passes, Follows, IsSynced}
 use Rattle.disk.specs.Slots.{Slots, slot_of, with_slot}
 use Rattle.ipc_model.specs.state.State.{State}
-use Rattle.ipc_model.specs.store.Recovery.{HoldsImage, Recovered}
+use Rattle.ipc_model.specs.store.Recovery.{HoldsImage, IsImageOf, Recovered}
 use Rattle.ipc_model.specs.store.Store.{IsInUse}
 use Rattle.ipc_model.specs.texts.Images.{image_text}
 use Rattle.journal.specs.declared.segment.Segment.{Segment}
 use Rattle.phases.proofs.Beside.{segment_stays}
 use Rattle.phases.proofs.Stops.{first_left, second_left}
-use Rattle.phases.specs.Phases.{InFirst, InSecond, IsImageOf, IsImaging, IsRolling, without_image}
+use Rattle.phases.specs.Phases.{InFirst, InSecond, IsImaging, IsRolling, without_image}
 use Rattle.recover.proofs.Rest.{rest_but_changed}
 use Rattle.recover.proofs.Stages.{next_image, one_recovered, two_recovered}
 use Rattle.recover.specs.Kept.{IsKept}

@@ -5,10 +5,8 @@ use Rattle.disk.specs.Slots.{Slots, slot_of, with_slot}
 use Rattle.ipc_model.specs.calls.Step.{Run}
 use Rattle.ipc_model.specs.declared.record.Record.{Record}
 use Rattle.ipc_model.specs.state.State.{State}
-use Rattle.ipc_model.specs.state.Lawful.{Lawful, ShortQueues}
-use Rattle.ipc_model.specs.state.Circular.{Grounded}
+use Rattle.ipc_model.specs.store.Recovery.{IsImageOf}
 use Rattle.ipc_model.specs.store.Store.{IsClosed, IsInUse, closed_gate, epoch_text}
-use Rattle.ipc_model.specs.texts.Images.{image_text}
 use Rattle.journal.specs.declared.segment.Segment.{Segment}
 use Rattle.recover.proofs.Rest.{IsAtRestBut}
 use Rattle.recover.specs.AtRest.{IsAtRest}
@@ -16,13 +14,6 @@ use Rattle.recover.specs.Kept.{IsKept}
 use Rattle.slot_steps.specs.Steps.{IsShut, image_slot, segment_slot}
 use Rattle.standing.specs.Standing.{InOne, InTwo, IsPassedImage}
 use Rattle.storing.specs.Values.{CheckpointValue}
-
--- A text is the image of a state that an image can spell.
-pub record IsImageOf (text : List ℕ) (state : State) : Type 0 where
-  pub text_is : text ≡ image_text state
-  pub lawful : Lawful state
-  pub grounded : Grounded state
-  pub short : ShortQueues state
 
 -- While the next epoch's image is made, a stop leaves of the other slots what a read gives; of the image's slot too, which is
 -- passed over, until it is closed, and from then on no open gate.

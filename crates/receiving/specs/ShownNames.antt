@@ -8,7 +8,7 @@ use Rattle.std.specs.FinMap as finmap
 use Rattle.byteorder.specs.Endian.{little_number}
 use Rattle.codes.specs.declared.kern_return.KernReturn.{KernReturn}
 use Rattle.ipc_laws.specs.EffectParts.{word_more}
-use Rattle.ipc_laws.specs.ItemLaws.{AllFit, items_back, items_read}
+use Rattle.ipc_laws.specs.ItemLaws.{items_back, items_read}
 use Rattle.ipc_laws.specs.Arrivals.{named_there}
 use Rattle.ipc_laws.specs.MapLaws.{get-there}
 use Rattle.ipc_laws.specs.ReceiptLaws.{port_count, length-kinds, length-words-take}
@@ -19,8 +19,8 @@ use Rattle.ipc_model.specs.declared.message.PortInMessage.{PortInMessage}
 use Rattle.ipc_model.specs.declared.message.PortInMessage.TheVariants as in_message
 use Rattle.ipc_model.specs.declared.message.RightKind.{RightKind}
 use Rattle.ipc_model.specs.declared.message.RightKind.TheVariants as kind
-use Rattle.ipc_model.specs.messages.Items.{Item, items_of, filled, body_filled, names_of_item, is_port_item, padded, words_of}
-use Rattle.ipc_model.specs.messages.Messages.{Parts, IsMessage, parts_of, header_length, message_text, remote_disposition, is_complex, complex_bit}
+use Rattle.ipc_model.specs.messages.Items.{Item, items_of, filled, body_filled, names_of_item, is_port_item, padded, words_of, AreItems}
+use Rattle.ipc_model.specs.messages.Messages.{UsedParts, HasUsedParts, used_parts, header_length, message_text, remote_disposition, is_complex, complex_bit}
 use Rattle.ipc_model.specs.messages.Receiving.{arriving, reply_right, reply_name, reply_kind_number, body_names, received_body, received_text}
 use Rattle.ipc_model.specs.messages.Sending.{items_if_complex}
 use Rattle.ipc_model.specs.rights.CopyOut.{Arrives, MayArrive, names_after, merged_entry}
@@ -39,23 +39,23 @@ abbrev pub names_in_items : Result (List Item) KernReturn → List ℕ
 names_in_items (Ok items) = flat_map names_of_item items
 names_in_items (Err code) = []
 
-abbrev pub names_in_parts : Parts → List ℕ
+abbrev pub names_in_parts : UsedParts → List ℕ
 names_in_parts parts = name_in_header parts.remote_disposition parts.remote ++ names_in_items (items_if_complex parts.complex parts.body)
 
 -- The names that a message's bytes show: that of the reply right, and behind it those of the body's ports, from the left.
 -- Bytes that are fewer than a header's show none.
 unfoldable pub names_shown : List ℕ → List ℕ
-names_shown bytes = if nat_lt (length bytes) header_length then [] else names_in_parts (parts_of bytes)
+names_shown bytes = if nat_lt (length bytes) header_length then [] else names_in_parts (used_parts bytes)
 
 -- what a message with these parts shows
-pub parts_shown : (bytes : List ℕ) (parts : Parts) → IsMessage bytes parts → names_shown bytes ≡ names_in_parts parts
+pub parts_shown : (bytes : List ℕ) (parts : UsedParts) → HasUsedParts bytes parts → names_shown bytes ≡ names_in_parts parts
 unfolding names_shown
 parts_shown bytes parts is =
-    ap (λ (short : Bool). if short then [] else names_in_parts (parts_of bytes)) (le-ltb (length bytes) header_length is.whole) ∙ ap names_in_parts (sym is.parts_are)
+    ap (λ (short : Bool). if short then [] else names_in_parts (used_parts bytes)) (le-ltb (length bytes) header_length is.whole) ∙ ap names_in_parts (sym is.parts_are)
 
 pub none_shown : (bytes : List ℕ) → length bytes < header_length → names_shown bytes ≡ []
 unfolding names_shown
-none_shown bytes short = ap (λ (b : Bool). if b then [] else names_in_parts (parts_of bytes)) (lt-ltb (length bytes) header_length short)
+none_shown bytes short = ap (λ (b : Bool). if b then [] else names_in_parts (used_parts bytes)) (lt-ltb (length bytes) header_length short)
 
 -- numbers that four bytes hold
 abbrev pub FitWords : List ℕ → Type 0
@@ -80,12 +80,12 @@ words_are_bytes (name ∷ names) i = word_more name (flat_map word names) (words
 
 -- Items with names filled in fit, and hold these names.
 
-filled_fit : (items : List Item) (names : List ℕ) → AllFit items → length names ≡ port_count items → AllFit (filled items names)
+filled_fit : (items : List Item) (names : List ℕ) → AreItems items → length names ≡ port_count items → AreItems (filled items names)
 unfolding port_count
 filled_fit [] names fit many = tt
 filled_fit (item ∷ items) names fit many =
     elim (is_port_item item) as (λ (b : Bool). is_port_item item ≡ b → length names ≡ (elim b as (λ _. ℕ) [ true ↦ item.number | false ↦ 0 ]) + port_count items
-    → AllFit (if b then record item { content = flat_map word (take item.number names) } ∷ filled items (drop item.number names) else item ∷ filled items names)) [
+    → AreItems (if b then record item { content = flat_map word (take item.number names) } ∷ filled items (drop item.number names) else item ∷ filled items names)) [
       | false ↦ λ (_ : _) (here : _). (fit.0, filled_fit items names fit.1 (omega (arith, here)))
       | true ↦ λ (port : _) (here : _).
           let n : ℕ = item.number in
@@ -151,7 +151,7 @@ text_shown bits remote local seqno id body bits_fit remote_fits =
     let behind_remote : List ℕ = word local ++ (word seqno ++ (word id ++ body)) in
     let bits_is : little_number 4 text ≡ bits = little_number-word bits (word (header_length + length body) ++ (word remote ++ behind_remote)) bits_fit in
     let remote_is : little_number 4 (word remote ++ behind_remote) ≡ remote = little_number-word remote behind_remote remote_fits in
-    ap (λ (short : Bool). if short then [] else names_in_parts (parts_of text)) (le-ltb (length text) header_length (omega arith))
+    ap (λ (short : Bool). if short then [] else names_in_parts (used_parts text)) (le-ltb (length text) header_length (omega arith))
     ∙ (λ i. name_in_header (remote_disposition (bits_is i)) (remote_is i) ++ names_in_items (items_if_complex (is_complex (bits_is i)) body))
 
 -- the bits as received, of a message with this reply right

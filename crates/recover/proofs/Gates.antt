@@ -8,12 +8,13 @@ use Rattle.ipc_model.specs.store.Store.{AreRecords, SpellsBatches, SpellsSegment
 use Rattle.ipc_laws.specs.BatchLaws.{same_batches, are_records-front, are_records-back}
 use Rattle.ipc_laws.specs.StoreLaws.{all_records-push, batches_text-push, none_empty-push, are_records-join}
 use Rattle.ipc_model.specs.store.Recovery.{IsOpen}
+use Rattle.journal.specs.Reading.{MAX_RECORDS}
 use Rattle.recover.specs.Making.{empty_segment}
 use Rattle.recover.specs.Stopping.{HasLastGate, AppendKeepsGate}
 
 -- equal texts of batches have the same behind them
 same_rest : (n : ℕ) (more more_too : List (List Record)) (x y : List ℕ) → IsClosed x → IsClosed y → AreRecords (all_records more) → AreRecords (all_records more_too)
-    → n + length (all_records more) ≤ 65536 → n + length (all_records more_too) ≤ 65536
+    → n + length (all_records more) ≤ MAX_RECORDS → n + length (all_records more_too) ≤ MAX_RECORDS
     → batches_text n more ++ x ≡ batches_text n more_too ++ y → x ≡ y
 same_rest n [] [] x y shut shut_too are are_too room room_too is = is
 same_rest n [] (b ∷ more_too) x y shut shut_too are are_too room room_too is = absurd (subst IsClosed is shut refl)
@@ -97,7 +98,7 @@ same_records epoch old new behind records used shut some is =
       };
     }) some
 
-more_records : (epoch : ℕ) (old new : List ℕ) (records batch : List Record) → (used : IsInUse epoch old records) → 0 < length batch → AreRecords batch → length records + length batch ≤ 65536
+more_records : (epoch : ℕ) (old new : List ℕ) (records batch : List Record) → (used : IsInUse epoch old records) → 0 < length batch → AreRecords batch → length records + length batch ≤ MAX_RECORDS
     → new ≡ segment_header open_gate epoch ++ (batches_text 0 used.spelled.batches ++ (open_gate ∷ (batch_text (length records) batch ++ closed_gate ∷ []))) → HasLastGate new
 more_records epoch old new records batch used some are room is =
     let spelled = used.spelled in

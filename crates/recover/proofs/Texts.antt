@@ -7,7 +7,7 @@ use Rattle.words.specs.Words.{long_word}
 use Rattle.ipc_model.specs.state.Circular.{Grounded}
 use Rattle.ipc_model.specs.state.Lawful.{Lawful, ShortQueues}
 use Rattle.ipc_model.specs.state.State.{State}
-use Rattle.ipc_model.specs.store.Recovery.{HoldsImage, IsOfEpoch}
+use Rattle.ipc_model.specs.store.Recovery.{HoldsImage, IsImageOf, IsOfEpoch}
 use Rattle.ipc_model.specs.store.Store.{image_content, open_gate, segment_header}
 use Rattle.ipc_model.specs.texts.Images.{image_text}
 use Rattle.image.specs.Fitting.{FitsImage}
@@ -18,7 +18,7 @@ use Rattle.snapshot.specs.LawfulSnapshot.{IsLawfulSnapshot}
 use Rattle.snapshot.specs.Rows.{one_state}
 use Rattle.snapshot.specs.Snapshots.{snapshot_of}
 use Rattle.snapshot.specs.declared.rows.Snapshot.{Snapshot}
-use Rattle.recover.specs.Loaded.{HoldsText, IsImageOf}
+use Rattle.recover.specs.Loaded.{HoldsText}
 
 -- a text that stands there with its length is one
 pub one_text : (a b x y : List ℕ) → length a < 2 ^ 64 → length b < 2 ^ 64 → long_word (length a) ++ (a ++ x) ≡ long_word (length b) ++ (b ++ y) → a ≡ b
@@ -42,8 +42,8 @@ text_is_image number epoch slot text state is holds image =
     record {
       rest = holds.rest;
       text = whole ∙ ap (λ (l : List ℕ). segment_header open_gate epoch ++ l) (sym (append_assoc (long_word (length text)) text holds.rest))
-          ∙ ap (λ (t : List ℕ). (open_gate ∷ image_content epoch t) ++ holds.rest) image.same;
-      fits = subst (λ (t : List ℕ). length t < 2 ^ 64) image.same holds.fits;
+          ∙ ap (λ (t : List ℕ). (open_gate ∷ image_content epoch t) ++ holds.rest) image.text_is;
+      fits = subst (λ (t : List ℕ). length t < 2 ^ 64) image.text_is holds.fits;
       lawful = image.lawful;
       grounded = image.grounded;
       short = image.short;
@@ -91,13 +91,13 @@ pub image_fits : (text : List ℕ) (state : State) → IsImageOf text state → 
 image_fits text state is = lawful_snapshots_fit state is.lawful is.short
 
 pub image_as_rows : (text : List ℕ) (state : State) → IsImageOf text state → text ≡ snapshot_text (snapshot_of state)
-image_as_rows text state is = is.same ∙ sym (image_of_state state)
+image_as_rows text state is = is.text_is ∙ sym (image_of_state state)
 
 pub rows_are_image : (text : List ℕ) (snapshot : Snapshot) (state : State) → text ≡ snapshot_text snapshot → snapshot ≡ snapshot_of state → IsLawfulSnapshot snapshot → IsImageOf text state
 rows_are_image text snapshot state is same lawful =
     let one : lawful.state ≡ state = one_state lawful.state state (sym lawful.same ∙ same) in
     record {
-      same = is ∙ ap snapshot_text same ∙ image_of_state state;
+      text_is = is ∙ ap snapshot_text same ∙ image_of_state state;
       lawful = subst Lawful one lawful.lawful;
       grounded = subst Grounded one lawful.grounded;
       short = subst ShortQueues one lawful.short;
@@ -119,7 +119,7 @@ pub text_of_image : (epoch : ℕ) (slot text : List ℕ) (state : State) → Hol
 text_of_image epoch slot text state holds image =
     let own = image_behind epoch slot state image in
     record {
-      same = one_text text (image_text state) holds.rest own.rest holds.fits own.fits (sym holds.behind ∙ own.behind);
+      text_is = one_text text (image_text state) holds.rest own.rest holds.fits own.fits (sym holds.behind ∙ own.behind);
       lawful = image.lawful;
       grounded = image.grounded;
       short = image.short;

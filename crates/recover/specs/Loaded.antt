@@ -1,9 +1,5 @@
 -- An image in its slot, behind the header's epoch.
 use Rattle.std.specs.Prelude.{◌≡◌, ℕ, ◌^◌, ◌<◌, List, ◌++◌, length, drop}
-use Rattle.ipc_model.specs.state.Circular.{Grounded}
-use Rattle.ipc_model.specs.state.Lawful.{Lawful, ShortQueues}
-use Rattle.ipc_model.specs.state.State.{State}
-use Rattle.ipc_model.specs.texts.Images.{image_text}
 use Rattle.words.specs.Words.{long_word}
 
 -- A slot holds a text with its length in front, behind the sixteen bytes of a gate, a version and an epoch.
@@ -11,10 +7,3 @@ pub record HoldsText (slot text : List ℕ) : Type 0 where
   pub rest : List ℕ
   pub fits : length text < 2 ^ 64
   pub behind : drop 16 slot ≡ long_word (length text) ++ (text ++ rest)
-
--- a text is the image of a lawful state
-pub record IsImageOf (text : List ℕ) (state : State) : Type 0 where
-  pub same : text ≡ image_text state
-  pub lawful : Lawful state
-  pub grounded : Grounded state
-  pub short : ShortQueues state

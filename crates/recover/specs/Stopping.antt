@@ -6,6 +6,7 @@ use Rattle.ipc_model.specs.declared.record.Record.{Record}
 use Rattle.ipc_model.specs.state.State.{State}
 use Rattle.ipc_model.specs.store.Recovery.{Recovered}
 use Rattle.ipc_model.specs.store.Store.{AreRecords, SpellsSegment, IsInUse, IsMidAppend, batch_text}
+use Rattle.journal.specs.Reading.{MAX_RECORDS}
 use Rattle.standing.specs.Standing.{as_written}
 
 -- Behind the batches of an open segment, or behind its header where it has none, stands a byte: a gate that isn't open. So
@@ -30,9 +31,9 @@ StandForSame before c = RecoverSame before c × HaveLastGates c
 abbrev pub LeavesSame : View → Slots → Type 0
 LeavesSame before c = MayLeave before c ⊎ StandForSame before.seen c
 
--- Whatever a stop leaves while a batch is appended to a segment in use, which holds at most 65,536 records, has its last
+-- Whatever a stop leaves while a batch is appended to a segment in use, which holds at most MAX_RECORDS records, has its last
 -- gate too.
 abbrev pub AppendKeepsGate : Type 0
 AppendKeepsGate =
-    (epoch : ℕ) (old new : List ℕ) (records batch : List Record) → IsInUse epoch old records → 0 < length batch → AreRecords batch → length records + length batch ≤ 65536
+    (epoch : ℕ) (old new : List ℕ) (records batch : List Record) → IsInUse epoch old records → 0 < length batch → AreRecords batch → length records + length batch ≤ MAX_RECORDS
     → IsMidAppend old (batch_text (length records) batch) new → HasLastGate new

@@ -3,9 +3,9 @@ ghost use Rattle.std.specs.Prelude.{◌≡◌, ◌⊎◌, ◌^◌, ◌<◌, ◌+
 ghost use Rattle.disk.specs.Moments.{CountsFailure, MayLeave, Passes, one_more};
 ghost use Rattle.disk.specs.Slots.{slot_of};
 ghost use Rattle.ipc_model.specs.state.State.{State};
-ghost use Rattle.ipc_model.specs.store.Recovery.{HoldsImage, IsOfEpoch, IsOpen};
+ghost use Rattle.ipc_model.specs.store.Recovery.{HoldsImage, IsImageOf, IsOfEpoch, IsOpen};
 ghost use Rattle.words.specs.Words.{long_word};
-ghost use Rattle.recover.specs.Loaded.{HoldsText, IsImageOf};
+ghost use Rattle.recover.specs.Loaded.{HoldsText};
 
 use disk::{Disk, DiskFault, Slot};
 use image::{ImageFault, read};

@@ -9,7 +9,7 @@ use Rattle.ipc_model.specs.declared.message.Message.{Message}
 use Rattle.ipc_model.specs.declared.message.RightKind.TheVariants as kind
 use Rattle.ipc_model.specs.effects.Effects.{Effect}
 use Rattle.ipc_model.specs.messages.Items.{Item, as_stored, is_port_item, items_text}
-use Rattle.ipc_model.specs.messages.Messages.{Parts}
+use Rattle.ipc_model.specs.messages.Messages.{UsedParts}
 use Rattle.ipc_model.specs.messages.Sending.{TakenHeader, TakenRights, Ready, ready_message, is_full, tests_of_queue, take_items}
 use Rattle.ipc_model.specs.state.Placed.{same_kind}
 use Rattle.ipc_model.specs.state.State.{State}
@@ -29,7 +29,7 @@ HeaderIs new waiting after header found =
 abbrev pub RightsAre : {Y : Type 0} → (Y → List CarriedRight) → State → List Effect → List Effect → TakenRights → Y → Type 0
 RightsAre items new waiting after taken rights = (items rights ≡ taken.rights) × (new ≡ taken.state) × (after ≡ waiting ++ taken.notices)
 
-abbrev pub message_of : Parts → List Item → HeaderRights → List CarriedRight → Message
+abbrev pub message_of : UsedParts → List Item → HeaderRights → List CarriedRight → Message
 message_of parts items found rights = record {
   destination = found.kind;
   reply = found.reply;
@@ -39,10 +39,10 @@ message_of parts items found rights = record {
   body = if parts.complex then items_text (map as_stored items) else parts.body;
 }
 
-abbrev pub made : Parts → List Item → HeaderRights → State → List CarriedRight → Result Message KernReturn
+abbrev pub made : UsedParts → List Item → HeaderRights → State → List CarriedRight → Result Message KernReturn
 made parts items found state rights = unless_failing ((is_full state found.port && not (same_kind found.kind kind.SendOnce), SendTimedOut) ∷ []) (Ok (message_of parts items found rights))
 
-abbrev pub next_rights : ℕ → Parts → List Item → TakenHeader → Result Ready KernReturn
+abbrev pub next_rights : ℕ → UsedParts → List Item → TakenHeader → Result Ready KernReturn
 next_rights space parts items header =
     and_then (or_refused SendInvalidRight (take_items space items (record { rights = []; state = header.state; notices = [] }))) (λ (rights : TakenRights).
     let ready : Ready = ready_message parts items header rights in
@@ -51,7 +51,7 @@ next_rights space parts items header =
 abbrev sent_one : Message → Result Message SendFault
 sent_one message = Ok message
 
-module _ (space : ℕ) (parts : Parts) (items : List Item) (found : HeaderRights) (mid new : State) (waiting between after : List Effect) where
+module _ (space : ℕ) (parts : UsedParts) (items : List Item) (found : HeaderRights) (mid new : State) (waiting between after : List Effect) where
   -- the message that is ready, where this was taken
   ready_is : (header : TakenHeader) (taken : TakenRights) (rights : List CarriedRight) → HeaderIs mid waiting between header found → rights ≡ taken.rights → new ≡ taken.state
       → ready_message parts items header taken ≡ record { message = message_of parts items found rights; port = found.port; state = new; notices = header.notices ++ taken.notices }

@@ -7,7 +7,7 @@ use Rattle.ipc_model.specs.calls.Tests.{Tests, and_then, or_refused, unless_fail
 use Rattle.ipc_model.specs.declared.message.Message.{Message}
 use Rattle.ipc_model.specs.effects.Effects.{Effect}
 use Rattle.ipc_model.specs.messages.Items.{Item}
-use Rattle.ipc_model.specs.messages.Messages.{Parts, parts_of}
+use Rattle.ipc_model.specs.messages.Messages.{UsedParts, used_parts}
 use Rattle.ipc_model.specs.messages.Sending.{Ready, ready_to_send, tests_of_size, header_disposition, reply_disposition, items_if_complex, ready_of_items}
 use Rattle.ipc_model.specs.rights.Dispositions.{Disposition}
 use Rattle.ipc_model.specs.state.State.{State}
@@ -18,7 +18,7 @@ use Rattle.sending.proofs.Steps.{gave_then, gave_failed, gave_same, told}
 use Rattle.sending.specs.declared.fault.SendFault.{SendFault}
 
 -- the tests passed
-passed : {Y Z W : Type 0} (tests : Tests) (parts : Parts) (by : Y → Parts) (next : Result Z KernReturn) (Then : Z → W → Type 0) (found : Y) (result : Result W SendFault)
+passed : {Y Z W : Type 0} (tests : Tests) (parts : UsedParts) (by : Y → UsedParts) (next : Result Z KernReturn) (Then : Z → W → Type 0) (found : Y) (result : Result W SendFault)
     → Gave (unless_failing tests (Ok parts)) (λ p y. p ≡ by y) (Ok found) → (parts ≡ by found → Gave next Then result) → Gave (unless_failing tests next) Then result
 passed [] parts by next Then found result is rest = rest is
 passed {Y} {Z} {W} (test ∷ tests) parts by next Then found result is rest =
@@ -28,7 +28,7 @@ passed {Y} {Z} {W} (test ∷ tests) parts by next Then found result is rest =
     ] is
 
 -- one of them failed
-failed : {Y Z W : Type 0} (tests : Tests) (parts : Parts) (by : Y → Parts) (next : Result Z KernReturn) (Then : Z → W → Type 0) (fault : SendFault)
+failed : {Y Z W : Type 0} (tests : Tests) (parts : UsedParts) (by : Y → UsedParts) (next : Result Z KernReturn) (Then : Z → W → Type 0) (fault : SendFault)
     → Gave (unless_failing tests (Ok parts)) (λ p (y : Y). p ≡ by y) (Err fault) → Gave (unless_failing tests next) Then (Err fault)
 failed [] parts by next Then fault is = want_is next Then fault is
 failed {Y} (test ∷ tests) parts by next Then fault is =
@@ -37,16 +37,16 @@ failed {Y} (test ∷ tests) parts by next Then fault is =
       | false ↦ λ (later : _). failed tests parts by next Then fault later
     ] is
 
-pub ready_passed : {Y W : Type 0} (state : State) (space : ℕ) (bytes : List ℕ) (by : Y → Parts) (Then : Ready → W → Type 0) (found : Y) (result : Result W SendFault)
-    → Gave (unless_failing (tests_of_size (length bytes)) (Ok (parts_of bytes))) (λ p y. p ≡ by y) (Ok found) → Gave (of_dispositions state space (by found)) Then result → Gave (ready_to_send state space bytes) Then result
+pub ready_passed : {Y W : Type 0} (state : State) (space : ℕ) (bytes : List ℕ) (by : Y → UsedParts) (Then : Ready → W → Type 0) (found : Y) (result : Result W SendFault)
+    → Gave (unless_failing (tests_of_size (length bytes)) (Ok (used_parts bytes))) (λ p y. p ≡ by y) (Ok found) → Gave (of_dispositions state space (by found)) Then result → Gave (ready_to_send state space bytes) Then result
 unfolding ready_to_send
 ready_passed state space bytes by Then found result is rest =
-    passed (tests_of_size (length bytes)) (parts_of bytes) by (of_dispositions state space (parts_of bytes)) Then found result is (λ parts. subst (λ (p : Parts). Gave (of_dispositions state space p) Then result) (sym parts) rest)
+    passed (tests_of_size (length bytes)) (used_parts bytes) by (of_dispositions state space (used_parts bytes)) Then found result is (λ parts. subst (λ (p : UsedParts). Gave (of_dispositions state space p) Then result) (sym parts) rest)
 
-pub ready_failed : {Y W : Type 0} (state : State) (space : ℕ) (bytes : List ℕ) (by : Y → Parts) (Then : Ready → W → Type 0) (fault : SendFault)
-    → Gave (unless_failing (tests_of_size (length bytes)) (Ok (parts_of bytes))) (λ p (y : Y). p ≡ by y) (Err fault) → Gave (ready_to_send state space bytes) Then (Err fault)
+pub ready_failed : {Y W : Type 0} (state : State) (space : ℕ) (bytes : List ℕ) (by : Y → UsedParts) (Then : Ready → W → Type 0) (fault : SendFault)
+    → Gave (unless_failing (tests_of_size (length bytes)) (Ok (used_parts bytes))) (λ p (y : Y). p ≡ by y) (Err fault) → Gave (ready_to_send state space bytes) Then (Err fault)
 unfolding ready_to_send
-ready_failed state space bytes by Then fault is = failed (tests_of_size (length bytes)) (parts_of bytes) by (of_dispositions state space (parts_of bytes)) Then fault is
+ready_failed state space bytes by Then fault is = failed (tests_of_size (length bytes)) (used_parts bytes) by (of_dispositions state space (used_parts bytes)) Then fault is
 
 -- what was found is what is ready, where no effect waited
 pub ready_found : (r : Result Ready KernReturn) (new : State) (waiting after : List Effect) (found : Message × ℕ) → waiting ≡ [] → Gave r (ReadyIs new waiting after) (Ok found)
@@ -70,7 +70,7 @@ all_told r new waiting after (Ok found) is = tt
 all_told r new waiting after (Err fault) is = told r (ReadyIs new waiting after) fault is
 
 -- The dispositions and the items of a message.
-module _ (state : State) (space : ℕ) (parts : Parts) where
+module _ (state : State) (space : ℕ) (parts : UsedParts) where
   abbrev of_items : Disposition → Option Disposition → Result Ready KernReturn
   of_items destination reply = and_then (items_if_complex parts.complex parts.body) (λ (items : List Item). ready_of_items state space parts destination reply items)
 

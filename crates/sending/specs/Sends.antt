@@ -6,7 +6,7 @@ use Rattle.ipc_model.specs.calls.Tests.{and_then, or_refused}
 use Rattle.ipc_model.specs.declared.message.Message.{Message}
 use Rattle.ipc_model.specs.effects.Effects.{Effect}
 use Rattle.ipc_model.specs.messages.Items.{Item}
-use Rattle.ipc_model.specs.messages.Messages.{Parts}
+use Rattle.ipc_model.specs.messages.Messages.{UsedParts}
 use Rattle.ipc_model.specs.messages.Sending.{Ready, header_disposition, reply_disposition, items_if_complex, ready_of_items, sent}
 use Rattle.ipc_model.specs.rights.Dispositions.{Disposition}
 use Rattle.ipc_model.specs.state.State.{State}
@@ -16,7 +16,7 @@ abbrev pub ReadyIs : State → List Effect → List Effect → Ready → Message
 ReadyIs new waiting after ready found = (found.0 ≡ ready.message) × (found.1 ≡ ready.port) × (new ≡ ready.state) × (after ≡ waiting ++ ready.notices)
 
 -- what a message becomes whose size is one that messages have
-abbrev pub of_dispositions : State → ℕ → Parts → Result Ready KernReturn
+abbrev pub of_dispositions : State → ℕ → UsedParts → Result Ready KernReturn
 of_dispositions state space parts =
     and_then (or_refused SendInvalidHeader (header_disposition parts.remote_disposition)) (λ (destination : Disposition).
     and_then (reply_disposition parts.local_disposition parts.local) (λ (reply : Option Disposition).

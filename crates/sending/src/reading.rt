@@ -1,7 +1,7 @@
 //! What is read of a task's bytes before any right is taken.
 ghost use Rattle.std.specs.Prelude.{◌≡◌, ◌==◌, length, map, Ok};
 ghost use Rattle.ipc_model.specs.calls.Tests.{or_refused, unless_failing};
-ghost use Rattle.ipc_model.specs.messages.Messages.{parts_of};
+ghost use Rattle.ipc_model.specs.messages.Messages.{used_parts};
 ghost use Rattle.ipc_model.specs.messages.Sending as sending;
 ghost use Rattle.msg_header.specs.Headers.{parts_by};
 ghost use Rattle.sending.specs.Gave.{Gave};
@@ -15,7 +15,7 @@ use type_desc::{Item, ItemFault, items};
 
 /// The header and the body of a message whose size is one that messages have.
 pub(crate) fn read_message(message: &[u8]) -> Result<(Header, &[u8]), SendFault>
-    ensures { Gave (unless_failing (sending.tests_of_size (length message.now)) (Ok (parts_of message.now))) (λ parts found. parts ≡ parts_by found.0 found.1.now) result }
+    ensures { Gave (unless_failing (sending.tests_of_size (length message.now)) (Ok (used_parts message.now))) (λ parts found. parts ≡ parts_by found.0 found.1.now) result }
 {
     let Ok(header) = parse(message) else {
         return Err(SendFault::Refused(KernReturn::SendMsgTooSmall));

@@ -48,7 +48,7 @@ new_session base number past places amount none nothing history =
       operations = [];
       legal = record {
         start = record { space = 1; seen = length past.entries; told = 0; places = [] };
-        new = record { space = refl; least = omega arith; within = omega (arith, length-map past.entries (λ (e : Entry). e.«record»)); told = refl; places = refl };
+        new = record { space = refl; within = omega (arith, length-map past.entries (λ (e : Entry). e.«record»)); told = refl; places = refl };
         after = refl;
       };
       seen = refl;

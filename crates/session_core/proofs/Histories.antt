@@ -51,7 +51,7 @@ pub did_session : (base : State) (old : SessionValue) (operation : Operation) (n
     → AreOwn new.past.entries new.number new.task.places → after ≡ length new.task.places → IsSession base new after
 did_session base old operation new amount after history is did seen own counted =
     let more = begins_records old.past.entries new.past.entries did.begins in
-    let legal = subst (λ (l : List Record). Legal base 0 l is.operations old.task) (sym more) (legal_stays_legal base 0 (records_of old.past.entries) (records_of (drop (length old.past.entries) new.past.entries)) is.operations old.task is.legal) in
+    let legal = subst (λ (l : List Record). Legal base l is.operations old.task) (sym more) (legal_stays_legal base (records_of old.past.entries) (records_of (drop (length old.past.entries) new.past.entries)) is.operations old.task is.legal) in
     record {
       history = history;
       operations = is.operations ++ operation ∷ [];

@@ -48,7 +48,7 @@ pub record IsHistory (base : State) (entries : List Entry) : Type 0 where
 pub record IsSession (base : State) (session : SessionValue) (amount : ℕ) : Type 0 where
   pub history : IsHistory base session.past.entries
   pub operations : List Operation
-  pub legal : Legal base 0 (records_of session.past.entries) operations session.task
+  pub legal : Legal base (records_of session.past.entries) operations session.task
   pub seen : session.task.seen ≡ length session.past.entries
   pub own : AreOwn session.past.entries session.number session.task.places
   pub counted : amount ≡ length session.task.places

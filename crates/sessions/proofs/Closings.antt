@@ -52,18 +52,18 @@ module _ (base : State) (entries : List Entry) (stored : ℕ) where
   all_apart last [] belong = none_apart
   all_apart last (s ∷ sessions) belong =
       let is = belong.0.is in
-      let order = legal_is_in_order base 0 (records_of s.past.entries) is.operations s.task is.legal in
+      let order = legal_is_in_order base (records_of s.past.entries) is.operations s.task is.legal in
       apart_beside entries s.number 0 s.task.seen s.task.places (places_of (tasks_of sessions)) order.places (own_further s.past.entries entries s.number s.task.places belong.0.begins is.own)
       (foreign_to_all s.number s.number sessions (omega arith) belong.1) (all_apart s.number sessions belong.1)
 
   -- They are legal in the whole history.
 
-  legal_in : (last : ℕ) (s : SessionValue) → (b : Belongs base entries stored last s) → Legal base 0 (records_of entries) b.is.operations s.task
+  legal_in : (last : ℕ) (s : SessionValue) → (b : Belongs base entries stored last s) → Legal base (records_of entries) b.is.operations s.task
   legal_in last s b =
-      subst (λ (l : List Record). Legal base 0 l b.is.operations s.task) (sym (begins_records s.past.entries entries b.begins))
-      (legal_stays_legal base 0 (records_of s.past.entries) (records_of (drop (length s.past.entries) entries)) b.is.operations s.task b.is.legal)
+      subst (λ (l : List Record). Legal base l b.is.operations s.task) (sym (begins_records s.past.entries entries b.begins))
+      (legal_stays_legal base (records_of s.past.entries) (records_of (drop (length s.past.entries) entries)) b.is.operations s.task b.is.legal)
 
-  each_legal : (last : ℕ) (sessions : List SessionValue) → AllBelong base entries stored last sessions → (each : Sessions) × (map (λ s. s.1) each ≡ tasks_of sessions) × AllLegal base 0 (records_of entries) each
+  each_legal : (last : ℕ) (sessions : List SessionValue) → AllBelong base entries stored last sessions → (each : Sessions) × (map (λ s. s.1) each ≡ tasks_of sessions) × AllLegal base (records_of entries) each
   each_legal last [] belong = ([], refl, tt)
   each_legal last (s ∷ sessions) belong =
       let rest = each_legal s.number sessions belong.1 in
@@ -78,14 +78,13 @@ module _ (base : State) (entries : List Entry) (stored : ℕ) where
         legal = record {
           end = history.state;
           run = history.run;
-          read = omega arith;
           legal = found.2;
           apart = subst AreApart (sym found.1) (all_apart last sessions belong);
         };
       }
 
 -- The records are as many as the places of all.
-pub are_all : (entries : List Entry) (sessions : List SessionValue) → length (places_of (tasks_of sessions)) ≡ length entries → AreAll 0 (records_of entries) (tasks_of sessions)
+pub are_all : (entries : List Entry) (sessions : List SessionValue) → length (places_of (tasks_of sessions)) ≡ length entries → AreAll (records_of entries) (tasks_of sessions)
 are_all entries sessions same = omega (arith, same, counted entries)
 
 -- What stood for the state after some records of a beginning stands for it still.

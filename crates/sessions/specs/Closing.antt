@@ -14,7 +14,7 @@ use Rattle.storer.specs.Storing.{StandsFor}
 pub record AreLegal (base : State) (entries : List Entry) (sessions : List SessionValue) : Type 0 where
   pub each : Sessions
   pub theirs : map (λ s. s.1) each ≡ tasks_of sessions
-  pub legal : IsLegalHistory base 0 (records_of entries) each
+  pub legal : IsLegalHistory base (records_of entries) each
 
 -- A stop leaves the state after some first records of a history, and no fewer than are stored.
 pub record IsLeft (base : State) (stored : ℕ) (view : View) : Type 0 where

@@ -12,11 +12,11 @@ use Rattle.ipc_model.specs.declared.record.Record.{Record}
 use Rattle.ipc_model.specs.state.Circular.{Grounded}
 use Rattle.ipc_model.specs.state.Lawful.{Lawful}
 use Rattle.ipc_model.specs.state.State.{State}
-use Rattle.ipc_model.specs.store.Recovery.{Recovered}
+use Rattle.ipc_model.specs.store.Recovery.{IsImageOf, Recovered}
 use Rattle.ipc_model.specs.store.Store.{AreRecords}
 use Rattle.ipc_model.specs.texts.Texts.{kept_record}
 use Rattle.journal.specs.Batch.{BatchValue, Holds, batch_code}
-use Rattle.phases.specs.Phases.{IsImageOf, Keeps}
+use Rattle.phases.specs.Phases.{Keeps}
 use Rattle.standing.specs.Standing.{as_written}
 use Rattle.storing.specs.Values.{CutValue, StoreValue, cut_code, store_code}
 

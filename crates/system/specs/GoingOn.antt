@@ -3,8 +3,8 @@ use Rattle.std.specs.Prelude.{◌≡◌, ◌⊎◌, ℕ, ◌+◌, ◌-◌, ◌^�
 use Rattle.disk.specs.Moments.{View}
 use Rattle.disk.specs.Slots.{Slots}
 use Rattle.ipc_model.specs.state.State.{State}
-use Rattle.ipc_model.specs.store.Recovery.{Recovered}
-use Rattle.phases.specs.Phases.{IsImageOf, Keeps}
+use Rattle.ipc_model.specs.store.Recovery.{IsImageOf, Recovered}
+use Rattle.phases.specs.Phases.{Keeps}
 use Rattle.standing.specs.Standing.{as_written}
 use Rattle.storing.specs.Changes.{CanFinish, ClosesImage, Finishes, HasImaged, HasPieceLeft, RollsClose, RollsHead, RollsOpen, WritesPiece}
 use Rattle.storing.specs.Values.{CheckpointValue, CutValue, StoreValue, begun}

@@ -10,9 +10,9 @@ use Rattle.ipc_model.specs.declared.call.Reply.TheVariants as reply
 use Rattle.ipc_model.specs.declared.record.Record.{Record}
 use Rattle.ipc_model.specs.state.State.{State}
 use Rattle.ipc_model.specs.state.StateCode.{state_code}
+use Rattle.ipc_model.specs.store.Recovery.{IsImageOf}
 use Rattle.ipc_model.specs.texts.Texts.{kept_record, record_text, FitsCall, IsRecord}
 use Rattle.journal.specs.Batch.{BatchValue, batch_code, empty_batch, with_text}
-use Rattle.phases.specs.Phases.{IsImageOf}
 use Rattle.storing.specs.Values.{CutValue}
 
 -- The row of an epoch: how many records it has, how many were made since the store was opened, in all epochs, and the ones

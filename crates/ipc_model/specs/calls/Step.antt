@@ -86,10 +86,26 @@ abbrev pub is_recorded : Call → Bool
 is_recorded (call.Attach space) = false
 is_recorded call.Names = false
 is_recorded (call.Type name) = false
+is_recorded (call.Rename from to) = true
+is_recorded (call.AllocateName kind name) = true
+is_recorded (call.Allocate kind) = true
+is_recorded (call.Destroy name) = true
+is_recorded (call.Deallocate name) = true
 is_recorded (call.GetRefs name kind) = false
+is_recorded (call.ModRefs name kind delta) = true
+is_recorded (call.SetQlimit name limit) = true
+is_recorded (call.SetMscount name count) = true
+is_recorded (call.SetSeqno name seqno) = true
 is_recorded (call.GetReceiveStatus name) = false
 is_recorded (call.GetSetStatus name) = false
-is_recorded c = true
+is_recorded (call.MoveMember member after) = true
+is_recorded (call.RequestNotification name variant sync notify_name disposition) = true
+is_recorded (call.InsertRight name right_name disposition) = true
+is_recorded (call.ExtractRight name disposition) = true
+is_recorded (call.Send message) = true
+is_recorded (call.Receive limit large name waited) = true
+is_recorded (call.SpaceCreate name disposition) = true
+is_recorded call.SpaceDestroy = true
 
 abbrev pub is_success : KernReturn → Bool
 is_success Success = true

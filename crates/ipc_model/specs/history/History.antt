@@ -1,5 +1,5 @@
 -- Legal histories: several sessions, each with the calls of a task, and the one list of records that their calls make.
-use Rattle.std.specs.Prelude.{◌≡◌, ◌≢◌, ◌⊎◌, ℕ, ◌+◌, ◌<◌, ◌≤◌, max, true, false, List, [], ◌∷◌, ◌++◌, length, take, map, flat_map, AllPairs, Some, slice_get, if◌then◌else◌}
+use Rattle.std.specs.Prelude.{◌≡◌, ◌≢◌, ◌⊎◌, ℕ, ◌<◌, ◌≤◌, max, true, false, List, [], ◌∷◌, ◌++◌, length, take, map, flat_map, AllPairs, Some, slice_get, if◌then◌else◌}
 use Rattle.codes.specs.declared.name.TheConstants.{FIRST_SPACE}
 use Rattle.ipc_model.specs.declared.call.Call.{Call}
 use Rattle.ipc_model.specs.declared.call.Call.TheVariants as call
@@ -8,8 +8,8 @@ use Rattle.ipc_model.specs.declared.record.Record.{Record}
 use Rattle.ipc_model.specs.state.State.{State}
 use Rattle.ipc_model.specs.calls.Step.{Run, Answer, has_record, succeeded}
 
--- The history is the records that the opening read, and behind them the new ones. A record's place is how many stand
--- before it.
+-- The history begins in the state that the opening gave, and is the list of records made since. A record's place is how
+-- many stand before it. Records that the opening read are no part of it: what they made is the state that it begins in.
 
 -- A session: the space that its task is attached to; how many records of the history it has seen; of how many it was told,
 -- which is the most that a reply saw which it redeemed; and the places of its own records.
@@ -74,29 +74,26 @@ abbrev pub AfterAll : State → List Record → Session → List Operation → S
 AfterAll base history old [] new = new ≡ old
 AfterAll base history old (first ∷ operations) new = (mid : Session) × After base history old first mid × AfterAll base history mid operations new
 
--- A new session is attached to the first space, and was told nothing. It has seen a beginning of the history, and in it all
--- that the opening read.
-pub record IsNew (opened : ℕ) (history : List Record) (session : Session) : Type 0 where
+-- A new session is attached to the first space, was told nothing, and has seen a beginning of the history.
+pub record IsNew (history : List Record) (session : Session) : Type 0 where
   pub space : session.space ≡ FIRST_SPACE
-  pub least : opened ≤ session.seen
   pub within : session.seen ≤ length history
   pub told : session.told ≡ 0
   pub places : session.places ≡ []
 
--- A session is legal in a history that runs from this base, and of which the opening read so many records, where these
--- operations made it of a new one.
-pub record Legal (base : State) (opened : ℕ) (history : List Record) (operations : List Operation) (session : Session) : Type 0 where
+-- A session is legal in a history that runs from this base where these operations made it of a new one.
+pub record Legal (base : State) (history : List Record) (operations : List Operation) (session : Session) : Type 0 where
   pub start : Session
-  pub new : IsNew opened history start
+  pub new : IsNew history start
   pub after : AfterAll base history start operations session
 
 -- several sessions, each with its operations
 abbrev pub Sessions : Type 0
 Sessions = List (List Operation × Session)
 
-abbrev pub AllLegal : State → ℕ → List Record → Sessions → Type 0
-AllLegal base opened history [] = Unit {0}
-AllLegal base opened history (first ∷ sessions) = Legal base opened history first.0 first.1 × AllLegal base opened history sessions
+abbrev pub AllLegal : State → List Record → Sessions → Type 0
+AllLegal base history [] = Unit {0}
+AllLegal base history (first ∷ sessions) = Legal base history first.0 first.1 × AllLegal base history sessions
 
 abbrev pub places_of : List Session → List ℕ
 places_of sessions = flat_map (λ session. session.places) sessions
@@ -106,16 +103,15 @@ abbrev pub AreApart : List Session → Type 0
 AreApart sessions = AllPairs (λ place other. place ≢ other) (places_of sessions)
 
 -- A legal history: its records are a run from the base, each session is legal, and no place belongs to two.
-pub record IsLegalHistory (base : State) (opened : ℕ) (history : List Record) (sessions : Sessions) : Type 0 where
+pub record IsLegalHistory (base : State) (history : List Record) (sessions : Sessions) : Type 0 where
   pub end : State
   pub run : Run base history end
-  pub read : opened ≤ length history
-  pub legal : AllLegal base opened history sessions
+  pub legal : AllLegal base history sessions
   pub apart : AreApart (map (λ session. session.1) sessions)
 
--- These are all the sessions that there were: the new records are as many as their places together.
-abbrev pub AreAll : ℕ → List Record → List Session → Type 0
-AreAll opened history sessions = opened + length (places_of sessions) ≡ length history
+-- These are all the sessions that there were: the records are as many as their places together.
+abbrev pub AreAll : List Record → List Session → Type 0
+AreAll history sessions = length (places_of sessions) ≡ length history
 
 -- Two sessions that meet have then both seen the longer beginning, and no place belongs to both.
 pub record Meet (one other one_after other_after : Session) : Type 0 where

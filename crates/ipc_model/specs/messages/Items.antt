@@ -1,12 +1,12 @@
 -- The items of a message's body: descriptors, each with its data behind it.
 -- (Kernel Interfaces, mach_msg, mach_msg_type_t and mach_msg_type_long_t.)
-use Rattle.std.specs.Prelude.{ℕ, zero, suc, ◌+◌, ◌*◌, ◌/◌, ◌%◌, ◌^◌, Bool, true, false, ◌==◌, ◌&&◌, ◌||◌, not, nat_le, nat_lt, List, [], ◌∷◌, ◌++◌, length, take, drop, replicate, flat_map, None, Some, Result, Ok, Err, if◌then◌else◌}
+use Rattle.std.specs.Prelude.{◌≡◌, ℕ, zero, suc, ◌+◌, ◌*◌, ◌/◌, ◌%◌, ◌^◌, ◌<◌, Bool, true, false, ◌==◌, ◌&&◌, ◌||◌, not, nat_le, nat_lt, List, [], ◌∷◌, ◌++◌, length, take, drop, replicate, flat_map, None, Some, Result, Ok, Err, if◌then◌else◌}
 use Rattle.words.specs.Numbers.{little_number, little_bytes}
 use Rattle.codes.specs.declared.kern_return.KernReturn.{KernReturn}
 use Rattle.codes.specs.declared.kern_return.KernReturn.TheVariants.{SendMsgTooSmall, SendInvalidMemory, SendInvalidType}
 use Rattle.ipc_model.specs.rights.Dispositions.{MoveReceive, MakeSendOnce, disposition_of, number_of_disposition, received_kind, number_of_kind}
 use Rattle.ipc_model.specs.calls.Tests.{Tests, and_then, unless_failing}
-use Rattle.words.specs.Words.{word}
+use Rattle.words.specs.Words.{AreBytes, word}
 
 -- an item: its type name, the bits and the number of its elements, whether its descriptor is a long one, and its
 -- data with the padding
@@ -109,6 +109,33 @@ items_text items = flat_map item_text items
 
 abbrev pub is_port_item : Item → Bool
 is_port_item item = is_port_type item.type_name
+
+-- The bounds of the fields of a short and of a long descriptor: of type name and bits, and of the number of elements.
+abbrev pub name_bound : Bool → ℕ
+name_bound false = 2 ^ 8
+name_bound true = 2 ^ 16
+
+abbrev pub number_bound : Bool → ℕ
+number_bound false = 2 ^ 12
+number_bound true = 2 ^ 32
+
+-- An item that can stand in a body: its type name, bits and number have room in the fields of its descriptor, a port has
+-- 32 bits, and its data is bytes, as many as number and bits say, with the padding.
+pub record IsItem (item : Item) : Type 0 where
+  pub type_name : item.type_name < name_bound item.is_long
+  pub bits : item.bits < name_bound item.is_long
+  pub number : item.number < number_bound item.is_long
+  pub ports : is_port_item item ≡ true → item.bits ≡ 32
+  pub long : length item.content ≡ padded (item.number * item.bits)
+  pub bytes : AreBytes item.content
+
+abbrev pub AreItems : List Item → Type 0
+AreItems [] = Unit {0}
+AreItems (item ∷ items) = IsItem item × AreItems items
+
+-- These items, and no others between or behind them, are the body.
+abbrev pub Tile : List Item → List ℕ → Type 0
+Tile items body = AreItems items × (items_text items ≡ body)
 
 -- so many words from the front
 abbrev pub words_of : ℕ → List ℕ → List ℕ

@@ -36,10 +36,11 @@ is_complex bits = (bits / 2 ^ 31) % 2 == 1
 abbrev pub complex_bit : Bool → ℕ
 complex_bit complex = if complex then 2 ^ 31 else 0
 
--- What a send reads of a message's bytes: how many they are, the header's bits by their meaning, the names of the
--- destination and of the reply, the id, and the body. The words of size and sequence number are ignored, and so are the
--- other bits.
-pub record Parts : Type 0 where
+-- What a send uses of a message's bytes: how many they are, the header's bits by their meaning, the names of the
+-- destination and of the reply, the id, and the body. It ignores the words of size and sequence number, and of the word of
+-- bits those from 16 to 30, which are neither of the dispositions and not the complex bit. Messages that differ in these
+-- alone have the same used parts.
+pub record UsedParts : Type 0 where
   pub size : ℕ
   pub remote_disposition : ℕ
   pub local_disposition : ℕ
@@ -49,8 +50,8 @@ pub record Parts : Type 0 where
   pub id : ℕ
   pub body : List ℕ
 
-abbrev pub parts_of : List ℕ → Parts
-parts_of bytes = record {
+abbrev pub used_parts : List ℕ → UsedParts
+used_parts bytes = record {
   size = length bytes;
   remote_disposition = remote_disposition (bits_of bytes);
   local_disposition = local_disposition (bits_of bytes);
@@ -61,10 +62,10 @@ parts_of bytes = record {
   body = body_of bytes;
 }
 
--- Bytes are a message with these parts.
-pub record IsMessage (bytes : List ℕ) (parts : Parts) : Type 0 where
+-- Bytes have a whole header, and these are the parts of them that a send uses.
+pub record HasUsedParts (bytes : List ℕ) (parts : UsedParts) : Type 0 where
   pub whole : header_length ≤ length bytes
-  pub parts_are : parts ≡ parts_of bytes
+  pub parts_are : parts ≡ used_parts bytes
 
 -- a message's bytes
 abbrev pub message_text : ℕ → ℕ → ℕ → ℕ → ℕ → List ℕ → List ℕ

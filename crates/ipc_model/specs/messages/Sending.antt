@@ -17,7 +17,7 @@ use Rattle.ipc_model.specs.rights.CopyIn.{Taken, copy_in}
 use Rattle.ipc_model.specs.rights.Dispositions.{Disposition, MoveReceive, MoveSend, MoveSendOnce, CopySend, MakeSend, MakeSendOnce, disposition_of, number_of_disposition, received_kind}
 use Rattle.ipc_model.specs.effects.Effects.{Effect, release, releases_of, queued, Outcome}
 use Rattle.ipc_model.specs.messages.Items.{Item, items_of, items_text, as_stored, is_port_item, names_of_item}
-use Rattle.ipc_model.specs.messages.Messages.{Parts, parts_of, header_length}
+use Rattle.ipc_model.specs.messages.Messages.{UsedParts, used_parts, header_length}
 use Rattle.ipc_model.specs.state.Placed.{same_kind}
 use Rattle.ipc_model.specs.state.State.{State, is_null_or_dead}
 use Rattle.ipc_model.specs.calls.Tests.{Tests, and_then, or_refused, unless_failing}
@@ -142,7 +142,7 @@ pub record Ready : Type 0 where
   pub state : State
   pub notices : List Effect
 
-abbrev pub ready_message : Parts → List Item → TakenHeader → TakenRights → Ready
+abbrev pub ready_message : UsedParts → List Item → TakenHeader → TakenRights → Ready
 ready_message parts items header taken = record {
   message = record {
     destination = header.kind;
@@ -164,7 +164,7 @@ is_full state serial = elim (finmap.get state.ports serial) as (λ _. Bool) [ No
 abbrev pub tests_of_queue : Ready → Tests
 tests_of_queue ready = (is_full ready.state ready.port && not (same_kind ready.message.destination kind.SendOnce), SendTimedOut) ∷ []
 
-abbrev pub ready_of_items : State → ℕ → Parts → Disposition → Option Disposition → List Item → Result Ready KernReturn
+abbrev pub ready_of_items : State → ℕ → UsedParts → Disposition → Option Disposition → List Item → Result Ready KernReturn
 ready_of_items state space parts destination reply items =
     unless_failing ((nat_lt MAX_MESSAGE_PORTS (ports_in items), SendNoBuffer) ∷ (is_null_or_dead parts.remote, SendInvalidDest) ∷ [])
     (and_then (take_header state space parts.remote destination parts.local reply) (λ (header : TakenHeader).
@@ -174,7 +174,7 @@ ready_of_items state space parts destination reply items =
 
 -- What a message becomes, or the code of the first test that fails: of the size, the header, the items, the destination
 -- and reply rights, the body's rights, and the queue.
-abbrev pub ready_by_parts : State → ℕ → Parts → Result Ready KernReturn
+abbrev pub ready_by_parts : State → ℕ → UsedParts → Result Ready KernReturn
 ready_by_parts state space parts =
     unless_failing (tests_of_size parts.size)
     (and_then (or_refused SendInvalidHeader (header_disposition parts.remote_disposition)) (λ (destination : Disposition).
@@ -183,7 +183,7 @@ ready_by_parts state space parts =
 
 -- the same of a task's bytes
 unfoldable pub ready_to_send : State → ℕ → List ℕ → Result Ready KernReturn
-ready_to_send state space bytes = ready_by_parts state space (parts_of bytes)
+ready_to_send state space bytes = ready_by_parts state space (used_parts bytes)
 
 -- a receive right of the body would travel to its own queue
 abbrev pub goes_in_circle : State → ℕ → CarriedRight → Bool

@@ -46,6 +46,13 @@ pub record IsNew (slots : Slots) : Type 0 where
   pub unused : (number epoch : ℕ) → number < 2 → IsOpen segment_header_length (slots.segment number) → IsOfEpoch number epoch (slots.segment number)
       → (epoch ≡ 0) × IsClosed (drop segment_header_length (slots.segment number))
 
+-- A text is the image of this state, which is lawful and grounded, and whose queues are short.
+pub record IsImageOf (text : List ℕ) (state : State) : Type 0 where
+  pub text_is : text ≡ image_text state
+  pub lawful : Lawful state
+  pub grounded : Grounded state
+  pub short : ShortQueues state
+
 -- An open image of this epoch holds the text of this state, which is lawful and grounded. What lies past it isn't read.
 pub record HoldsImage (epoch : ℕ) (slot : List ℕ) (state : State) : Type 0 where
   pub rest : List ℕ

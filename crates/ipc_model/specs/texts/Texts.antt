@@ -158,9 +158,13 @@ FitsReply (reply.Extracted name kind) = name < 2 ^ 32
 FitsReply (reply.Message code size member message) = (size < 2 ^ 32) × (member < 2 ^ 32) × AreBytes message
 FitsReply (reply.SpaceCreated space name) = (space < 2 ^ 32) × (name < 2 ^ 32)
 
--- a send's message has its header
+-- the sizes that a message may have
+abbrev pub IsMessageSize : ℕ → Type 0
+IsMessageSize size = (header_length ≤ size) × (size ≤ MAX_MESSAGE_SIZE) × (size % 4 ≡ 0)
+
+-- a send's message has such a size
 abbrev pub IsWholeCall : Call → Type 0
-IsWholeCall (call.Send message) = header_length ≤ length message
+IsWholeCall (call.Send message) = IsMessageSize (length message)
 IsWholeCall c = Unit {0}
 
 -- A call that stands in a record is in range, whole, and as a record keeps it.
@@ -169,19 +173,31 @@ pub record IsKeptCall (c : Call) : Type 0 where
   pub whole : IsWholeCall c
   pub kept : kept_call c ≡ c
 
--- of the calls that have records, those that have no results
+-- Of the calls that have records, those that have no results. Of the others it isn't asked.
 abbrev pub has_no_results : Call → Bool
+has_no_results (call.Attach space) = true
+has_no_results call.Names = true
+has_no_results (call.Type name) = true
+has_no_results (call.Rename from to) = true
+has_no_results (call.AllocateName kind name) = true
 has_no_results (call.Allocate kind) = false
+has_no_results (call.Destroy name) = true
+has_no_results (call.Deallocate name) = true
+has_no_results (call.GetRefs name kind) = true
+has_no_results (call.ModRefs name kind delta) = true
+has_no_results (call.SetQlimit name limit) = true
+has_no_results (call.SetMscount name count) = true
+has_no_results (call.SetSeqno name seqno) = true
+has_no_results (call.GetReceiveStatus name) = true
+has_no_results (call.GetSetStatus name) = true
+has_no_results (call.MoveMember member after) = true
 has_no_results (call.RequestNotification name variant sync notify_name disposition) = false
+has_no_results (call.InsertRight name right_name disposition) = true
 has_no_results (call.ExtractRight name disposition) = false
 has_no_results (call.Send message) = false
 has_no_results (call.Receive limit large name waited) = false
 has_no_results (call.SpaceCreate name disposition) = false
-has_no_results c = true
-
--- the sizes that a message may have
-abbrev pub IsMessageSize : ℕ → Type 0
-IsMessageSize size = (header_length ≤ size) × (size ≤ MAX_MESSAGE_SIZE) × (size % 4 ≡ 0)
+has_no_results call.SpaceDestroy = true
 
 -- What a receipt with this limit tells: the size of the message that it took out and the name of the port. It brings the
 -- message, or nothing where the message was larger than the limit and was destroyed.

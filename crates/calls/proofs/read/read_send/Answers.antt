@@ -1,7 +1,7 @@
 use Rattle.std.proofs.Common.{◌≡◌, ℕ, List, ◌++◌, drop, sym, ap, subst, ◌∙◌, refl, arith}
 use Rattle.ipc_laws.specs.KeptLaws.{kept_again, kept_bytes, kept_long}
 use Rattle.ipc_model.specs.declared.call.Call.TheVariants as call
-use Rattle.ipc_model.specs.texts.Texts.{IsKeptCall}
+use Rattle.ipc_model.specs.texts.Texts.{IsKeptCall, IsMessageSize}
 use Rattle.words.specs.Words.{word}
 use Rattle.calls.proofs.Messages.{bytes_behind, kept_same, same_bytes, other_bytes}
 use Rattle.ipc_model.specs.messages.Kept.{kept_message}
@@ -28,7 +28,7 @@ returns-clause-found c =
       refl,
       subst (λ (l : List ℕ). IsKeptCall (call.Send l)) (sym kept) (record {
         fits = kept_bytes message bytes;
-        whole = omega (arith, kept_long message, c.if-message-lt-HEADER_LENGTH.false);
+        whole = subst IsMessageSize (sym (kept_long message)) (c.is_message_size.ensures.yes c.if-not-is_message_size.false);
         kept = ap (λ (l : List ℕ). call.Send l) (kept_again message);
       }),
     )

@@ -1,7 +1,7 @@
 use Rattle.std.proofs.Common.{◌≡◌, ℕ, Bool, true, false, List, [], ◌++◌, sym, ap, ◌∙◌}
 use Rattle.std.proofs.lemmas.List.{take_rest, append-nil}
 use Rattle.ipc_model.specs.messages.Items.{items_of}
-use Rattle.ipc_model.specs.messages.Messages.{Parts, IsMessage, body_of}
+use Rattle.ipc_model.specs.messages.Messages.{UsedParts, HasUsedParts, body_of}
 use Rattle.ipc_model.specs.messages.Sending.{items_if_complex}
 use Rattle.msg_header.specs.Headers.{parts_by}
 use Rattle.receiving.specs.ShownNames.{names_shown, name_in_header, names_in_items, parts_shown}
@@ -9,7 +9,7 @@ use Rattle.receiving.proofs.shown.names_shown.Goals as goal
 use Rattle.receiving.proofs.shown.names_shown.Goals.{then-header+in_ok-add_names_in_body, else-header}
 
 -- names that were added one after another
-all_added : (bytes start named all : List ℕ) (parts : Parts) → IsMessage bytes parts → start ≡ [] → named ≡ start ++ name_in_header parts.remote_disposition parts.remote
+all_added : (bytes start named all : List ℕ) (parts : UsedParts) → HasUsedParts bytes parts → start ≡ [] → named ≡ start ++ name_in_header parts.remote_disposition parts.remote
     → all ≡ named ++ names_in_items (items_if_complex parts.complex parts.body) → all ≡ names_shown bytes
 all_added bytes start named all parts is none first more =
     more ∙ ap (λ (l : List ℕ). l ++ names_in_items (items_if_complex parts.complex parts.body)) (first ∙ ap (λ (l : List ℕ). l ++ name_in_header parts.remote_disposition parts.remote) none)

@@ -1,8 +1,8 @@
 use Rattle.std.proofs.Common.{ℕ, List, sym, subst}
 use Rattle.std.proofs.lemmas.Result.{err_from_is_err_and}
 use Rattle.disk.specs.Slots.{slot_of}
+use Rattle.ipc_model.specs.store.Recovery.{IsImageOf}
 use Rattle.ipc_model.specs.texts.Images.{image_text}
-use Rattle.recover.specs.Loaded.{IsImageOf}
 use Rattle.recover.proofs.Texts.{image_behind, text_is_image, text_of_image}
 use Rattle.recover.proofs.loading.load_image.Goals as goal
 

@@ -1,6 +1,6 @@
 use Rattle.std.proofs.Common.{List, ℕ, Bor}
 use Rattle.std.proofs.lemmas.Result.{err_from_is_err_and}
-use Rattle.ipc_model.specs.messages.Messages.{Parts}
+use Rattle.ipc_model.specs.messages.Messages.{UsedParts}
 use Rattle.msg_header.specs.Headers.{parts_by}
 use Rattle.msg_header.specs.declared.header.Header.{Header}
 use Rattle.ipc_model.specs.messages.Sending.{ready_to_send}
@@ -9,7 +9,7 @@ use Rattle.sending.proofs.Steps.{told}
 use Rattle.sending.proofs.Whole.{ready_passed, ready_failed, all_found, all_told}
 use Rattle.sending.proofs.ready.ready.Goals as goal
 
-abbrev by : Header × Bor (List ℕ) → Parts
+abbrev by : Header × Bor (List ℕ) → UsedParts
 by found = parts_by found.0 found.1.now
 
 pub returns-in_err-header-clause-refused : goal.returns-in_err-header-clause-refused

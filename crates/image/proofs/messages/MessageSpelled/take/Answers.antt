@@ -1,8 +1,9 @@
-use Rattle.std.proofs.Common.{◌∙◌, ◌++◌, sym, flat_map, length, arith}
+use Rattle.std.proofs.Common.{◌∙◌, ◌++◌, sym, subst, flat_map, length, arith}
 use Rattle.image.specs.Parts.{behind_head, message_apart, message_found, none_and, some_and, some_if}
 use Rattle.ipc_laws.specs.TextLaws.{word_once}
 use Rattle.ipc_model.specs.messages.Receiving.{message_size}
 use Rattle.ipc_model.specs.texts.Images.{carried_text}
+use Rattle.ipc_model.specs.texts.Texts.{IsMessageSize}
 use Rattle.image.proofs.messages.MessageSpelled.take.Goals as goal
 
 pub returns-in_default-clause-only : goal.returns-in_default-clause-only
@@ -34,7 +35,7 @@ returns-clause-found c =
         destination = c.in-Some.ensures.fits.0;
         reply = c.in-Some.ensures.fits.1;
         id = c.in-Some.ensures.fits.2;
-        size = omega (arith, c.in-Some.ensures.fits.3, body.1);
+        size = subst IsMessageSize body.1 c.in-Some.ensures.fits.3;
         few_rights = omega (arith, c.in-Some-take_word.ensures.fits, rights.1);
         rights = rights.2;
         bytes = body.2;

@@ -1,8 +1,8 @@
 use Rattle.std.proofs.Common.{rules, ◌≡◌, ◌+◌, ◌-◌, ◌<◌, ◌^◌, refl, true, ap, subst, ◌∙◌}
 use Rattle.std.specs.Prelude.{is_none}
 use Rattle.ipc_model.specs.state.State.{State}
+use Rattle.ipc_model.specs.store.Recovery.{IsImageOf}
 use Rattle.image.specs.Rows.{snapshot_text}
-use Rattle.phases.specs.Phases.{IsImageOf}
 use Rattle.storing.specs.Values.{CutValue}
 use Rattle.system.specs.Halves.{KernelValue, next_row}
 use Rattle.system.proofs.Making.{can_cut, with_fault}
