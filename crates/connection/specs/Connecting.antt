@@ -1,7 +1,7 @@
 -- A connection among others: what the calls of its task make of its session.
 use Rattle.std.specs.Prelude.{◌≡◌, Option, Some}
 use Rattle.ipc_model.specs.declared.call.Call.{Call}
-use Rattle.ipc_model.specs.history.History.{called, looked, redeemed}
+use Rattle.ipc_model.specs.history.History.{called, looked, redemption}
 use Rattle.ipc_model.specs.state.State.{State}
 use Rattle.session_core.specs.Tokens.{SessionValue, Did}
 use Rattle.system.specs.Halves.{TicketValue}
@@ -19,5 +19,5 @@ LacksOne base _ c _ = ⊥
 
 -- a ticket was redeemed.
 abbrev pub TellsOne : State → Option SessionValue → TicketValue → Option SessionValue → Type 0
-TellsOne base (Some old) ticket (Some new) = Did base old (redeemed ticket.seen) new
+TellsOne base (Some old) ticket (Some new) = Did base old (redemption old.task ticket.seen) new
 TellsOne base _ ticket _ = ⊥

@@ -8,7 +8,7 @@ use Rattle.ipc_model.specs.declared.call.Reply.{Reply}
 use Rattle.ipc_model.specs.declared.record.Record.{Record}
 use Rattle.ipc_model.specs.calls.Step.{Run, has_record}
 use Rattle.ipc_model.specs.state.State.{State}
-use Rattle.ipc_model.specs.history.History.{Session, Operation, called, redeemed, looked, IsAnswered, Leads, After, AfterAll, IsNew, Legal, Meet}
+use Rattle.ipc_model.specs.history.History.{Session, Operation, called, redeemed, redeemed_for_another, looked, IsAnswered, IsTold, Leads, After, AfterAll, IsNew, Legal, Meet}
 
 -- places rise, from a least one on, and lie below a number
 abbrev pub RiseWithin : ℕ → ℕ → List ℕ → Type 0
@@ -30,6 +30,10 @@ pub record IsInOrder (history : List Record) (session : Session) : Type 0 where
   pub told : session.told ≤ session.seen
   pub places : RiseWithin 0 session.seen session.places
 
+told_order : (history : List Record) (old : Session) (seen : ℕ) (new : Session) → old.seen ≤ new.seen → new.seen ≤ length history → IsTold old seen new → IsInOrder history old → IsInOrder history new
+told_order history old seen new more within told order =
+    subst (IsInOrder history) (sym told.1) (record { seen = within; told = omega (arith, more, order.told, told.0); places = rise_further 0 old.seen new.seen old.places more order.places })
+
 led_order : (base : State) (history : List Record) (old : Session) (operation : Operation) (new : Session) → old.seen ≤ new.seen → new.seen ≤ length history → Leads base history old operation new
     → IsInOrder history old → IsInOrder history new
 led_order base history old (called c answer) new more within (inl at) order = subst (IsInOrder history) (sym at.after) (record {
@@ -39,8 +43,8 @@ led_order base history old (called c answer) new more within (inl at) order = su
 })
 led_order base history old (called c answer) new more within (inr is) order =
     subst (IsInOrder history) (sym is.after) (record { seen = within; told = omega (arith, more, order.told); places = rise_further 0 old.seen new.seen old.places more order.places })
-led_order base history old (redeemed seen) new more within led order =
-    subst (IsInOrder history) (sym led.1) (record { seen = within; told = omega (arith, more, order.told, led.0); places = rise_further 0 old.seen new.seen old.places more order.places })
+led_order base history old (redeemed seen) new more within led order = told_order history old seen new more within led.1 order
+led_order base history old (redeemed_for_another seen) new more within led order = told_order history old seen new more within led order
 led_order base history old looked new more within led order =
     subst (IsInOrder history) (sym led) (record { seen = within; told = omega (arith, more, order.told); places = rise_further 0 old.seen new.seen old.places more order.places })
 
@@ -76,6 +80,7 @@ abbrev pub recorded_calls : List Operation → List (Call × Reply)
 recorded_calls [] = []
 recorded_calls (called c answer ∷ operations) = if has_record c answer then (c, answer) ∷ recorded_calls operations else recorded_calls operations
 recorded_calls (redeemed seen ∷ operations) = recorded_calls operations
+recorded_calls (redeemed_for_another seen ∷ operations) = recorded_calls operations
 recorded_calls (looked ∷ operations) = recorded_calls operations
 
 -- the call and reply that stand at a place
@@ -104,6 +109,8 @@ lived_calls base history old (called c answer ∷ operations) new (mid, after, r
           ∙ ap (λ (b : Bool). map (call_at history) old.places ++ some_calls (if b then (c, answer) ∷ recorded_calls operations else recorded_calls operations)) (sym is.unrecorded)
     ]
 lived_calls base history old (redeemed seen ∷ operations) new (mid, after, rest) =
+    lived_calls base history mid operations new rest ∙ ap (λ (s : Session). map (call_at history) s.places ++ some_calls (recorded_calls operations)) after.leads.1.1
+lived_calls base history old (redeemed_for_another seen ∷ operations) new (mid, after, rest) =
     lived_calls base history mid operations new rest ∙ ap (λ (s : Session). map (call_at history) s.places ++ some_calls (recorded_calls operations)) after.leads.1
 lived_calls base history old (looked ∷ operations) new (mid, after, rest) =
     lived_calls base history mid operations new rest ∙ ap (λ (s : Session). map (call_at history) s.places ++ some_calls (recorded_calls operations)) after.leads
@@ -137,6 +144,7 @@ led_further base history more old (called c answer) new within (inr is) = inr (r
   after = is.after;
 })
 led_further base history more old (redeemed seen) new within led = led
+led_further base history more old (redeemed_for_another seen) new within led = led
 led_further base history more old looked new within led = led
 
 lived_further : (base : State) (history more : List Record) (old : Session) (operations : List Operation) (new : Session) → AfterAll base history old operations new → AfterAll base (history ++ more) old operations new
@@ -151,7 +159,7 @@ LegalStaysLegal = (base : State) (history more : List Record) (operations : List
 pub legal_stays_legal : LegalStaysLegal
 legal_stays_legal base history more operations session legal = record {
   start = legal.start;
-  new = record { space = legal.new.space; within = omega (arith, legal.new.within, length-append history more); told = legal.new.told; places = legal.new.places };
+  new = record { space = legal.new.space; within = omega (arith, legal.new.within, length-append history more); told = legal.new.told; tickets = legal.new.tickets; places = legal.new.places };
   after = lived_further base history more legal.start operations session legal.after;
 }
 

@@ -1,7 +1,8 @@
 -- Worked examples of legal histories: two sessions with a record each and a read, and histories that aren't legal.
-use Rattle.std.specs.Prelude.{◌≡◌, ◌≢◌, ℕ, zero, suc, ◌<◌, List, [], ◌∷◌, take, slice_index_or, refl}
+use Rattle.std.specs.Prelude.{◌≡◌, ◌≢◌, ℕ, zero, suc, ◌<◌, List, [], ◌∷◌, take, eqb, slice_index_or, refl}
 use Rattle.std.specs.FinMap as finmap
-use Rattle.std.proofs.Common.{inl, inr, ◌∙◌, ap, subst, arith}
+use Rattle.std.specs.List.{list_any}
+use Rattle.std.proofs.Common.{inl, inr, ◌∙◌, sym, ap, subst, arith}
 use Rattle.codes.specs.declared.kern_return.KernReturn.TheVariants.{InvalidName, InvalidTask}
 use Rattle.ipc_model.specs.declared.call.Call.TheVariants as call
 use Rattle.ipc_model.specs.declared.call.Reply.{Reply}
@@ -11,7 +12,7 @@ use Rattle.ipc_model.specs.calls.Actions.{Done}
 use Rattle.ipc_model.specs.calls.PortCalls.{tests_of}
 use Rattle.ipc_model.specs.calls.Step.{Step, Answer, ActsFrom, Run}
 use Rattle.ipc_model.specs.effects.Effects.{Effect, settled}
-use Rattle.ipc_model.specs.history.History.{Session, Operation, Sessions, called, redeemed, IsNew, Legal, AreAll, Meet, IsLegalHistory, space_after}
+use Rattle.ipc_model.specs.history.History.{Session, Operation, Sessions, called, redeemed, redeemed_for_another, redemption, IsNew, Legal, AreAll, Meet, IsLegalHistory, space_after}
 use Rattle.ipc_model.specs.state.State.{State, opening_state}
 use Rattle.ipc_laws.specs.OpeningLaws.{opening_is_lawful}
 use Rattle.ipc_laws.specs.StepsKeep.{one_run}
@@ -27,21 +28,21 @@ abbrev pub two_records : List Record
 two_records = allocated_name 0x100 ∷ allocated_name 0x101 ∷ []
 
 abbrev pub new_session : Session
-new_session = record { space = 1; seen = 0; told = 0; places = [] }
+new_session = record { space = 1; seen = 0; told = 0; tickets = []; places = [] }
 
 -- The first session allocates, asks for the type of the other's name, and is told.
 abbrev pub first_operations : List Operation
 first_operations = called allocation (reply.Allocate 0x100) ∷ called (call.Type 0x101) (reply.Type 0x20000) ∷ redeemed 2 ∷ []
 
 abbrev pub first_session : Session
-first_session = record { space = 1; seen = 2; told = 2; places = 0 ∷ [] }
+first_session = record { space = 1; seen = 2; told = 2; tickets = 1 ∷ 2 ∷ []; places = 0 ∷ [] }
 
 -- The other allocates, and isn't told.
 abbrev pub other_operations : List Operation
 other_operations = called allocation (reply.Allocate 0x101) ∷ []
 
 abbrev pub other_session : Session
-other_session = record { space = 1; seen = 2; told = 0; places = 1 ∷ [] }
+other_session = record { space = 1; seen = 2; told = 0; tickets = 2 ∷ []; places = 1 ∷ [] }
 
 pub type-answer : Answer two_allocated 1 (call.Type 0x101) (reply.Type 0x20000)
 unfolding Step Done tests_of
@@ -51,23 +52,23 @@ pub two_records-run : Run opening_state two_records two_allocated
 two_records-run = (one_allocated, allocate-step, (two_allocated, second-step, refl))
 
 new-session : IsNew two_records new_session
-new-session = record { space = refl; within = omega arith; told = refl; places = refl }
+new-session = record { space = refl; within = omega arith; told = refl; tickets = refl; places = refl }
 
 pub first-legal : Legal opening_state two_records first_operations first_session
 first-legal = record {
   start = new_session;
   new = new-session;
   after = (
-    record { space = 1; seen = 1; told = 0; places = 0 ∷ [] },
+    record { space = 1; seen = 1; told = 0; tickets = 1 ∷ []; places = 0 ∷ [] },
     record { leads = inl (record { recorded = refl; place = 0; unseen = omega arith; there = refl; seen = omega arith; after = refl }); more = omega arith; within = omega arith },
     (
-      record { space = 1; seen = 2; told = 0; places = 0 ∷ [] },
+      record { space = 1; seen = 2; told = 0; tickets = 1 ∷ 2 ∷ []; places = 0 ∷ [] },
       record {
         leads = inr (record { unrecorded = refl; beginning = 2; unseen = omega arith; state = two_allocated; run = two_records-run; answered = type-answer; seen = omega arith; after = refl });
         more = omega arith;
         within = omega arith;
       },
-      (first_session, record { leads = (omega arith, refl); more = omega arith; within = omega arith }, refl),
+      (first_session, record { leads = (refl, (omega arith, refl)); more = omega arith; within = omega arith }, refl),
     ),
   );
 }
@@ -102,7 +103,7 @@ both-all = refl
 
 -- where one has seen less, the two have seen the same once they met
 abbrev pub sees_one : Session
-sees_one = record { space = 1; seen = 1; told = 0; places = 0 ∷ [] }
+sees_one = record { space = 1; seen = 1; told = 0; tickets = 1 ∷ []; places = 0 ∷ [] }
 
 pub both-meet : Meet sees_one other_session (record sees_one { seen = 2 }) other_session
 both-meet = record { one_sees = refl; other_sees = refl; apart = apart-two }
@@ -120,8 +121,8 @@ attach-moves = (refl, refl)
 pub one_place-twice : (operations others : List Operation) → IsLegalHistory opening_state two_records ((operations, first_session) ∷ (others, first_session) ∷ []) → ⊥
 one_place-twice operations others legal = legal.apart 0 1 0 (omega arith) (omega arith) refl
 
--- a place before what was seen: the session was told a reply that saw the record before it made the call
-pub place-before : (session : Session) → Legal opening_state (allocated_name 0x100 ∷ []) (redeemed 1 ∷ called allocation (reply.Allocate 0x100) ∷ []) session → ⊥
+-- a place before what was seen: the session was told another's reply that saw the record before it made the call
+pub place-before : (session : Session) → Legal opening_state (allocated_name 0x100 ∷ []) (redeemed_for_another 1 ∷ called allocation (reply.Allocate 0x100) ∷ []) session → ⊥
 place-before session legal = elim legal.after.2.1.leads as (λ _. ⊥) [
   | inl at ↦ absurd (omega (arith, legal.after.1.leads.0, at.unseen, at.seen, legal.after.2.1.within))
   | inr is ↦ absurd (cc is.unrecorded)
@@ -176,12 +177,12 @@ older_answer session legal = elim legal.after.1.leads as (λ _. ⊥) [
 ]
 
 -- it would be legal without the record that the session has seen
-pub older-was_legal : Legal opening_state [] (called (call.Type 0x100) (reply.Refused 2 InvalidName) ∷ []) new_session
+pub older-was_legal : Legal opening_state [] (called (call.Type 0x100) (reply.Refused 2 InvalidName) ∷ []) (record new_session { tickets = 0 ∷ [] })
 older-was_legal = record {
   start = new_session;
-  new = record { space = refl; within = omega arith; told = refl; places = refl };
+  new = record { space = refl; within = omega arith; told = refl; tickets = refl; places = refl };
   after = (
-    new_session,
+    record new_session { tickets = 0 ∷ [] },
     record {
       leads = inr (record { unrecorded = refl; beginning = 0; unseen = omega arith; state = opening_state; run = refl; answered = was-unknown; seen = omega arith; after = refl });
       more = omega arith;
@@ -192,8 +193,16 @@ older-was_legal = record {
 }
 
 -- told of more than there is
-pub told-too_much : (session : Session) → Legal opening_state [] (redeemed 1 ∷ []) session → ⊥
+pub told-too_much : (session : Session) → Legal opening_state [] (redeemed_for_another 1 ∷ []) session → ⊥
 told-too_much session legal = absurd (omega (arith, legal.after.1.leads.0, legal.after.1.within))
+
+-- a ticket that no call of the session was given
+pub redeemed-ungiven : (session : Session) → Legal opening_state (allocated_name 0x100 ∷ []) (redeemed 1 ∷ []) session → ⊥
+redeemed-ungiven session legal = absurd (cc (sym (ap (λ (tickets : List ℕ). list_any (eqb 1) tickets) legal.new.tickets) ∙ legal.after.1.leads.0))
+
+-- a ticket that saw so many records is the session's own where a call of it was given one, and else another's
+pub redeemed-own : (redemption first_session 2 ≡ redeemed 2) × (redemption first_session 0 ≡ redeemed_for_another 0)
+redeemed-own = (refl, refl)
 
 -- an invented record: the records aren't a run
 unallocated-acts : (acted : State) (effects : List Effect) → ActsFrom opening_state 1 (finmap.get opening_state.spaces 1) (call.Deallocate 0x100) (reply.Done 7) acted effects → reply.Done 7 ≡ reply.Refused 7 InvalidName

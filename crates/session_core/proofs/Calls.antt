@@ -21,9 +21,9 @@ use Rattle.session_core.proofs.Calling.{counted}
 use Rattle.session_core.proofs.Histories.{did_session, got_pushed, own_further, own_more}
 use Rattle.system.specs.Halves.{TicketValue}
 
--- a session whose task is attached to this space, has seen this, and whose places are these
+-- a session that was given a ticket, whose task is attached to this space, has seen this, and whose places are these
 abbrev pub calling : SessionValue → PastValue → ℕ → List ℕ → SessionValue
-calling old past space places = record { number = old.number; past = past; task = record { space = space; seen = length past.entries; told = old.task.told; places = places } }
+calling old past space places = record { number = old.number; past = past; task = record { space = space; seen = length past.entries; told = old.task.told; tickets = old.task.tickets ++ length past.entries ∷ []; places = places } }
 
 module _ (base : State) (old : SessionValue) (c : Call) (ticket : TicketValue) (past : PastValue) (old_made new_made : ℕ) (did : Applies base old.number old.task.space old.past.entries c ticket past.entries old_made new_made)
     (seen : old.task.seen ≡ length old.past.entries) where
@@ -117,23 +117,23 @@ module _ (base : State) (old : SessionValue) (c : Call) (ticket : TicketValue) (
   ]
 
   -- Its session is one still, in the space and with the places that its card has then.
-  pub called_session : (amount number space told more : ℕ) (places : List ℕ) → number ≡ old.number → told ≡ old.task.told → (old_made < length past.entries → (space ≡ old.task.space) × (places ≡ old.task.places ++ old_made ∷ []) × (more ≡ amount + 1))
+  pub called_session : (amount number space told more : ℕ) (tickets places : List ℕ) → number ≡ old.number → told ≡ old.task.told → tickets ≡ old.task.tickets ++ length past.entries ∷ [] → (old_made < length past.entries → (space ≡ old.task.space) × (places ≡ old.task.places ++ old_made ∷ []) × (more ≡ amount + 1))
       → (length past.entries ≤ old_made → (space ≡ space_after old.task.space c ticket.answer) × (places ≡ old.task.places) × (more ≡ amount)) → IsSession base old amount
-      → IsSession base (session_of number space told places past) more × Did base old (called c ticket.answer) (session_of number space told places past)
-  called_session amount number space told more places same kept recorded answered is = elim (cases_lt old_made (length past.entries)) [
-    | inl grew ↦ card_as number space told more places old.task.space (old.task.places ++ old_made ∷ []) same (recorded grew).0 kept (recorded grew).1 (
+      → IsSession base (session_of number space told tickets places past) more × Did base old (called c ticket.answer) (session_of number space told tickets places past)
+  called_session amount number space told more tickets places same kept given recorded answered is = elim (cases_lt old_made (length past.entries)) [
+    | inl grew ↦ card_as number space told more tickets places old.task.space (old.task.places ++ old_made ∷ []) same (recorded grew).0 kept given (recorded grew).1 (
       did_session base old (called c ticket.answer) (calling old past old.task.space (old.task.places ++ old_made ∷ [])) amount more did.history is (recorded_did grew) refl (recorded_own grew is.own)
           (omega (arith, (recorded grew).2, is.counted, length-append old.task.places (old_made ∷ []))),
       recorded_did grew,
     )
-    | inr none ↦ card_as number space told more places (space_after old.task.space c ticket.answer) old.task.places same (answered none).0 kept (answered none).1 (
+    | inr none ↦ card_as number space told more tickets places (space_after old.task.space c ticket.answer) old.task.places same (answered none).0 kept given (answered none).1 (
       did_session base old (called c ticket.answer) (calling old past (space_after old.task.space c ticket.answer) old.task.places) amount more did.history is (answered_did none) refl (answered_own is.own) ((answered none).2 ∙ is.counted),
       answered_did none,
     )
   ]
     where
-      card_as : (number space told more : ℕ) (places : List ℕ) (space_is : ℕ) (places_are : List ℕ) → number ≡ old.number → space ≡ space_is → told ≡ old.task.told → places ≡ places_are
+      card_as : (number space told more : ℕ) (tickets places : List ℕ) (space_is : ℕ) (places_are : List ℕ) → number ≡ old.number → space ≡ space_is → told ≡ old.task.told → tickets ≡ old.task.tickets ++ length past.entries ∷ [] → places ≡ places_are
           → IsSession base (calling old past space_is places_are) more × Did base old (called c ticket.answer) (calling old past space_is places_are)
-          → IsSession base (session_of number space told places past) more × Did base old (called c ticket.answer) (session_of number space told places past)
-      card_as number space told more places space_is places_are zero one two three both =
-          subst (λ (v : SessionValue). IsSession base v more × Did base old (called c ticket.answer) v) (λ i. session_of (sym zero i) (sym one i) (sym two i) (sym three i) past) both
+          → IsSession base (session_of number space told tickets places past) more × Did base old (called c ticket.answer) (session_of number space told tickets places past)
+      card_as number space told more tickets places space_is places_are zero one two given three both =
+          subst (λ (v : SessionValue). IsSession base v more × Did base old (called c ticket.answer) v) (λ i. session_of (sym zero i) (sym one i) (sym two i) (sym given i) (sym three i) past) both

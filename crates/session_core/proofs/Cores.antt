@@ -3,13 +3,14 @@ use Rattle.std.proofs.Common.{◌≡◌, ◌⊎◌, ℕ, ◌≤◌, Bool, true, 
 use Rattle.std.specs.Prelude.{Result, Ok, Err, IfOk, OnOk, OnErr, MatchOption, max, option_map, ◌++◌, if◌then◌else◌}
 use Rattle.std.proofs.lemmas.List.{append-nil, length-map}
 use Rattle.history.proofs.Beginnings.{begins_itself, begins_more, begins_trans}
-use Rattle.history.specs.Entries.{Begins}
+use Rattle.history.specs.Entries.{Begins, records_of}
 use Rattle.history.specs.Pasts.{PastValue}
 use Rattle.history.specs.declared.entry.Entry.{Entry}
 use Rattle.ipc_model.specs.calls.Step.{has_record}
 use Rattle.ipc_model.specs.declared.call.Call.{Call}
 use Rattle.ipc_model.specs.declared.call.Reply.{Reply}
-use Rattle.ipc_model.specs.history.History.{redeemed}
+use Rattle.ipc_model.specs.declared.record.Record.{Record}
+use Rattle.ipc_model.specs.history.History.{IsTold, Leads, Session, has_ticket, redeemed, redeemed_for_another, redemption}
 use Rattle.ipc_model.specs.state.State.{State}
 use Rattle.session_core.specs.Keeping.{Applies, BesideValue, CoreValue, IsCore, Learns, both_learned, entries_of_call}
 use Rattle.session_core.specs.Tokens.{IsHistory, entry_by, SessionValue, IsSession, session_of}
@@ -41,14 +42,14 @@ again_history base past (Ok p) history is = subst (λ (v : PastValue). IsHistory
 again_history base past (Err e) history is = tt
 
 -- a new session, which has seen all of a history
-pub new_session : (base : State) (number : ℕ) (past : PastValue) (places : List ℕ) (amount : ℕ) → places ≡ [] → amount ≡ 0 → IsHistory base past.entries → IsSession base (session_of number 1 0 places past) amount
-new_session base number past places amount none nothing history =
-    subst (λ (l : List ℕ). IsSession base (session_of number 1 0 l past) amount) (sym none) (record {
+pub new_session : (base : State) (number : ℕ) (past : PastValue) (tickets places : List ℕ) (amount : ℕ) → tickets ≡ [] → places ≡ [] → amount ≡ 0 → IsHistory base past.entries → IsSession base (session_of number 1 0 tickets places past) amount
+new_session base number past tickets places amount no_ticket none nothing history =
+    subst (λ (v : SessionValue). IsSession base v amount) (λ i. session_of number 1 0 (sym no_ticket i) (sym none i) past) (record {
       history = history;
       operations = [];
       legal = record {
-        start = record { space = 1; seen = length past.entries; told = 0; places = [] };
-        new = record { space = refl; within = omega (arith, length-map past.entries (λ (e : Entry). e.«record»)); told = refl; places = refl };
+        start = record { space = 1; seen = length past.entries; told = 0; tickets = []; places = [] };
+        new = record { space = refl; within = omega (arith, length-map past.entries (λ (e : Entry). e.«record»)); told = refl; tickets = refl; places = refl };
         after = refl;
       };
       seen = refl;
@@ -127,11 +128,16 @@ unapplied_call base old new past kept after opened earlier taken older now core 
   (λ i. record { half = err.0 i; past = (ap Some err.1 ∙ sym there) i; opened = opened; earlier = earlier; taken = taken; older = older }) ∙ view,
 )
 
+-- What it is to redeem a ticket whose reply saw no more than the session has seen.
+redeems : (base : State) (history : List Record) (old new : Session) (seen : ℕ) (own : Bool) → has_ticket old seen ≡ own → IsTold old seen new → Leads base history old (if own then redeemed seen else redeemed_for_another seen) new
+redeems base history old new seen true is told = (is, told)
+redeems base history old new seen false is told = told
+
 -- A session whose task was told of so many records, which it has seen.
 pub told_session : (base : State) (old : SessionValue) (seen amount : ℕ) → seen ≤ length old.past.entries → IsSession base old amount → IsSession base (record old { task = record old.task { told = max old.task.told seen } }) amount
 told_session base old seen amount within is =
-    did_session base old (redeemed seen) (record old { task = record old.task { told = max old.task.told seen } }) amount amount is.history is (record {
-      after = record { leads = (omega (arith, within, is.seen), refl); more = omega arith; within = omega (arith, is.seen, length-map old.past.entries (λ (e : Entry). e.«record»)) };
+    did_session base old (redemption old.task seen) (record old { task = record old.task { told = max old.task.told seen } }) amount amount is.history is (record {
+      after = record { leads = redeems base (records_of old.past.entries) old.task (record old.task { told = max old.task.told seen }) seen (has_ticket old.task seen) refl (omega (arith, within, is.seen), refl); more = omega arith; within = omega (arith, is.seen, length-map old.past.entries (λ (e : Entry). e.«record»)) };
       begins = begins_itself old.past.entries;
       same = refl;
     }) is.seen is.own is.counted

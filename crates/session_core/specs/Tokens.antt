@@ -26,13 +26,13 @@ pub record SessionValue : Type 0 where
   pub task : Session
 
 abbrev pub task_code : Coded Session
-task_code = code_by (ℕ × (ℕ × (ℕ × List ℕ))) (coded× coded_ℕ (coded× coded_ℕ (coded× coded_ℕ (coded_list coded_ℕ)))) (λ s. (s.space, (s.seen, (s.told, s.places)))) (λ p. record { space = p.0; seen = p.1.0; told = p.1.1.0; places = p.1.1.1 }) (λ _. refl)
+task_code = code_by (ℕ × (ℕ × (ℕ × (List ℕ × List ℕ)))) (coded× coded_ℕ (coded× coded_ℕ (coded× coded_ℕ (coded× (coded_list coded_ℕ) (coded_list coded_ℕ))))) (λ s. (s.space, (s.seen, (s.told, (s.tickets, s.places))))) (λ p. record { space = p.0; seen = p.1.0; told = p.1.1.0; tickets = p.1.1.1.0; places = p.1.1.1.1 }) (λ _. refl)
 
 abbrev pub session_code : Coded SessionValue
 session_code = code_by (ℕ × (PastValue × Session)) (coded× coded_ℕ (coded× past_code task_code)) (λ s. (s.number, (s.past, s.task))) (λ p. record { number = p.0; past = p.1.0; task = p.1.1 }) (λ _. refl)
 
-abbrev pub session_of : ℕ → ℕ → ℕ → List ℕ → PastValue → SessionValue
-session_of number space told places past = record { number = number; past = past; task = record { space = space; seen = length past.entries; told = told; places = places } }
+abbrev pub session_of : ℕ → ℕ → ℕ → List ℕ → List ℕ → PastValue → SessionValue
+session_of number space told tickets places past = record { number = number; past = past; task = record { space = space; seen = length past.entries; told = told; tickets = tickets; places = places } }
 
 -- at these places stand entries of the session
 abbrev pub AreOwn : List Entry → ℕ → List ℕ → Type 0

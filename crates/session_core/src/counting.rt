@@ -144,6 +144,7 @@ fn count<L: Founding>(
         number,
         space: _,
         told,
+        tickets: _,
         places: _,
         share: own,
     } = card;

@@ -1,7 +1,7 @@
 ghost use Rattle.std.specs.Prelude.{◌≡◌, ◌⊎◌, ◌+◌, ◌<◌, ◌≤◌, ◌∷◌, [], ◌++◌, Some, false, length, IfOk, IfErr, IfSome, IfNone, IsErrOf, MatchBool, OnErr};
 ghost use Rattle.codes.specs.declared.limits.TheConstants.{MAX_FRAME_CONTENT};
 ghost use Rattle.codes.specs.declared.name.TheConstants.{FIRST_SPACE};
-ghost use Rattle.ipc_model.specs.history.History.{called, looked, redeemed, space_after};
+ghost use Rattle.ipc_model.specs.history.History.{called, looked, redemption, space_after};
 ghost use Rattle.ipc_model.specs.texts.Texts.{reply_text};
 ghost use Rattle.ipc_model.specs.state.Circular.{Grounded};
 ghost use Rattle.ipc_model.specs.state.Lawful.{Lawful};
@@ -121,7 +121,7 @@ impl<L: Founding> Keeper<L> {
     /// A new session, of a task that is attached to space 1. It has seen all of the history. `NoMemory`: a growth was refused.
     /// `Spent`: no number is left.
     pub fn session(&mut self) -> Result<Session<L>, SessionFault>
-        ensures new { IfOk result (λ session. (session.task.space ≡ FIRST_SPACE) × (session.task.told ≡ 0) × (session.task.places ≡ [])) }
+        ensures new { IfOk result (λ session. (session.task.space ≡ FIRST_SPACE) × (session.task.told ≡ 0) × (session.task.tickets ≡ []) × (session.task.places ≡ [])) }
         ensures next { IfOk result (λ session. (session.number ≡ self.old.given + 1) × (entries_in self.old.core ≡ Some session.past.entries) × (self.new ≡ record self.old { given = self.old.given + 1 })) }
         ensures spent { IsErrOf result SessionFault.Spent → self.old.given ≡ MOST_SESSIONS }
         ensures err { OnErr result (self.new ≡ self.old) }
@@ -135,6 +135,7 @@ impl<L: Founding> Keeper<L> {
             number,
             space: FIRST_SPACE,
             told: 0,
+            tickets: Tag::empty(),
             places: Tag::empty(),
             share,
         };
@@ -143,7 +144,7 @@ impl<L: Founding> Keeper<L> {
 
     /// The reply of a ticket of this session, once all that its call saw is stored; else the ticket comes back.
     pub fn redeem(&self, session: Session<L>, ticket: Ticket) -> (Session<L>, Result<Reply, Ticket>)
-        ensures redeemed { IfOk result.1 (λ reply. (reply ≡ ticket.answer) × Did L.base session (redeemed ticket.seen) result.0) }
+        ensures redeemed { IfOk result.1 (λ reply. (reply ≡ ticket.answer) × Did L.base session (redemption session.task ticket.seen) result.0) }
         ensures stored { IfOk result.1 (λ reply. ticket.seen ≤ self.now.core.half.handed) }
         ensures fits { IfOk result.1 (λ reply. length (reply_text reply) ≤ MAX_FRAME_CONTENT) }
         ensures back { IfErr result.1 (λ kept. (kept ≡ ticket) × (result.0 ≡ session)) }
@@ -253,8 +254,8 @@ impl<L: Founding> Keeper<L> {
     }
 }
 
-/// Notes on a session's card that it made a call, after which there are so many records: one of its own, which the book counts,
-/// or none.
+/// Notes on a session's card that it made a call, after which there are so many records, all of which its ticket's reply saw: one
+/// of its own, which the book counts, or none.
 fn note_call<L: Founding>(
     card: &mut Card<L>,
     book: &mut Book<L>,
@@ -264,12 +265,15 @@ fn note_call<L: Founding>(
     ticket: &Ticket,
 )
     requires { 0 < card.old.share.parts }
+    ensures given { card.new.tickets.numbers ≡ card.old.tickets.numbers ++ after ∷ [] }
     ensures same { (card.new.number ≡ card.old.number) × (card.new.told ≡ card.old.told) × (card.new.share.parts ≡ card.old.share.parts) }
     ensures recorded { before < after → (card.new.space ≡ card.old.space) × (card.new.places.numbers ≡ card.old.places.numbers ++ before ∷ [])
         × (card.new.share.amount ≡ card.old.share.amount + 1) × (book.new.total ≡ book.old.total + 1) }
     ensures answered { after ≤ before → (card.new.space ≡ space_after card.old.space call.now ticket.now.answer) × (card.new.places.numbers ≡ card.old.places.numbers)
         × (card.new.share.amount ≡ card.old.share.amount) × (book.new.total ≡ book.old.total) }
 {
+    let tickets = std::mem::replace(&mut card.tickets, Tag::empty());
+    card.tickets = with_place(tickets, after as u64);
     if before < after as u64 {
         let places = std::mem::replace(&mut card.places, Tag::empty());
         card.places = with_place(places, before);
@@ -279,7 +283,7 @@ fn note_call<L: Founding>(
     }
 }
 
-/// A place more. It does nothing when it runs.
+/// A ghost list of numbers with one more. It does nothing when it runs.
 fn with_place(places: Tag, place: u64) -> Tag
     ensures { result.numbers ≡ places.numbers ++ place ∷ [] }
 {
@@ -292,7 +296,7 @@ fn with_place(places: Tag, place: u64) -> Tag
     tag
 }
 
-/// Places and one more.
+/// Numbers and one more.
 struct Placing {
     places: Tag,
     place: u64,

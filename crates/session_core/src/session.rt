@@ -15,7 +15,9 @@ pub(crate) struct Card<L: Founding> {
     pub(crate) space: u32,
     pub(crate) told: u64,
 
-    // In proofs alone: where its own records stand. The share's amount counts them.
+    // Ghost: of each ticket that its calls were given how many records its reply saw, and where its own records stand. The
+    // share's amount counts these.
+    pub(crate) tickets: Tag,
     pub(crate) places: Tag,
     pub(crate) share: Share<L>,
 }
@@ -36,9 +38,9 @@ impl<L: Founding> Model for Session<L> {
 
     ghost coded = { session_code };
 
-    ghost view = { λ s. session_of s.card.number s.card.space s.card.told s.card.places.numbers s.past };
+    ghost view = { λ s. session_of s.card.number s.card.space s.card.told s.card.tickets.numbers s.card.places.numbers s.past };
 
-    ghost invariant = { λ s. IsSession L.base (session_of s.card.number s.card.space s.card.told s.card.places.numbers s.past) s.card.share.amount × (0 < s.card.share.parts) };
+    ghost invariant = { λ s. IsSession L.base (session_of s.card.number s.card.space s.card.told s.card.tickets.numbers s.card.places.numbers s.past) s.card.share.amount × (0 < s.card.share.parts) };
 }
 
 impl<L: Founding> Session<L> {

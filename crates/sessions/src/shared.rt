@@ -2,7 +2,7 @@ ghost use Rattle.std.specs.Prelude.{◌≡◌, ◌≤◌, [], length, IfOk, IfEr
 ghost use Rattle.std.specs.Arc.{arc_value};
 ghost use Rattle.codes.specs.declared.limits.TheConstants.{MAX_FRAME_CONTENT};
 ghost use Rattle.codes.specs.declared.name.TheConstants.{FIRST_SPACE};
-ghost use Rattle.ipc_model.specs.history.History.{called, looked, redeemed};
+ghost use Rattle.ipc_model.specs.history.History.{called, looked, redemption};
 ghost use Rattle.ipc_model.specs.texts.Texts.{reply_text};
 ghost use Rattle.session_core.specs.Tokens.{Did};
 
@@ -78,7 +78,7 @@ impl<L: Founding, D: Disk, G: Drop> Shared<L, D, G> {
 
     /// A new session, of a task that is attached to space 1 and has seen all that was made.
     pub fn session(&self, rt: &impl Wait) -> Result<Session<L>, SessionFault>
-        ensures new { IfOk result (λ session. (session.task.space ≡ FIRST_SPACE) × (session.task.told ≡ 0) × (session.task.places ≡ [])) }
+        ensures new { IfOk result (λ session. (session.task.space ≡ FIRST_SPACE) × (session.task.told ≡ 0) × (session.task.tickets ≡ []) × (session.task.places ≡ [])) }
     {
         self.desk.lock(rt).keeper.session()
     }
@@ -144,7 +144,7 @@ impl<L: Founding, D: Disk, G: Drop> Shared<L, D, G> {
         session: Session<L>,
         ticket: Ticket,
     ) -> (Session<L>, Result<Reply, StoreFault>)
-        ensures redeemed { IfOk result.1 (λ reply. (reply ≡ ticket.answer) × Did L.base session (redeemed ticket.seen) result.0) }
+        ensures redeemed { IfOk result.1 (λ reply. (reply ≡ ticket.answer) × Did L.base session (redemption session.task ticket.seen) result.0) }
         ensures fits { IfOk result.1 (λ reply. length (reply_text reply) ≤ MAX_FRAME_CONTENT) }
         ensures err { OnErr result.1 (result.0 ≡ session) }
     {

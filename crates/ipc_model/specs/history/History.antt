@@ -1,5 +1,6 @@
 -- Legal histories: several sessions, each with the calls of a task, and the one list of records that their calls make.
-use Rattle.std.specs.Prelude.{◌≡◌, ◌≢◌, ◌⊎◌, ℕ, ◌<◌, ◌≤◌, max, true, false, List, [], ◌∷◌, ◌++◌, length, take, map, flat_map, AllPairs, Some, slice_get, if◌then◌else◌}
+use Rattle.std.specs.Prelude.{◌≡◌, ◌≢◌, ◌⊎◌, ℕ, ◌<◌, ◌≤◌, Bool, max, eqb, true, false, List, [], ◌∷◌, ◌++◌, length, take, map, flat_map, AllPairs, Some, slice_get, if◌then◌else◌}
+use Rattle.std.specs.List.{list_any}
 use Rattle.codes.specs.declared.name.TheConstants.{FIRST_SPACE}
 use Rattle.ipc_model.specs.declared.call.Call.{Call}
 use Rattle.ipc_model.specs.declared.call.Call.TheVariants as call
@@ -12,18 +13,22 @@ use Rattle.ipc_model.specs.calls.Step.{Run, Answer, has_record, succeeded}
 -- many stand before it. Records that the opening read are no part of it: what they made is the state that it begins in.
 
 -- A session: the space that its task is attached to; how many records of the history it has seen; of how many it was told,
--- which is the most that a reply saw which it redeemed; and the places of its own records.
+-- which is the most that a reply saw which it redeemed; of each ticket that its calls were given, how many records its reply
+-- saw; and the places of its own records.
 pub record Session : Type 0 where
   pub space : ℕ
   pub seen : ℕ
   pub told : ℕ
+  pub tickets : List ℕ
   pub places : List ℕ
 
--- What a session does: a call of its task is answered by a ticket; a ticket is redeemed, whose reply saw so many records; or
--- the session only sees more of the history, as where a call isn't taken, or where two sessions meet.
+-- What a session does: a call of its task is answered by a ticket; one of its tickets is redeemed, whose reply saw so many
+-- records; a ticket of another session is; or the session only sees more of the history, as where a call isn't taken, or where
+-- two sessions meet.
 pub data Operation : Type 0 where
   called : Call → Reply → Operation
   redeemed : (seen : ℕ) → Operation
+  redeemed_for_another : (seen : ℕ) → Operation
   looked : Operation
 
 -- the space that a call attaches its task to, where it is done
@@ -43,7 +48,7 @@ pub record HasPlace (history : List Record) (old : Session) (c : Call) (answer :
   pub unseen : old.seen ≤ place
   pub there : slice_get history place ≡ Some (record { space = old.space; call = c; reply = answer })
   pub seen : place < new.seen
-  pub after : new ≡ record old { seen = new.seen; places = old.places ++ place ∷ [] }
+  pub after : new ≡ record old { seen = new.seen; tickets = old.tickets ++ new.seen ∷ []; places = old.places ++ place ∷ [] }
 
 -- Every other reply is an answer in the state after some beginning of the history, which is no shorter than what its
 -- session had seen before. The session has then seen this beginning.
@@ -55,12 +60,25 @@ pub record IsAnswered (base : State) (history : List Record) (old : Session) (c 
   pub run : Run base (take beginning history) state
   pub answered : Answer state old.space c answer
   pub seen : beginning ≤ new.seen
-  pub after : new ≡ record old { space = space_after old.space c answer; seen = new.seen }
+  pub after : new ≡ record old { space = space_after old.space c answer; seen = new.seen; tickets = old.tickets ++ new.seen ∷ [] }
+
+-- a session was given a ticket whose reply saw so many records
+abbrev pub has_ticket : Session → ℕ → Bool
+has_ticket session seen = list_any (eqb seen) session.tickets
+
+-- what it is to redeem a ticket whose reply saw so many records
+abbrev pub redemption : Session → ℕ → Operation
+redemption session seen = if has_ticket session seen then redeemed seen else redeemed_for_another seen
+
+-- a session that was then told of so many records, or of more before
+abbrev pub IsTold : Session → ℕ → Session → Type 0
+IsTold old seen new = (seen ≤ new.seen) × (new ≡ record old { seen = new.seen; told = max old.told seen })
 
 -- what an operation makes of a session; no reply is redeemed that saw more than the session has then seen
 abbrev pub Leads : State → List Record → Session → Operation → Session → Type 0
 Leads base history old (called c answer) new = HasPlace history old c answer new ⊎ IsAnswered base history old c answer new
-Leads base history old (redeemed seen) new = (seen ≤ new.seen) × (new ≡ record old { seen = new.seen; told = max old.told seen })
+Leads base history old (redeemed seen) new = (has_ticket old seen ≡ true) × IsTold old seen new
+Leads base history old (redeemed_for_another seen) new = IsTold old seen new
 Leads base history old looked new = new ≡ record old { seen = new.seen }
 
 -- A session after one operation more: it forgets nothing that it saw, and sees no more than there is.
@@ -79,6 +97,7 @@ pub record IsNew (history : List Record) (session : Session) : Type 0 where
   pub space : session.space ≡ FIRST_SPACE
   pub within : session.seen ≤ length history
   pub told : session.told ≡ 0
+  pub tickets : session.tickets ≡ []
   pub places : session.places ≡ []
 
 -- A session is legal in a history that runs from this base where these operations made it of a new one.

@@ -12,7 +12,7 @@ use Rattle.session_core.proofs.keeper.Keeper.submit.Goals as goal
 pub invariant_of-self : goal.invariant_of-self
 invariant_of-self g c =
     let card = c.session.inside.card in
-    let old : SessionValue = session_of card.number card.space card.told card.places.numbers c.session.inside.past in
+    let old : SessionValue = session_of card.number card.space card.told card.tickets.numbers card.places.numbers c.session.inside.past in
     let made = c.self.inside.core.half.row.made in
     let past = c.apply-past.result.0 in
     let did = subst (λ r. IfOk r (λ ticket. Applies g.L.Founding.base card.number card.space c.session.inside.past.entries c.args.call.now ticket past.entries made c.apply-past.new.self.half.row.made)) c.in-Ok.is c.apply-past.ensures.given in
@@ -23,35 +23,35 @@ invariant_of-self g c =
 pub invariant_of-result : goal.invariant_of-result
 invariant_of-result g c =
     let card = c.session.inside.card in
-    let old : SessionValue = session_of card.number card.space card.told card.places.numbers c.session.inside.past in
+    let old : SessionValue = session_of card.number card.space card.told card.tickets.numbers card.places.numbers c.session.inside.past in
     let made = c.self.inside.core.half.row.made in
     let past = c.apply-past.result.0 in
     let did = subst (λ r. IfOk r (λ ticket. Applies g.L.Founding.base card.number card.space c.session.inside.past.entries c.args.call.now ticket past.entries made c.apply-past.new.self.half.row.made)) c.in-Ok.is c.apply-past.ensures.given in
     let grew = λ (more : made < length past.entries). c.note_call.ensures.recorded (omega (arith, more, c.made-before.ensures, c.len.ensures)) in
     let none = λ (same : length past.entries ≤ made). c.note_call.ensures.answered (omega (arith, same, c.made-before.ensures, c.len.ensures)) in
-    let both = called_session g.L.Founding.base old c.args.call.now c.in-Ok.ticket past made c.apply-past.new.self.half.row.made did refl card.share.amount c.note_call.new.card.number c.note_call.new.card.space c.note_call.new.card.told c.note_call.new.card.share.amount c.note_call.new.card.places.numbers
-    c.note_call.ensures.same.0 c.note_call.ensures.same.1 (λ more. ((grew more).0, (grew more).1 ∙ ap (λ (n : ℕ). card.places.numbers ++ n ∷ []) c.made-before.ensures, (grew more).2)) (λ same. ((none same).0, (none same).1, (none same).2)) c.session.invariant.0 in
+    let both = called_session g.L.Founding.base old c.args.call.now c.in-Ok.ticket past made c.apply-past.new.self.half.row.made did refl card.share.amount c.note_call.new.card.number c.note_call.new.card.space c.note_call.new.card.told c.note_call.new.card.share.amount c.note_call.new.card.tickets.numbers c.note_call.new.card.places.numbers
+    c.note_call.ensures.same.0 c.note_call.ensures.same.1 (c.note_call.ensures.given ∙ ap (λ (n : ℕ). card.tickets.numbers ++ n ∷ []) c.len.ensures) (λ more. ((grew more).0, (grew more).1 ∙ ap (λ (n : ℕ). card.places.numbers ++ n ∷ []) c.made-before.ensures, (grew more).2)) (λ same. ((none same).0, (none same).1, (none same).2)) c.session.invariant.0 in
     (both.0, omega (arith, c.note_call.ensures.same.2, c.session.invariant.1))
 
 pub invariant_of-result-in-Err : goal.invariant_of-result-in-Err
 invariant_of-result-in-Err g c =
     let card = c.session.inside.card in
-    let old : SessionValue = session_of card.number card.space card.told card.places.numbers c.session.inside.past in
+    let old : SessionValue = session_of card.number card.space card.told card.tickets.numbers card.places.numbers c.session.inside.past in
     let learns = subst (λ r. OnErr r (Learns g.L.Founding.base c.session.inside.past.entries c.apply-past.result.0.entries × (c.apply-past.new.self ≡ c.self.inside.core))) c.in-Err.is c.apply-past.ensures.err in
     (looks g.L.Founding.base old c.apply-past.result.0 card.share.amount learns.0.history c.session.invariant.0 learns.0.begins, c.session.invariant.1)
 
 pub returns-in-Ok-clause-given : goal.returns-in-Ok-clause-given
 returns-in-Ok-clause-given g c =
     let card = c.session.inside.card in
-    let old : SessionValue = session_of card.number card.space card.told card.places.numbers c.session.inside.past in
+    let old : SessionValue = session_of card.number card.space card.told card.tickets.numbers card.places.numbers c.session.inside.past in
     let made = c.self.inside.core.half.row.made in
     let past = c.apply-past.result.0 in
     let did = subst (λ r. IfOk r (λ ticket. Applies g.L.Founding.base card.number card.space c.session.inside.past.entries c.args.call.now ticket past.entries made c.apply-past.new.self.half.row.made)) c.in-Ok.is c.apply-past.ensures.given in
     let grew = λ (more : made < length past.entries). c.note_call.ensures.recorded (omega (arith, more, c.made-before.ensures, c.len.ensures)) in
     let none = λ (same : length past.entries ≤ made). c.note_call.ensures.answered (omega (arith, same, c.made-before.ensures, c.len.ensures)) in
-    let both = called_session g.L.Founding.base old c.args.call.now c.in-Ok.ticket past made c.apply-past.new.self.half.row.made did refl card.share.amount c.note_call.new.card.number c.note_call.new.card.space c.note_call.new.card.told c.note_call.new.card.share.amount c.note_call.new.card.places.numbers
-    c.note_call.ensures.same.0 c.note_call.ensures.same.1 (λ more. ((grew more).0, (grew more).1 ∙ ap (λ (n : ℕ). card.places.numbers ++ n ∷ []) c.made-before.ensures, (grew more).2)) (λ same. ((none same).0, (none same).1, (none same).2)) c.session.invariant.0 in
-    (subst (λ (v : SessionValue). Did g.L.Founding.base v (called c.args.call.now c.in-Ok.ticket.answer) (session_of c.note_call.new.card.number c.note_call.new.card.space c.note_call.new.card.told c.note_call.new.card.places.numbers past)) c.session.view_is both.1, did.seen_is)
+    let both = called_session g.L.Founding.base old c.args.call.now c.in-Ok.ticket past made c.apply-past.new.self.half.row.made did refl card.share.amount c.note_call.new.card.number c.note_call.new.card.space c.note_call.new.card.told c.note_call.new.card.share.amount c.note_call.new.card.tickets.numbers c.note_call.new.card.places.numbers
+    c.note_call.ensures.same.0 c.note_call.ensures.same.1 (c.note_call.ensures.given ∙ ap (λ (n : ℕ). card.tickets.numbers ++ n ∷ []) c.len.ensures) (λ more. ((grew more).0, (grew more).1 ∙ ap (λ (n : ℕ). card.places.numbers ++ n ∷ []) c.made-before.ensures, (grew more).2)) (λ same. ((none same).0, (none same).1, (none same).2)) c.session.invariant.0 in
+    (subst (λ (v : SessionValue). Did g.L.Founding.base v (called c.args.call.now c.in-Ok.ticket.answer) (session_of c.note_call.new.card.number c.note_call.new.card.space c.note_call.new.card.told c.note_call.new.card.tickets.numbers c.note_call.new.card.places.numbers past)) c.session.view_is both.1, did.seen_is)
 
 pub returns-in-Err-clause-full : goal.returns-in-Err-clause-full
 returns-in-Err-clause-full g c = λ told.

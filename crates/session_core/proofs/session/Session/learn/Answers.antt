@@ -11,7 +11,7 @@ behind_within one other past theirs same same_too behind = subst (λ (p : PastVa
 
 pub invariant_of-self : goal.invariant_of-self
 invariant_of-self g c =
-    let old : SessionValue = session_of c.self.inside.card.number c.self.inside.card.space c.self.inside.card.told c.self.inside.card.places.numbers c.self.inside.past in
+    let old : SessionValue = session_of c.self.inside.card.number c.self.inside.card.space c.self.inside.card.told c.self.inside.card.tickets.numbers c.self.inside.card.places.numbers c.self.inside.past in
     let behind = behind_within c.args.self.now c.args.other.now c.self.inside.past c.other.inside.past (ap (λ (v : SessionValue). v.past) c.self.view_is) (ap (λ (v : SessionValue). v.past) c.other.view_is) c.requires.behind in
     let up = c.catch_up.ensures in (
       learned g.L.Founding.base old c.other.inside.past c.catch_up.new.self c.self.inside.card.share.amount c.self.invariant.0 c.other.invariant.0.history
@@ -21,8 +21,8 @@ invariant_of-self g c =
 
 pub returns-clause-met : goal.returns-clause-met
 returns-clause-met g c is =
-    let old : SessionValue = session_of c.self.inside.card.number c.self.inside.card.space c.self.inside.card.told c.self.inside.card.places.numbers c.self.inside.past in
-    let ahead : SessionValue = session_of c.other.inside.card.number c.other.inside.card.space c.other.inside.card.told c.other.inside.card.places.numbers c.other.inside.past in
+    let old : SessionValue = session_of c.self.inside.card.number c.self.inside.card.space c.self.inside.card.told c.self.inside.card.tickets.numbers c.self.inside.card.places.numbers c.self.inside.past in
+    let ahead : SessionValue = session_of c.other.inside.card.number c.other.inside.card.space c.other.inside.card.told c.other.inside.card.tickets.numbers c.other.inside.card.places.numbers c.other.inside.past in
     let behind = behind_within c.args.self.now c.args.other.now c.self.inside.past c.other.inside.past (ap (λ (v : SessionValue). v.past) c.self.view_is) (ap (λ (v : SessionValue). v.past) c.other.view_is) c.requires.behind in
     let up = c.catch_up.ensures in
     let differ : old.number ≡ ahead.number → ⊥ = λ same. c.requires.differ (ap (λ (v : SessionValue). v.number) (sym c.self.view_is) ∙ same ∙ ap (λ (v : SessionValue). v.number) c.other.view_is) in

@@ -13,5 +13,5 @@ either_way base old past amount all P (Err fault) ok err is = has_read base old 
 
 pub invariant_of-self : goal.invariant_of-self
 invariant_of-self g c =
-    let old : SessionValue = session_of c.self.inside.card.number c.self.inside.card.space c.self.inside.card.told c.self.inside.card.places.numbers c.self.inside.past in
+    let old : SessionValue = session_of c.self.inside.card.number c.self.inside.card.space c.self.inside.card.told c.self.inside.card.tickets.numbers c.self.inside.card.places.numbers c.self.inside.past in
     (either_way g.L.Founding.base old c.read.new.self c.self.inside.card.share.amount _ _ c.read.result c.read.ensures.ok c.read.ensures.err c.self.invariant.0, c.self.invariant.1)
