@@ -9,7 +9,7 @@ demo:
 test:
 	.ci/run
 
-# The tests and the scripts checked and not proved, in a few minutes: for a first change, and while one is made.
+# The tests and the shortest scripts checked and not proved: for a first change, and while one is made.
 quick:
 	.ci/quick
 
