@@ -1,9 +1,11 @@
 /* Refuses the allocation whose number REFUSE_AT tells, counted from 1, in a program that it is loaded into, and makes the
-   file REFUSE_TOLD then. */
+   file REFUSE_TOLD then; and where REFUSE_LOCK is set each lock, as a file system does that has none. */
 #define _GNU_SOURCE
 #include <dlfcn.h>
+#include <errno.h>
 #include <fcntl.h>
 #include <stdlib.h>
+#include <sys/file.h>
 #include <unistd.h>
 
 static unsigned long count, refused;
@@ -35,4 +37,15 @@ void *realloc(void *block, size_t size) {
     if (!next)
         next = (void *(*)(void *, size_t))dlsym(RTLD_NEXT, "realloc");
     return is_refused() ? NULL : next(block, size);
+}
+
+int flock(int file, int how) {
+    static int (*next)(int, int);
+    if (getenv("REFUSE_LOCK")) {
+        errno = ENOLCK;
+        return -1;
+    }
+    if (!next)
+        next = (int (*)(int, int))dlsym(RTLD_NEXT, "flock");
+    return next(file, how);
 }

@@ -1,5 +1,6 @@
 """The proved programs, run on a store in a folder of its own."""
 
+import pathlib
 import shutil
 import struct
 import subprocess
@@ -80,6 +81,10 @@ class Store:
         records, lines = self.listed()
         if records != machine.records or lines != listing(machine):
             raise Difference(f"{records} records\n{lines}wanted {machine.records} records\n{listing(machine)}")
+
+    def content(self):
+        """The bytes of its files."""
+        return {it.name: it.read_bytes() for it in pathlib.Path(self.folder).iterdir()}
 
     def remove(self):
         shutil.rmtree(self.folder)

@@ -3,15 +3,24 @@ use Rattle.std.specs.Prelude.{◌≡◌, ◌⊎◌, ℕ, List, Option, codes}
 use Rattle.std.specs.Io.KnownBytes.{Appends, Keeps}
 use Rattle.journal.specs.declared.fault.StoreFault.TheVariants.{NoMemory}
 use Rattle.server.specs.declared.ending.SocketEnd.{SocketEnd}
-use Rattle.server.specs.declared.ending.SocketEnd.TheVariants.{Socket, Store}
+use Rattle.server.specs.declared.ending.SocketEnd.TheVariants.{Socket, InUse, Unlockable, Store}
 use Rattle.wire.specs.Writing.{AppendsPart}
 
 -- the line that says that connections are taken
 abbrev pub ready_line : List ℕ
 ready_line = codes "machipcd: ready\n"
 
--- A store that fails as it is served does so behind the whole line; where memory is wanted before, nothing is written; and a
+-- An opened store is served, so its folder is locked. A store that fails as it is served does so behind the whole line; where memory is wanted before, nothing is written; and a
 -- server that ends otherwise has written some first bytes of the line, or none.
 abbrev pub HasTold : Option (List ℕ) → Option (List ℕ) → SocketEnd → Type 0
 HasTold old new Socket = AppendsPart old new ready_line
+HasTold old new InUse = ⊥
+HasTold old new Unlockable = ⊥
 HasTold old new (Store fault) = Appends old new ready_line ⊎ ((fault ≡ NoMemory) × Keeps old new)
+
+-- Where the folder isn't locked or the store can't be opened nothing is written; behind that it is as above.
+abbrev pub HasServed : Option (List ℕ) → Option (List ℕ) → SocketEnd → Type 0
+HasServed old new Socket = AppendsPart old new ready_line
+HasServed old new InUse = Keeps old new
+HasServed old new Unlockable = Keeps old new
+HasServed old new (Store fault) = Appends old new ready_line ⊎ Keeps old new

@@ -1,15 +1,15 @@
 ghost use Rattle.std.specs.Prelude.{◌≡◌, ◌⊎◌, IfErr, OnErr, OnOk};
 ghost use Rattle.std.specs.Arc.{arc_value};
 ghost use Rattle.std.specs.Io.KnownBytes.{Appends};
-ghost use Rattle.connections.specs.Telling.{HasTold, ready_line};
+ghost use Rattle.connections.specs.Telling.{HasServed, HasTold, ready_line};
 ghost use Rattle.wire.specs.Writing.{AppendsPart};
 
 use crate::bound::bind;
 use crate::threads::{accept, start_loops};
 use codes::MAX_RECORDS;
-use disk::Disk;
+use disk::{Disk, FileDisk};
 use journal::StoreFault;
-use server::SocketEnd;
+use server::{LockFile, SocketEnd, lock_folder};
 use sessions::{Founding, MOST_SESSIONS, OpenGate, Row, Shared};
 use std::alloc::{AllocGlobal, Global};
 use std::io::Write;
@@ -21,8 +21,63 @@ use std::sync::ledger::Blank;
 use std::sync::{Arc, Wait};
 use std::thread::Threads;
 use std::time::Clock;
-use system::Opened;
+use system::{Opened, open};
 use wire::{WireFault, write_bytes};
+
+/// Locks a store's folder, opens the store, and serves it at the socket's path, as `serve_opened` does. The folder is locked until that
+/// has ended, which is only by a fault.
+pub fn serve_store<
+    R: Threads
+        + Wait
+        + Net<Listener = TcpListener, Stream = TcpStream>
+        + Files
+        + Clock
+        + AllocGlobal
+        + Copy
+        + Drop
+        + Send
+        + Sync
+        + 'static,
+    O: Write,
+>(
+    rt: R,
+    path: &str,
+    store: &str,
+    output: &mut O,
+) -> SocketEnd
+where
+    R::File: LockFile + Send + 'static,
+    ensures served { HasServed (O.contents output.old) (O.contents output.new) result }
+{
+    let lock = match lock_folder(&rt, store) {
+        Ok(lock) => lock,
+        Err(fault) => return fault.socket_end(),
+    };
+    let end = match open_folder(rt, store) {
+        Ok(opened) => serve_opened(rt, path, opened, output),
+        Err(fault) => SocketEnd::Store(fault),
+    };
+    drop(lock);
+    end
+}
+
+/// Opens the store in a folder.
+fn open_folder<R: Files + AllocGlobal + Copy + Drop>(
+    rt: R,
+    store: &str,
+) -> Result<Opened<FileDisk<R>>, StoreFault> {
+    let alloc = rt.alloc();
+    let Ok(disk) = FileDisk::at(alloc, rt, store) else {
+        return Err(StoreFault::Device);
+    };
+    match open(alloc, disk) {
+        Ok(opened) => Ok(opened),
+        Err((fault, disk)) => {
+            drop(disk);
+            Err(fault)
+        }
+    }
+}
 
 /// Binds the socket's path, says on the output that it is ready, and serves an opened store there, each connection in a thread of its
 /// own as a session of the store's history. It ends only by a fault.

@@ -2,44 +2,44 @@
 //! connections on a Unix socket.
 #![tactic(auto)]
 
-use command_line::read_words;
-use connections::{SocketEnd, serve_opened};
-use disk::FileDisk;
-use journal::StoreFault;
-use server::{Opened, lone, open};
+use command_line::{asked, read_words, tell_about};
+use connections::serve_store;
+use server::lone;
 use std::io::{self, BufReader, BufWriter};
 use std::process::ExitCode;
 use wire::WireFault;
 
+const HELP: &str = "\
+usage: machipcd STORE
+       machipcd --socket PATH STORE
+       machipcd --help | --version
+
+Serves the ports and rights of the store in the folder STORE, which has to be
+there: frames of calls on standard input, replies on standard output, or with
+--socket any number of connections on the Unix socket PATH. A call is on the
+disk before its reply is written. A store has one server at a time.
+
+It ends with status 0 at the end of its input, with 1 and a line on standard
+error after a fault or where the store is in use, with 2 where it is called
+otherwise. A folder named --help is ./--help. See machipcd(1).
+";
+
 fn main(rt: HostRuntime) -> ExitCode {
     let words = read_words(&rt);
+    if let Some(asked) = asked(words.as_deref()) {
+        let mut output = io::writer(&rt);
+        return ExitCode::from(tell_about(asked, "machipcd", HELP, &mut output));
+    }
     if let Some([option, path, store]) = words.as_deref() {
         if option.as_str() == "--socket" {
             let mut output = io::writer(&rt);
-            let end = match open_folder(rt, store.as_str()) {
-                Ok(opened) => serve_opened(rt, path.as_str(), opened, &mut output),
-                Err(fault) => SocketEnd::Store(fault),
-            };
+            let end = serve_store(rt, path.as_str(), store.as_str(), &mut output);
             let mut errors = rt.stderr();
             let _ = end.tell(&mut errors);
             return ExitCode::from(1);
         }
     }
     serve_alone(rt, words.as_deref())
-}
-
-/// Opens the store in a folder.
-fn open_folder(rt: HostRuntime, store: &str) -> Result<Opened<FileDisk<HostRuntime>>, StoreFault> {
-    let Ok(disk) = FileDisk::at(rt.alloc(), rt, store) else {
-        return Err(StoreFault::Device);
-    };
-    match open(rt.alloc(), disk) {
-        Ok(opened) => Ok(opened),
-        Err((fault, disk)) => {
-            drop(disk);
-            Err(fault)
-        }
-    }
 }
 
 /// Serves one connection, the standard input and output.

@@ -3,31 +3,51 @@ use Rattle.std.specs.Prelude.{◌≡◌, ◌≢◌, ◌⊎◌, ℕ, false, List,
 use Rattle.disk.specs.Moments.{View}
 use Rattle.journal.specs.Fault as store
 use Rattle.journal.specs.declared.fault.StoreFault.{StoreFault}
+use Rattle.journal.specs.declared.fault.StoreFault.TheVariants.{Device}
 use Rattle.server.specs.Keeping.{AloneValue, AnswersKept, BreaksKept, FailsKept, IsHeld, RestsKept}
 use Rattle.serving.specs.Serving.{Ends}
 use Rattle.server.specs.declared.program.LoneEnd.{LoneEnd}
-use Rattle.server.specs.declared.program.LoneEnd.TheVariants.{Served, CommandLine, Fault}
+use Rattle.server.specs.declared.program.LoneEnd.TheVariants.{Served, CommandLine, InUse, Unlockable, Fault}
+use Rattle.server.specs.declared.lock.LockFault.{LockFault}
+use Rattle.server.specs.declared.lock.LockFault.TheVariants as lock
 use Rattle.serving.specs.declared.service.ServeFault.{ServeFault}
 use Rattle.serving.specs.declared.service.ServeFault.TheVariants.{Wire, Store}
 use Rattle.wire.specs.Fault as wire
 
--- 0: the input was served to its end; 1: a fault; 2: the words are not one, or can't be read
+-- 0: the input was served to its end; 1: a fault, or the store's folder isn't locked; 2: the words are not one, or can't be read
 abbrev pub status_of : LoneEnd → ℕ
 status_of Served = 0
 status_of CommandLine = 2
+status_of InUse = 1
+status_of Unlockable = 1
 status_of (Fault fault) = 1
 
 -- what stands on the line of errors behind the program's name; no line where all was served
 abbrev pub words_of : LoneEnd → List ℕ
 words_of Served = []
 words_of CommandLine = codes "command line\n"
+words_of InUse = codes "store in use\n"
+words_of Unlockable = codes "store can't be locked\n"
 words_of (Fault (Wire fault)) = wire.fault_line fault
 words_of (Fault (Store fault)) = store.fault_line fault
 
 abbrev pub line_of : LoneEnd → List ℕ
 line_of Served = []
 line_of CommandLine = codes "machipcd: " ++ words_of CommandLine
+line_of InUse = codes "machipcd: " ++ words_of InUse
+line_of Unlockable = codes "machipcd: " ++ words_of Unlockable
 line_of (Fault fault) = codes "machipcd: " ++ words_of (Fault fault)
+
+-- how a run ends on a store whose folder isn't locked
+abbrev pub unlocked_end : LockFault → LoneEnd
+unlocked_end lock.InUse = InUse
+unlocked_end lock.Unlockable = Unlockable
+unlocked_end lock.Device = Fault (Store Device)
+
+-- and on one that was served
+abbrev pub end_of : Result (Unit {0}) ServeFault → LoneEnd
+end_of (Ok done) = Served
+end_of (Err fault) = Fault fault
 
 -- the store can't be opened; nothing was read or written
 pub record Unopened (input before : List ℕ) (left written : Option (List ℕ)) (result : Result (Unit {0}) ServeFault) : Type 0 where
@@ -52,5 +72,7 @@ module _ {D : Type 0} (honest : Type 0) (view : D → View) (input before : List
   -- how the program ends for so many words, or for words that can't be read
   abbrev pub EndsAlone : Option ℕ → LoneEnd → Type 0
   EndsAlone words CommandLine = (words ≢ Some 1) × (left ≡ Some input) × (written ≡ Some before)
+  EndsAlone words InUse = (words ≡ Some 1) × (left ≡ Some input) × (written ≡ Some before)
+  EndsAlone words Unlockable = (words ≡ Some 1) × (left ≡ Some input) × (written ≡ Some before)
   EndsAlone words Served = (words ≡ Some 1) × IsRun (Ok tt)
   EndsAlone words (Fault fault) = (words ≡ Some 1) × IsRun (Err fault)

@@ -13,7 +13,11 @@ use wire::{WireFault, write_bytes};
 pub enum SocketEnd {
     /// The path can't be bound, no thread can be made for the loops, or the output can't be written.
     Socket,
-    /// The store failed.
+    /// Another server has the store.
+    InUse,
+    /// The system can't lock the store's folder.
+    Unlockable,
+    /// The store can't be opened, or it failed.
     Store(StoreFault),
 }
 
@@ -26,6 +30,8 @@ impl SocketEnd {
     {
         match self {
             SocketEnd::Socket => write_bytes(errors, b"machipcd: socket\n"),
+            SocketEnd::InUse => LoneEnd::InUse.tell(errors),
+            SocketEnd::Unlockable => LoneEnd::Unlockable.tell(errors),
             SocketEnd::Store(fault) => LoneEnd::Fault(ServeFault::Store(fault)).tell(errors),
         }
     }

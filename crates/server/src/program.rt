@@ -1,9 +1,9 @@
 ghost use Rattle.std.specs.Prelude.{◌≡◌, ◌++◌, length, codes, option_map, IfErr, IfSome, OnErr, OnOk};
 ghost use Rattle.std.specs.Io.KnownBytes.{Appends};
-ghost use Rattle.server.specs.Program.{EndsAlone, IsRun, ServesOpened, line_of, status_of, words_of};
+ghost use Rattle.server.specs.Program.{EndsAlone, IsRun, ServesOpened, end_of, line_of, status_of, words_of};
 ghost use Rattle.wire.specs.Writing.{AppendsPart};
 
-use crate::{Alone, ServeFault, serve};
+use crate::{Alone, LockFile, ServeFault, lock_folder, serve};
 use disk::{Disk, FileDisk};
 use journal::StoreFault;
 use std::alloc::Global;
@@ -19,6 +19,10 @@ pub enum LoneEnd {
     Served,
     /// The words are not one, or can't be read.
     CommandLine,
+    /// Another server has the store.
+    InUse,
+    /// The system can't lock the store's folder.
+    Unlockable,
     /// The store or the connection failed.
     Fault(ServeFault),
 }
@@ -30,7 +34,7 @@ impl LoneEnd {
     {
         match self {
             LoneEnd::Served => 0,
-            LoneEnd::Fault(_) => 1,
+            LoneEnd::InUse | LoneEnd::Unlockable | LoneEnd::Fault(_) => 1,
             LoneEnd::CommandLine => 2,
         }
     }
@@ -42,6 +46,8 @@ impl LoneEnd {
         match self {
             LoneEnd::Served => "",
             LoneEnd::CommandLine => "command line\n",
+            LoneEnd::InUse => "store in use\n",
+            LoneEnd::Unlockable => "store can't be locked\n",
             LoneEnd::Fault(ServeFault::Wire(fault)) => fault.line(),
             LoneEnd::Fault(ServeFault::Store(fault)) => fault.line(),
         }
@@ -57,6 +63,8 @@ impl LoneEnd {
         match self {
             LoneEnd::Served => Ok(()),
             LoneEnd::CommandLine => write_line(errors, self.words()),
+            LoneEnd::InUse => write_line(errors, self.words()),
+            LoneEnd::Unlockable => write_line(errors, self.words()),
             LoneEnd::Fault(_) => write_line(errors, self.words()),
         }
     }
@@ -75,8 +83,8 @@ fn write_line<E: Write>(errors: &mut E, words: &str) -> Result<(), WireFault>
 /// All of the program for one connection: the words of its command line, or none where they can't be read as text, its
 /// input, output and errors. It gives the status to end with.
 ///
-/// The one word is the store's folder. 0: the input was served to its end. 1: after a fault, which is a line
-/// of errors. 2: the words are not one or can't be read, which is a line of errors too.
+/// The one word is the store's folder, which is locked as long as the run lasts. 0: the input was served to its end. 1: after a
+/// fault, or where another process holds the lock or none can be taken, which is a line of errors. 2: the words are not one or can't be read, which is a line of errors too.
 pub fn lone<'a, F: Files, I: Read, O: Write, E: Write>(
     alloc: Global,
     files: &'a F,
@@ -85,6 +93,8 @@ pub fn lone<'a, F: Files, I: Read, O: Write, E: Write>(
     output: &mut O,
     errors: &mut E,
 ) -> u8
+where
+    F::File: LockFile,
     // The status and the line of errors are those of how the run ended. A writer of errors that fails has a part of the line.
     ensures ended { IfSome (I.remaining input.old) (λ bytes. IfSome (O.contents output.old) (λ before.
         (end : LoneEnd) × (result ≡ status_of end) × AppendsPart (E.contents errors.old) (E.contents errors.new) (line_of end)
@@ -103,13 +113,28 @@ pub fn run_alone<'a, F: Files, I: Read, O: Write>(
     input: &mut I,
     output: &mut O,
 ) -> LoneEnd
+where
+    F::File: LockFile,
     ensures ended { IfSome (I.remaining input.old) (λ bytes. IfSome (O.contents output.old) (λ before.
         EndsAlone ⟦<FileDisk<&'a F> as Disk>⟧.honest ⟦<FileDisk<&'a F> as Disk>⟧.view bytes before (I.remaining input.new) (O.contents output.new) (option_map (λ texts. length texts.now) words.entry) result)) }
 {
     let Some([store]) = words else {
         return LoneEnd::CommandLine;
     };
-    match serve_folder(alloc, files, store.as_str(), input, output) {
+    match lock_folder(files, store.as_str()) {
+        Ok(lock) => {
+            let end = serve_folder(alloc, files, store.as_str(), input, output);
+            drop(lock);
+            served_end(end)
+        }
+        Err(fault) => fault.lone_end(),
+    }
+}
+
+fn served_end(served: Result<(), ServeFault>) -> LoneEnd
+    ensures { result ≡ end_of served }
+{
+    match served {
         Ok(()) => LoneEnd::Served,
         Err(fault) => LoneEnd::Fault(fault),
     }

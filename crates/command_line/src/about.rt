@@ -1,0 +1,67 @@
+ghost use Rattle.std.specs.Prelude.{◌≡◌, ◌≤◌, ◌↔◌, ◌++◌, ◌∷◌, [], Some, codes, map, option_map, OnOk, OnErr};
+ghost use Rattle.std.specs.Io.KnownBytes.{Appends};
+ghost use Rattle.std.specs.String.{string_bytes};
+ghost use Rattle.command_line.specs.About.{told, version_lines};
+ghost use Rattle.wire.specs.Writing.{AppendsPart};
+
+use crate::one_word;
+use std::io::Write;
+use wire::{WireFault, write_bytes};
+
+/// What a program is asked about itself.
+#[derive(Clone, Copy, Debug, PartialEq, Eq)]
+pub enum Asked {
+    /// How it is used.
+    Help,
+    /// Its version, and the toolchain that it was proved with.
+    Version,
+}
+
+/// What the words ask about the program itself: `--help` or `--version`, alone. A folder of such a name is `./--help`.
+pub fn asked(words: Option<&[String]>) -> Option<Asked>
+    ensures help { (result ≡ Some Asked.Help) ↔ (option_map (λ texts. map string_bytes texts.now) words.entry ≡ Some (codes "--help" ∷ [])) }
+    ensures version { (result ≡ Some Asked.Version) ↔ (option_map (λ texts. map string_bytes texts.now) words.entry ≡ Some (codes "--version" ∷ [])) }
+{
+    match one_word(words)? {
+        "--help" => Some(Asked::Help),
+        "--version" => Some(Asked::Version),
+        _ => None,
+    }
+}
+
+/// Writes what a program of this name and help is asked for, and flushes it. It gives the status to end with: 0, or 1 where the
+/// output can't be written, and then some first bytes may have been.
+pub fn tell_about<W: Write>(asked: Asked, name: &str, help: &str, output: &mut W) -> u8
+    ensures ok { result ≡ 0 → Appends (W.contents output.old) (W.contents output.new) (told name.now help.now asked) }
+    ensures part { AppendsPart (W.contents output.old) (W.contents output.new) (told name.now help.now asked) }
+    ensures status { result ≤ 1 }
+{
+    let written = match asked {
+        Asked::Help => send(output, help),
+        Asked::Version => send_version(output, name),
+    };
+    match written {
+        Ok(()) => 0,
+        Err(_) => 1,
+    }
+}
+
+/// Writes a text whole, and flushes it. Where the writer fails some first bytes may have been written.
+fn send<W: Write>(output: &mut W, text: &str) -> Result<(), WireFault>
+    ensures ok { OnOk result (Appends (W.contents output.old) (W.contents output.new) text.now) }
+    ensures part { OnErr result (AppendsPart (W.contents output.old) (W.contents output.new) text.now) }
+{
+    write_bytes(output, text.as_bytes())?;
+    if output.flush().is_err() {
+        return Err(WireFault::Device);
+    }
+    Ok(())
+}
+
+fn send_version<W: Write>(output: &mut W, name: &str) -> Result<(), WireFault>
+    ensures ok { OnOk result (Appends (W.contents output.old) (W.contents output.new) (name.now ++ version_lines)) }
+    ensures part { OnErr result (AppendsPart (W.contents output.old) (W.contents output.new) (name.now ++ version_lines)) }
+{
+    write_bytes(output, name.as_bytes())?;
+    send(output, " 0.1.0\nproved with rattle-kit-13f logic dac8208d650f15bf\n")
+}

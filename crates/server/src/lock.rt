@@ -1,0 +1,73 @@
+//! One server at a time: the lock on a store's folder.
+ghost use Rattle.std.specs.Prelude.{◌≡◌, ◌⊎◌};
+ghost use Rattle.server.specs.Program.{unlocked_end};
+ghost use Rattle.server.specs.Ending as socket;
+
+use crate::{LoneEnd, ServeFault, SocketEnd};
+use journal::StoreFault;
+use std::fs::{File, TryLockError};
+use std::rt::Files;
+
+/// An open file that can be locked against other processes. The lock goes with the file, and with the process.
+pub trait LockFile {
+    /// Takes the lock, and doesn't wait for it.
+    fn try_lock_whole(&self) -> Result<(), TryLockError>;
+}
+
+impl LockFile for File {
+    fn try_lock_whole(&self) -> Result<(), TryLockError> {
+        self.try_lock()
+    }
+}
+
+/// Why the folder of a store isn't locked.
+#[derive(Clone, Copy, Debug, PartialEq, Eq)]
+pub enum LockFault {
+    /// Another process holds the lock.
+    InUse,
+    /// The system can't lock it, as some network file systems can't.
+    Unlockable,
+    /// The folder can't be opened.
+    Device,
+}
+
+impl LockFault {
+    /// How a run for one connection ends that this befell.
+    pub fn lone_end(self) -> LoneEnd
+        ensures { result ≡ unlocked_end self }
+    {
+        match self {
+            LockFault::InUse => LoneEnd::InUse,
+            LockFault::Unlockable => LoneEnd::Unlockable,
+            LockFault::Device => LoneEnd::Fault(ServeFault::Store(StoreFault::Device)),
+        }
+    }
+
+    /// How a run for many connections ends that this befell.
+    pub fn socket_end(self) -> SocketEnd
+        ensures { result ≡ socket.unlocked_end self }
+    {
+        match self {
+            LockFault::InUse => SocketEnd::InUse,
+            LockFault::Unlockable => SocketEnd::Unlockable,
+            LockFault::Device => SocketEnd::Store(StoreFault::Device),
+        }
+    }
+}
+
+/// Locks a store's folder, so that it has one server at a time. The lock is held until the file is dropped, and no file is made for it.
+///
+/// What a system answers no contract can say.
+pub fn lock_folder<F: Files>(files: &F, folder: &str) -> Result<F::File, LockFault>
+where
+    F::File: LockFile,
+{
+    let Ok(file) = File::open(files, folder) else {
+        return Err(LockFault::Device);
+    };
+    match file.try_lock_whole() {
+        Ok(()) => Ok(file),
+        Err(TryLockError::WouldBlock) => Err(LockFault::InUse),
+        Err(TryLockError::Error(_)) => Err(LockFault::Unlockable),
+    }
+}
