@@ -1,12 +1,12 @@
 -- What a program tells of itself.
 use Rattle.std.specs.Prelude.{ℕ, List, ◌++◌, codes}
-use Rattle.command_line.specs.declared.about.Asked.{Asked}
-use Rattle.command_line.specs.declared.about.Asked.TheVariants.{Help, Version}
+use Rattle.command_line.specs.declared.about.Question.{Question}
+use Rattle.command_line.specs.declared.about.Question.TheVariants.{Help, Version}
 
 -- behind its name: the version, and the toolchain that it was proved with
 abbrev pub version_lines : List ℕ
 version_lines = codes " 0.1.0\nproved with rattle-kit-13f logic dac8208d650f15bf\n"
 
-abbrev pub told : List ℕ → List ℕ → Asked → List ℕ
+abbrev pub told : List ℕ → List ℕ → Question → List ℕ
 told name help Help = help
 told name help Version = name ++ version_lines

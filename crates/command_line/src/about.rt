@@ -10,7 +10,7 @@ use wire::{WireFault, write_bytes};
 
 /// What a program is asked about itself.
 #[derive(Clone, Copy, Debug, PartialEq, Eq)]
-pub enum Asked {
+pub enum Question {
     /// How it is used.
     Help,
     /// Its version, and the toolchain that it was proved with.
@@ -18,27 +18,27 @@ pub enum Asked {
 }
 
 /// What the words ask about the program itself: `--help` or `--version`, alone. A folder of such a name is `./--help`.
-pub fn asked(words: Option<&[String]>) -> Option<Asked>
-    ensures help { (result ≡ Some Asked.Help) ↔ (option_map (λ texts. map string_bytes texts.now) words.entry ≡ Some (codes "--help" ∷ [])) }
-    ensures version { (result ≡ Some Asked.Version) ↔ (option_map (λ texts. map string_bytes texts.now) words.entry ≡ Some (codes "--version" ∷ [])) }
+pub fn question_in(words: Option<&[String]>) -> Option<Question>
+    ensures help { (result ≡ Some Question.Help) ↔ (option_map (λ texts. map string_bytes texts.now) words.entry ≡ Some (codes "--help" ∷ [])) }
+    ensures version { (result ≡ Some Question.Version) ↔ (option_map (λ texts. map string_bytes texts.now) words.entry ≡ Some (codes "--version" ∷ [])) }
 {
     match one_word(words)? {
-        "--help" => Some(Asked::Help),
-        "--version" => Some(Asked::Version),
+        "--help" => Some(Question::Help),
+        "--version" => Some(Question::Version),
         _ => None,
     }
 }
 
 /// Writes what a program of this name and help is asked for, and flushes it. It gives the status to end with: 0, or 1 where the
 /// output can't be written, and then some first bytes may have been.
-pub fn tell_about<W: Write>(asked: Asked, name: &str, help: &str, output: &mut W) -> u8
-    ensures ok { result ≡ 0 → Appends (W.contents output.old) (W.contents output.new) (told name.now help.now asked) }
-    ensures part { AppendsPart (W.contents output.old) (W.contents output.new) (told name.now help.now asked) }
+pub fn tell_about<W: Write>(question: Question, name: &str, help: &str, output: &mut W) -> u8
+    ensures ok { result ≡ 0 → Appends (W.contents output.old) (W.contents output.new) (told name.now help.now question) }
+    ensures part { AppendsPart (W.contents output.old) (W.contents output.new) (told name.now help.now question) }
     ensures status { result ≤ 1 }
 {
-    let written = match asked {
-        Asked::Help => send(output, help),
-        Asked::Version => send_version(output, name),
+    let written = match question {
+        Question::Help => send(output, help),
+        Question::Version => send_version(output, name),
     };
     match written {
         Ok(()) => 0,
@@ -63,5 +63,8 @@ fn send_version<W: Write>(output: &mut W, name: &str) -> Result<(), WireFault>
     ensures part { OnErr result (AppendsPart (W.contents output.old) (W.contents output.new) (name.now ++ version_lines)) }
 {
     write_bytes(output, name.as_bytes())?;
-    send(output, " 0.1.0\nproved with rattle-kit-13f logic dac8208d650f15bf\n")
+    send(
+        output,
+        " 0.1.0\nproved with rattle-kit-13f logic dac8208d650f15bf\n",
+    )
 }

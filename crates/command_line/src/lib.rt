@@ -2,7 +2,7 @@
 #![tactic(auto)]
 
 mod about;
-mod words;
+mod line;
 
-pub use about::{About, Asked, asked};
-pub use words::{one_word, read_words};
+pub use about::{Question, question_in, tell_about};
+pub use line::{one_word, read_words};

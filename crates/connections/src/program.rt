@@ -39,12 +39,7 @@ pub fn serve_store<
         + Sync
         + 'static,
     O: Write,
->(
-    rt: R,
-    path: &str,
-    store: &str,
-    output: &mut O,
-) -> SocketEnd
+>(rt: R, path: &str, store: &str, output: &mut O) -> SocketEnd
 where
     R::File: LockFile + Send + 'static,
     ensures served { HasServed (O.contents output.old) (O.contents output.new) result }

@@ -1,7 +1,7 @@
 //! `machc SOCKET` sends the frames of its standard input to a server's socket, and writes the replies to its standard output.
 #![tactic(auto)]
 
-use command_line::{asked, read_words, tell_about};
+use command_line::{question_in, read_words, tell_about};
 use relay::run_client;
 use std::io::{self, BufReader, BufWriter};
 use std::process::ExitCode;
@@ -21,9 +21,9 @@ is ./--help. See machc(1).
 
 fn main(rt: HostRuntime) -> ExitCode {
     let words = read_words(&rt);
-    if let Some(asked) = asked(words.as_deref()) {
+    if let Some(question) = question_in(words.as_deref()) {
         let mut output = io::writer(&rt);
-        return ExitCode::from(tell_about(asked, "machc", HELP, &mut output));
+        return ExitCode::from(tell_about(question, "machc", HELP, &mut output));
     }
     let (Ok(mut input), Ok(mut output)) = (
         BufReader::new(rt.alloc(), rt.reader()),

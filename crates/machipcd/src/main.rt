@@ -2,7 +2,7 @@
 //! connections on a Unix socket.
 #![tactic(auto)]
 
-use command_line::{asked, read_words, tell_about};
+use command_line::{question_in, read_words, tell_about};
 use connections::serve_store;
 use server::lone;
 use std::io::{self, BufReader, BufWriter};
@@ -26,9 +26,9 @@ otherwise. A folder named --help is ./--help. See machipcd(1).
 
 fn main(rt: HostRuntime) -> ExitCode {
     let words = read_words(&rt);
-    if let Some(asked) = asked(words.as_deref()) {
+    if let Some(question) = question_in(words.as_deref()) {
         let mut output = io::writer(&rt);
-        return ExitCode::from(tell_about(asked, "machipcd", HELP, &mut output));
+        return ExitCode::from(tell_about(question, "machipcd", HELP, &mut output));
     }
     if let Some([option, path, store]) = words.as_deref() {
         if option.as_str() == "--socket" {

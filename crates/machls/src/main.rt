@@ -1,7 +1,7 @@
 //! `machls STORE` prints the store in a folder, and writes nothing to it.
 #![tactic(auto)]
 
-use command_line::{asked, read_words, tell_about};
+use command_line::{question_in, read_words, tell_about};
 use inspect::show;
 use std::io::{self, BufWriter};
 use std::process::ExitCode;
@@ -21,9 +21,9 @@ machls(1).
 
 fn main(rt: HostRuntime) -> ExitCode {
     let words = read_words(&rt);
-    if let Some(asked) = asked(words.as_deref()) {
+    if let Some(question) = question_in(words.as_deref()) {
         let mut output = io::writer(&rt);
-        return ExitCode::from(tell_about(asked, "machls", HELP, &mut output));
+        return ExitCode::from(tell_about(question, "machls", HELP, &mut output));
     }
     let Ok(mut output) = BufWriter::new(rt.alloc(), io::writer(&rt)) else {
         let _ = eprintln!(rt; "machls: store fault 4: no memory");

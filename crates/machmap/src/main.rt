@@ -1,7 +1,7 @@
 //! `machmap STORE` draws the store in a folder for Graphviz, and writes nothing to it.
 #![tactic(auto)]
 
-use command_line::{asked, read_words, tell_about};
+use command_line::{question_in, read_words, tell_about};
 use inspect::show_drawing;
 use std::io::{self, BufWriter};
 use std::process::ExitCode;
@@ -20,9 +20,9 @@ machmap(1).
 
 fn main(rt: HostRuntime) -> ExitCode {
     let words = read_words(&rt);
-    if let Some(asked) = asked(words.as_deref()) {
+    if let Some(question) = question_in(words.as_deref()) {
         let mut output = io::writer(&rt);
-        return ExitCode::from(tell_about(asked, "machmap", HELP, &mut output));
+        return ExitCode::from(tell_about(question, "machmap", HELP, &mut output));
     }
     let Ok(mut output) = BufWriter::new(rt.alloc(), io::writer(&rt)) else {
         let _ = eprintln!(rt; "machmap: store fault 4: no memory");
