@@ -17,10 +17,3 @@ HasTold old new Socket = AppendsPart old new ready_line
 HasTold old new InUse = ⊥
 HasTold old new Unlockable = ⊥
 HasTold old new (Store fault) = Appends old new ready_line ⊎ ((fault ≡ NoMemory) × Keeps old new)
-
--- Where the folder isn't locked or the store can't be opened nothing is written; behind that it is as above.
-abbrev pub HasServed : Option (List ℕ) → Option (List ℕ) → SocketEnd → Type 0
-HasServed old new Socket = AppendsPart old new ready_line
-HasServed old new InUse = Keeps old new
-HasServed old new Unlockable = Keeps old new
-HasServed old new (Store fault) = Appends old new ready_line ⊎ Keeps old new

@@ -5,5 +5,5 @@ mod bound;
 mod program;
 mod threads;
 
-pub use program::{serve_opened, serve_store};
+pub use program::{serve_locked, serve_opened};
 pub use server::SocketEnd;

@@ -1,15 +1,15 @@
 ghost use Rattle.std.specs.Prelude.{◌≡◌, ◌⊎◌, IfErr, OnErr, OnOk};
 ghost use Rattle.std.specs.Arc.{arc_value};
-ghost use Rattle.std.specs.Io.KnownBytes.{Appends};
-ghost use Rattle.connections.specs.Telling.{HasServed, HasTold, ready_line};
+ghost use Rattle.std.specs.Io.KnownBytes.{Appends, Keeps};
+ghost use Rattle.connections.specs.Telling.{HasTold, ready_line};
 ghost use Rattle.wire.specs.Writing.{AppendsPart};
 
 use crate::bound::bind;
 use crate::threads::{accept, start_loops};
 use codes::MAX_RECORDS;
-use disk::{Disk, FileDisk};
+use disk::Disk;
 use journal::StoreFault;
-use server::{LockFile, SocketEnd, lock_folder};
+use server::SocketEnd;
 use sessions::{Founding, MOST_SESSIONS, OpenGate, Row, Shared};
 use std::alloc::{AllocGlobal, Global};
 use std::io::Write;
@@ -21,12 +21,14 @@ use std::sync::ledger::Blank;
 use std::sync::{Arc, Wait};
 use std::thread::Threads;
 use std::time::Clock;
-use system::{Opened, open};
+use system::Opened;
 use wire::{WireFault, write_bytes};
 
-/// Locks a store's folder, opens the store, and serves it at the socket's path, as `serve_opened` does. The folder is locked until that
-/// has ended, which is only by a fault.
-pub fn serve_store<
+/// Serves a store that was opened behind a lock (`server::open_locked`) at the socket's path, as `serve_opened` does, and keeps the lock
+/// until that has ended, which is only by a fault. Where it wasn't opened the run ends so, and nothing is written.
+pub fn serve_locked<
+    K: Drop,
+    D: Disk + Drop + Send + 'static,
     R: Threads
         + Wait
         + Net<Listener = TcpListener, Stream = TcpStream>
@@ -34,43 +36,21 @@ pub fn serve_store<
         + Clock
         + AllocGlobal
         + Copy
-        + Drop
         + Send
         + Sync
         + 'static,
     O: Write,
->(rt: R, path: &str, store: &str, output: &mut O) -> SocketEnd
-where
-    R::File: LockFile + Send + 'static,
-    ensures served { HasServed (O.contents output.old) (O.contents output.new) result }
+>(rt: R, path: &str, locked: Result<(K, Opened<D>), SocketEnd>, output: &mut O) -> SocketEnd
+    ensures ended { IfErr locked (λ end. (result ≡ end) × Keeps (O.contents output.old) (O.contents output.new)) }
+    ensures told { OnOk locked (HasTold (O.contents output.old) (O.contents output.new) result) }
 {
-    let lock = match lock_folder(&rt, store) {
-        Ok(lock) => lock,
-        Err(fault) => return fault.socket_end(),
-    };
-    let end = match open_folder(rt, store) {
-        Ok(opened) => serve_opened(rt, path, opened, output),
-        Err(fault) => SocketEnd::Store(fault),
-    };
-    drop(lock);
-    end
-}
-
-/// Opens the store in a folder.
-fn open_folder<R: Files + AllocGlobal + Copy + Drop>(
-    rt: R,
-    store: &str,
-) -> Result<Opened<FileDisk<R>>, StoreFault> {
-    let alloc = rt.alloc();
-    let Ok(disk) = FileDisk::at(alloc, rt, store) else {
-        return Err(StoreFault::Device);
-    };
-    match open(alloc, disk) {
-        Ok(opened) => Ok(opened),
-        Err((fault, disk)) => {
-            drop(disk);
-            Err(fault)
+    match locked {
+        Ok((lock, opened)) => {
+            let end = serve_opened(rt, path, opened, output);
+            drop(lock);
+            end
         }
+        Err(end) => end,
     }
 }
 

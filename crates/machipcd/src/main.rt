@@ -3,8 +3,8 @@
 #![tactic(auto)]
 
 use command_line::{question_in, read_words, tell_about};
-use connections::serve_store;
-use server::lone;
+use connections::serve_locked;
+use server::{lone, open_locked};
 use std::io::{self, BufReader, BufWriter};
 use std::process::ExitCode;
 use wire::WireFault;
@@ -33,7 +33,8 @@ fn main(rt: HostRuntime) -> ExitCode {
     if let Some([option, path, store]) = words.as_deref() {
         if option.as_str() == "--socket" {
             let mut output = io::writer(&rt);
-            let end = serve_store(rt, path.as_str(), store.as_str(), &mut output);
+            let locked = open_locked(rt.alloc(), rt, store.as_str());
+            let end = serve_locked(rt, path.as_str(), locked, &mut output);
             let mut errors = rt.stderr();
             let _ = end.tell(&mut errors);
             return ExitCode::from(1);

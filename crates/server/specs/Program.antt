@@ -44,11 +44,6 @@ unlocked_end lock.InUse = InUse
 unlocked_end lock.Unlockable = Unlockable
 unlocked_end lock.Device = Fault (Store Device)
 
--- and on one that was served
-abbrev pub end_of : Result (Unit {0}) ServeFault → LoneEnd
-end_of (Ok done) = Served
-end_of (Err fault) = Fault fault
-
 -- the store can't be opened; nothing was read or written
 pub record Unopened (input before : List ℕ) (left written : Option (List ℕ)) (result : Result (Unit {0}) ServeFault) : Type 0 where
   pub fault : StoreFault

@@ -1,12 +1,15 @@
 //! One server at a time: the lock on a store's folder.
-ghost use Rattle.std.specs.Prelude.{◌≡◌, ◌⊎◌};
+ghost use Rattle.std.specs.Prelude.{◌≡◌, ◌≢◌, IfErr};
 ghost use Rattle.server.specs.Program.{unlocked_end};
 ghost use Rattle.server.specs.Ending as socket;
 
 use crate::{LoneEnd, ServeFault, SocketEnd};
+use disk::FileDisk;
 use journal::StoreFault;
+use std::alloc::Global;
 use std::fs::{File, TryLockError};
 use std::rt::Files;
+use system::{Opened, open};
 
 /// An open file that can be locked against other processes. The lock goes with the file, and with the process.
 pub trait LockFile {
@@ -69,5 +72,32 @@ where
         Ok(()) => Ok(file),
         Err(TryLockError::WouldBlock) => Err(LockFault::InUse),
         Err(TryLockError::Error(_)) => Err(LockFault::Unlockable),
+    }
+}
+
+/// Locks a store's folder and opens the store behind the lock. How a run for many connections ends where it can't: `InUse` and
+/// `Unlockable`, and nothing of the store was read or written; or `Store`, and it can't be opened.
+pub fn open_locked<F: Files + Drop + Copy>(
+    alloc: Global,
+    files: F,
+    folder: &str,
+) -> Result<(F::File, Opened<FileDisk<F>>), SocketEnd>
+where
+    F::File: LockFile,
+    ensures unopened { IfErr result (λ end. end ≢ SocketEnd.Socket) }
+{
+    let lock = match lock_folder(&files, folder) {
+        Ok(lock) => lock,
+        Err(fault) => return Err(fault.socket_end()),
+    };
+    let Ok(disk) = FileDisk::at(alloc, files, folder) else {
+        return Err(SocketEnd::Store(StoreFault::Device));
+    };
+    match open(alloc, disk) {
+        Ok(opened) => Ok((lock, opened)),
+        Err((fault, disk)) => {
+            drop(disk);
+            Err(SocketEnd::Store(fault))
+        }
     }
 }

@@ -1,6 +1,6 @@
-ghost use Rattle.std.specs.Prelude.{◌≡◌, ◌++◌, length, codes, option_map, IfErr, IfSome, OnErr, OnOk};
+ghost use Rattle.std.specs.Prelude.{◌≡◌, ◌++◌, Some, length, codes, option_map, IfErr, IfSome, OnErr, OnOk};
 ghost use Rattle.std.specs.Io.KnownBytes.{Appends};
-ghost use Rattle.server.specs.Program.{EndsAlone, IsRun, ServesOpened, end_of, line_of, status_of, words_of};
+ghost use Rattle.server.specs.Program.{EndsAlone, IsRun, ServesOpened, line_of, status_of, words_of};
 ghost use Rattle.wire.specs.Writing.{AppendsPart};
 
 use crate::{Alone, LockFile, ServeFault, lock_folder, serve};
@@ -123,18 +123,26 @@ where
     };
     match lock_folder(files, store.as_str()) {
         Ok(lock) => {
-            let end = serve_folder(alloc, files, store.as_str(), input, output);
+            let end = serve_locked(alloc, files, store.as_str(), input, output);
             drop(lock);
-            served_end(end)
+            end
         }
         Err(fault) => fault.lone_end(),
     }
 }
 
-fn served_end(served: Result<(), ServeFault>) -> LoneEnd
-    ensures { result ≡ end_of served }
+/// Serves one connection on the store in a folder that is locked.
+fn serve_locked<'a, F: Files, I: Read, O: Write>(
+    alloc: Global,
+    files: &'a F,
+    folder: &str,
+    input: &mut I,
+    output: &mut O,
+) -> LoneEnd
+    ensures ended { IfSome (I.remaining input.old) (λ bytes. IfSome (O.contents output.old) (λ before.
+        EndsAlone ⟦<FileDisk<&'a F> as Disk>⟧.honest ⟦<FileDisk<&'a F> as Disk>⟧.view bytes before (I.remaining input.new) (O.contents output.new) (Some 1) result)) }
 {
-    match served {
+    match serve_folder(alloc, files, folder, input, output) {
         Ok(()) => LoneEnd::Served,
         Err(fault) => LoneEnd::Fault(fault),
     }
