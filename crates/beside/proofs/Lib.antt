@@ -1,0 +1,5 @@
+mod Fronts
+mod Growing
+mod Halves
+mod Standing
+mod Times
