@@ -1,0 +1,12 @@
+//! A copy in memory of the four slots of a store, which stays as it is while the store goes on.
+#![tactic(auto)]
+
+mod copying;
+mod fault;
+mod fronts;
+mod pieces;
+mod still;
+
+pub use copying::still_copy;
+pub use fault::CopyFault;
+pub use still::StillDisk;
