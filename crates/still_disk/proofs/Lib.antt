@@ -1,1 +1,2 @@
 mod Read
+mod Unchanged

@@ -4,9 +4,11 @@
 mod copying;
 mod fault;
 mod fronts;
+mod live;
 mod pieces;
 mod still;
 
-pub use copying::still_copy;
+pub use copying::{live_copy, still_copy};
 pub use fault::CopyFault;
+pub use live::LiveSlots;
 pub use still::StillDisk;

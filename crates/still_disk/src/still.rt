@@ -1,10 +1,15 @@
 // A disk in memory that nobody writes to.
-ghost use Rattle.std.specs.Prelude.{◌≡◌, ◌-◌, ◌++◌, length, take, drop, min};
+ghost use Rattle.std.specs.Prelude.{◌≡◌, ◌-◌, ◌++◌, length, take, drop, min, IfOk};
 ghost use Rattle.disk.specs.Moments.{one_more};
 ghost use Rattle.disk.specs.Slots.{slot_of};
+ghost use Rattle.still_disk.specs.Fronts.{front_slots};
+ghost use Rattle.still_disk.specs.Live.{fronts_of};
 ghost use Rattle.still_disk.specs.Still.{still_slots};
 
+use crate::fronts::Fronts;
 use disk::{Disk, DiskFault, Slot};
+use slot_steps::{IMAGE_HEADER, SEGMENT_HEADER};
+use std::alloc::{AllocError, Global};
 
 /// Four slots in memory. Nobody writes to them: a write and a cut fail, and change nothing.
 pub struct StillDisk {
@@ -44,6 +49,18 @@ impl StillDisk {
         }
     }
 
+    /// The fronts of the slots.
+    pub(crate) fn fronts(&self, alloc: Global) -> Result<Fronts, AllocError>
+        ensures { IfOk result (λ fronts. front_slots fronts ≡ fronts_of (still_slots self.now)) }
+    {
+        Ok(Fronts {
+            image0: front_of(alloc, &self.image0, IMAGE_HEADER)?,
+            image1: front_of(alloc, &self.image1, IMAGE_HEADER)?,
+            segment0: front_of(alloc, &self.segment0, SEGMENT_HEADER)?,
+            segment1: front_of(alloc, &self.segment1, SEGMENT_HEADER)?,
+        })
+    }
+
     fn refuse(&mut self) -> DiskFault
         ensures slots { still_slots self.new ≡ still_slots self.old }
         ensures failures { self.new.failures ≡ one_more self.old.failures }
@@ -51,6 +68,13 @@ impl StillDisk {
         self.failures = self.failures.saturating_add(1);
         DiskFault
     }
+}
+
+/// The front of these bytes, of so many or of as many as there are.
+fn front_of(alloc: Global, bytes: &[u8], size: usize) -> Result<Vec<u8>, AllocError>
+    ensures { IfOk result (λ front. front.items ≡ take size bytes.now) }
+{
+    bytes[..size.min(bytes.len())].to_vec(alloc)
 }
 
 /// What of these bytes stands from a place on, as far as the buffer has room.

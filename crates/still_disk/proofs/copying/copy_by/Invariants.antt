@@ -1,12 +1,12 @@
 use Rattle.std.proofs.Common.{◌≡◌}
-use Rattle.disk.specs.Moments.{MayLeave, Passes}
+use Rattle.std.specs.Prelude.{◌⊎◌}
+use Rattle.still_disk.specs.Live.{HasChanged}
 use Rattle.still_disk.proofs.copying.copy_by.Given as goal
 
--- the disk is as it was, and where nobody else writes to it the first try was the last
+-- time went on, no call failed, and at each try something had changed
 abbrev pub invariant-loop : goal.invariant-loop
 invariant-loop g l = record {
-  first : g.D.Disk.honest → l.counter ≡ 0;
-  seen : g.D.Disk.honest → (g.D.Disk.view l.disk).seen ≡ (g.D.Disk.view l.fn.disk).seen;
-  time : g.D.Disk.honest → Passes (g.D.Disk.view l.fn.disk) (g.D.Disk.view l.disk) (MayLeave (g.D.Disk.view l.fn.disk));
-  quiet : g.D.Disk.failed_calls l.disk ≡ g.D.Disk.failed_calls l.fn.disk;
+  later : g.S.LiveSlots.honest → g.S.LiveSlots.later (g.S.LiveSlots.now l.fn.live) (g.S.LiveSlots.now l.live);
+  changed : g.S.LiveSlots.honest → (l.counter ≡ 0) ⊎ ((begun ended : g.S.LiveSlots.Moment) × g.S.LiveSlots.later (g.S.LiveSlots.now l.fn.live) begun × HasChanged g.S.LiveSlots.later g.S.LiveSlots.slots begun ended);
+  quiet : g.S.LiveSlots.failed l.live ≡ g.S.LiveSlots.failed l.fn.live;
 }

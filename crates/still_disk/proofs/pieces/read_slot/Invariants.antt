@@ -1,17 +1,15 @@
 use Rattle.std.proofs.Common.{◌≡◌, length}
 use Rattle.std.specs.Prelude.{◌-◌, ◌^◌}
-use Rattle.disk.specs.Moments.{MayLeave, Passes}
 use Rattle.disk.specs.Slots.{slot_of}
-use Rattle.still_disk.specs.Copying.{IsFront}
+use Rattle.still_disk.specs.Live.{Copied}
 use Rattle.still_disk.proofs.pieces.read_slot.Given as goal
 
--- what was read is the front of the slot, and the disk is as it was
+-- what was read is a copy so far
 abbrev pub invariant-loop-bytes : goal.invariant-loop-bytes
 invariant-loop-bytes g l = record {
-  front : g.D.Disk.honest → IsFront l.bytes.items (slot_of (g.D.Disk.view l.fn.disk).seen l.slot);
-  seen : g.D.Disk.honest → (g.D.Disk.view l.disk).seen ≡ (g.D.Disk.view l.fn.disk).seen;
-  time : g.D.Disk.honest → Passes (g.D.Disk.view l.fn.disk) (g.D.Disk.view l.disk) (MayLeave (g.D.Disk.view l.fn.disk));
-  quiet : g.D.Disk.failed_calls l.disk ≡ g.D.Disk.failed_calls l.fn.disk;
+  copied : g.S.LiveSlots.honest → Copied g.S.LiveSlots.later (λ m. slot_of (g.S.LiveSlots.slots m) l.slot) (g.S.LiveSlots.now l.fn.live) (g.S.LiveSlots.now l.live) l.bytes.items;
+  later : g.S.LiveSlots.honest → g.S.LiveSlots.later (g.S.LiveSlots.now l.fn.live) (g.S.LiveSlots.now l.live);
+  quiet : g.S.LiveSlots.failed l.live ≡ g.S.LiveSlots.failed l.fn.live;
 }
 
 abbrev pub decreases-loop-bytes : goal.decreases-loop-bytes
