@@ -5,7 +5,7 @@ use Rattle.std.proofs.lemmas.Bool.{cases_lt}
 use Rattle.std.proofs.lemmas.List.{append-nil, drop_at, take_all, take-append-le}
 use Rattle.std.proofs.Math.Seq.{take-append-add}
 use Rattle.ipc_model.specs.store.Store.{IsClosed}
-use Rattle.beside.specs.Copies.{Copied, IsCopy, nothing_yet, one_piece_more}
+use Rattle.still_disk.specs.Live.{Copied, IsCopy, nothing_yet, one_piece_more}
 
 -- what stands behind a gate that isn't open may be cut anywhere
 closed_front : (k : ℕ) (xs : List ℕ) → IsClosed xs → IsClosed (take k xs)

@@ -10,7 +10,7 @@ use Rattle.ipc_model.specs.store.Store.{IsClosed, SpellsSegment, all_records, ba
 use Rattle.ipc_model.specs.texts.Images.{image_text}
 use Rattle.slot_steps.specs.Steps.{image_slot, segment_slot}
 use Rattle.standing.specs.Standing.{IsPassedSegment}
-use Rattle.beside.specs.Copies.{IsCopy}
+use Rattle.still_disk.specs.Live.{IsCopy}
 use Rattle.beside.proofs.Growing.{copy_ends}
 use Rattle.beside.specs.Moments.{Appends, HoldsBatches, Moment, OtherSegment, front}
 use Rattle.beside.proofs.Times.{half, more_appended, nothing_appended}

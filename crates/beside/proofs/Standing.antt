@@ -13,9 +13,10 @@ use Rattle.slot_steps.specs.Steps.{image_slot, segment_slot}
 use Rattle.standing.specs.Slots.{image_again}
 use Rattle.standing.specs.Spelled.{one_spells, two_spells}
 use Rattle.standing.specs.Standing.{InOne, InTwo, IsPassedImage, IsPassedSegment}
-use Rattle.beside.specs.Copies.{IsCopy}
-use Rattle.beside.specs.Moments.{Appends, HoldsBatches, Moment, OtherSegment, place}
-use Rattle.beside.specs.Reading.{Reading, StandFor}
+use Rattle.still_disk.specs.Live.{IsCopy, IsReading}
+use Rattle.beside.specs.Moments.{Appends, HoldsBatches, Later, Moment, OtherSegment, place}
+use Rattle.beside.proofs.Ordered.{Reading, later_joins, ordered}
+use Rattle.beside.specs.Standing.{StandFor}
 use Rattle.beside.proofs.Fronts.{image_epoch_alike, open_image_alike, open_segment_alike, passed_image_alike, passed_segment_alike, segment_epoch_alike}
 use Rattle.beside.proofs.Halves.{image_copied, next_segment, next_segment_copied, own_segment_copied, passed_segment}
 use Rattle.beside.proofs.Times.{copy_appending, copy_no_earlier, half, more_appended, no_earlier, no_earlier_epoch, same_half, stays_turned}
@@ -286,5 +287,17 @@ module _ (begun ended : Moment) (copies : Slots) (r : Reading begun ended copies
         };
       }
 
-pub stands : (begun ended : Moment) (copies : Slots) (r : Reading begun ended copies) → StandFor r.start r.stop copies
-stands begun ended copies r = stand begun ended copies r (r.before (segment_slot (r.start.epoch + 1))).has_turned refl
+half_stands : (begun ended : Moment) (copies : Slots) (r : Reading begun ended copies) → StandFor r.start r.stop copies
+half_stands begun ended copies r = stand begun ended copies r (r.before (segment_slot (r.start.epoch + 1))).has_turned refl
+
+pub stands : (begun ended : Moment) (copies : Slots) → IsReading Later (λ m. m.slots) begun ended copies → ended.epoch ≤ begun.epoch + 1 → StandFor begun ended copies
+stands begun ended copies (fronts, again, tried, agree) one_turn =
+    let r = ordered begun ended fronts copies again tried agree.0 agree.1 one_turn in
+    let found = half_stands begun ended copies r in
+    let slot = segment_slot 0 in
+    record {
+      at = found.at;
+      since = later_joins begun r.start found.at (later_joins begun (r.before slot) r.start (r.since slot) (r.early slot)) found.since;
+      until = later_joins found.at r.stop ended found.until (later_joins r.stop (r.after slot) ended (r.late slot) (r.until slot));
+      recovered = found.recovered;
+    }

@@ -4,7 +4,7 @@ use Rattle.std.proofs.Common.{refl, sym, ap, subst, inl, inr, ◌∙◌, arith, 
 use Rattle.std.proofs.lemmas.List.{append-nil}
 use Rattle.disk.specs.Slots.{slot_of}
 use Rattle.slot_steps.specs.Steps.{image_slot}
-use Rattle.beside.specs.Copies.{Copied, IsCopy, nothing_yet, one_piece_more}
+use Rattle.still_disk.specs.Live.{Copied, IsCopy, nothing_yet, one_piece_more}
 use Rattle.beside.specs.Moments.{Appends, Later, Moment, place}
 
 abbrev pub half : Bool → ℕ
@@ -14,7 +14,7 @@ pub small_half : (h : Bool) → half h < 2
 small_half true = omega arith
 small_half false = omega arith
 
-same_place : (a b : Moment) → Appends a b → place a ≡ place b
+pub same_place : (a b : Moment) → Appends a b → place a ≡ place b
 same_place a b more = ap (λ e. 2 * e + half a.has_turned) (sym more.epoch) ∙ ap (λ h. 2 * b.epoch + half h) (sym more.half)
 
 pub no_earlier : (a b : Moment) → Later a b → place a ≤ place b

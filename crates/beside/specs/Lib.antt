@@ -1,3 +1,2 @@
-pub mod Copies
 pub mod Moments
-pub mod Reading
+pub mod Standing

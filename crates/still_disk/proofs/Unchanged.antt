@@ -1,5 +1,5 @@
 -- Slots that nobody else writes to: one moment is as another.
-use Rattle.std.proofs.Common.{◌≡◌, ℕ, ◌+◌, ◌≤◌, List, [], ◌++◌, length, take, drop, refl, sym, ap, subst, ◌∙◌, arith, append_assoc, take-append-drop, length-append, length-take}
+use Rattle.std.proofs.Common.{◌≡◌, ℕ, ◌≤◌, List, ◌++◌, length, take, drop, refl, sym, ap, subst, ◌∙◌, append_assoc, take-append-drop, length-append, length-take}
 use Rattle.std.proofs.lemmas.List.{append-nil, drop-drop, drop_all, drop_min}
 use Rattle.std.specs.Prelude.{IfOk, Result, Ok, Err}
 use Rattle.disk.specs.Slots.{Slots}
@@ -22,7 +22,7 @@ front_on : (slot bytes : List ℕ) (n : ℕ) → IsFront bytes slot → IsFront 
 front_on slot bytes n front =
     let rest : List ℕ = drop (length bytes) slot in
     let left : drop (length (bytes ++ take n rest)) slot ≡ drop n rest =
-        ap (λ k. drop k slot) (length-append bytes (take n rest)) ∙ sym (drop-drop (length (take n rest)) (length bytes) slot) ∙ ap (λ k. drop k rest) (length-take n rest) ∙ drop_min n rest in
+    ap (λ k. drop k slot) (length-append bytes (take n rest)) ∙ sym (drop-drop (length (take n rest)) (length bytes) slot) ∙ ap (λ k. drop k rest) (length-take n rest) ∙ drop_min n rest in
     ap (λ l. (bytes ++ take n rest) ++ l) left ∙ append_assoc bytes (take n rest) (drop n rest) ∙ ap (λ l. bytes ++ l) (take-append-drop n rest) ∙ front
 
 module _ (slot : Slots → List ℕ) (begun : Slots) where
@@ -44,13 +44,15 @@ fronts_same begun ended fronts read =
     let first = read.to_first in
     let second : read.second ≡ begun = read.to_second ∙ first in
     let third : read.third ≡ begun = read.to_third ∙ second in
-    let last : ended ≡ begun = read.to_last ∙ third in
-    (last, λ i. record {
-      image0 = (read.image0 ∙ ap (λ (m : Slots). take 24 m.image0) first) i;
-      image1 = (read.image1 ∙ ap (λ (m : Slots). take 24 m.image1) second) i;
-      segment0 = (read.segment0 ∙ ap (λ (m : Slots). take 16 m.segment0) third) i;
-      segment1 = (read.segment1 ∙ ap (λ (m : Slots). take 16 m.segment1) last) i;
-    })
+    let last : ended ≡ begun = read.to_last ∙ third in (
+      last,
+      λ i. record {
+        image0 = (read.image0 ∙ ap (λ (m : Slots). take 24 m.image0) first) i;
+        image1 = (read.image1 ∙ ap (λ (m : Slots). take 24 m.image1) second) i;
+        segment0 = (read.segment0 ∙ ap (λ (m : Slots). take 16 m.segment0) third) i;
+        segment1 = (read.segment1 ∙ ap (λ (m : Slots). take 16 m.segment1) last) i;
+      },
+    )
 
 copies_same : (begun ended copies : Slots) → SlotsCopied Same slots begun ended copies → (ended ≡ begun) × (copies ≡ begun)
 copies_same begun ended copies copied =
@@ -59,13 +61,15 @@ copies_same begun ended copies copied =
     let segment0 = copy_same (λ m. m.segment0) copied.second copied.third copies.segment0 copied.segment0 in
     let segment1 = copy_same (λ m. m.segment1) copied.third ended copies.segment1 copied.segment1 in
     let second : copied.second ≡ begun = image1.0 ∙ image0.0 in
-    let third : copied.third ≡ begun = segment0.0 ∙ second in
-    (segment1.0 ∙ third, λ i. record {
-      image0 = image0.1 i;
-      image1 = (image1.1 ∙ ap (λ (m : Slots). m.image1) image0.0) i;
-      segment0 = (segment0.1 ∙ ap (λ (m : Slots). m.segment0) second) i;
-      segment1 = (segment1.1 ∙ ap (λ (m : Slots). m.segment1) third) i;
-    })
+    let third : copied.third ≡ begun = segment0.0 ∙ second in (
+      segment1.0 ∙ third,
+      λ i. record {
+        image0 = image0.1 i;
+        image1 = (image1.1 ∙ ap (λ (m : Slots). m.image1) image0.0) i;
+        segment0 = (segment0.1 ∙ ap (λ (m : Slots). m.segment0) second) i;
+        segment1 = (segment1.1 ∙ ap (λ (m : Slots). m.segment1) third) i;
+      },
+    )
 
 tried_same : (begun ended fronts copies again : Slots) → Tried Same slots begun ended fronts copies again → (copies ≡ begun) × Agree fronts copies again
 tried_same begun ended fronts copies again tried =

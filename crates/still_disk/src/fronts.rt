@@ -50,10 +50,7 @@ fn read_front<S: LiveSlots>(
 }
 
 /// The fronts of the four slots.
-pub(crate) fn read_fronts<S: LiveSlots>(
-    alloc: Global,
-    live: &mut S,
-) -> Result<Fronts, CopyFault>
+pub(crate) fn read_fronts<S: LiveSlots>(alloc: Global, live: &mut S) -> Result<Fronts, CopyFault>
     ensures fronts { S.honest → IfOk result (λ fronts. FrontsRead S.later S.slots (S.now live.old) (S.now live.new) (front_slots fronts)) }
     ensures later { S.honest → S.later (S.now live.old) (S.now live.new) }
     ensures idle { IfErr result (λ fault. fault ≢ CopyFault.Busy) }

@@ -1,4 +1,4 @@
-use Rattle.std.proofs.Common.{rules, ◌≡◌, inr, subst, sym}
+use Rattle.std.proofs.Common.{rules, ◌≡◌, inr, subst}
 use Rattle.std.specs.Prelude.{IfNone, None}
 use Rattle.still_disk.specs.Live.{HasChanged}
 use Rattle.still_disk.proofs.copying.copy_by.Goals as goal

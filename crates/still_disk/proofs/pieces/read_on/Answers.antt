@@ -1,4 +1,4 @@
-use Rattle.std.proofs.Common.{rules, ◌≡◌, ℕ, List, ◌++◌, length, take, drop, sym, ap, ◌∙◌}
+use Rattle.std.proofs.Common.{rules, ◌≡◌, ℕ, List, ◌++◌, length, take, drop, ap, ◌∙◌}
 use Rattle.std.specs.Prelude.{◌-◌, min}
 use Rattle.disk.specs.Slots.{slot_of}
 use Rattle.still_disk.specs.Live.{one_piece_more}
