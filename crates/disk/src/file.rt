@@ -10,7 +10,8 @@ use std::io::{self, ErrorKind, Read, Seek, SeekFrom, Write};
 use std::rt::Files;
 
 /// A slot in each of the files `image0`, `image1`, `segment0` and `segment1` of a folder. A file that isn't
-/// there is an empty slot, and the first write or cut of its slot makes it.
+/// there is an empty slot, and the first write or cut of its slot makes it. A read looks for it again, as another
+/// process may write to the store; lengths are those that were measured when the disk was opened.
 ///
 /// Nothing is proved of the contents: that these files keep the disk model is a premise.
 pub struct FileDisk<R: Files + Drop> {
@@ -80,6 +81,16 @@ struct SlotFile<F> {
 }
 
 impl<F: Read + Write + Seek + OpenFile + Drop> SlotFile<F> {
+    // A file for reading, if it is there.
+    fn opened<R: Files<File = F>>(files: &R, path: &str) -> io::Result<Option<F>> {
+        match fs::metadata(files, path) {
+            Ok(found) if found.is_file() => Ok(Some(File::open(files, path)?)),
+            Ok(_) => Err(ErrorKind::InvalidInput.into()),
+            Err(error) if error.kind() == ErrorKind::NotFound => Ok(None),
+            Err(error) => Err(error),
+        }
+    }
+
     // Opens the file for reading, if it is there.
     fn find<R: Files<File = F>>(
         alloc: Global,
@@ -88,15 +99,10 @@ impl<F: Read + Write + Seek + OpenFile + Drop> SlotFile<F> {
         name: &str,
     ) -> io::Result<SlotFile<F>> {
         let path = format!(in alloc; "{folder}/{name}")?;
-        let (file, length) = match fs::metadata(files, path.as_str()) {
-            Ok(found) if found.is_file() => {
-                let file = File::open(files, path.as_str())?;
-                let length = file.metadata()?.len();
-                (Some(file), length)
-            }
-            Ok(_) => return Err(ErrorKind::InvalidInput.into()),
-            Err(error) if error.kind() == ErrorKind::NotFound => (None, 0),
-            Err(error) => return Err(error),
+        let file = SlotFile::opened(files, path.as_str())?;
+        let length = match &file {
+            Some(file) => file.metadata()?.len(),
+            None => 0,
         };
         Ok(SlotFile {
             path,
@@ -122,9 +128,23 @@ impl<F: Read + Write + Seek + OpenFile + Drop> SlotFile<F> {
         Ok(is_missing)
     }
 
-    fn read(&mut self, at: u64, buffer: &mut [u8]) -> io::Result<usize>
+    // Looks for a file again that wasn't there: who writes to the store may have made it since.
+    fn find_again<R: Files<File = F>>(&mut self, files: &R) -> io::Result<()> {
+        if self.file.is_none() {
+            self.file = SlotFile::opened(files, self.path.as_str())?;
+        }
+        Ok(())
+    }
+
+    fn read<R: Files<File = F>>(
+        &mut self,
+        files: &R,
+        at: u64,
+        buffer: &mut [u8],
+    ) -> io::Result<usize>
         ensures { IfOk result (λ count. count ≤ length buffer.old) }
     {
+        self.find_again(files)?;
         match &mut self.file {
             None => Ok(0),
             Some(file) => {
@@ -286,7 +306,7 @@ impl<R: Files + Drop> Disk for FileDisk<R> {
     }
 
     fn read(&mut self, slot: Slot, at: u64, buffer: &mut [u8]) -> Result<usize, DiskFault> {
-        match self.slots.slot_mut(slot).read(at, buffer) {
+        match self.slots.slot_mut(slot).read(&self.files, at, buffer) {
             Ok(count) => Ok(count),
             Err(_) => Err(count_failure(&mut self.failures)),
         }

@@ -1,2 +1,3 @@
+pub mod Looked
 pub mod Printed
 pub mod Program

@@ -2,7 +2,7 @@
 use Rattle.std.specs.Prelude.{◌≡◌, ◌⊎◌, ℕ, List}
 use Rattle.disk.specs.Slots.{Slots}
 use Rattle.inspect.specs.declared.fault.ListFault.{ListFault}
-use Rattle.inspect.specs.declared.fault.ListFault.TheVariants.{Store}
+use Rattle.inspect.specs.declared.fault.ListFault.TheVariants.{Store, Busy}
 use Rattle.ipc_model.specs.state.State.{State}
 use Rattle.journal.specs.declared.fault.StoreFault.TheVariants.{Damaged, Device, NoMemory, Version}
 use Rattle.listing.specs.Drawing.{drawing}
@@ -25,6 +25,6 @@ pub record IsSketch (honest : Type 0) (slots : Slots) (text : List ℕ) : Type 0
   pub reads : honest → Reads slots epoch records state
   pub drawn : text ≡ drawing state
 
--- why a store can't be read, as a look at it tells
+-- why a store can't be read, as a look at a copy of it tells
 abbrev pub IsOfLook : ListFault → Type 0
-IsOfLook fault = (fault ≡ Store Device) ⊎ ((fault ≡ Store Damaged) ⊎ ((fault ≡ Store NoMemory) ⊎ (fault ≡ Store Version)))
+IsOfLook fault = (fault ≡ Store Device) ⊎ ((fault ≡ Store Damaged) ⊎ ((fault ≡ Store NoMemory) ⊎ ((fault ≡ Store Version) ⊎ (fault ≡ Busy))))

@@ -5,7 +5,7 @@ use Rattle.ipc_model.specs.state.State.{State}
 use Rattle.listing.specs.Drawing.{drawing}
 use Rattle.listing.specs.Listing.{listing}
 use Rattle.wire.specs.Writing.{AppendsPart}
-use Rattle.inspect.specs.declared.fault.ListFault.TheVariants.{Store, Write}
+use Rattle.inspect.specs.declared.fault.ListFault.TheVariants.{Store, Busy, Write}
 use Rattle.inspect.specs.declared.program.ShowEnd.{ShowEnd}
 use Rattle.inspect.specs.declared.program.ShowEnd.TheVariants.{Shown, CommandLine, Fault}
 use Rattle.journal.specs.Fault as store
@@ -23,6 +23,7 @@ abbrev pub words_of : ShowEnd → List ℕ
 words_of Shown = []
 words_of CommandLine = codes "command line\n"
 words_of (Fault (Store fault)) = store.fault_line fault
+words_of (Fault Busy) = codes "store busy\n"
 words_of (Fault Write) = wire.fault_line Device
 
 -- a line of errors, behind the name of a program
@@ -44,4 +45,5 @@ abbrev pub Prints : (List ℕ → Type 0) → Option ℕ → Option (List ℕ) �
 Prints IsText words old new CommandLine = (words ≢ Some 1) × Keeps old new
 Prints IsText words old new Shown = (words ≡ Some 1) × ((text : List ℕ) × IsText text × Appends old new text)
 Prints IsText words old new (Fault Write) = (words ≡ Some 1) × ((text : List ℕ) × IsText text × AppendsPart old new text)
+Prints IsText words old new (Fault Busy) = (words ≡ Some 1) × Keeps old new
 Prints IsText words old new (Fault (Store fault)) = (words ≡ Some 1) × Keeps old new

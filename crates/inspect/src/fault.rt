@@ -1,5 +1,6 @@
 use journal::StoreFault;
 use std::alloc::AllocError;
+use still_disk::CopyFault;
 use wire::WireFault;
 
 /// Why a store couldn't be printed.
@@ -7,6 +8,8 @@ use wire::WireFault;
 pub enum ListFault {
     /// The store can't be read.
     Store(StoreFault),
+    /// The store was made anew at each try to copy it.
+    Busy,
     /// The writer failed, or takes no more bytes.
     Write,
 }
@@ -19,6 +22,21 @@ impl From<StoreFault> for ListFault {
 
     fn from(fault: StoreFault) -> Self {
         ListFault::Store(fault)
+    }
+}
+
+impl From<CopyFault> for ListFault {
+    ghost use Rattle.std.specs.Prelude.{◌≡◌};
+    ghost use Rattle.inspect.specs.Looked.{of_copying};
+
+    ghost from_gives = { λ fault e. e ≡ of_copying fault };
+
+    fn from(fault: CopyFault) -> Self {
+        match fault {
+            CopyFault::Device => ListFault::Store(StoreFault::Device),
+            CopyFault::NoMemory => ListFault::Store(StoreFault::NoMemory),
+            CopyFault::Busy => ListFault::Busy,
+        }
     }
 }
 

@@ -2,6 +2,7 @@
 #![tactic(auto)]
 
 mod fault;
+mod looking;
 mod printing;
 mod program;
 

@@ -7,9 +7,9 @@ ghost use Rattle.standing.specs.Standing.{as_written};
 ghost use Rattle.wire.specs.Writing.{AppendsPart};
 
 use crate::ListFault;
+use crate::looking::look_still;
 use disk::Disk;
 use journal::StoreFault;
-use recover::look;
 use std::alloc::Global;
 use std::io::Write;
 use wire::write_bytes;
@@ -17,8 +17,11 @@ use wire::write_bytes;
 /// Writes the lines of a store, and flushes them: `epoch E records N`; each space with its names; each live port with
 /// where its receive right is, its rights' counts and its queue. The store isn't written to.
 ///
+/// What is printed is a copy in memory, so a server may go on with the store meanwhile.
+///
 /// `Store`: the store can't be read (`recover::look` tells why: `Device`, `Damaged`, `NoMemory` or `Version`), and nothing was
-/// written. `Write`: the writer failed, and some first bytes of the lines may have been written.
+/// written. `Busy`: no copy of it could be made (`still_disk::still_copy`), and nothing was written. `Write`: the writer failed,
+/// and some first bytes of the lines may have been written.
 pub fn list<D: Disk, W: Write>(alloc: Global, disk: &mut D, writer: &mut W) -> Result<(), ListFault>
     ensures ok { OnOk result ((text : List ℕ) × IsListing D.honest (D.view disk.old).seen text × Appends (W.contents writer.old) (W.contents writer.new) text) }
     ensures part { IsErrOf result ListFault.Write → (text : List ℕ) × IsListing D.honest (D.view disk.old).seen text × AppendsPart (W.contents writer.old) (W.contents writer.new) text }
@@ -28,6 +31,7 @@ pub fn list<D: Disk, W: Write>(alloc: Global, disk: &mut D, writer: &mut W) -> R
     ensures damaged { D.honest → IsErrOf result (ListFault.Store StoreFault.Damaged) → IsDamaged (as_written (D.view disk.old).seen) }
     ensures faults { IfErr result (λ fault. IsOfLook fault ⊎ (fault ≡ ListFault.Write)) }
     ensures quiet { OnOk result (D.failed_calls disk.new ≡ D.failed_calls disk.old) }
+    ensures still { D.honest → IsErrOf result ListFault.Busy → ⊥ }
     ensures told { IsErrOf result ListFault.Write → D.failed_calls disk.new ≡ D.failed_calls disk.old }
     ensures device { IsErrOf result (ListFault.Store StoreFault.Device) → D.failed_calls disk.new ≡ one_more (D.failed_calls disk.old) }
 {
@@ -50,6 +54,7 @@ pub fn sketch<D: Disk, W: Write>(
     ensures damaged { D.honest → IsErrOf result (ListFault.Store StoreFault.Damaged) → IsDamaged (as_written (D.view disk.old).seen) }
     ensures faults { IfErr result (λ fault. IsOfLook fault ⊎ (fault ≡ ListFault.Write)) }
     ensures quiet { OnOk result (D.failed_calls disk.new ≡ D.failed_calls disk.old) }
+    ensures still { D.honest → IsErrOf result ListFault.Busy → ⊥ }
     ensures told { IsErrOf result ListFault.Write → D.failed_calls disk.new ≡ D.failed_calls disk.old }
     ensures device { IsErrOf result (ListFault.Store StoreFault.Device) → D.failed_calls disk.new ≡ one_more (D.failed_calls disk.old) }
 {
@@ -65,9 +70,10 @@ fn lines_of<D: Disk>(alloc: Global, disk: &mut D) -> Result<Vec<u8>, ListFault>
     ensures faults { IfErr result IsOfLook }
     ensures quiet { OnOk result (D.failed_calls disk.new ≡ D.failed_calls disk.old) }
     ensures device { IsErrOf result (ListFault.Store StoreFault.Device) → D.failed_calls disk.new ≡ one_more (D.failed_calls disk.old) }
+    ensures still { D.honest → IsErrOf result ListFault.Busy → ⊥ }
     ensures err { IfErr result (λ fault. fault ≢ ListFault.Write) }
 {
-    let look = look(alloc, disk)?;
+    let look = look_still(alloc, disk)?;
     let mut text = Vec::new(alloc);
     listing::list(alloc, look.epoch, look.records, &look.snapshot, &mut text)?;
     Ok(text)
@@ -81,9 +87,10 @@ fn sketch_of<D: Disk>(alloc: Global, disk: &mut D) -> Result<Vec<u8>, ListFault>
     ensures faults { IfErr result IsOfLook }
     ensures quiet { OnOk result (D.failed_calls disk.new ≡ D.failed_calls disk.old) }
     ensures device { IsErrOf result (ListFault.Store StoreFault.Device) → D.failed_calls disk.new ≡ one_more (D.failed_calls disk.old) }
+    ensures still { D.honest → IsErrOf result ListFault.Busy → ⊥ }
     ensures err { IfErr result (λ fault. fault ≢ ListFault.Write) }
 {
-    let look = look(alloc, disk)?;
+    let look = look_still(alloc, disk)?;
     let mut text = Vec::new(alloc);
     listing::draw(alloc, &look.snapshot, &mut text)?;
     Ok(text)

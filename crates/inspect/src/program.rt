@@ -42,6 +42,7 @@ impl ShowEnd {
             ShowEnd::Shown => "",
             ShowEnd::CommandLine => "command line\n",
             ShowEnd::Fault(ListFault::Store(fault)) => fault.line(),
+            ShowEnd::Fault(ListFault::Busy) => "store busy\n",
             ShowEnd::Fault(ListFault::Write) => WireFault::Device.line(),
         }
     }

@@ -1,0 +1,6 @@
+mod Fronts
+mod Growing
+mod Halves
+mod Ordered
+mod Standing
+mod Times

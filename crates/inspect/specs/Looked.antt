@@ -1,0 +1,21 @@
+-- Why a store couldn't be looked at, by what the copy of it told, and the look at the copy.
+use Rattle.inspect.specs.declared.fault.ListFault.{ListFault}
+use Rattle.inspect.specs.declared.fault.ListFault.TheVariants.{Store, Busy}
+use Rattle.journal.specs.declared.fault.StoreFault.{StoreFault}
+use Rattle.journal.specs.declared.fault.StoreFault.TheVariants as store
+use Rattle.still_disk.specs.declared.fault.CopyFault.{CopyFault}
+use Rattle.still_disk.specs.declared.fault.CopyFault.TheVariants as copy
+
+abbrev pub of_copying : CopyFault → ListFault
+of_copying copy.Device = Store store.Device
+of_copying copy.NoMemory = Store store.NoMemory
+of_copying copy.Busy = Busy
+
+-- A copy has no device, and nothing in it fails but for want of memory.
+abbrev pub of_looking : StoreFault → ListFault
+of_looking store.Device = Store store.NoMemory
+of_looking store.Full = Store store.Full
+of_looking store.Damaged = Store store.Damaged
+of_looking store.NoMemory = Store store.NoMemory
+of_looking store.Failed = Store store.Failed
+of_looking store.Version = Store store.Version

@@ -1,0 +1,16 @@
+use Rattle.std.proofs.Common.{◌≡◌, length}
+use Rattle.std.specs.Prelude.{◌-◌, ◌^◌}
+use Rattle.disk.specs.Slots.{slot_of}
+use Rattle.still_disk.specs.Live.{Copied}
+use Rattle.still_disk.proofs.pieces.read_slot.Given as goal
+
+-- what was read is a copy so far
+abbrev pub invariant-loop-bytes : goal.invariant-loop-bytes
+invariant-loop-bytes g l = record {
+  copied : g.S.LiveSlots.honest → Copied g.S.LiveSlots.later (λ m. slot_of (g.S.LiveSlots.slots m) l.slot) (g.S.LiveSlots.now l.fn.live) (g.S.LiveSlots.now l.live) l.bytes.items;
+  later : g.S.LiveSlots.honest → g.S.LiveSlots.later (g.S.LiveSlots.now l.fn.live) (g.S.LiveSlots.now l.live);
+  quiet : g.S.LiveSlots.failed l.live ≡ g.S.LiveSlots.failed l.fn.live;
+}
+
+abbrev pub decreases-loop-bytes : goal.decreases-loop-bytes
+decreases-loop-bytes g l = 2 ^ 64 - length l.bytes.items

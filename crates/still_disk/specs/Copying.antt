@@ -1,0 +1,15 @@
+-- What is read of a store to copy it, and how its failures are counted.
+use Rattle.std.specs.Prelude.{ℕ, Result, Ok, Err}
+use Rattle.disk.specs.Moments.{one_more}
+use Rattle.still_disk.specs.declared.fault.CopyFault.{CopyFault}
+use Rattle.still_disk.specs.declared.fault.CopyFault.TheVariants.{Device, NoMemory, Busy}
+
+-- the count of failed calls behind a fault, and behind a call of a copy: one more where the device failed, else as it was
+abbrev pub counted_fault : CopyFault → ℕ → ℕ
+counted_fault Device failures = one_more failures
+counted_fault NoMemory failures = failures
+counted_fault Busy failures = failures
+
+abbrev pub counted : {T : Type 0} → Result T CopyFault → ℕ → ℕ
+counted (Ok value) failures = failures
+counted (Err fault) failures = counted_fault fault failures

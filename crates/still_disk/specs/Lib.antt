@@ -1,0 +1,4 @@
+pub mod Copying
+pub mod Fronts
+pub mod Live
+pub mod Still

@@ -1,0 +1,18 @@
+-- A copy in memory, as the model sees it.
+use Rattle.std.specs.Prelude.{◌≡◌}
+use Rattle.disk.specs.Moments.{View}
+use Rattle.disk.specs.Slots.{Slots}
+use Rattle.still_disk.specs.declared.still.StillDisk.{StillDisk}
+
+-- the bytes of the four slots
+abbrev pub still_slots : StillDisk → Slots
+still_slots copy = record {
+  image0 = copy.image0.items;
+  image1 = copy.image1.items;
+  segment0 = copy.segment0.items;
+  segment1 = copy.segment1.items;
+}
+
+-- the disk over time, of which nothing ever changes: a read gives these bytes, and a stop leaves them
+abbrev pub still_view : StillDisk → View
+still_view copy = record { seen = still_slots copy; moment = 0; left_at = λ k c. c ≡ still_slots copy }

@@ -1,0 +1,35 @@
+use disk::DiskFault;
+use std::alloc::AllocError;
+
+/// Why there is no copy of a store.
+#[derive(Clone, Copy, Debug, PartialEq, Eq)]
+pub enum CopyFault {
+    /// The device failed.
+    Device,
+    /// No memory.
+    NoMemory,
+    /// At each try a slot was made anew meanwhile.
+    Busy,
+}
+
+impl From<DiskFault> for CopyFault {
+    ghost use Rattle.std.specs.Prelude.{◌≡◌};
+    ghost use Rattle.still_disk.specs.declared.fault.CopyFault.TheVariants.{Device};
+
+    ghost from_gives = { λ _ e. e ≡ Device };
+
+    fn from(_: DiskFault) -> Self {
+        CopyFault::Device
+    }
+}
+
+impl From<AllocError> for CopyFault {
+    ghost use Rattle.std.specs.Prelude.{◌≡◌};
+    ghost use Rattle.still_disk.specs.declared.fault.CopyFault.TheVariants.{NoMemory};
+
+    ghost from_gives = { λ _ e. e ≡ NoMemory };
+
+    fn from(_: AllocError) -> Self {
+        CopyFault::NoMemory
+    }
+}

@@ -1,0 +1,69 @@
+// The fronts of the slots: what of them changes before what stands behind is written over.
+ghost use Rattle.std.specs.Prelude.{◌≡◌, ◌≢◌, ◌↔◌, ◌≤◌, IfErr, IfOk, IsTrue, take};
+ghost use Rattle.disk.specs.Slots.{slot_of};
+ghost use Rattle.still_disk.specs.Copying.{counted};
+ghost use Rattle.still_disk.specs.Fronts.{front_slots};
+ghost use Rattle.still_disk.specs.Live.{FrontsRead};
+
+use crate::{CopyFault, LiveSlots};
+use disk::Slot;
+use slot_steps::{IMAGE_HEADER, SEGMENT_HEADER};
+use std::alloc::Global;
+
+/// The front of each slot: as many bytes as its header has, or as there are.
+#[derive(Drop)]
+pub(crate) struct Fronts {
+    pub(crate) image0: Vec<u8>,
+    pub(crate) image1: Vec<u8>,
+    pub(crate) segment0: Vec<u8>,
+    pub(crate) segment1: Vec<u8>,
+}
+
+impl Fronts {
+    /// Whether these are the same fronts.
+    pub(crate) fn are(&self, others: &Fronts) -> bool
+        ensures { IsTrue result ↔ (front_slots self.now ≡ front_slots others.now) }
+    {
+        self.image0 == others.image0
+            && self.image1 == others.image1
+            && self.segment0 == others.segment0
+            && self.segment1 == others.segment1
+    }
+}
+
+/// The front of a slot of so many bytes, or of as many as there are.
+fn read_front<S: LiveSlots>(
+    alloc: Global,
+    live: &mut S,
+    slot: Slot,
+    size: usize,
+) -> Result<Vec<u8>, CopyFault>
+    requires { size ≤ 24 }
+    ensures front { S.honest → IfOk result (λ front. front.items ≡ take size (slot_of (S.slots (S.now live.new)) slot)) }
+    ensures later { S.honest → S.later (S.now live.old) (S.now live.new) }
+    ensures idle { IfErr result (λ fault. fault ≢ CopyFault.Busy) }
+    ensures failures { S.failed live.new ≡ counted result (S.failed live.old) }
+{
+    let mut front = [0; IMAGE_HEADER];
+    let count = live.read_live(slot, 0, &mut front)?.min(size);
+    Ok(front[..count].to_vec(alloc)?)
+}
+
+/// The fronts of the four slots.
+pub(crate) fn read_fronts<S: LiveSlots>(alloc: Global, live: &mut S) -> Result<Fronts, CopyFault>
+    ensures fronts { S.honest → IfOk result (λ fronts. FrontsRead S.later S.slots (S.now live.old) (S.now live.new) (front_slots fronts)) }
+    ensures later { S.honest → S.later (S.now live.old) (S.now live.new) }
+    ensures idle { IfErr result (λ fault. fault ≢ CopyFault.Busy) }
+    ensures failures { S.failed live.new ≡ counted result (S.failed live.old) }
+{
+    let image0 = read_front(alloc, live, Slot::Image0, IMAGE_HEADER)?;
+    let image1 = read_front(alloc, live, Slot::Image1, IMAGE_HEADER)?;
+    let segment0 = read_front(alloc, live, Slot::Segment0, SEGMENT_HEADER)?;
+    let segment1 = read_front(alloc, live, Slot::Segment1, SEGMENT_HEADER)?;
+    Ok(Fronts {
+        image0,
+        image1,
+        segment0,
+        segment1,
+    })
+}

@@ -1,0 +1,14 @@
+//! A copy in memory of the four slots of a store, which stays as it is while the store goes on.
+#![tactic(auto)]
+
+mod copying;
+mod fault;
+mod fronts;
+mod live;
+mod pieces;
+mod still;
+
+pub use copying::{live_copy, still_copy};
+pub use fault::CopyFault;
+pub use live::LiveSlots;
+pub use still::StillDisk;

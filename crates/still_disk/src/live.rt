@@ -1,0 +1,65 @@
+// Slots that somebody else may write to while they are read.
+ghost use Rattle.std.specs.Prelude.{◌≡◌, ◌-◌, ◌≤◌, ◌++◌, ℕ, length, take, drop, min, IfOk};
+ghost use Rattle.disk.specs.Moments.{CountsFailure};
+ghost use Rattle.disk.specs.Slots.{Slots, slot_of};
+
+use disk::{Disk, DiskFault, Slot};
+
+/// The slots of a store, which are read while somebody else may write to them: a read gives what a slot holds at a moment of its own.
+pub trait LiveSlots {
+    /// The premise that a read gives what stands in a slot.
+    ghost honest: { Type 0 };
+
+    /// The moments, of which one may be later than another.
+    ghost Moment: { Type 0 };
+
+    ghost later: { Moment → Moment → Type 0 };
+
+    ghost stays: { (m : Moment) → later m m };
+
+    ghost joins: { (a b c : Moment) → later a b → later b c → later a c };
+
+    /// What the slots hold at a moment.
+    ghost slots: { Moment → Slots };
+
+    /// The moment of the last read.
+    ghost now: { Self → Moment };
+
+    /// How many calls have failed.
+    ghost failed: { Self → ℕ };
+
+    /// Reads from `at` on into the buffer, and answers how many bytes came: less than it has room for only at the slot's end.
+    fn read_live(&mut self, slot: Slot, at: u64, buffer: &mut [u8]) -> Result<usize, DiskFault>
+        ensures later { honest → later (now self.old) (now self.new) }
+        ensures count { honest → IfOk result (λ n. n ≡ min (length buffer.old) (length (slot_of (slots (now self.new)) slot) - at)) }
+        ensures within { IfOk result (λ n. n ≤ length buffer.old) }
+        ensures bytes { honest → IfOk result (λ n. buffer.new ≡ take n (drop at (slot_of (slots (now self.new)) slot)) ++ drop n buffer.old) }
+        ensures failures { CountsFailure (failed self.old) (failed self.new) result };
+}
+
+/// Where nobody else writes to a disk, one moment is as another.
+impl<D: Disk> LiveSlots for D {
+    ghost use Rattle.std.specs.Prelude.{◌≡◌, refl};
+    ghost use Rattle.std.proofs.Common.{◌∙◌};
+    ghost use Rattle.disk.specs.Slots.{Slots};
+
+    ghost honest = { D.honest };
+
+    ghost Moment = { Slots };
+
+    ghost later = { λ a b. b ≡ a };
+
+    ghost stays = { λ m. refl };
+
+    ghost joins = { λ a b c first then. then ∙ first };
+
+    ghost slots = { λ m. m };
+
+    ghost now = { λ d. (D.view d).seen };
+
+    ghost failed = { λ d. D.failed_calls d };
+
+    fn read_live(&mut self, slot: Slot, at: u64, buffer: &mut [u8]) -> Result<usize, DiskFault> {
+        self.read(slot, at, buffer)
+    }
+}
