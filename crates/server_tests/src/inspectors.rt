@@ -1,6 +1,9 @@
 //! The programs that list a store and draw it.
 use crate::expect::{same, same_in_row};
+use crate::frames::{ALLOCATE, ALLOCATED};
+use crate::inspected::lines_of;
 use crate::programs::{self, Ended, folder};
+use disk::FileDisk;
 use inspect::{show, show_drawing};
 use std::fs;
 use std::fs::Permissions;
@@ -168,4 +171,30 @@ fn a_folder_that_can_only_be_read_is_listed(rt: HostRuntime) {
     let seen = lists_read_only(&rt, "machls_read_only");
     let modes = [Some(()); 3];
     same(&rt, seen, Some((true, modes, [true; 3], modes, true)));
+}
+
+/// The lines of a store of one port.
+const LISTED_PORT: &str = "epoch 0 records 1
+space 1
+name 00000100 00020000 port 1 refs 0
+port 1 held 1 00000100 send 0 once 0 queue 0 of 5 seqno 0 mscount 0
+";
+
+/// Whether a store is made in a folder, by a server's run of one call, behind a disk that was opened there before; whether that
+/// disk's lines are those of the store then; and whether all was removed.
+fn lists_made_later(rt: &HostRuntime, name: &str) -> Option<[bool; 3]> {
+    let words = folder(rt, name)?;
+    let path = words.first()?.as_str();
+    let mut disk = FileDisk::at(rt.alloc(), rt, path).ok()?;
+    let is_made = programs::ends(rt, Some(&words), &ALLOCATE, (0, &ALLOCATED, ""));
+    let lines = lines_of(rt.alloc(), &mut disk);
+    drop(disk);
+    let is_listed = lines.as_deref() == Some(LISTED_PORT.as_bytes());
+    Some([is_made, is_listed, fs::remove_dir_all(rt, path).is_ok()])
+}
+
+#[test]
+fn files_that_are_made_later_are_listed(rt: HostRuntime) {
+    let seen = lists_made_later(&rt, "machls_made_later");
+    same(&rt, seen, Some([true; 3]));
 }
