@@ -57,9 +57,9 @@ def compare(frames, wanted, replies):
 class Store:
     """A store's folder, and the programs that are run on it."""
 
-    def __init__(self, programs):
+    def __init__(self, programs, folder=None):
         self.programs = programs
-        self.folder = tempfile.mkdtemp(prefix="wannikol-")
+        self.folder = folder or tempfile.mkdtemp(prefix="wannikol-")
 
     def serve(self, contents):
         """The replies of a lone server to these frames."""
@@ -69,13 +69,40 @@ class Store:
             raise Difference(f"status {ran.returncode}, {len(replies)} of {len(contents)} replies: {ran.stderr}")
         return replies
 
+    def listing(self):
+        """What `machls` prints of the store, which may be in use; None where it is busy."""
+        ran = subprocess.run([self.programs / "machls", self.folder], capture_output=True, text=True)
+        if (ran.returncode, ran.stdout, ran.stderr) == (1, "", "machls: store busy\n"):
+            return None
+        if ran.returncode or ran.stderr:
+            raise Difference(f"machls: status {ran.returncode}: {ran.stderr}")
+        return ran.stdout
+
     def listed(self):
         """How many records the store holds, and its lines."""
-        ran = subprocess.run([self.programs / "machls", self.folder], capture_output=True, text=True)
-        if ran.returncode:
-            raise Difference(f"machls: {ran.stderr}")
-        first, lines = ran.stdout.split("\n", 1)
+        first, lines = self.listing().split("\n", 1)
         return int(first.split()[3]), lines
+
+    def copied(self):
+        """A copy of the store, which may be in use; None where it is busy."""
+        folder = self.folder + ".copy"
+        words_of = [self.programs / "machcp", self.folder, folder]
+        ran = subprocess.run(words_of, capture_output=True, text=True)
+        if (ran.returncode, ran.stderr) == (1, "machcp: store busy\n"):
+            return None
+        again = subprocess.run(words_of, capture_output=True, text=True)
+        told = (ran.returncode, ran.stdout, ran.stderr, again.returncode, again.stdout, again.stderr)
+        if told != (0, "", "", 1, "", "machcp: copy exists\n"):
+            raise Difference(f"machcp: {told}")
+        return Store(self.programs, folder)
+
+    def copied_listing(self):
+        """What `machls` prints of a copy of the store; None where the store is busy."""
+        copied = self.copied()
+        listing = copied and copied.listing()
+        if copied:
+            copied.remove()
+        return listing
 
     def expect(self, machine):
         records, lines = self.listed()

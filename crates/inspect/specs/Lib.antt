@@ -1,3 +1,4 @@
+pub mod Copied
 pub mod Looked
 pub mod Printed
 pub mod Program

@@ -63,7 +63,7 @@ impl ShowEnd {
 }
 
 /// Writes a name and words behind it.
-fn write_line<E: Write>(errors: &mut E, name: &str, words: &str) -> Result<(), WireFault>
+pub(crate) fn write_line<E: Write>(errors: &mut E, name: &str, words: &str) -> Result<(), WireFault>
     ensures ok { OnOk result (Appends (E.contents errors.old) (E.contents errors.new) (name.now ++ words.now)) }
     ensures part { OnErr result (AppendsPart (E.contents errors.old) (E.contents errors.new) (name.now ++ words.now)) }
     ensures err { IfErr result (λ fault. fault ≡ WireFault.Device) }

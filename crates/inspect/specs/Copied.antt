@@ -1,0 +1,72 @@
+-- A store that was made of another one's state, and how a run that makes one ends.
+use Rattle.std.specs.Prelude.{◌≡◌, ◌≢◌, ℕ, List, [], ◌++◌, Option, Some, codes}
+use Rattle.checkpoint.specs.Images.{ImageValue, open_image, unwritten}
+use Rattle.disk.specs.Moments.{View}
+use Rattle.disk.specs.Slots.{Slots}
+use Rattle.inspect.specs.declared.copy_program.CopyEnd.{CopyEnd}
+use Rattle.inspect.specs.declared.copy_program.CopyEnd.TheVariants.{Copied, CommandLine, Fault}
+use Rattle.inspect.specs.declared.copying.CopyStoreFault.{CopyStoreFault}
+use Rattle.inspect.specs.declared.copying.CopyStoreFault.TheVariants.{Store, Busy, Exists, Write}
+use Rattle.inspect.specs.declared.fault.ListFault.{ListFault}
+use Rattle.inspect.specs.declared.fault.ListFault.TheVariants as list
+use Rattle.ipc_model.specs.state.State.{State}
+use Rattle.ipc_model.specs.store.Recovery.{HoldsImage, Recovered}
+use Rattle.ipc_model.specs.texts.Images.{image_text}
+use Rattle.journal.specs.Fault as store
+use Rattle.recover.specs.AtRest.{IsAtRest}
+use Rattle.recover.specs.Found.{Reads}
+use Rattle.recover.specs.Making.{empty_segment}
+use Rattle.snapshot.specs.Snapshots.{snapshot_of}
+use Rattle.snapshot.specs.declared.rows.Snapshot.{Snapshot}
+use Rattle.standing.specs.Standing.{as_written}
+
+-- An image of epoch 0, of the state that has these rows.
+pub record IsImageOfRows (rows : Snapshot) (image : ImageValue) : Type 0 where
+  pub state : State
+  pub same : rows ≡ snapshot_of state
+  pub is : image ≡ unwritten 0 (image_text state)
+  pub holds : HoldsImage 0 (open_image 0 (image_text state)) state
+
+-- the slots of a store in epoch 0 with this image and no record
+abbrev pub store_of : ImageValue → Slots
+store_of image = record { image0 = open_image image.epoch image.text; image1 = []; segment0 = empty_segment 0; segment1 = [] }
+
+-- A disk holds the state that these slots spell, and a crash leaves just what a read gives.
+pub record IsCopyOf (slots : Slots) (copy : View) : Type 0 where
+  pub state : State
+  pub epoch : ℕ
+  pub records : ℕ
+  pub reads : Reads slots epoch records state
+  pub recovered : Recovered (as_written copy.seen) state
+  pub at_rest : IsAtRest copy
+
+abbrev pub of_list : ListFault → CopyStoreFault
+of_list (list.Store fault) = Store fault
+of_list list.Busy = Busy
+of_list list.Write = Write
+
+-- 0: the store was copied; 1: a fault; 2: the words are not two, or can't be read
+abbrev pub copy_status_of : CopyEnd → ℕ
+copy_status_of Copied = 0
+copy_status_of CommandLine = 2
+copy_status_of (Fault fault) = 1
+
+-- what stands on the line of errors behind the program's name; no line where the store was copied
+abbrev pub copy_words_of : CopyEnd → List ℕ
+copy_words_of Copied = []
+copy_words_of CommandLine = codes "command line\n"
+copy_words_of (Fault (Store fault)) = store.fault_line fault
+copy_words_of (Fault Busy) = codes "store busy\n"
+copy_words_of (Fault Exists) = codes "copy exists\n"
+copy_words_of (Fault Write) = codes "copy not written\n"
+
+abbrev pub copy_line_of : CopyEnd → List ℕ
+copy_line_of Copied = []
+copy_line_of CommandLine = codes "machcp: " ++ copy_words_of CommandLine
+copy_line_of (Fault fault) = codes "machcp: " ++ copy_words_of (Fault fault)
+
+-- how a run may end for so many words, or for words that can't be read
+abbrev pub EndsForWords : Option ℕ → CopyEnd → Type 0
+EndsForWords words CommandLine = words ≢ Some 2
+EndsForWords words Copied = words ≡ Some 2
+EndsForWords words (Fault fault) = words ≡ Some 2

@@ -1,0 +1,163 @@
+// All of the program that copies a store.
+ghost use Rattle.std.specs.Prelude.{◌≡◌, ◌++◌, codes, length, option_map, IfErr, OnErr, OnOk};
+ghost use Rattle.std.specs.Io.KnownBytes.{Appends};
+ghost use Rattle.inspect.specs.Copied.{EndsForWords, copy_line_of, copy_status_of, copy_words_of};
+ghost use Rattle.wire.specs.Writing.{AppendsPart};
+
+use crate::copying::{CopyStoreFault, copy};
+use crate::program::write_line;
+use disk::{Disk, FileDisk};
+use journal::StoreFault;
+use std::alloc::Global;
+use std::fs::{self, File};
+use std::io::{self, ErrorKind, Write};
+use std::path::Path;
+use std::rt::Files;
+use wire::WireFault;
+
+/// How a run of `machcp` ends.
+#[derive(Clone, Copy, Debug, PartialEq, Eq)]
+pub enum CopyEnd {
+    /// The store was copied.
+    Copied,
+    /// The words are not two, or can't be read.
+    CommandLine,
+    /// The store can't be copied.
+    Fault(CopyStoreFault),
+}
+
+impl CopyEnd {
+    /// The status to end with: 0 without a fault, 1 after a fault, 2 where the words are not two or can't be read.
+    pub fn status(self) -> u8
+        ensures { result ≡ copy_status_of self }
+    {
+        match self {
+            CopyEnd::Copied => 0,
+            CopyEnd::Fault(_) => 1,
+            CopyEnd::CommandLine => 2,
+        }
+    }
+
+    /// What stands on the line of errors behind the program's name: nothing where the store was copied.
+    pub fn words(self) -> &'static str
+        ensures { result.now ≡ copy_words_of self }
+    {
+        match self {
+            CopyEnd::Copied => "",
+            CopyEnd::CommandLine => "command line\n",
+            CopyEnd::Fault(CopyStoreFault::Store(fault)) => fault.line(),
+            CopyEnd::Fault(CopyStoreFault::Busy) => "store busy\n",
+            CopyEnd::Fault(CopyStoreFault::Exists) => "copy exists\n",
+            CopyEnd::Fault(CopyStoreFault::Write) => "copy not written\n",
+        }
+    }
+
+    /// Writes the line of errors, if there is one. `Device`: the writer failed, and some first bytes of the line may have been
+    /// written.
+    pub fn tell<E: Write>(self, errors: &mut E) -> Result<(), WireFault>
+        ensures ok { OnOk result (Appends (E.contents errors.old) (E.contents errors.new) (copy_line_of self)) }
+        ensures part { OnErr result (AppendsPart (E.contents errors.old) (E.contents errors.new) (copy_line_of self)) }
+        ensures err { IfErr result (λ fault. fault ≡ WireFault.Device) }
+    {
+        match self {
+            CopyEnd::Copied => Ok(()),
+            CopyEnd::CommandLine => write_line(errors, "machcp: ", self.words()),
+            CopyEnd::Fault(_) => write_line(errors, "machcp: ", self.words()),
+        }
+    }
+}
+
+/// All of `machcp`: the words of its command line, or none where they can't be read as text, and its errors. It gives the status
+/// to end with.
+///
+/// The first word is the store's folder, whose files are opened for reading alone; the second one that of the copy, which must not
+/// be there. 0: the copy was made, and is on the disk. 1: after a fault, which is a line of errors. 2: the words are not two or
+/// can't be read, which is a line of errors too.
+pub fn copy_store<F: Files, E: Write>(
+    alloc: Global,
+    files: &F,
+    words: Option<&[String]>,
+    errors: &mut E,
+) -> u8
+    ensures ended { (end : CopyEnd) × (result ≡ copy_status_of end) × AppendsPart (E.contents errors.old) (E.contents errors.new) (copy_line_of end)
+        × EndsForWords (option_map (λ texts. length texts.now) words.entry) end }
+{
+    let end = run_copy(alloc, files, words);
+    let _ = end.tell(errors);
+    end.status()
+}
+
+/// What `copy_store` does but for its line of errors.
+pub fn run_copy<F: Files>(alloc: Global, files: &F, words: Option<&[String]>) -> CopyEnd
+    ensures { EndsForWords (option_map (λ texts. length texts.now) words.entry) result }
+{
+    let Some([store, copy]) = words else {
+        return CopyEnd::CommandLine;
+    };
+    match copy_folder(alloc, files, store.as_str(), copy.as_str()) {
+        Ok(()) => CopyEnd::Copied,
+        Err(fault) => CopyEnd::Fault(fault),
+    }
+}
+
+/// Copies the store in a folder into a new folder. It is made under another name, and gets its own once all of it is on the disk.
+fn copy_folder<F: Files>(
+    alloc: Global,
+    files: &F,
+    store: &str,
+    path: &str,
+) -> Result<(), CopyStoreFault> {
+    let Ok(mut from) = FileDisk::at(alloc, files, store) else {
+        return Err(CopyStoreFault::Store(StoreFault::Device));
+    };
+    let path = path.strip_suffix("/").unwrap_or(path);
+    let Ok(part) = format!(in alloc; "{path}.part") else {
+        return Err(CopyStoreFault::Store(StoreFault::NoMemory));
+    };
+    if !is_free(files, path) || !is_free(files, part.as_str()) {
+        return Err(CopyStoreFault::Exists);
+    }
+    if fs::create_dir(files, part.as_str()).is_err() {
+        return Err(CopyStoreFault::Write);
+    }
+    if let Err(fault) = copy_into(alloc, files, &mut from, part.as_str()) {
+        // It is empty where the store couldn't be read.
+        let _ = fs::remove_dir(files, part.as_str());
+        return Err(fault);
+    }
+    match name_copy(files, part.as_str(), path) {
+        Ok(()) => Ok(()),
+        Err(_) => Err(CopyStoreFault::Write),
+    }
+}
+
+/// Whether nothing has this name.
+fn is_free<F: Files>(files: &F, path: &str) -> bool {
+    match fs::symlink_metadata(files, path) {
+        Ok(_) => false,
+        Err(error) => error.kind() == ErrorKind::NotFound,
+    }
+}
+
+/// Copies a store into a folder, which is empty.
+fn copy_into<D: Disk, F: Files>(
+    alloc: Global,
+    files: &F,
+    from: &mut D,
+    folder: &str,
+) -> Result<(), CopyStoreFault> {
+    let Ok(mut to) = FileDisk::at(alloc, files, folder) else {
+        return Err(CopyStoreFault::Write);
+    };
+    copy(alloc, from, &mut to)
+}
+
+/// Gives a folder the name of the copy, on the disk.
+fn name_copy<F: Files>(files: &F, part: &str, path: &str) -> io::Result<()> {
+    fs::rename(files, part, path)?;
+    let parent = match Path::new(path).parent() {
+        Some(parent) if parent != Path::new("") => parent,
+        _ => Path::new("."),
+    };
+    File::open(files, parent)?.sync_all()
+}

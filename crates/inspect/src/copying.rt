@@ -1,0 +1,116 @@
+// A new store that begins in the state of another one.
+ghost use Rattle.std.specs.Prelude.{◌≡◌, ◌≢◌, Err, IfErr, IfOk, OnErr, OnOk};
+ghost use Rattle.disk.specs.Moments.{CountsFailure};
+ghost use Rattle.disk.specs.Slots.{empty_slots};
+ghost use Rattle.inspect.specs.Copied.{IsCopyOf, IsImageOfRows, store_of};
+ghost use Rattle.recover.specs.AtRest.{IsAtRest};
+
+use crate::ListFault;
+use crate::looking::look_still;
+use checkpoint::Image;
+use disk::{Disk, DiskFault, Slot};
+use image::image_is_of_state;
+use journal::StoreFault;
+use kernel::{Kernel, Snapshot};
+use std::alloc::Global;
+
+/// Why a store couldn't be copied.
+#[derive(Clone, Copy, Debug, PartialEq, Eq)]
+pub enum CopyStoreFault {
+    /// The store can't be read.
+    Store(StoreFault),
+    /// The store was changed at each try to read it.
+    Busy,
+    /// There is something at the copy's place already.
+    Exists,
+    /// The copy can't be written.
+    Write,
+}
+
+impl From<ListFault> for CopyStoreFault {
+    ghost use Rattle.std.specs.Prelude.{◌≡◌};
+    ghost use Rattle.inspect.specs.Copied.{of_list};
+
+    ghost from_gives = { λ fault e. e ≡ of_list fault };
+
+    fn from(fault: ListFault) -> Self {
+        match fault {
+            ListFault::Store(fault) => CopyStoreFault::Store(fault),
+            ListFault::Busy => CopyStoreFault::Busy,
+            ListFault::Write => CopyStoreFault::Write,
+        }
+    }
+}
+
+impl From<DiskFault> for CopyStoreFault {
+    ghost use Rattle.std.specs.Prelude.{◌≡◌};
+    ghost use Rattle.inspect.specs.declared.copying.CopyStoreFault.TheVariants.{Write};
+
+    ghost from_gives = { λ _ e. e ≡ Write };
+
+    fn from(_: DiskFault) -> Self {
+        CopyStoreFault::Write
+    }
+}
+
+/// The segment of epoch 0 without a record: an open gate, version 1, the epoch, and a closed gate.
+const EMPTY_SEGMENT: [u8; 17] = [0x5a, 1, 0, 0, 0, 0, 0, 0, 0, 0, 0, 0, 0, 0, 0, 0, 0];
+
+/// The image of the state that has these rows, of epoch 0.
+///
+/// `NoMemory`: an allocation failed.
+fn image_of(alloc: Global, rows: Snapshot) -> Result<Image, StoreFault>
+    ensures image { IfOk result (IsImageOfRows rows) }
+    ensures err { OnErr result (result ≡ Err StoreFault.NoMemory) }
+{
+    let image = Image::of(alloc, 0, &rows)?;
+    let _ = image.size();
+    image_is_of_state();
+    // The rows are those of a kernel, so what fails is an allocation.
+    let Ok(kernel) = Kernel::from_snapshot(alloc, rows) else {
+        return Err(StoreFault::NoMemory);
+    };
+    kernel.has_image();
+    drop(kernel);
+    Ok(image)
+}
+
+/// Writes a segment without a record and an image, and syncs the four slots.
+fn write_store<E: Disk>(to: &mut E, image: &Image) -> Result<(), DiskFault>
+    requires { image.now.epoch ≡ 0 }
+    ensures made { E.honest → (E.view to.old).seen ≡ empty_slots → OnOk result ((E.view to.new).seen ≡ store_of image.now) }
+    ensures rest { E.honest → OnOk result (IsAtRest (E.view to.new)) }
+    ensures failures { CountsFailure (E.failed_calls to.old) (E.failed_calls to.new) result }
+{
+    to.write_at(Slot::Segment0, 0, &EMPTY_SEGMENT)?;
+    image.write(to)?;
+    to.sync(Slot::Image0)?;
+    to.sync(Slot::Image1)?;
+    to.sync(Slot::Segment0)?;
+    to.sync(Slot::Segment1)
+}
+
+/// Copies a store to an empty disk: a store in epoch 0 that begins in the state of the first one, without a record. The first store may
+/// be in use, and isn't written to. All of the copy is on its disk then.
+///
+/// `Store`: the store can't be read (`Device`, `Damaged`, `Version`), or an allocation failed (`NoMemory`). `Busy`: the store was
+/// changed at each try to read it. `Write`: the disk of the copy failed.
+pub fn copy<D: Disk, E: Disk>(
+    alloc: Global,
+    from: &mut D,
+    to: &mut E,
+) -> Result<(), CopyStoreFault>
+    ensures copied { D.honest → E.honest → (E.view to.old).seen ≡ empty_slots → OnOk result (IsCopyOf (D.view from.old).seen (E.view to.new)) }
+    ensures seen { D.honest → (D.view from.new).seen ≡ (D.view from.old).seen }
+    ensures still { D.honest → result ≢ Err CopyStoreFault.Busy }
+    ensures free { IfErr result (λ fault. fault ≢ CopyStoreFault.Exists) }
+{
+    let look = look_still(alloc, from)?;
+    match image_of(alloc, look.snapshot) {
+        Ok(image) => {
+            write_store(to, &image)?;
+            Ok(())
+        }
+        Err(fault) => Err(CopyStoreFault::Store(fault)),
+    }
+}
