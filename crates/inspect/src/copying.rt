@@ -95,11 +95,7 @@ fn write_store<E: Disk>(to: &mut E, image: &Image) -> Result<(), DiskFault>
 ///
 /// `Store`: the store can't be read (`Device`, `Damaged`, `Version`), or an allocation failed (`NoMemory`). `Busy`: the store was
 /// changed at each try to read it. `Write`: the disk of the copy failed.
-pub fn copy<D: Disk, E: Disk>(
-    alloc: Global,
-    from: &mut D,
-    to: &mut E,
-) -> Result<(), CopyStoreFault>
+pub fn copy<D: Disk, E: Disk>(alloc: Global, from: &mut D, to: &mut E) -> Result<(), CopyStoreFault>
     ensures copied { D.honest → E.honest → (E.view to.old).seen ≡ empty_slots → OnOk result (IsCopyOf (D.view from.old).seen (E.view to.new)) }
     ensures seen { D.honest → (D.view from.new).seen ≡ (D.view from.old).seen }
     ensures still { D.honest → result ≢ Err CopyStoreFault.Busy }
