@@ -9,7 +9,7 @@ use crate::program::write_line;
 use disk::{Disk, FileDisk};
 use journal::StoreFault;
 use std::alloc::Global;
-use std::fs::{self, File};
+use std::fs::{self, File, OpenFile};
 use std::io::{self, ErrorKind, Write};
 use std::path::Path;
 use std::rt::Files;
