@@ -1,6 +1,6 @@
 // A new store that begins in the state of another one.
 ghost use Rattle.std.specs.Prelude.{◌≡◌, ◌≢◌, Err, IfErr, IfOk, OnErr, OnOk};
-ghost use Rattle.disk.specs.Moments.{CountsFailure};
+ghost use Rattle.disk.specs.Moments.{CountsFailure, MayLeave, Passes};
 ghost use Rattle.disk.specs.Slots.{empty_slots};
 ghost use Rattle.inspect.specs.Copied.{IsCopyOf, IsImageOfRows, store_of};
 ghost use Rattle.recover.specs.AtRest.{IsAtRest};
@@ -75,6 +75,19 @@ fn image_of(alloc: Global, rows: Snapshot) -> Result<Image, StoreFault>
     Ok(image)
 }
 
+/// Syncs the four slots.
+fn sync_all<E: Disk>(to: &mut E) -> Result<(), DiskFault>
+    ensures seen { E.honest → (E.view to.new).seen ≡ (E.view to.old).seen }
+    ensures time { E.honest → Passes (E.view to.old) (E.view to.new) (MayLeave (E.view to.old)) }
+    ensures rest { E.honest → OnOk result (IsAtRest (E.view to.new)) }
+    ensures failures { CountsFailure (E.failed_calls to.old) (E.failed_calls to.new) result }
+{
+    to.sync(Slot::Image0)?;
+    to.sync(Slot::Image1)?;
+    to.sync(Slot::Segment0)?;
+    to.sync(Slot::Segment1)
+}
+
 /// Writes a segment without a record and an image, and syncs the four slots.
 fn write_store<E: Disk>(to: &mut E, image: &Image) -> Result<(), DiskFault>
     requires { image.now.epoch ≡ 0 }
@@ -84,10 +97,7 @@ fn write_store<E: Disk>(to: &mut E, image: &Image) -> Result<(), DiskFault>
 {
     to.write_at(Slot::Segment0, 0, &EMPTY_SEGMENT)?;
     image.write(to)?;
-    to.sync(Slot::Image0)?;
-    to.sync(Slot::Image1)?;
-    to.sync(Slot::Segment0)?;
-    to.sync(Slot::Segment1)
+    sync_all(to)
 }
 
 /// Copies a store to an empty disk: a store in epoch 0 that begins in the state of the first one, without a record. The first store may
