@@ -1,0 +1,18 @@
+/* All of the interface with Mach's names. machipc.h has what is this library's own. */
+
+#ifndef _MACH_H_
+#define _MACH_H_
+
+#include <mach/boolean.h>
+#include <mach/kern_return.h>
+#include <mach/mach_port.h>
+#include <mach/mach_traps.h>
+#include <mach/mach_types.h>
+#include <mach/message.h>
+#include <mach/mig_errors.h>
+#include <mach/mig_support.h>
+#include <mach/notify.h>
+#include <mach/port.h>
+#include <mach_error.h>
+
+#endif

@@ -1,0 +1,36 @@
+/* What stubs of the Mach Interface Generator call. */
+
+#ifndef _MACH_MIG_SUPPORT_H_
+#define _MACH_MIG_SUPPORT_H_
+
+#include <mach/message.h>
+#include <mach/port.h>
+#include <mach/std_types.h>
+#include <string.h>
+
+#ifdef __cplusplus
+extern "C" {
+#endif
+
+/* The calling thread's port for replies, made at its first use and after the thread came to another space, or
+   MACH_PORT_NULL where none can be had. It goes with the thread. */
+mach_port_t mig_get_reply_port(void);
+
+/* Says that the calling thread got its reply at this port, and keeps the port for the next one. */
+void mig_put_reply_port(mach_port_t port);
+
+/* Gives this port back, since a reply may still come to it; the thread's next reply gets a new one. */
+void mig_dealloc_reply_port(mach_port_t port);
+
+/* Copies a string of which at most length - 1 bytes are taken, with a zero behind it, and gives how many bytes were
+   written with that zero. A length of 0 writes nothing. */
+vm_size_t mig_strncpy(char *to, const char *from, vm_size_t length);
+
+/* Makes the reply to a request that no routine knows: to its reply port, with MIG_BAD_ID. */
+void mig_reply_setup(const mach_msg_header_t *request, mach_msg_header_t *reply);
+
+#ifdef __cplusplus
+}
+#endif
+
+#endif

@@ -1,0 +1,126 @@
+/*
+ * What this library has besides Mach's own calls: where the server is, spaces, tasks that end, and calls that are made
+ * once however often the connection is cut.
+ *
+ * A process is a task: it uses one server and one space, which machipc_connect and machipc_attach choose for all its
+ * threads. Each thread has a connection of its own, made at its first call, and made anew at its next call after it was
+ * cut; so a thread that waits for a message holds no other thread up. A child of fork has the same server and space and
+ * makes connections anew. All functions may be called from any thread. None may be called from a signal handler.
+ *
+ * Link with -lmachipc -pthread.
+ */
+
+#ifndef _MACHIPC_H_
+#define _MACHIPC_H_
+
+#include <mach.h>
+#include <stddef.h>
+#include <stdint.h>
+
+#ifdef __cplusplus
+extern "C" {
+#endif
+
+/* The number of a space: 1 is the first one, which is always there; the others are made by machipc_space_create. */
+typedef uint32_t machipc_space_t;
+
+#define MACHIPC_FIRST_SPACE ((machipc_space_t) 1)
+
+/*
+ * Uses the server whose socket is at `path`, in the first space, and connects the calling thread.
+ * KERN_INVALID_ARGUMENT: no path, or one that is too long for a socket; MACH_SEND_INTERRUPTED: nobody listens there
+ * (errno says more); KERN_RESOURCE_SHORTAGE: out of memory.
+ */
+kern_return_t machipc_connect(const char *path);
+
+/*
+ * Uses this space from now on, in all threads. Any space may be attached to, and any number of connections to one space.
+ * It ends the mode of machipc_once. KERN_INVALID_TASK: there is no such space, and the process stays where it was.
+ */
+kern_return_t machipc_attach(machipc_space_t space);
+
+/* The space that the process uses. */
+machipc_space_t machipc_space(void);
+
+/*
+ * Makes a space that holds one right, which is taken of the caller's space as the disposition says, and gives its number
+ * and that right's name there. The caller stays where it is. KERN_INVALID_VALUE: the disposition; KERN_INVALID_NAME;
+ * KERN_INVALID_RIGHT: the right can't be taken so, or is dead; KERN_RESOURCE_SHORTAGE: 256 spaces.
+ */
+kern_return_t machipc_space_create(mach_port_t name, mach_msg_type_name_t disposition, machipc_space_t *space,
+                                   mach_port_t *name_there);
+
+/*
+ * Gives all rights of the caller's space back and removes it; every later call there is answered with KERN_INVALID_TASK
+ * until the process attaches to another. KERN_FAILURE: the first space, which stays.
+ */
+kern_return_t machipc_space_destroy(void);
+
+/*
+ * Attaches to a space so that each call that changes something has one effect and one answer however often the
+ * connection is cut: the call goes as a numbered request, and after a cut the library connects, attaches and asks again
+ * with the same number, which the server answers from what it keeps. A receipt that waits does so by a call that takes
+ * nothing, and takes the message then by a numbered one; a send that waits for room is tried again, up to 50
+ * milliseconds apart. Calls that change nothing are made again. Only one process at a time may use a space so, since a
+ * space keeps the last request alone; the threads of the process take turns. A child of fork is in the same space
+ * without this mode.
+ *
+ * KERN_INVALID_TASK: there is no such space; KERN_INVALID_ARGUMENT: the server has no numbered requests, or the space has
+ * used up their 4,294,967,295 numbers.
+ */
+kern_return_t machipc_once(machipc_space_t space);
+
+/*
+ * How many milliseconds a call in the mode of machipc_once tries to reach the server again after a cut before it gives
+ * up with MACH_SEND_INTERRUPTED or MACH_RCV_INTERRUPTED: 30,000 unless this is called, and 0xffffffff for ever. A call
+ * that was given up may have been done or not.
+ */
+void machipc_set_patience(uint32_t milliseconds);
+
+/* A task for others to run: a space, and the name there of the first right that it was given. */
+typedef struct machipc_task {
+    machipc_space_t space;
+    mach_port_t bootstrap; /* as a Mach task has its bootstrap port */
+    uint32_t start;        /* which start of the task this is, from 1 */
+} machipc_task_t;
+
+/*
+ * Begins a task: makes a space with one right of the caller's, as machipc_space_create does. With MACH_PORT_NULL it gets
+ * the receive right of a new port instead, and nothing of the caller's. The caller stays in its own space; a process that
+ * it starts gets the task by machipc_task_export before exec and machipc_adopt behind it, or by machipc_attach after
+ * fork. The same codes as of machipc_space_create, and of mach_port_allocate.
+ */
+kern_return_t machipc_task_begin(mach_port_t name, mach_msg_type_name_t disposition, machipc_task_t *task);
+
+/*
+ * Ends a task: destroys its space, over a connection of its own, so that all who hold names for its ports or wait for its
+ * replies are told. A task whose space is gone has ended: KERN_SUCCESS. The caller's space stays.
+ */
+kern_return_t machipc_task_end(const machipc_task_t *task);
+
+/*
+ * Puts a task and the server's socket into the environment (MACHIPC_SOCKET, MACHIPC_SPACE, MACHIPC_BOOTSTRAP,
+ * MACHIPC_START), from where a program that is started finds them. KERN_RESOURCE_SHORTAGE: out of memory. It changes the
+ * environment, which no other thread may use meanwhile.
+ */
+kern_return_t machipc_task_export(const machipc_task_t *task);
+
+/*
+ * What a program does first that machrun or the like started: it connects to the server and attaches to the space that
+ * the environment names. Where task->start is above 1 the program ran in this space before, and names of that time are
+ * there still; machipc_sweep takes them back. KERN_INVALID_ARGUMENT: the environment has no task.
+ */
+kern_return_t machipc_adopt(machipc_task_t *task);
+
+/*
+ * Destroys all names of the space but those given (`count` of them; keep may be NULL where count is 0), so that whoever
+ * waits for an answer of the time before is told by a send-once or a dead-name notice. A name that goes meanwhile is
+ * passed over. KERN_RESOURCE_SHORTAGE: out of memory.
+ */
+kern_return_t machipc_sweep(const mach_port_t *keep, size_t count);
+
+#ifdef __cplusplus
+}
+#endif
+
+#endif

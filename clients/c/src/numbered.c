@@ -1,0 +1,143 @@
+#include "numbered.h"
+
+#include "call.h"
+#include "settings.h"
+
+#include <pthread.h>
+#include <string.h>
+
+/* The turn: a space keeps its last request alone, so one is answered before the next is made, whatever the thread. */
+static pthread_mutex_t turn = PTHREAD_MUTEX_INITIALIZER;
+static pthread_once_t prepared = PTHREAD_ONCE_INIT;
+static uint32_t last_request;           /* the greatest number that was used in the space */
+static unsigned long request_generation; /* of the settings by which that space is used */
+
+/* In a child of fork nobody has the turn. */
+static void after_fork_in_child(void) {
+    pthread_mutex_init(&turn, NULL);
+}
+
+static void prepare(void) {
+    pthread_atfork(NULL, NULL, after_fork_in_child);
+}
+
+bool numbered_has(uint32_t number) {
+    return (number >= CALL_RENAME && number <= CALL_DEALLOCATE) || (number >= CALL_MOD_REFS && number <= CALL_SET_SEQNO) ||
+           (number >= CALL_MOVE_MEMBER && number <= CALL_SPACE_CREATE);
+}
+
+/* What came of a request: its own code, and where that is KERN_SUCCESS the code of the call in it. */
+struct answer {
+    kern_return_t own;
+    kern_return_t inner;
+};
+
+/* Asks a request whose frame is in connection->call. */
+static struct answer ask(struct connection *connection, const struct settings *settings, uint32_t request, uint32_t number) {
+    struct answer answer = {.own = call_repeated(connection, settings, CALL_NUMBERED)};
+    if (answer.own != KERN_SUCCESS) {
+        return answer;
+    }
+    uint32_t found_request = frame_take(&connection->reply);
+    uint32_t found_number = frame_take(&connection->reply);
+    answer.inner = (kern_return_t) frame_take(&connection->reply);
+    if (connection->reply.is_bad || found_request != request || found_number != number) {
+        answer.own = call_mismatch(connection);
+    }
+    return answer;
+}
+
+/*
+ * Whether a request of this number would be a new one. What is asked is to destroy MACH_PORT_NULL, which is refused as a
+ * new request and then changes nothing and keeps no number; no request that was done has that answer. An older number is
+ * refused itself; the last one is answered as the call that it was, or is no such call.
+ */
+static kern_return_t is_new(struct connection *connection, const struct settings *settings, uint32_t request, bool *found) {
+    frame_begin(&connection->call, CALL_NUMBERED);
+    frame_put(&connection->call, request);
+    frame_put(&connection->call, CALL_DESTROY);
+    frame_put(&connection->call, MACH_PORT_NULL);
+    struct answer answer = ask(connection, settings, request, CALL_DESTROY);
+    *found = answer.own == KERN_SUCCESS && answer.inner == KERN_INVALID_NAME;
+    bool is_told = answer.own == KERN_SUCCESS || answer.own == KERN_INVALID_VALUE || answer.own == KERN_INVALID_ARGUMENT;
+    return is_told ? KERN_SUCCESS : answer.own;
+}
+
+/* Finds the greatest number that the space has used, 0 where it has none. */
+static kern_return_t find_last(struct connection *connection, const struct settings *settings, uint32_t *last) {
+    bool found;
+    kern_return_t code = is_new(connection, settings, UINT32_MAX, &found);
+    if (code != KERN_SUCCESS || !found) {
+        return code != KERN_SUCCESS ? code : KERN_INVALID_ARGUMENT;
+    }
+    uint32_t used = 0, unused = UINT32_MAX;
+    while (unused - used > 1) {
+        uint32_t middle = used + (unused - used) / 2;
+        code = is_new(connection, settings, middle, &found);
+        if (code != KERN_SUCCESS) {
+            return code;
+        }
+        *(found ? &unused : &used) = middle;
+    }
+    *last = used;
+    return KERN_SUCCESS;
+}
+
+/* A number that is too low, or the same as another call's, is that of a second process in the space. Whether its call
+   was done before a cut, or not, isn't told any more. */
+static kern_return_t overtaken(struct connection *connection, const struct settings *settings) {
+    find_last(connection, settings, &last_request);
+    return MACH_RCV_INTERRUPTED;
+}
+
+static kern_return_t ask_next(struct connection *connection, const struct settings *settings, uint32_t number) {
+    if (request_generation != settings->generation) {
+        return MACH_SEND_INTERRUPTED; /* another thread went to another space meanwhile */
+    }
+    if (last_request == UINT32_MAX) {
+        return KERN_RESOURCE_SHORTAGE;
+    }
+    uint32_t request = last_request + 1;
+    frame_put_in_front(&connection->call, CALL_NUMBERED, request);
+    if (connection->call.is_bad) {
+        return KERN_RESOURCE_SHORTAGE;
+    }
+    struct answer answer = ask(connection, settings, request, number);
+    if (answer.own == KERN_INVALID_VALUE || answer.own == KERN_INVALID_ARGUMENT) {
+        return overtaken(connection, settings);
+    }
+    /* A wait for room or for a message is refused often, and would use numbers up; such a refusal keeps none. */
+    bool is_free = answer.own == KERN_SUCCESS && (answer.inner == MACH_SEND_TIMED_OUT || answer.inner == MACH_RCV_TIMED_OUT);
+    last_request += !is_free;
+    return answer.own == KERN_SUCCESS ? answer.inner : answer.own;
+}
+
+kern_return_t numbered_make(struct connection *connection, const struct settings *settings, uint32_t number) {
+    pthread_mutex_lock(&turn);
+    kern_return_t code = ask_next(connection, settings, number);
+    pthread_mutex_unlock(&turn);
+    return code;
+}
+
+kern_return_t machipc_once(machipc_space_t space) {
+    struct connection *connection = connection_of_thread();
+    if (connection == NULL) {
+        return KERN_RESOURCE_SHORTAGE;
+    }
+    pthread_once(&prepared, prepare);
+    pthread_mutex_lock(&turn);
+    struct settings wanted = settings_now();
+    wanted.space = space;
+    connection_close(connection);
+    uint32_t last = 0;
+    kern_return_t code = find_last(connection, &wanted, &last);
+    if (code == KERN_SUCCESS) {
+        last_request = last;
+        request_generation = settings_use_space(space, true);
+        connection->generation = request_generation;
+    } else {
+        connection_close(connection);
+    }
+    pthread_mutex_unlock(&turn);
+    return code;
+}

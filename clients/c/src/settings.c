@@ -1,0 +1,70 @@
+#include "settings.h"
+
+#include <pthread.h>
+#include <string.h>
+
+static pthread_mutex_t lock = PTHREAD_MUTEX_INITIALIZER;
+static pthread_once_t prepared = PTHREAD_ONCE_INIT;
+static struct settings shared = {.space = MACHIPC_FIRST_SPACE, .patience = 30000};
+
+/* A fork takes the lock first, so that the child finds the settings whole. */
+
+static void before_fork(void) {
+    pthread_mutex_lock(&lock);
+}
+
+static void after_fork_in_parent(void) {
+    pthread_mutex_unlock(&lock);
+}
+
+static void after_fork_in_child(void) {
+    shared.is_once = false;
+    shared.generation++;
+    pthread_mutex_unlock(&lock);
+}
+
+static void prepare(void) {
+    pthread_atfork(before_fork, after_fork_in_parent, after_fork_in_child);
+}
+
+static void take_lock(void) {
+    pthread_once(&prepared, prepare);
+    pthread_mutex_lock(&lock);
+}
+
+struct settings settings_now(void) {
+    take_lock();
+    struct settings now = shared;
+    pthread_mutex_unlock(&lock);
+    return now;
+}
+
+bool settings_fits(const char *path) {
+    return path != NULL && path[0] != '\0' && strlen(path) < sizeof shared.path;
+}
+
+void settings_use_server(const char *path) {
+    take_lock();
+    memset(shared.path, 0, sizeof shared.path);
+    memcpy(shared.path, path, strlen(path));
+    shared.space = MACHIPC_FIRST_SPACE;
+    shared.is_once = false;
+    shared.generation++;
+    pthread_mutex_unlock(&lock);
+}
+
+unsigned long settings_use_space(machipc_space_t space, bool is_once) {
+    take_lock();
+    shared.generation += space != shared.space;
+    shared.space = space;
+    shared.is_once = is_once;
+    unsigned long generation = shared.generation;
+    pthread_mutex_unlock(&lock);
+    return generation;
+}
+
+void settings_use_patience(uint32_t milliseconds) {
+    take_lock();
+    shared.patience = milliseconds;
+    pthread_mutex_unlock(&lock);
+}

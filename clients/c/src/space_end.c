@@ -1,0 +1,62 @@
+/*
+ * The end of a space, which has no numbered request, since the space is where its number would be kept. After a cut
+ * nobody tells whether the space was destroyed, and its number may be another space's by now. So a mark, a dead name that
+ * was drawn by lot, is put into the space first: where the mark isn't found behind a cut, the space is gone.
+ */
+
+#include "space_end.h"
+
+#include "call.h"
+#include "clock.h"
+
+#include <stdlib.h>
+#include <time.h>
+#include <unistd.h>
+
+/* A name above those that servers give by themselves, and hardly one that another process draws. */
+static mach_port_t draw(void) {
+    struct timespec time;
+    clock_gettime(CLOCK_REALTIME, &time);
+    uint32_t mixed = (uint32_t) time.tv_nsec * 2654435761u ^ (uint32_t) getpid() << 16 ^ (uint32_t) time.tv_sec;
+    return 0x80000000u | (mixed & 0x7ffffffeu);
+}
+
+static kern_return_t mark(struct connection *connection, const struct settings *settings, mach_port_t name) {
+    frame_begin(&connection->call, CALL_ALLOCATE_NAME);
+    frame_put(&connection->call, MACH_PORT_RIGHT_DEAD_NAME);
+    frame_put(&connection->call, name);
+    kern_return_t code = call_repeated(connection, settings, CALL_ALLOCATE_NAME);
+    return code == KERN_NAME_EXISTS ? KERN_SUCCESS : code; /* it was made before a cut */
+}
+
+/* KERN_INVALID_NAME: the mark isn't there, so the space was destroyed. */
+static kern_return_t look(struct connection *connection, const struct settings *settings, mach_port_t name) {
+    frame_begin(&connection->call, CALL_TYPE);
+    frame_put(&connection->call, name);
+    return call_repeated(connection, settings, CALL_TYPE);
+}
+
+static kern_return_t destroy(struct connection *connection, const struct settings *settings) {
+    frame_begin(&connection->call, CALL_SPACE_DESTROY);
+    kern_return_t code = connection_exchange(connection, settings);
+    return code == KERN_SUCCESS ? call_read(connection, CALL_SPACE_DESTROY) : code;
+}
+
+kern_return_t space_end(struct connection *connection, const struct settings *settings) {
+    mach_port_t name = draw();
+    kern_return_t code = mark(connection, settings, name);
+    if (code == KERN_NO_SPACE) {
+        return destroy(connection, settings); /* there is no name left for the mark */
+    }
+    while (code == KERN_SUCCESS) {
+        code = destroy(connection, settings);
+        if (!call_was_cut(code)) {
+            return code;
+        }
+        code = look(connection, settings, name);
+        if (code == KERN_INVALID_NAME || code == KERN_INVALID_TASK) {
+            return KERN_SUCCESS;
+        }
+    }
+    return code;
+}

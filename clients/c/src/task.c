@@ -1,0 +1,110 @@
+#include "call.h"
+#include "connection.h"
+#include "settings.h"
+#include "space_end.h"
+
+#include <errno.h>
+#include <stdio.h>
+#include <stdlib.h>
+
+kern_return_t machipc_task_begin(mach_port_t name, mach_msg_type_name_t disposition, machipc_task_t *task) {
+    mach_port_t made = MACH_PORT_NULL;
+    if (name == MACH_PORT_NULL) {
+        kern_return_t code = mach_port_allocate(mach_task_self(), MACH_PORT_RIGHT_RECEIVE, &made);
+        if (code != KERN_SUCCESS) {
+            return code;
+        }
+        name = made;
+        disposition = MACH_MSG_TYPE_MOVE_RECEIVE;
+    }
+    task->start = 1;
+    kern_return_t code = machipc_space_create(name, disposition, &task->space, &task->bootstrap);
+    if (code != KERN_SUCCESS && made != MACH_PORT_NULL) {
+        mach_port_destroy(mach_task_self(), made);
+    }
+    return code;
+}
+
+kern_return_t machipc_task_end(const machipc_task_t *task) {
+    struct connection *connection = connection_new();
+    if (connection == NULL) {
+        return KERN_RESOURCE_SHORTAGE;
+    }
+    struct settings there = settings_now();
+    there.space = task->space;
+    kern_return_t code = space_end(connection, &there);
+    connection_free(connection);
+    return code == KERN_INVALID_TASK ? KERN_SUCCESS : code;
+}
+
+static bool export_number(const char *variable, uint32_t number) {
+    char text[16];
+    snprintf(text, sizeof text, "%lu", (unsigned long) number);
+    return setenv(variable, text, 1) == 0;
+}
+
+kern_return_t machipc_task_export(const machipc_task_t *task) {
+    struct settings settings = settings_now();
+    bool is_done = setenv("MACHIPC_SOCKET", settings.path, 1) == 0 && export_number("MACHIPC_SPACE", task->space) &&
+                   export_number("MACHIPC_BOOTSTRAP", task->bootstrap) && export_number("MACHIPC_START", task->start);
+    return is_done ? KERN_SUCCESS : KERN_RESOURCE_SHORTAGE;
+}
+
+/* Reads a number in decimal, or in hexadecimal behind 0x, of the environment. Whether there is one. */
+static bool import_number(const char *variable, uint32_t *number) {
+    const char *text = getenv(variable);
+    if (text == NULL || text[0] < '0' || text[0] > '9') {
+        return false;
+    }
+    char *end;
+    errno = 0;
+    unsigned long long found = strtoull(text, &end, 0);
+    *number = (uint32_t) found;
+    return errno == 0 && *end == '\0' && found <= UINT32_MAX;
+}
+
+kern_return_t machipc_adopt(machipc_task_t *task) {
+    const char *path = getenv("MACHIPC_SOCKET");
+    if (path == NULL || !import_number("MACHIPC_SPACE", &task->space) ||
+        !import_number("MACHIPC_BOOTSTRAP", &task->bootstrap)) {
+        return KERN_INVALID_ARGUMENT;
+    }
+    if (!import_number("MACHIPC_START", &task->start)) {
+        task->start = 1;
+    }
+    kern_return_t code = machipc_connect(path);
+    return code == KERN_SUCCESS ? machipc_attach(task->space) : code;
+}
+
+static bool is_among(mach_port_t name, const mach_port_t *names, size_t count) {
+    for (size_t i = 0; i < count; i++) {
+        if (names[i] == name) {
+            return true;
+        }
+    }
+    return false;
+}
+
+kern_return_t machipc_sweep(const mach_port_t *keep, size_t count) {
+    mach_port_array_t names;
+    mach_port_type_array_t types;
+    mach_msg_type_number_t names_count, types_count;
+    kern_return_t code = mach_port_names(mach_task_self(), &names, &names_count, &types, &types_count);
+    if (code != KERN_SUCCESS) {
+        return code;
+    }
+    struct connection *connection = connection_of_thread();
+    for (mach_msg_type_number_t i = 0; i < names_count && code == KERN_SUCCESS; i++) {
+        if (is_among(names[i], keep, count)) {
+            continue;
+        }
+        code = mach_port_destroy(mach_task_self(), names[i]);
+        code = code == KERN_INVALID_NAME ? KERN_SUCCESS : code;
+        if (connection->reply_port == names[i]) {
+            connection->reply_port = MACH_PORT_NULL;
+        }
+    }
+    free(names);
+    free(types);
+    return code;
+}

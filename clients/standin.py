@@ -1,0 +1,220 @@
+#!/usr/bin/env python3
+"""A stand-in for the server, for tests of the clients: the machine of stress/machine.py on a Unix socket.
+
+    clients/standin.py SOCKET [--cut RATE SEED]
+
+It has what clients see of a server on a socket, waiting and numbered requests too, and keeps nothing when it ends. With
+--cut it ends connections at random: before a call is done, after it, within its reply, or while it waits. RATE is how
+many of a thousand frames are treated so.
+"""
+
+import pathlib
+import random
+import selectors
+import socket
+import struct
+import sys
+import time
+
+sys.path.insert(0, str(pathlib.Path(__file__).resolve().parent.parent / "stress"))
+
+import machine  # noqa: E402
+from machine import ARGUMENTS, KERN_INVALID_ARGUMENT, KERN_INVALID_TASK, MACH_MSG  # noqa: E402
+from machine import MACH_RCV_IN_SET, MACH_RCV_INVALID_NAME, MACH_RCV_TIMED_OUT, MACH_RCV_TOO_LARGE  # noqa: E402
+from machine import MACH_SEND_TIMED_OUT, RCV_MSG, RCV_TIMEOUT, SEND_MSG, SEND_TIMEOUT  # noqa: E402
+
+NUMBERED, KERN_INVALID_VALUE = 22, 18
+IN_REQUESTS = {3, 4, 5, 6, 7, 9, 10, 11, 12, 15, 16, 17, 18, 19, 20}
+LONGEST = 65_532
+# What a receipt's refusals become after a wait.
+AFTER_A_WAIT = {MACH_RCV_INVALID_NAME: 0x10004009, MACH_RCV_IN_SET: 0x10004006}
+
+
+def words(*values):
+    return struct.pack(f"<{len(values)}I", *values)
+
+
+class Connection(machine.Connection):
+    """A socket, what was read of it, and a call that waits: its half and what is behind it, and when the wait is over."""
+
+    def __init__(self, of_machine, its_socket):
+        super().__init__(of_machine)
+        self.socket = its_socket
+        self.read = b""
+        self.halves = []
+        self.end = None
+        self.has_waited = False
+
+
+class Standin:
+    def __init__(self, path, rate, seed):
+        self.machine = machine.Machine()
+        self.kept = {}
+        self.random, self.rate = random.Random(seed), rate / 1000
+        self.selector = selectors.DefaultSelector()
+        self.connections = {}
+        self.listener = socket.socket(socket.AF_UNIX)
+        self.listener.bind(path)
+        self.listener.listen(100)
+        self.selector.register(self.listener, selectors.EVENT_READ)
+
+    def run(self):
+        print("standin: ready", flush=True)
+        while True:
+            waiting = [it.end for it in self.connections.values() if it.halves and it.end is not None]
+            left = max(0, min(waiting) - time.monotonic()) if waiting else None
+            for key, _ in self.selector.select(left):
+                if key.fileobj is self.listener:
+                    accepted, _ = self.listener.accept()
+                    self.connections[accepted] = Connection(self.machine, accepted)
+                    self.selector.register(accepted, selectors.EVENT_READ)
+                elif key.fileobj in self.connections:
+                    self.read(self.connections[key.fileobj])
+            self.again()
+
+    # Connections.
+
+    def end(self, connection):
+        if self.connections.pop(connection.socket, None):
+            self.selector.unregister(connection.socket)
+            connection.socket.close()
+
+    def read(self, connection):
+        try:
+            some = connection.socket.recv(1 << 16)
+        except OSError:
+            some = b""
+        connection.read += some
+        if not some:
+            self.end(connection)
+        while connection.socket in self.connections and not connection.halves and len(connection.read) >= 4:
+            (length,) = struct.unpack_from("<I", connection.read)
+            if not 4 <= length <= LONGEST:
+                return self.end(connection)
+            if len(connection.read) < 4 + length:
+                return None
+            frame, connection.read = connection.read[4 : 4 + length], connection.read[4 + length :]
+            self.serve(connection, frame)
+        return None
+
+    def serve(self, connection, frame):
+        cut = self.random.choice(["before", "after", "within", "waiting"]) if self.random.random() < self.rate else None
+        waiting = [it for it in self.connections.values() if it.halves]
+        if cut == "before":
+            return self.end(connection)
+        if cut == "waiting" and waiting:
+            self.end(self.random.choice(waiting))
+        reply = self.begin(connection, frame)
+        if cut == "after":
+            return self.end(connection)
+        if cut == "within" and reply is not None:
+            self.write(connection, reply, len(reply) // 2)
+            return self.end(connection)
+        if reply is not None:
+            self.write(connection, reply)
+        return self.again()
+
+    def write(self, connection, reply, most=None):
+        try:
+            connection.socket.sendall((words(len(reply)) + reply)[: most and most + 4])
+        except OSError:
+            self.end(connection)
+
+    # Calls.
+
+    def begin(self, connection, frame):
+        """The reply, or None where the call waits."""
+        (number,) = struct.unpack_from("<I", frame)
+        arguments = frame[4:]
+        if number == NUMBERED:
+            return self.numbered(connection.space, arguments)
+        if number != MACH_MSG or len(arguments) < 16:
+            reply = connection.answer(frame)
+            self.kept = {it: kept for it, kept in self.kept.items() if it in self.machine.spaces}
+            return reply
+        option, limit, name, timeout = struct.unpack_from("<4I", arguments)
+        both = option & SEND_MSG and option & RCV_MSG
+        if both and not option & ~machine.OPTIONS:
+            connection.halves = [
+                (words(option & ~RCV_MSG, limit, name, timeout) + arguments[16:], option & SEND_TIMEOUT, timeout),
+                (words(option & ~SEND_MSG, limit, name, timeout), option & RCV_TIMEOUT, timeout),
+            ]
+        else:
+            limited = option & (SEND_TIMEOUT if option & SEND_MSG else RCV_TIMEOUT)
+            connection.halves = [(arguments, limited, timeout)]
+        self.set_end(connection)
+        return self.attempt(connection)
+
+    def set_end(self, connection):
+        _, is_limited, timeout = connection.halves[0]
+        connection.end = time.monotonic() + timeout / 1000 if is_limited else None
+        connection.has_waited = False
+
+    def attempt(self, connection):
+        """The reply of the half that is made now, or of the one behind it, or None where it waits."""
+        code, size, member, text = self.machine.mach_msg(connection.space, connection.halves[0][0])
+        is_over = connection.end is not None and time.monotonic() >= connection.end
+        if code in (MACH_SEND_TIMED_OUT, MACH_RCV_TIMED_OUT) and not is_over:
+            connection.has_waited = True
+            return None
+        if connection.has_waited:
+            code = AFTER_A_WAIT.get(code, code)
+        del connection.halves[0]
+        if code == 0 and connection.halves:
+            self.set_end(connection)
+            return self.attempt(connection)
+        connection.halves = []
+        return words(MACH_MSG, code, size, member) + text
+
+    def again(self):
+        """Tries what waits, until nothing that is done lets another one go on."""
+        is_done = False
+        while not is_done:
+            is_done = True
+            for connection in list(self.connections.values()):
+                if connection.halves:
+                    before = len(connection.halves)
+                    reply = self.attempt(connection)
+                    is_done = is_done and reply is None and before == len(connection.halves)
+                    if reply is not None:
+                        self.write(connection, reply)
+
+    def numbered(self, space, arguments):
+        if len(arguments) < 8:
+            return words(NUMBERED, KERN_INVALID_ARGUMENT)
+        if space not in self.machine.spaces:
+            return words(NUMBERED, KERN_INVALID_TASK)
+        request, number = struct.unpack_from("<2I", arguments)
+        inner = arguments[8:]
+        if not self.can_be(number, inner):
+            return words(NUMBERED, KERN_INVALID_ARGUMENT)
+        last, last_number, reply = self.kept.get(space, (0, 0, b""))
+        if request == 0 or request < last:
+            return words(NUMBERED, KERN_INVALID_VALUE)
+        if request == last:
+            return reply if number == last_number else words(NUMBERED, KERN_INVALID_ARGUMENT)
+        code, results = self.inner(space, number, inner)
+        reply = words(NUMBERED, 0, request, number, code) + results
+        if code == 0 or code == MACH_RCV_TOO_LARGE and inner[:4] == words(RCV_MSG | RCV_TIMEOUT):
+            self.kept[space] = request, number, reply
+        return reply
+
+    def can_be(self, number, inner):
+        if number == MACH_MSG:
+            return len(inner) >= 16 and inner[:4] in (words(0x11), words(0x102), words(0x902)) and inner[12:16] == words(0)
+        return number in IN_REQUESTS and len(inner) == 4 * ARGUMENTS[number]
+
+    def inner(self, space, number, inner):
+        if number == MACH_MSG:
+            code, size, member, text = self.machine.mach_msg(space, inner)
+            return code, words(size, member) + text
+        return self.machine.call(space, number, struct.unpack(f"<{len(inner) // 4}I", inner))
+
+
+def main(given):
+    rate, seed = (int(given[2]), int(given[3])) if given[1:2] == ["--cut"] else (0, 0)
+    Standin(given[0], rate, seed).run()
+
+
+if __name__ == "__main__":
+    main(sys.argv[1:])
