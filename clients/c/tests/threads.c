@@ -1,0 +1,110 @@
+/* A connection for each thread, and a new one behind a fork. */
+
+#include "check.h"
+
+#include <pthread.h>
+#include <stdio.h>
+#include <sys/wait.h>
+#include <time.h>
+#include <unistd.h>
+
+enum { THREADS = 8, MESSAGES = 50 };
+
+static mach_port_t shared;
+
+static void *send_many(void *from) {
+    for (int i = 0; i < MESSAGES; i++) {
+        mach_msg_header_t message = {.msgh_bits = MACH_MSGH_BITS(MACH_MSG_TYPE_MAKE_SEND, 0), .msgh_remote_port = shared};
+        message.msgh_id = *(int *) from * MESSAGES + i;
+        CHECK_OK(mach_msg(&message, MACH_SEND_MSG, sizeof message, 0, MACH_PORT_NULL, 0, MACH_PORT_NULL));
+    }
+    return NULL;
+}
+
+/* Threads send to a queue of one place, and wait for it; one thread receives, and waits too. */
+static void many_threads(void) {
+    pthread_t threads[THREADS];
+    int numbers[THREADS], next[THREADS] = {0};
+    CHECK_OK(mach_port_set_qlimit(SELF, shared, 1));
+    for (int i = 0; i < THREADS; i++) {
+        numbers[i] = i;
+        CHECK(pthread_create(&threads[i], NULL, send_many, &numbers[i]) == 0);
+    }
+    for (int i = 0; i < THREADS * MESSAGES; i++) {
+        mach_msg_header_t message = {0};
+        CHECK_OK(mach_msg(&message, MACH_RCV_MSG, 0, sizeof message, shared, 0, MACH_PORT_NULL));
+        int from = message.msgh_id / MESSAGES;
+        CHECK(from >= 0 && from < THREADS && message.msgh_id == from * MESSAGES + next[from]++);
+    }
+    for (int i = 0; i < THREADS; i++) {
+        pthread_join(threads[i], NULL);
+    }
+}
+
+static void *use_reply_port(void *result) {
+    mach_port_t port = mig_get_reply_port();
+    CHECK(port != MACH_PORT_NULL && mig_get_reply_port() == port);
+    CHECK(check_type(port) == MACH_PORT_TYPE_RECEIVE);
+    mig_put_reply_port(port);
+    CHECK(mig_get_reply_port() == port);
+    *(mach_port_t *) result = port;
+    return NULL;
+}
+
+static void reply_ports(void) {
+    mach_port_t own = MACH_PORT_NULL, other = MACH_PORT_NULL;
+    pthread_t thread;
+    use_reply_port(&own);
+    CHECK(pthread_create(&thread, NULL, use_reply_port, &other) == 0);
+    pthread_join(thread, NULL);
+    CHECK(own != other);
+    CHECK(check_type(other) == MACH_PORT_TYPE_NONE); /* it went with its thread */
+    mig_dealloc_reply_port(own);
+    CHECK(check_type(own) == MACH_PORT_TYPE_NONE);
+    CHECK(mig_get_reply_port() != MACH_PORT_NULL);
+}
+
+/* The child is in the same space by a connection of its own, with a port for replies of its own. */
+static void forked(void) {
+    mach_port_t own = mig_get_reply_port();
+    pid_t child = fork();
+    if (child == 0) {
+        mach_msg_header_t message = {.msgh_bits = MACH_MSGH_BITS(MACH_MSG_TYPE_MAKE_SEND, 0), .msgh_remote_port = shared};
+        bool is_done = mig_get_reply_port() != own && check_type(own) == MACH_PORT_TYPE_RECEIVE;
+        mig_dealloc_reply_port(mig_get_reply_port());
+        message.msgh_id = is_done ? 77 : 78;
+        mach_msg(&message, MACH_SEND_MSG, sizeof message, 0, MACH_PORT_NULL, 0, MACH_PORT_NULL);
+        _exit(0);
+    }
+    mach_msg_header_t message = {0};
+    CHECK_OK(mach_msg(&message, MACH_RCV_MSG, 0, sizeof message, shared, 0, MACH_PORT_NULL));
+    CHECK(message.msgh_id == 77);
+    waitpid(child, NULL, 0);
+    CHECK(check_type(own) == MACH_PORT_TYPE_RECEIVE);
+    CHECK(mig_get_reply_port() == own);
+}
+
+static void *receive_for_ever(void *port) {
+    mach_msg_header_t message = {0};
+    CHECK_CODE(mach_msg(&message, MACH_RCV_MSG, 0, sizeof message, *(mach_port_t *) port, 0, MACH_PORT_NULL),
+               MACH_RCV_PORT_DIED);
+    return NULL;
+}
+
+static void a_wait_that_ends(void) {
+    mach_port_t port = check_port();
+    pthread_t thread;
+    CHECK(pthread_create(&thread, NULL, receive_for_ever, &port) == 0);
+    nanosleep(&(struct timespec){.tv_nsec = 200000000}, NULL);
+    CHECK_OK(mach_port_destroy(SELF, port));
+    pthread_join(thread, NULL);
+}
+
+int main(int count, char **words) {
+    shared = check_begin(count, words);
+    many_threads();
+    reply_ports();
+    forked();
+    a_wait_that_ends();
+    return check_end();
+}
