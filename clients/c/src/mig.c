@@ -2,6 +2,8 @@
 
 #include "connection.h"
 
+#include <stdlib.h>
+
 /* The thread's port for replies, where it has one of this space. One of another space, or of the process before a fork,
    is forgotten: it belongs there. */
 static mach_port_t known_port(struct connection *connection) {
@@ -34,6 +36,17 @@ void mig_dealloc_reply_port(mach_port_t port) {
     }
     connection->reply_port = MACH_PORT_NULL;
     mach_port_mod_refs(mach_task_self(), port, MACH_PORT_RIGHT_RECEIVE, -1);
+}
+
+kern_return_t mig_allocate(vm_address_t *address, vm_size_t size) {
+    void *made = calloc(size > 0 ? size : 1, 1);
+    *address = (vm_address_t) made;
+    return made != NULL ? KERN_SUCCESS : KERN_RESOURCE_SHORTAGE;
+}
+
+void mig_deallocate(vm_address_t address, vm_size_t size) {
+    (void) size;
+    free((void *) address);
 }
 
 vm_size_t mig_strncpy(char *to, const char *from, vm_size_t length) {

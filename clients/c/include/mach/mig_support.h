@@ -26,6 +26,11 @@ void mig_dealloc_reply_port(mach_port_t port);
    written with that zero. A length of 0 writes nothing. */
 vm_size_t mig_strncpy(char *to, const char *from, vm_size_t length);
 
+/* Memory for arrays that are longer than a stub's own room for them, and its end. What they hold would have to be sent out
+   of line, which the server refuses with MACH_SEND_INVALID_MEMORY. KERN_RESOURCE_SHORTAGE: out of memory. */
+kern_return_t mig_allocate(vm_address_t *address, vm_size_t size);
+void mig_deallocate(vm_address_t address, vm_size_t size);
+
 /* Makes the reply to a request that no routine knows: to its reply port, with MIG_BAD_ID. */
 void mig_reply_setup(const mach_msg_header_t *request, mach_msg_header_t *reply);
 
