@@ -1,0 +1,53 @@
+/*
+ * teller
+ *
+ * Works for one account, in the space that the environment names: it pays what the account has to others, a purse at a
+ * time, and collects what they pay. It may be killed at any moment and started again, since it remembers nothing: what it
+ * has to know it reads from its space. It ends with status 0 at a SIGTERM.
+ */
+
+#include "purse.h"
+
+#include <signal.h>
+#include <stdlib.h>
+#include <time.h>
+#include <unistd.h>
+
+static volatile sig_atomic_t is_over;
+
+static void end(int number) {
+    (void) number;
+    is_over = 1;
+}
+
+static size_t any_of(size_t count) {
+    return (size_t) rand() % count;
+}
+
+/* Pays one purse and collects what is there. A call that was cut was done or not; the next round sees which. */
+static void work(mach_port_t own_account) {
+    struct holdings holdings;
+    if (holdings_read(own_account, &holdings) != KERN_SUCCESS) {
+        nanosleep(&(struct timespec){.tv_nsec = 10000000}, NULL);
+        return;
+    }
+    if (holdings.purses_count > 0 && holdings.accounts_count > 0) {
+        purse_pay(holdings.purses[any_of(holdings.purses_count)], holdings.accounts[any_of(holdings.accounts_count)]);
+    }
+    holdings_free(&holdings);
+    purse_collect(own_account, 5);
+}
+
+int main(void) {
+    machipc_task_t task;
+    struct sigaction action = {.sa_handler = end};
+    sigaction(SIGTERM, &action, NULL);
+    srand((unsigned) getpid());
+    if (machipc_adopt(&task) != KERN_SUCCESS || go_to(task.space) != KERN_SUCCESS) {
+        return 1;
+    }
+    while (!is_over) {
+        work(task.bootstrap);
+    }
+    return 0;
+}
