@@ -56,8 +56,16 @@ static bool has_task(const char *socket) {
     return known != NULL && strcmp(known, socket) == 0 && getenv("MACHIPC_SPACE") != NULL;
 }
 
+/* How often a server that was just lost is tried again, and after how many milliseconds. */
+enum { TRIES = 300, PAUSE = 100 };
+
+static void sleep_for(long milliseconds) {
+    struct timespec time = {.tv_sec = milliseconds / 1000, .tv_nsec = milliseconds % 1000 * 1000000};
+    nanosleep(&time, NULL);
+}
+
 /* Where machrun itself has a task, it is in that task's space, and its command gets a send right to the same port. */
-static kern_return_t begin(const char *socket, machipc_task_t *task) {
+static kern_return_t begin_once(const char *socket, machipc_task_t *task) {
     if (!has_task(socket)) {
         kern_return_t code = machipc_connect(socket);
         return code == KERN_SUCCESS ? machipc_task_begin(MACH_PORT_NULL, MACH_MSG_TYPE_MOVE_RECEIVE, task) : code;
@@ -73,6 +81,19 @@ static kern_return_t begin(const char *socket, machipc_task_t *task) {
     }
     bool has_send_right = (type & MACH_PORT_TYPE_SEND) != 0;
     return machipc_task_begin(own.bootstrap, has_send_right ? MACH_MSG_TYPE_COPY_SEND : MACH_MSG_TYPE_MAKE_SEND, task);
+}
+
+/* A server that is lost meanwhile, as one that is started again, is waited for. One that isn't there at first isn't. */
+static kern_return_t begin(const char *socket, machipc_task_t *task) {
+    kern_return_t code = machipc_connect(socket);
+    for (int i = 0; i < TRIES && code == KERN_SUCCESS; i++) {
+        kern_return_t begun = begin_once(socket, task);
+        if ((begun != MACH_SEND_INTERRUPTED && begun != MACH_RCV_INTERRUPTED) || was_stopped) {
+            return begun;
+        }
+        sleep_for(PAUSE);
+    }
+    return code == KERN_SUCCESS ? MACH_RCV_INTERRUPTED : code;
 }
 
 static void run_command(char **words) {
@@ -120,8 +141,7 @@ static bool goes_on(bool is_kept, int status) {
 /* A command that ends at once isn't started more than once a second. */
 static void pause_after(time_t began) {
     if (time(NULL) - began < 1) {
-        struct timespec second = {.tv_sec = 1};
-        nanosleep(&second, NULL);
+        sleep_for(1000);
     }
 }
 

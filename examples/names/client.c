@@ -1,0 +1,64 @@
+/*
+ * client NAME SECONDS
+ *
+ * Looks a service up and asks it again and again for so many seconds. Where the service goes, it is told, and looks it up
+ * anew. It prints how often it was answered and had to look; the status is 1 where an answer was wrong.
+ */
+
+#include "names.h"
+
+#include <stdio.h>
+#include <stdlib.h>
+#include <time.h>
+
+static unsigned answered, wrong, looked_up, gone;
+
+static void pause_for(long milliseconds) {
+    nanosleep(&(struct timespec){.tv_nsec = milliseconds * 1000000}, NULL);
+}
+
+static kern_return_t ask(mach_port_t service, uint32_t number) {
+    union {
+        struct sum_message sum;
+        mach_msg_header_t head;
+        unsigned char room[128];
+    } message = {.sum = {.numbers = {number, 3 * number}}};
+    message.head.msgh_remote_port = service;
+    message.head.msgh_id = SUM;
+    kern_return_t code = names_ask(&message.head, sizeof message.sum, sizeof message, 2000);
+    if (code == KERN_SUCCESS) {
+        answered++;
+        wrong += message.head.msgh_size != sizeof message.sum || message.sum.numbers[0] != 4 * number;
+    }
+    return code;
+}
+
+int main(int count, char **words) {
+    machipc_task_t task;
+    mach_port_t service = MACH_PORT_NULL;
+    if (count != 3 || machipc_adopt(&task) != KERN_SUCCESS) {
+        return 2;
+    }
+    machipc_once(task.space);
+    time_t end = time(NULL) + atoi(words[2]);
+    for (uint32_t number = 1; time(NULL) < end; number++) {
+        if (service == MACH_PORT_NULL) {
+            looked_up++;
+            if (names_look_up(task.bootstrap, words[1], &service) != KERN_SUCCESS) {
+                pause_for(20);
+                continue;
+            }
+        }
+        kern_return_t code = ask(service, number);
+        if (code == MIG_SERVER_DIED) {
+            gone++;
+            mach_port_destroy(mach_task_self(), service);
+            service = MACH_PORT_NULL;
+        }
+        if (code != KERN_SUCCESS) {
+            pause_for(5);
+        }
+    }
+    printf("client: %u answers, %u wrong, %u looks, %u times the service was gone\n", answered, wrong, looked_up, gone);
+    return wrong != 0 || answered == 0;
+}

@@ -1,0 +1,65 @@
+#!/usr/bin/env python3
+"""The name service with its services and clients, for SECONDS, in the task that `machrun` made for this program.
+
+    machrun SOCKET examples/names/family.py SECONDS FOLDER
+
+FOLDER has the programs. The name service runs in this task's own space, since it receives at the port that all tasks under
+it know as their bootstrap port; services and clients run under a machrun of their own. Meanwhile the name service and the
+services are killed at random and started again. The status is 1 where a client got no answer, or a wrong one.
+"""
+
+import os
+import pathlib
+import random
+import subprocess
+import sys
+import time
+
+SERVICES, CLIENTS_OF_EACH = ("adder", "other"), 2
+
+
+class Kept:
+    """A process that is started again whenever it ended, until it is stopped."""
+
+    def __init__(self, words):
+        self.words = words
+        self.start()
+
+    def start(self):
+        self.process = subprocess.Popen([str(it) for it in self.words], stdout=subprocess.DEVNULL)
+
+    def see(self):
+        if self.process.poll() is not None:
+            self.start()
+
+    def stop(self):
+        self.process.terminate()
+        self.process.wait()
+
+
+def main(seconds, folder):
+    chance, programs, kills = random.Random(7), pathlib.Path(folder), {"names": 0, "services": 0}
+    below = [programs / "machrun", os.environ["MACHIPC_SOCKET"]]
+    names = Kept([programs / "names"])
+    services = [Kept([*below, programs / "service", it]) for it in SERVICES]
+    words = [[*below, programs / "client", it, str(seconds)] for it in SERVICES for _ in range(CLIENTS_OF_EACH)]
+    clients = [subprocess.Popen([str(it) for it in each]) for each in words]
+    while any(it.poll() is None for it in clients):
+        time.sleep(chance.uniform(0.05, 0.4))
+        if chance.random() < 0.2:
+            names.process.kill()
+            kills["names"] += 1
+        elif chance.random() < 0.4:
+            chance.choice(services).process.terminate()  # machrun hands it on, and tells of the service's end
+            kills["services"] += 1
+        for it in (names, *services):
+            it.see()
+    for it in (*services, names):
+        it.stop()
+    failed = sum(it.returncode != 0 for it in clients)
+    print(f"names: {len(clients)} clients, {failed} failed; {kills['names']} kills of the name service, {kills['services']} of services")
+    return 1 if failed else 0
+
+
+if __name__ == "__main__":
+    sys.exit(main(int(sys.argv[1]), sys.argv[2]))
