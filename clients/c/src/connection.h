@@ -13,6 +13,7 @@ struct connection {
     unsigned long generation; /* of the settings when the socket was connected */
     mach_port_t reply_port;   /* the thread's port for replies, or MACH_PORT_NULL */
     unsigned long reply_port_generation;
+    struct connection *next; /* of the process's connections */
     struct frame call;
     struct frame reply;
 };
@@ -21,16 +22,17 @@ struct connection {
    and the thread's port for replies with it. */
 struct connection *connection_of_thread(void);
 
-/* A connection of nobody's, without a socket, or NULL where it is out of memory; and its end. */
+/* A connection of no thread's own, without a socket, or NULL where it is out of memory; and its end. */
 struct connection *connection_new(void);
 void connection_free(struct connection *connection);
+
+/* Gives the connection a socket that is connected to nobody yet, and takes it away. Whether there is one. */
+bool connection_make_socket(struct connection *connection);
+void connection_close(struct connection *connection);
 
 /* Sees that the connection has a socket, to the server and in the space of these settings. MACH_SEND_INTERRUPTED: nobody
    listens; KERN_INVALID_TASK: the space is gone. */
 kern_return_t connection_open(struct connection *connection, const struct settings *settings);
-
-/* Ends the socket. */
-void connection_close(struct connection *connection);
 
 /* Sends the call's frame and reads the reply's, once. MACH_SEND_INTERRUPTED and MACH_RCV_INTERRUPTED: cut before the
    frame was out, or behind; KERN_INVALID_TASK: as above. */

@@ -3,6 +3,7 @@
 #include "check.h"
 
 #include <pthread.h>
+#include <signal.h>
 #include <stdio.h>
 #include <sys/wait.h>
 #include <time.h>
@@ -84,6 +85,41 @@ static void forked(void) {
     CHECK(mig_get_reply_port() == own);
 }
 
+static void *wait_long(void *port) {
+    mach_msg_header_t message;
+    mach_msg(&message, MACH_RCV_MSG | MACH_RCV_TIMEOUT, 0, sizeof message, *(mach_port_t *) port, 20000, MACH_PORT_NULL);
+    return NULL;
+}
+
+/* A process that waits in a second thread, forks and is killed; its child lives on. Then nobody waits any more, and the
+   server, which sees that after a while, gives nobody a message. */
+static void a_wait_that_ends_with_its_process(void) {
+    mach_port_t port = check_port();
+    int ends[2];
+    char byte;
+    CHECK(pipe(ends) == 0);
+    pid_t parent = fork();
+    if (parent == 0) {
+        pthread_t thread;
+        pthread_create(&thread, NULL, wait_long, &port);
+        nanosleep(&(struct timespec){.tv_nsec = 200000000}, NULL);
+        if (fork() == 0) {
+            close(ends[1]);
+            nanosleep(&(struct timespec){.tv_sec = 8}, NULL);
+            _exit(0);
+        }
+        kill(getpid(), SIGKILL);
+    }
+    close(ends[1]);
+    CHECK(read(ends[0], &byte, 1) == 0); /* the parent is gone */
+    waitpid(parent, NULL, 0);
+    nanosleep(&(struct timespec){.tv_sec = 6}, NULL);
+    mach_msg_header_t message = {.msgh_bits = MACH_MSGH_BITS(MACH_MSG_TYPE_MAKE_SEND, 0), .msgh_remote_port = port};
+    CHECK_OK(mach_msg(&message, MACH_SEND_MSG, sizeof message, 0, MACH_PORT_NULL, 0, MACH_PORT_NULL));
+    CHECK_OK(mach_msg(&message, MACH_RCV_MSG | MACH_RCV_TIMEOUT, 0, sizeof message, port, 1000, MACH_PORT_NULL));
+    CHECK_OK(mach_port_destroy(SELF, port));
+}
+
 static void *receive_for_ever(void *port) {
     mach_msg_header_t message = {0};
     CHECK_CODE(mach_msg(&message, MACH_RCV_MSG, 0, sizeof message, *(mach_port_t *) port, 0, MACH_PORT_NULL),
@@ -106,5 +142,6 @@ int main(int count, char **words) {
     reply_ports();
     forked();
     a_wait_that_ends();
+    a_wait_that_ends_with_its_process();
     return check_end();
 }

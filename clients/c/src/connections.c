@@ -1,0 +1,106 @@
+/* The connections of a process: one for each thread, made at its first call, and all of them closed in a child of fork. */
+
+#include "connection.h"
+
+#include <fcntl.h>
+#include <pthread.h>
+#include <stdlib.h>
+#include <sys/socket.h>
+#include <unistd.h>
+
+static pthread_mutex_t lock = PTHREAD_MUTEX_INITIALIZER; /* of the list, and of which sockets are open */
+static struct connection *first;
+static pthread_once_t prepared = PTHREAD_ONCE_INIT;
+static pthread_key_t at_end_of_thread;
+static _Thread_local struct connection *own;
+
+static void before_fork(void) {
+    pthread_mutex_lock(&lock);
+}
+
+static void after_fork_in_parent(void) {
+    pthread_mutex_unlock(&lock);
+}
+
+/* A child that kept its parent's sockets open would keep calls of the parent waiting that are to end with it, and the
+   server might hand one of them a message. */
+static void after_fork_in_child(void) {
+    for (struct connection *it = first; it != NULL; it = it->next) {
+        if (it->socket >= 0) {
+            close(it->socket);
+            it->socket = -1;
+        }
+    }
+    pthread_mutex_unlock(&lock);
+}
+
+static void end_with_thread(void *connection) {
+    own = connection; /* the call that gives the port back uses it once more */
+    if (own->reply_port != MACH_PORT_NULL && own->socket >= 0) {
+        mig_dealloc_reply_port(own->reply_port);
+    }
+    connection_free(own);
+    own = NULL;
+}
+
+static void prepare(void) {
+    pthread_key_create(&at_end_of_thread, end_with_thread);
+    pthread_atfork(before_fork, after_fork_in_parent, after_fork_in_child);
+}
+
+struct connection *connection_new(void) {
+    pthread_once(&prepared, prepare);
+    struct connection *made = calloc(1, sizeof *made);
+    if (made != NULL) {
+        made->socket = -1;
+        pthread_mutex_lock(&lock);
+        made->next = first;
+        first = made;
+        pthread_mutex_unlock(&lock);
+    }
+    return made;
+}
+
+void connection_free(struct connection *connection) {
+    connection_close(connection);
+    pthread_mutex_lock(&lock);
+    struct connection **place = &first;
+    while (*place != connection) {
+        place = &(*place)->next;
+    }
+    *place = connection->next;
+    pthread_mutex_unlock(&lock);
+    free(connection);
+}
+
+struct connection *connection_of_thread(void) {
+    if (own == NULL) {
+        struct connection *made = connection_new();
+        if (made != NULL && pthread_setspecific(at_end_of_thread, made) != 0) {
+            connection_free(made);
+            made = NULL;
+        }
+        own = made;
+    }
+    return own;
+}
+
+bool connection_make_socket(struct connection *connection) {
+    pthread_mutex_lock(&lock);
+    connection->socket = socket(AF_UNIX, SOCK_STREAM, 0);
+    if (connection->socket >= 0) {
+        fcntl(connection->socket, F_SETFD, FD_CLOEXEC);
+    }
+    bool is_made = connection->socket >= 0;
+    pthread_mutex_unlock(&lock);
+    return is_made;
+}
+
+void connection_close(struct connection *connection) {
+    pthread_mutex_lock(&lock);
+    if (connection->socket >= 0) {
+        close(connection->socket);
+        connection->socket = -1;
+    }
+    pthread_mutex_unlock(&lock);
+}
