@@ -534,7 +534,8 @@ class Task:
             middle = (used + unused) // 2
             used, unused = (used, middle) if self._is_new(middle) else (middle, unused)
         numbers = _Numbers()
-        numbers.last = used
+        # The next number is left to a request that a program before this one may have on its way to the server yet.
+        numbers.last = used + 1
         return numbers
 
     def _make_numbered(self, numbers: _Numbers, number: int, arguments: bytes) -> Tuple[int, bytes]:

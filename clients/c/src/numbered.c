@@ -63,7 +63,8 @@ static kern_return_t is_new(struct connection *connection, const struct settings
     return is_told ? KERN_SUCCESS : answer.own;
 }
 
-/* Finds the greatest number that the space has used, 0 where it has none. */
+/* Finds the greatest number that the space has used, 0 where it has none. KERN_INVALID_ARGUMENT: all are used, or the
+   server has no such requests. */
 static kern_return_t find_last(struct connection *connection, const struct settings *settings, uint32_t *last) {
     bool found;
     kern_return_t code = is_new(connection, settings, UINT32_MAX, &found);
@@ -80,7 +81,7 @@ static kern_return_t find_last(struct connection *connection, const struct setti
         *(found ? &unused : &used) = middle;
     }
     *last = used;
-    return KERN_SUCCESS;
+    return used < UINT32_MAX - 1 ? KERN_SUCCESS : KERN_INVALID_ARGUMENT;
 }
 
 /* A number that is too low, or the same as another call's, is that of a second process in the space. Whether its call
@@ -132,7 +133,9 @@ kern_return_t machipc_once(machipc_space_t space) {
     uint32_t last = 0;
     kern_return_t code = find_last(connection, &wanted, &last);
     if (code == KERN_SUCCESS) {
-        last_request = last;
+        /* The next number is left to a request that a process before this one may have on its way to the server yet: it
+           had no more than one, and whenever that comes it is another's or too old. */
+        last_request = last + 1;
         request_generation = settings_use_space(space, true);
         connection->generation = request_generation;
     } else {
