@@ -37,11 +37,25 @@ static void hand_on(int number) {
 static const int handed_on[] = {SIGHUP, SIGINT, SIGTERM};
 enum { HANDED_ON = sizeof handed_on / sizeof handed_on[0] };
 
+/* A signal that was ignored from the start on, as by nohup, stays so, for the command too. */
 static void handle_signals(void) {
-    struct sigaction action = {.sa_handler = hand_on};
+    struct sigaction action = {.sa_handler = hand_on}, before;
     sigemptyset(&action.sa_mask);
     for (int i = 0; i < HANDED_ON; i++) {
-        sigaction(handed_on[i], &action, NULL);
+        if (sigaction(handed_on[i], NULL, &before) == 0 && before.sa_handler != SIG_IGN) {
+            sigaction(handed_on[i], &action, NULL);
+        }
+    }
+    action.sa_handler = SIG_DFL;
+    sigaction(SIGCHLD, &action, NULL); /* an ignored one would take the command's status away */
+}
+
+static void unhandle_signals(void) {
+    struct sigaction action = {.sa_handler = SIG_DFL}, before;
+    for (int i = 0; i < HANDED_ON; i++) {
+        if (sigaction(handed_on[i], NULL, &before) == 0 && before.sa_handler == hand_on) {
+            sigaction(handed_on[i], &action, NULL);
+        }
     }
 }
 
@@ -113,10 +127,7 @@ static int run_once(char **words) {
     sigprocmask(SIG_BLOCK, &signals, &before);
     pid_t child = fork();
     if (child == 0) {
-        struct sigaction action = {.sa_handler = SIG_DFL};
-        for (int i = 0; i < HANDED_ON; i++) {
-            sigaction(handed_on[i], &action, NULL);
-        }
+        unhandle_signals();
         sigprocmask(SIG_SETMASK, &before, NULL);
         run_command(words);
     }

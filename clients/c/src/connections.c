@@ -12,6 +12,7 @@ static pthread_mutex_t lock = PTHREAD_MUTEX_INITIALIZER; /* of the list, and of 
 static struct connection *first;
 static pthread_once_t prepared = PTHREAD_ONCE_INIT;
 static pthread_key_t at_end_of_thread;
+static bool has_key;
 static _Thread_local struct connection *own;
 
 static void before_fork(void) {
@@ -44,7 +45,7 @@ static void end_with_thread(void *connection) {
 }
 
 static void prepare(void) {
-    pthread_key_create(&at_end_of_thread, end_with_thread);
+    has_key = pthread_key_create(&at_end_of_thread, end_with_thread) == 0;
     pthread_atfork(before_fork, after_fork_in_parent, after_fork_in_child);
 }
 
@@ -76,7 +77,7 @@ void connection_free(struct connection *connection) {
 struct connection *connection_of_thread(void) {
     if (own == NULL) {
         struct connection *made = connection_new();
-        if (made != NULL && pthread_setspecific(at_end_of_thread, made) != 0) {
+        if (made != NULL && (!has_key || pthread_setspecific(at_end_of_thread, made) != 0)) {
             connection_free(made);
             made = NULL;
         }
