@@ -1,14 +1,19 @@
 #!/usr/bin/env python3
 """A stand-in for the server, for tests of the clients: the machine of stress/machine.py on a Unix socket.
 
-    clients/standin.py SOCKET [--cut RATE SEED]
+    clients/standin.py SOCKET [--state FILE] [--cut RATE SEED]
 
-It has what clients see of a server on a socket, waiting and numbered requests too, and keeps nothing when it ends. With
---cut it ends connections at random: before a call is done, after it, within its reply, or while it waits. RATE is how
-many of a thousand frames are treated so.
+It has what clients see of a server on a socket, waiting and numbered requests too. With --state each change is in FILE
+before it is answered, and one that is killed and started again goes on from there; a power failure isn't thought of. With
+--cut it ends connections at random: before a call is done, after it, within its reply, or while it waits. RATE is how many
+of a thousand frames are treated so.
 """
 
+import argparse
+import contextlib
+import os
 import pathlib
+import pickle
 import random
 import selectors
 import socket
@@ -47,9 +52,15 @@ class Connection(machine.Connection):
 
 
 class Standin:
-    def __init__(self, path, rate, seed):
-        self.machine = machine.Machine()
-        self.kept = {}
+    def __init__(self, path, file, rate, seed):
+        self.machine, self.kept = machine.Machine(), {}
+        self.file, self.stored = file, 0
+        if file and os.path.exists(file):
+            with open(file, "rb") as old:
+                self.machine, self.kept = pickle.load(old)
+            self.stored = self.machine.records
+        with contextlib.suppress(FileNotFoundError):
+            os.unlink(path)
         self.random, self.rate = random.Random(seed), rate / 1000
         self.selector = selectors.DefaultSelector()
         self.connections = {}
@@ -114,7 +125,17 @@ class Standin:
             self.write(connection, reply)
         return self.again()
 
+    def store(self):
+        """Writes the state down where it changed."""
+        if not self.file or self.stored == self.machine.records:
+            return
+        with open(f"{self.file}.new", "wb") as new:
+            pickle.dump((self.machine, self.kept), new)
+        os.rename(f"{self.file}.new", self.file)
+        self.stored = self.machine.records
+
     def write(self, connection, reply, most=None):
+        self.store()
         try:
             connection.socket.sendall((words(len(reply)) + reply)[: most and most + 4])
         except OSError:
@@ -211,10 +232,14 @@ class Standin:
         return self.machine.call(space, number, struct.unpack(f"<{len(inner) // 4}I", inner))
 
 
-def main(given):
-    rate, seed = (int(given[2]), int(given[3])) if given[1:2] == ["--cut"] else (0, 0)
-    Standin(given[0], rate, seed).run()
+def main():
+    words = argparse.ArgumentParser(description="A stand-in for the server, for tests of the clients.")
+    words.add_argument("socket")
+    words.add_argument("--state", metavar="FILE")
+    words.add_argument("--cut", nargs=2, type=int, metavar=("RATE", "SEED"), default=(0, 0))
+    given = words.parse_args()
+    Standin(given.socket, given.state, *given.cut).run()
 
 
 if __name__ == "__main__":
-    main(sys.argv[1:])
+    main()

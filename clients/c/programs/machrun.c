@@ -97,9 +97,10 @@ static kern_return_t begin_once(const char *socket, machipc_task_t *task) {
     return machipc_task_begin(own.bootstrap, has_send_right ? MACH_MSG_TYPE_COPY_SEND : MACH_MSG_TYPE_MAKE_SEND, task);
 }
 
-/* A server that is lost meanwhile, as one that is started again, is waited for. One that isn't there at first isn't. */
+/* A server that is lost meanwhile, as one that is started again, is waited for. One that isn't there at first isn't, unless
+   the environment says that it was. */
 static kern_return_t begin(const char *socket, machipc_task_t *task) {
-    kern_return_t code = machipc_connect(socket);
+    kern_return_t code = has_task(socket) ? KERN_SUCCESS : machipc_connect(socket);
     for (int i = 0; i < TRIES && code == KERN_SUCCESS; i++) {
         kern_return_t begun = begin_once(socket, task);
         if ((begun != MACH_SEND_INTERRUPTED && begun != MACH_RCV_INTERRUPTED) || was_stopped) {
