@@ -804,3 +804,10 @@ class Task:
             except MACH_SEND_INTERRUPTED as fault:
                 if not patience.pause():
                     raise MACH_RCV_INTERRUPTED(*fault.args) from None
+
+
+__all__ = ["Item"] + [
+    name
+    for name, value in list(globals().items())
+    if not name.startswith("_") and (isinstance(value, int) or getattr(value, "__module__", None) == __name__)
+]

@@ -113,8 +113,9 @@ static kern_return_t begin(const char *socket, machipc_task_t *task) {
 
 static void run_command(char **words) {
     execvp(words[0], words);
-    fprintf(stderr, "machrun: %s: %s\n", words[0], strerror(errno));
-    _exit(errno == ENOENT ? NOT_FOUND : NOT_RUN);
+    int error = errno;
+    fprintf(stderr, "machrun: %s: %s\n", words[0], strerror(error));
+    _exit(error == ENOENT ? NOT_FOUND : NOT_RUN);
 }
 
 /* Starts the command and waits for its end, whose status it gives. A signal that comes between the fork and the parent's
@@ -164,10 +165,11 @@ static int run(char **words, bool is_kept, machipc_task_t *task) {
             return fail("environment", KERN_RESOURCE_SHORTAGE);
         }
         int status = run_once(words);
-        if (goes_on(is_kept, status)) {
-            pause_after(began);
-        }
         if (!goes_on(is_kept, status)) {
+            return status;
+        }
+        pause_after(began);
+        if (was_stopped) {
             return status;
         }
         task->start++;

@@ -4,12 +4,11 @@
 #include "settings.h"
 
 #include <pthread.h>
-#include <string.h>
 
 /* The turn: a space keeps its last request alone, so one is answered before the next is made, whatever the thread. */
 static pthread_mutex_t turn = PTHREAD_MUTEX_INITIALIZER;
 static pthread_once_t prepared = PTHREAD_ONCE_INIT;
-static uint32_t last_request;           /* the greatest number that was used in the space */
+static uint32_t last_request;            /* the greatest number that was used in the space */
 static unsigned long request_generation; /* of the settings by which that space is used */
 
 /* In a child of fork nobody has the turn. */
