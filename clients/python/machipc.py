@@ -428,21 +428,21 @@ class Task:
 
     # Frames.
 
-    def _open(self) -> socket.socket:
+    def _open(self) -> None:
         if self._socket:
-            return self._socket
-        made = socket.socket(socket.AF_UNIX)
+            return
+        self._socket = socket.socket(socket.AF_UNIX)
         try:
-            made.connect(self.path)
-            self._socket = made
+            self._socket.connect(self.path)
             if self.space != FIRST_SPACE:
                 self._write(struct.pack("<2I", 0, self.space))
                 self._code_of(0, self._read())
-        except (OSError, MachError) as fault:
-            made.close()
-            self._socket = None
-            raise MACH_SEND_INTERRUPTED(str(fault)) if isinstance(fault, OSError) else fault
-        return made
+        except OSError as fault:
+            self.close()
+            raise MACH_SEND_INTERRUPTED(str(fault)) from None
+        except BaseException:
+            self.close()
+            raise
 
     def _write(self, frame: bytes) -> None:
         assert self._socket
@@ -467,16 +467,14 @@ class Task:
     def _exchange(self, frame: bytes) -> bytes:
         """The reply to a frame, once."""
         self._open()
+        is_out = False
         try:
             self._write(frame)
-        except OSError as fault:
-            self.close()
-            raise MACH_SEND_INTERRUPTED(str(fault)) from None
-        try:
+            is_out = True
             return self._read()
         except OSError as fault:
             self.close()
-            raise MACH_RCV_INTERRUPTED(str(fault)) from None
+            raise (MACH_RCV_INTERRUPTED if is_out else MACH_SEND_INTERRUPTED)(str(fault)) from None
         except BaseException:
             self.close()  # as by a KeyboardInterrupt: the reply would be read as the next call's
             raise

@@ -154,8 +154,9 @@ class Cut(OfTask):
 
     def answered(self, reply):
         """A server that takes one connection and gives this reply to its first frame."""
-        folder = self.enterContext(tempfile.TemporaryDirectory()) if hasattr(self, "enterContext") else tempfile.mkdtemp()
-        path = f"{folder}/socket"
+        folder = tempfile.TemporaryDirectory(dir="/tmp")
+        self.addCleanup(folder.cleanup)
+        path = f"{folder.name}/socket"
         listener = socket.socket(socket.AF_UNIX)
         listener.bind(path)
         listener.listen(1)
@@ -185,6 +186,19 @@ class Cut(OfTask):
                 task.allocate()
         with self.answered(b"") as task, self.assertRaises(ConnectionError):
             task.send(Message(1))
+
+    def test_interrupted_read(self):
+        """An exception within a call, as by a key, ends the connection, so that no later call gets its reply."""
+        task = self.task
+
+        def interrupt():
+            raise KeyboardInterrupt
+
+        task._read = interrupt
+        with self.assertRaises(KeyboardInterrupt):
+            task.allocate()
+        del task._read
+        self.assertEqual(task.type(self.port), type_of(RECEIVE))
 
     def test_no_server(self):
         with self.assertRaises(MACH_SEND_INTERRUPTED):
