@@ -11,9 +11,8 @@
 static pthread_mutex_t lock = PTHREAD_MUTEX_INITIALIZER; /* of the list, and of which sockets are open */
 static struct connection *first;
 static pthread_once_t prepared = PTHREAD_ONCE_INIT;
-static pthread_key_t at_end_of_thread;
+static pthread_key_t own; /* the thread's connection */
 static bool has_key;
-static _Thread_local struct connection *own;
 
 static void before_fork(void) {
     pthread_mutex_lock(&lock);
@@ -35,17 +34,18 @@ static void after_fork_in_child(void) {
     pthread_mutex_unlock(&lock);
 }
 
-static void end_with_thread(void *connection) {
-    own = connection; /* the call that gives the port back uses it once more */
-    if (own->reply_port != MACH_PORT_NULL && own->socket >= 0) {
-        mig_dealloc_reply_port(own->reply_port);
+static void end_with_thread(void *value) {
+    struct connection *connection = value;
+    if (connection->reply_port != MACH_PORT_NULL && connection->socket >= 0) {
+        pthread_setspecific(own, connection); /* the call that gives the port back uses it once more */
+        mig_dealloc_reply_port(connection->reply_port);
+        pthread_setspecific(own, NULL);
     }
-    connection_free(own);
-    own = NULL;
+    connection_free(connection);
 }
 
 static void prepare(void) {
-    has_key = pthread_key_create(&at_end_of_thread, end_with_thread) == 0;
+    has_key = pthread_key_create(&own, end_with_thread) == 0;
     pthread_atfork(before_fork, after_fork_in_parent, after_fork_in_child);
 }
 
@@ -75,15 +75,19 @@ void connection_free(struct connection *connection) {
 }
 
 struct connection *connection_of_thread(void) {
-    if (own == NULL) {
-        struct connection *made = connection_new();
-        if (made != NULL && (!has_key || pthread_setspecific(at_end_of_thread, made) != 0)) {
-            connection_free(made);
-            made = NULL;
-        }
-        own = made;
+    pthread_once(&prepared, prepare);
+    if (!has_key) {
+        return NULL;
     }
-    return own;
+    struct connection *connection = pthread_getspecific(own);
+    if (connection == NULL) {
+        connection = connection_new();
+        if (connection != NULL && pthread_setspecific(own, connection) != 0) {
+            connection_free(connection);
+            connection = NULL;
+        }
+    }
+    return connection;
 }
 
 bool connection_make_socket(struct connection *connection) {

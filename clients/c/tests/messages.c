@@ -5,6 +5,13 @@
 #include <stddef.h>
 #include <string.h>
 
+/* The layout is that of 32 bits, whatever the machine. */
+_Static_assert(sizeof(mach_msg_header_t) == 24, "a header is six words");
+_Static_assert(sizeof(mach_msg_type_t) == 4 && sizeof(mach_msg_type_long_t) == 12, "descriptors are one word and three");
+_Static_assert(sizeof(mig_reply_header_t) == 32, "a reply's code stands in its eighth word");
+_Static_assert(sizeof(mach_port_destroyed_notification_t) == 32, "a notice has eight words");
+_Static_assert(sizeof(mach_port_t) == 4 && sizeof(natural_t) == 4 && sizeof(integer_t) == 4, "numbers have 32 bits");
+
 struct note {
     mach_msg_header_t head;
     uint32_t words[2];
