@@ -6,6 +6,7 @@
  * The server may be killed and started again meanwhile, from the line `bank: open` to the line `bank: closed` on.
  */
 
+#include "../begin.h"
 #include "purse.h"
 
 #include <errno.h>

@@ -85,8 +85,3 @@ void holdings_free(struct holdings *holdings) {
     free(holdings->accounts);
     *holdings = (struct holdings){0};
 }
-
-kern_return_t go_to(machipc_space_t space) {
-    kern_return_t code = machipc_once(space);
-    return code == KERN_INVALID_ARGUMENT ? machipc_attach(space) : code;
-}

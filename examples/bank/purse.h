@@ -42,7 +42,4 @@ struct holdings {
 kern_return_t holdings_read(mach_port_t own_account, struct holdings *holdings);
 void holdings_free(struct holdings *holdings);
 
-/* Attaches to a space so that each call has one effect where the server can do that, and else as it is. */
-kern_return_t go_to(machipc_space_t space);
-
 #endif

@@ -6,6 +6,7 @@
  * has to know it reads from its space. It ends with status 0 at a SIGTERM.
  */
 
+#include "../begin.h"
 #include "purse.h"
 
 #include <signal.h>
@@ -43,7 +44,7 @@ int main(void) {
     struct sigaction action = {.sa_handler = end};
     sigaction(SIGTERM, &action, NULL);
     srand((unsigned) getpid());
-    if (machipc_adopt(&task) != KERN_SUCCESS || go_to(task.space) != KERN_SUCCESS) {
+    if (begin_task(&task) != KERN_SUCCESS) {
         return 1;
     }
     while (!is_over) {

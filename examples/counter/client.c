@@ -7,7 +7,8 @@
 
 #include "counter.h"
 
-#include <machipc.h>
+#include "../begin.h"
+
 #include <stdio.h>
 #include <stdlib.h>
 #include <time.h>
@@ -16,10 +17,9 @@ int main(int count, char **words) {
     machipc_task_t task;
     label_t before = "";
     int value = 0, calls = 0;
-    if (count != 2 || machipc_adopt(&task) != KERN_SUCCESS) {
+    if (count != 2 || begin_task(&task) != KERN_SUCCESS) {
         return 2;
     }
-    machipc_once(task.space);
     time_t end = time(NULL) + atoi(words[1]);
     kern_return_t code = counter_label(task.bootstrap, "a label", before);
     while (code == KERN_SUCCESS && time(NULL) < end) {

@@ -7,7 +7,8 @@
 
 #include "counter_s.h"
 
-#include <machipc.h>
+#include "../begin.h"
+
 #include <stdio.h>
 #include <string.h>
 
@@ -44,11 +45,8 @@ kern_return_t do_counter_label(mach_port_t counter, const_label_t label, label_t
 
 int main(void) {
     machipc_task_t task;
-    if (machipc_adopt(&task) != KERN_SUCCESS) {
-        return 1;
-    }
-    machipc_once(task.space); /* where the server can't, calls are made as they are */
-    if (mach_port_allocate(mach_task_self(), MACH_PORT_RIGHT_RECEIVE, &store) != KERN_SUCCESS) {
+    if (begin_task(&task) != KERN_SUCCESS ||
+        mach_port_allocate(mach_task_self(), MACH_PORT_RIGHT_RECEIVE, &store) != KERN_SUCCESS) {
         return 1;
     }
     mach_msg_return_t code = mach_msg_server(counter_server, 256, task.bootstrap);

@@ -7,6 +7,8 @@
 
 #include "names.h"
 
+#include "../begin.h"
+
 #include <stdio.h>
 #include <stdlib.h>
 #include <time.h>
@@ -36,10 +38,9 @@ static kern_return_t ask(mach_port_t service, uint32_t number) {
 int main(int count, char **words) {
     machipc_task_t task;
     mach_port_t service = MACH_PORT_NULL;
-    if (count != 3 || machipc_adopt(&task) != KERN_SUCCESS) {
+    if (count != 3 || begin_task(&task) != KERN_SUCCESS) {
         return 2;
     }
-    machipc_once(task.space);
     time_t end = time(NULL) + atoi(words[2]);
     for (uint32_t number = 1; time(NULL) < end; number++) {
         if (service == MACH_PORT_NULL) {

@@ -9,6 +9,8 @@
 
 #include "names.h"
 
+#include "../begin.h"
+
 #include <stdbool.h>
 #include <stddef.h>
 #include <stdio.h>
@@ -121,10 +123,9 @@ static boolean_t demux(mach_msg_header_t *head, mach_msg_header_t *reply_head) {
 int main(void) {
     machipc_task_t task;
     mach_port_t set;
-    if (machipc_adopt(&task) != KERN_SUCCESS) {
+    if (begin_task(&task) != KERN_SUCCESS) {
         return 1;
     }
-    machipc_once(task.space); /* where the server can't, calls are made as they are */
     own_port = task.bootstrap;
     if (machipc_sweep(&own_port, 1) != KERN_SUCCESS ||
         mach_port_allocate(mach_task_self(), MACH_PORT_RIGHT_RECEIVE, &notices) != KERN_SUCCESS ||

@@ -7,6 +7,8 @@
 
 #include "names.h"
 
+#include "../begin.h"
+
 #include <time.h>
 
 static machipc_task_t task;
@@ -65,10 +67,9 @@ static boolean_t demux(mach_msg_header_t *head, mach_msg_header_t *reply_head) {
 }
 
 int main(int count, char **words) {
-    if (count != 2 || machipc_adopt(&task) != KERN_SUCCESS) {
+    if (count != 2 || begin_task(&task) != KERN_SUCCESS) {
         return 1;
     }
-    machipc_once(task.space); /* where the server can't, calls are made as they are */
     own_name = words[1];
     port = new_port();
     token = new_port();

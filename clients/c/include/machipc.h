@@ -66,7 +66,8 @@ kern_return_t machipc_space_destroy(void);
  * without this mode.
  *
  * KERN_INVALID_TASK: there is no such space; KERN_INVALID_ARGUMENT: the server has no numbered requests, or the space has
- * used up their 4,294,967,295 numbers.
+ * used up their 4,294,967,295 numbers; MACH_SEND_INTERRUPTED, MACH_RCV_INTERRUPTED: the server couldn't be reached for the
+ * time of machipc_set_patience. The process stays where it was then.
  */
 kern_return_t machipc_once(machipc_space_t space);
 
