@@ -102,13 +102,14 @@ static bool is_check_in(const struct names_request *request) {
            request->port != request->token;
 }
 
-/* Answers a request. The reply begins as a failure that gives all rights of the request back. */
+/* Answers a request. The reply begins as a failure that gives all rights of the request back. What comes to the port of
+   notices is the server's, since nobody else has a right to it. */
 static boolean_t demux(mach_msg_header_t *head, mach_msg_header_t *reply_head) {
     const struct names_request *request = (const struct names_request *) head;
     struct names_reply *reply = (struct names_reply *) reply_head;
     mig_reply_setup(head, reply_head);
     reply->code = NAMES_BAD_REQUEST;
-    if (head->msgh_id == MACH_NOTIFY_DEAD_NAME) {
+    if (head->msgh_id == MACH_NOTIFY_DEAD_NAME && head->msgh_local_port == notices) {
         forget(((const mach_dead_name_notification_t *) head)->not_port);
         reply->code = MIG_NO_REPLY;
     } else if (head->msgh_id == NAMES_LOOK_UP && is_request(request, NAMES_REQUEST_ALONE)) {

@@ -59,7 +59,7 @@ static boolean_t demux(mach_msg_header_t *head, mach_msg_header_t *reply_head) {
         reply->numbers[1] = KERN_SUCCESS;
         return TRUE;
     }
-    if (head->msgh_id == MACH_NOTIFY_NO_SENDERS) {
+    if (head->msgh_id == MACH_NOTIFY_NO_SENDERS) { /* one that a client made up does no harm */
         check_in();
     }
     ((mig_reply_header_t *) reply_head)->RetCode = MIG_NO_REPLY;
