@@ -45,7 +45,7 @@ def main(seconds, folder):
     words = [[*below, programs / "client", it, str(seconds)] for it in SERVICES for _ in range(CLIENTS_OF_EACH)]
     clients = [subprocess.Popen([str(it) for it in each]) for each in words]
     while any(it.poll() is None for it in clients):
-        time.sleep(chance.uniform(0.05, 0.4))
+        time.sleep(chance.uniform(0.2, 0.8))
         if chance.random() < 0.2:
             names.process.kill()
             kills["names"] += 1
