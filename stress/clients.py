@@ -1,0 +1,227 @@
+"""A server on a socket, and clients of it, some of whose calls wait."""
+
+import os
+import select
+import signal
+import socket
+import struct
+import subprocess
+import time
+
+from frames import COMPLEX, IN_LINE, words
+from machine import (
+    COPY_SEND,
+    MACH_MSG,
+    MAKE_SEND,
+    MOST_QUEUED,
+    PORT_SET,
+    RCV_MSG,
+    RCV_TIMEOUT,
+    RECEIVE,
+    SEND_MSG,
+    SEND_TIMEOUT,
+)
+from store import Difference, framed
+
+# The calls that the parts make, by their numbers.
+ATTACH, NAMES, TYPE, RENAME, ALLOCATE_NAME, ALLOCATE, DESTROY, DEALLOCATE = range(8)
+MOD_REFS, SET_QLIMIT, RECEIVE_STATUS, SET_STATUS, MOVE_MEMBER, REQUEST, INSERT_RIGHT = 9, 10, 13, 14, 15, 16, 17
+EXTRACT_RIGHT, SPACE_CREATE, SPACE_DESTROY = 18, 20, 21
+
+MACH_RCV_PORT_CHANGED, MACH_RCV_PORT_DIED = 0x10004006, 0x10004009
+
+# Within how many seconds a call is answered once there is something that ends its wait.
+PROMPT = 2
+
+# Where a reply has its code, and one of a receipt the size, the name of the port and the message's id.
+CODE, SIZE, MEMBER, ID = 1, 2, 3, 9
+
+
+def ports(disposition, *names):
+    """An item of a body."""
+    return words(disposition | 32 << 8 | len(names) << 16 | IN_LINE, *names)
+
+
+def message(name, number, disposition, *body):
+    return words(disposition | (COMPLEX if body else 0), 0, name, 0, 0, number) + b"".join(body)
+
+
+def sending(name, number, *body, timeout=None, disposition=COPY_SEND):
+    """A send of a message of this number, which waits for ever or for so many milliseconds."""
+    option = SEND_MSG | (0 if timeout is None else SEND_TIMEOUT)
+    return words(MACH_MSG, option, 0, 0, timeout or 0) + message(name, number, disposition, *body)
+
+
+def receiving(name, timeout=None, limit=8192, option=0):
+    option |= RCV_MSG | (0 if timeout is None else RCV_TIMEOUT)
+    return words(MACH_MSG, option, limit, name, timeout or 0)
+
+
+def exchanging(name, number, source, disposition=COPY_SEND):
+    """A send, and behind it a receipt that waits."""
+    return words(MACH_MSG, SEND_MSG | RCV_MSG, 8192, source, 0) + message(name, number, disposition)
+
+
+class Client:
+    """A connection."""
+
+    def __init__(self, path, space=1):
+        self.socket = socket.socket(socket.AF_UNIX)
+        self.socket.connect(path)
+        self.unread = b""
+        if space != 1:
+            self.call(ATTACH, space)
+
+    def fileno(self):
+        return self.socket.fileno()
+
+    def write(self, *frames):
+        self.socket.sendall(framed(*frames))
+
+    def next(self):
+        """The next whole reply of what was read, as words."""
+        if len(self.unread) < 4:
+            return None
+        (length,) = struct.unpack_from("<I", self.unread)
+        content = self.unread[4 : 4 + length]
+        if len(content) < length:
+            return None
+        self.unread = self.unread[4 + length :]
+        return struct.unpack(f"<{length // 4}I", content[: length // 4 * 4])
+
+    def reply(self, within=PROMPT):
+        """The next reply; None where it didn't come within so many seconds (None: where it may take for ever)."""
+        until = within is not None and time.monotonic() + within
+        while True:
+            reply = self.next()
+            if reply:
+                return reply
+            self.socket.settimeout(None if within is None else max(until - time.monotonic(), 0.0001))
+            try:
+                more = self.socket.recv(65_536)
+            except TimeoutError:
+                return None
+            finally:
+                self.socket.settimeout(None)
+            if not more:
+                raise EOFError
+            self.unread += more
+
+    def ask(self, frame):
+        """The reply to a frame that has nothing to wait for."""
+        self.write(frame)
+        reply = self.reply(30)
+        if reply is None:
+            raise Difference(f"frame {frame.hex()} isn't answered")
+        return reply
+
+    def call(self, number, *arguments):
+        """What a call gives that has to be done."""
+        frame = words(number, *arguments)
+        reply = self.ask(frame)
+        if reply[CODE]:
+            raise Difference(f"frame {frame.hex()} is answered with {reply[CODE]:#x}")
+        return reply[2:]
+
+    def name(self, right):
+        return self.call(ALLOCATE, right)[0]
+
+    def send(self, name, number, *body, **words_of):
+        """Sends a message that has room."""
+        reply = self.ask(sending(name, number, *body, **words_of))
+        if reply[CODE]:
+            raise Difference(f"message {number} to {name:#x} is answered with {reply[CODE]:#x}")
+
+    def send_all(self, name, numbers):
+        """Sends messages for which there is room, written at once."""
+        self.write(*(sending(name, it) for it in numbers))
+        for number in numbers:
+            reply = self.reply(30)
+            if reply is None or reply[CODE]:
+                raise Difference(f"message {number} to {name:#x}, with room for it, is answered with {reply}")
+
+    def take(self, name):
+        """The number of the next message, or None where there is none."""
+        reply = self.ask(receiving(name, timeout=0))
+        return None if reply[CODE] else reply[ID]
+
+    def take_all(self, name, most):
+        """The numbers of the messages, which are no more than so many."""
+        self.write(*[receiving(name, timeout=0)] * most)
+        replies = [self.reply(30) for _ in range(most)]
+        return [it[ID] for it in replies if it and it[CODE] == 0]
+
+    def port(self, limit=MOST_QUEUED):
+        """A new port, with a send right."""
+        name = self.name(RECEIVE)
+        self.call(INSERT_RIGHT, name, name, MAKE_SEND)
+        self.call(SET_QLIMIT, name, limit)
+        return name
+
+    def set_of(self, *members):
+        name = self.name(PORT_SET)
+        for member in members:
+            self.call(MOVE_MEMBER, member, name)
+        return name
+
+    def queued(self, name):
+        """How many messages a port has."""
+        return self.call(RECEIVE_STATUS, name)[4]
+
+    def end_writing(self):
+        self.socket.shutdown(socket.SHUT_WR)
+
+    def close(self):
+        self.socket.close()
+
+    def kill(self):
+        """The connection becomes that of another process, which is killed then."""
+        holder = subprocess.Popen(["sleep", "600"], stdin=self.socket)
+        self.socket.close()
+        holder.kill()
+        # Once it can be waited for, its files are closed.
+        holder.wait()
+
+    def go(self):
+        """Ends the connection as a close does, but that what was answered before can still be read."""
+        self.socket.shutdown(socket.SHUT_RDWR)
+
+
+def answered(clients, within):
+    """Which of these clients has an answer first: its place among them, and the reply. None where none has within so many seconds."""
+    readable, _, _ = select.select(clients, [], [], within)
+    if not readable:
+        return None
+    return clients.index(readable[0]), readable[0].reply()
+
+
+class Server:
+    """A server of a store on a socket."""
+
+    def __init__(self, store):
+        self.store, self.path = store, store.folder + ".socket"
+        self.start()
+
+    def start(self):
+        pipes = {"stdout": subprocess.PIPE, "stderr": subprocess.PIPE}
+        words_of = [self.store.programs / "machipcd", "--socket", self.path, self.store.folder]
+        self.program = subprocess.Popen(words_of, **pipes)
+        if self.program.stdout.readline() != b"machipcd: ready\n":
+            raise Difference(f"not ready: {self.program.stderr.read()}")
+
+    def client(self, space=1):
+        return Client(self.path, space)
+
+    def clients_of(self, count, space=1):
+        return [self.client(space) for _ in range(count)]
+
+    def kill(self):
+        """Kills the server, which hasn't ended by itself."""
+        self.program.kill()
+        _, errors = self.program.communicate()
+        if self.program.returncode != -signal.SIGKILL:
+            raise Difference(f"the server ended by itself, with status {self.program.returncode}: {errors}")
+
+    def end(self):
+        self.kill()
+        os.unlink(self.path)

@@ -1,0 +1,2 @@
+def histories(chance, server, asked):
+    return "none yet"
