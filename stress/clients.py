@@ -1,5 +1,6 @@
 """A server on a socket, and clients of it, some of whose calls wait."""
 
+import math
 import os
 import select
 import signal
@@ -25,8 +26,8 @@ from store import Difference, framed
 
 # The calls that the parts make, by their numbers.
 ATTACH, NAMES, TYPE, RENAME, ALLOCATE_NAME, ALLOCATE, DESTROY, DEALLOCATE = range(8)
-MOD_REFS, SET_QLIMIT, RECEIVE_STATUS, SET_STATUS, MOVE_MEMBER, REQUEST, INSERT_RIGHT = 9, 10, 13, 14, 15, 16, 17
-EXTRACT_RIGHT, SPACE_CREATE, SPACE_DESTROY = 18, 20, 21
+MOD_REFS, SET_QLIMIT, SET_SEQNO, RECEIVE_STATUS, SET_STATUS, MOVE_MEMBER = 9, 10, 12, 13, 14, 15
+REQUEST, INSERT_RIGHT, EXTRACT_RIGHT, SPACE_CREATE, SPACE_DESTROY = 16, 17, 18, 20, 21
 
 MACH_RCV_PORT_CHANGED, MACH_RCV_PORT_DIED = 0x10004006, 0x10004009
 
@@ -68,7 +69,8 @@ class Client:
     def __init__(self, path, space=1):
         self.socket = socket.socket(socket.AF_UNIX)
         self.socket.connect(path)
-        self.unread = b""
+        # When the connection was ended, and whether nothing was on its way then.
+        self.unread, self.gone_at, self.was_calm = b"", None, False
         if space != 1:
             self.call(ATTACH, space)
 
@@ -184,7 +186,11 @@ class Client:
 
     def go(self):
         """Ends the connection as a close does, but that what was answered before can still be read."""
-        self.socket.shutdown(socket.SHUT_RDWR)
+        if self.gone_at is None:
+            # Until it is known when it was, it may be at any moment.
+            self.gone_at = math.inf
+            self.socket.shutdown(socket.SHUT_RDWR)
+            self.gone_at = time.monotonic()
 
 
 def answered(clients, within):
