@@ -128,6 +128,15 @@ class Client:
     def name(self, right):
         return self.call(ALLOCATE, right)[0]
 
+    def new_ports(self, count):
+        """Names of so many new ports."""
+        names = []
+        while len(names) < count:
+            some = min(500, count - len(names))
+            self.write(*[words(ALLOCATE, RECEIVE)] * some)
+            names += [self.reply(30)[2] for _ in range(some)]
+        return names
+
     def send(self, name, number, *body, **words_of):
         """Sends a message that has room."""
         reply = self.ask(sending(name, number, *body, **words_of))

@@ -6,6 +6,7 @@ while its receivers wait for their messages. The senders are in space 1 and have
 message has a number of its own.
 """
 
+import math
 import random
 import threading
 import time
