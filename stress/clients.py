@@ -31,6 +31,14 @@ REQUEST, INSERT_RIGHT, EXTRACT_RIGHT, SPACE_CREATE, SPACE_DESTROY = 16, 17, 18, 
 
 MACH_RCV_PORT_CHANGED, MACH_RCV_PORT_DIED = 0x10004006, 0x10004009
 
+# How many seconds apart calls are written whose order counts, so that each waits before the next one comes.
+APART = 0.05
+
+# For how many seconds is looked that nothing is answered.
+STILL = 0.2
+
+TEN_MINUTES = 600_000
+
 # Within how many seconds a call is answered once there is something that ends its wait.
 PROMPT = 2
 
@@ -208,6 +216,50 @@ def answered(clients, within):
     if not readable:
         return None
     return clients.index(readable[0]), readable[0].reply()
+
+
+def expect(who, client, code, number=None):
+    """The reply of one whose wait ends now."""
+    reply = client.reply()
+    if reply is None:
+        raise Difference(f"{who} waits on")
+    if reply[CODE] != code:
+        raise Difference(f"{who} is answered with {reply[CODE]:#x}, not {code:#x}")
+    if number is not None and reply[ID] != number:
+        raise Difference(f"{who} gets message {reply[ID]}, not {number}")
+    return reply
+
+
+def expect_message(who, client, number):
+    return expect(who, client, 0, number)
+
+
+def expect_still(who, clients, within=STILL):
+    """Nobody is answered."""
+    found = answered(clients, within)
+    if found:
+        raise Difference(f"{who} is answered: {found[1]}")
+
+
+def expect_turn(who, clients, number=None):
+    """The first of these is answered, with a message of this number where one is told, and no other."""
+    found = answered(clients, PROMPT)
+    if found is None:
+        raise Difference(f"{who}: none of {len(clients)} is answered")
+    place, reply = found
+    if place or reply[CODE] or number is not None and reply[ID] != number:
+        raise Difference(f"{who}: number {place + 1} of those that wait is answered: {reply}")
+    expect_still(f"{who}: another", clients[1:], 0.02)
+    return clients.pop(0)
+
+
+def sleep_until(moment):
+    time.sleep(max(0, moment - time.monotonic()))
+
+
+def close_all(clients):
+    for client in clients:
+        client.close()
 
 
 class Server:

@@ -12,7 +12,6 @@ import threading
 import time
 
 from clients import (
-    ALLOCATE_NAME,
     CODE,
     DESTROY,
     EXTRACT_RIGHT,
@@ -26,9 +25,8 @@ from clients import (
     SET_QLIMIT,
     SET_SEQNO,
     SET_STATUS,
-    SIZE,
     SPACE_CREATE,
-    Client,
+    close_all,
     exchanging,
     ports,
     receiving,
@@ -128,8 +126,8 @@ class Task(threading.Thread):
             except (EOFError, OSError):
                 self.has_gone()
                 time.sleep(0.01)
-            except Difference as difference:
-                self.book.differences.append(str(difference))
+            except Exception as fault:
+                self.book.differences.append(f"{type(fault).__name__}: {fault}")
                 return
 
     def wait_for_turn(self):
@@ -372,11 +370,6 @@ def passed_over(server, tasks):
     return found
 
 
-def close_all(clients):
-    for client in clients:
-        client.close()
-
-
 def become_quiet(book, seconds):
     until, seen = time.monotonic() + 60, None
     while seen != book.answers:
@@ -446,7 +439,7 @@ def hush(book, server):
         time.sleep(0.05)
         # What was made before this is stored with it.
         looker.call(SET_SEQNO, port, 1)
-        time.sleep(0.03)
+        time.sleep(0.1)
     looker.call(DESTROY, port)
     looker.close()
 
