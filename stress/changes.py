@@ -288,7 +288,7 @@ def changes(chance, server, asked):
     all_of("send from another space", OF_FAR_SENDS, wait_far)
     for wait, code in ((wait_with_reply, MACH_SEND_INVALID_REPLY), (wait_with_body, MACH_SEND_INVALID_RIGHT)):
         all_of("send with a right", [replace(it, code=code) for it in OF_SENDS_WITH_RIGHTS], wait)
-    for wait_on in (set_goes_on, port_in_transit, port_in_a_notice, limit_for_some, both_halves, name_used_again, over_in_time):
+    for wait_on in (others_go_on, set_goes_on, port_in_transit, port_in_a_notice, limit_for_some, both_halves, name_used_again, over_in_time):
         scene = Scene(server)
         wait_on(scene)
         scene.end()
@@ -343,6 +343,23 @@ def one_change(server, who, change, wait):
     took = time.monotonic() - began
     scene.end()
     return took
+
+
+def others_go_on(scene):
+    """What happens to the same name of another space ends no wait."""
+    other = Scene(scene.server)
+    at_port, at_full = scene.waits(receiving(scene.port)), scene.waits(sending(scene.full, 9))
+    if (other.port, other.full) != (scene.port, scene.full):
+        raise Difference("two spaces that were made alike have other names")
+    other.owner.send(other.port, 1)
+    for name in (other.port, other.full):
+        other.owner.call(DESTROY, name)
+    other.end()
+    expect_still("what waits at a name of which another space has its own", [at_port, at_full])
+    scene.owner.send(scene.port, 2)
+    scene.owner.take(scene.full)
+    expect_message("what waits beside another space", at_port, 2)
+    expect("what waits beside another space", at_full, 0)
 
 
 def set_goes_on(scene):

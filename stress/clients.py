@@ -1,5 +1,6 @@
 """A server on a socket, and clients of it, some of whose calls wait."""
 
+import contextlib
 import math
 import os
 import select
@@ -206,16 +207,21 @@ class Client:
         if self.gone_at is None:
             # Until it is known when it was, it may be at any moment.
             self.gone_at = math.inf
-            self.socket.shutdown(socket.SHUT_RDWR)
+            with contextlib.suppress(OSError):
+                self.socket.shutdown(socket.SHUT_RDWR)
             self.gone_at = time.monotonic()
 
 
 def answered(clients, within):
     """Which of these clients has an answer first: its place among them, and the reply. None where none has within so many seconds."""
-    readable, _, _ = select.select(clients, [], [], within)
-    if not readable:
-        return None
-    return clients.index(readable[0]), readable[0].reply()
+    poll = select.poll()
+    for client in clients:
+        poll.register(client, select.POLLIN)
+    ready = {number for number, _ in poll.poll(1_000 * within)}
+    for place, client in enumerate(clients):
+        if client.fileno() in ready:
+            return place, client.reply()
+    return None
 
 
 def expect(who, client, code, number=None):

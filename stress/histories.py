@@ -70,7 +70,7 @@ class Book:
     def __init__(self):
         self.lock = threading.Lock()
         self.count, self.answers, self.differences = 0, 0, []
-        # When those to lasting ports were written; which of them were sent, and received; the others aren't counted.
+        # When those of the senders were written; which were sent, and received. Those of a household may end with a port.
         self.written, self.sent, self.received, self.refused = {}, set(), set(), set()
         # The connections of receipts that ended as a message may have been on its way to them, and when the server was killed in this
         # round.
@@ -181,7 +181,6 @@ class Household:
     """A space, and what it has: the names of its lasting ports, of those that come and go, and of its sets."""
 
     def __init__(self, server, first, door):
-        self.server = server
         self.space, self.door = first.call(SPACE_CREATE, door, MAKE_SEND)
         self.client = server.client(self.space)
         self.lasting = [self.client.name(RECEIVE) for _ in range(LASTING)]
@@ -193,6 +192,9 @@ class Household:
         self.targets = []
         for _ in self.lasting:
             self.targets.append(first.ask(receiving(door))[-1])
+
+    def any_port(self, chance):
+        return chance.choice(self.lasting + self.passing)
 
     def any_name(self, chance):
         return chance.choice([*self.lasting, *self.passing, *self.sets, *self.sets])
@@ -208,23 +210,15 @@ class Receiver(Task):
         timeout = chance.choice([None, None, None, 0, chance.randrange(1, 300), 60_000])
         draw = chance.random()
         if draw < 0.15:
-            to, is_lasting = self.target()
-            number = self.book.number(is_lasting)
+            to, number = self.household.any_port(chance), self.book.number(False)
             self.ask(Asked(exchanging(to, number, source, MAKE_SEND), number, to, source))
         elif draw < 0.3:
-            to, is_lasting = self.target()
-            number = self.book.number(is_lasting)
+            to, number = self.household.any_port(chance), self.book.number(False)
             self.ask(Asked(sending(to, number, timeout=timeout, disposition=MAKE_SEND), number, to, is_timed=timeout is not None))
         else:
             is_small = chance.random() < 0.2
             frame = receiving(source, timeout, 24 if is_small else 8192, RCV_LARGE if is_small else 0)
             self.ask(Asked(frame, source=source, is_timed=timeout is not None, is_small=is_small))
-
-    def target(self):
-        """A port of the own space, and whether it lasts."""
-        if self.chance.random() < 0.5:
-            return self.chance.choice(self.household.lasting), True
-        return self.chance.choice(self.household.passing), False
 
 
 class Sender(Task):
@@ -382,16 +376,20 @@ def become_quiet(book, seconds):
 def empty(server, book, households, tasks):
     """Receives all messages, and so makes room for all sends."""
     lookers = [server.client(it.space) for it in households]
-    for looker, household in zip(lookers, households):
+    for looker in lookers:
         for name, bits in names_of(looker):
             if bits & HOLDS_RECEIVE:
                 looker.call(SET_QLIMIT, name, MOST_QUEUED)
     until = time.monotonic() + 20
-    while sum(take_all(book, looker) for looker in lookers) or any(it.asked and it.asked.source is None for it in tasks):
+    while sum(take_all(book, looker) for looker in lookers) or waiting_sends(tasks):
         if time.monotonic() > until:
-            waiting = [it.asked.frame.hex() for it in tasks if it.asked and it.asked.source is None]
-            raise Difference(f"sends wait at queues that are empty: {waiting}")
+            frames = "\n".join(it.frame.hex() for it in waiting_sends(tasks))
+            raise Difference(f"sends wait, whose queues were emptied:\n{frames}")
     close_all(lookers)
+
+
+def waiting_sends(tasks):
+    return [it for it in [task.asked for task in tasks] if it and it.source is None]
 
 
 def names_of(looker):

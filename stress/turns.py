@@ -156,11 +156,15 @@ def not_for_the_next(looker, member, second):
     until = time.monotonic() + PROMPT
     while time.monotonic() < until:
         is_taken = looker.queued(member) == 0
-        if select.select([second], [], [], STILL if is_taken else 0.01)[0]:
+        if has_answer(second, STILL if is_taken else 0.01):
             return False
         if is_taken:
             return True
     raise Difference("a message stays while a receipt waits, behind one whose client was closed")
+
+
+def has_answer(client, within):
+    return bool(select.select([client], [], [], within)[0])
 
 
 def receipts_that_leave(apart, server, is_set):
