@@ -1,12 +1,18 @@
 -- What stands on the disk of a copy.
-use Rattle.std.proofs.Common.{◌≡◌, inl, List, ℕ, [], refl, sym, ap, subst, ◌∙◌, arith}
+use Rattle.std.proofs.Common.{◌≡◌, inl, List, ℕ, [], Result, Ok, Err, refl, sym, ap, subst, ◌∙◌, arith}
 use Rattle.disk.specs.Moments.{View}
 use Rattle.disk.specs.Slots.{Slots}
 use Rattle.checkpoint.specs.Images.{ImageValue, open_image, unwritten}
-use Rattle.inspect.specs.Copied.{IsCopyOf, IsImageOfRows, store_of}
+use Rattle.inspect.specs.Copied.{IsCopyOf, IsImageOfRows, of_list, store_of}
+use Rattle.inspect.specs.declared.copying.CopyStoreFault.{CopyStoreFault}
+use Rattle.inspect.specs.declared.copying.CopyStoreFault.TheVariants as copied
+use Rattle.inspect.specs.declared.fault.ListFault.{ListFault}
+use Rattle.inspect.specs.declared.fault.ListFault.TheVariants as list
 use Rattle.ipc_model.specs.state.State.{State}
 use Rattle.ipc_model.specs.store.Recovery.{HoldsImage, Recovered}
 use Rattle.ipc_model.specs.texts.Images.{image_text}
+use Rattle.journal.specs.declared.fault.StoreFault.{StoreFault}
+use Rattle.journal.specs.declared.fault.StoreFault.TheVariants as fault
 use Rattle.recover.proofs.Stages.{empty_spells}
 use Rattle.recover.specs.AtRest.{IsAtRest}
 use Rattle.recover.specs.Found.{Reads}
@@ -16,6 +22,25 @@ use Rattle.recover.specs.declared.looking.Looked.{Looked}
 use Rattle.snapshot.specs.Rows.{one_state}
 use Rattle.standing.specs.Spelled.{one_spells}
 use Rattle.standing.specs.Standing.{InOne, as_written}
+
+-- what a copy of a fault that was told of the store tells
+abbrev store_in : CopyStoreFault → StoreFault
+store_in (copied.Store fault) = fault
+store_in copied.Busy = fault.Damaged
+store_in copied.Exists = fault.Damaged
+store_in copied.Write = fault.Damaged
+
+store_of_list : (fault : ListFault) (told : StoreFault) → of_list fault ≡ copied.Store told → fault ≡ list.Store told
+store_of_list (list.Store f) told is = ap (λ (k : StoreFault). list.Store k) (ap store_in is)
+store_of_list list.Busy told is = absurd (cc is)
+store_of_list list.Write told is = absurd (cc is)
+
+abbrev error_in : Result (Unit {0}) CopyStoreFault → CopyStoreFault
+error_in (Ok done) = copied.Busy
+error_in (Err fault) = fault
+
+pub told_of_list : (fault : ListFault) (told : StoreFault) (given : CopyStoreFault) (result : Result (Unit {0}) CopyStoreFault) → result ≡ Err given → given ≡ of_list fault → result ≡ Err (copied.Store told) → fault ≡ list.Store told
+told_of_list fault told given result is of same = store_of_list fault told (sym of ∙ ap error_in (sym is ∙ same))
 
 copy_recovers : (state : State) → HoldsImage 0 (open_image 0 (image_text state)) state → Recovered (as_written (store_of (unwritten 0 (image_text state)))) state
 copy_recovers state holds =

@@ -1,5 +1,5 @@
 -- A store that was made of another one's state, and how a run that makes one ends.
-use Rattle.std.specs.Prelude.{◌≡◌, ◌≢◌, ℕ, List, [], ◌++◌, Option, Some, codes}
+use Rattle.std.specs.Prelude.{◌≡◌, ◌≢◌, ◌⊎◌, ℕ, List, [], ◌++◌, Option, Some, codes}
 use Rattle.checkpoint.specs.Images.{ImageValue, open_image, unwritten}
 use Rattle.disk.specs.Moments.{View}
 use Rattle.disk.specs.Slots.{Slots}
@@ -12,7 +12,8 @@ use Rattle.inspect.specs.declared.fault.ListFault.TheVariants as list
 use Rattle.ipc_model.specs.state.State.{State}
 use Rattle.ipc_model.specs.store.Recovery.{HoldsImage, Recovered}
 use Rattle.ipc_model.specs.texts.Images.{image_text}
-use Rattle.journal.specs.Fault as store
+use Rattle.journal.specs.Fault as fault_lines
+use Rattle.journal.specs.declared.fault.StoreFault.TheVariants as store
 use Rattle.recover.specs.AtRest.{IsAtRest}
 use Rattle.recover.specs.Found.{Reads}
 use Rattle.recover.specs.Making.{empty_segment}
@@ -45,6 +46,11 @@ of_list (list.Store fault) = Store fault
 of_list list.Busy = Busy
 of_list list.Write = Write
 
+-- why a store can't be copied, where its copy's place is empty
+abbrev pub IsOfCopy : CopyStoreFault → Type 0
+IsOfCopy fault = (fault ≡ Store store.Device) ⊎ ((fault ≡ Store store.Damaged) ⊎ ((fault ≡ Store store.NoMemory)
+    ⊎ ((fault ≡ Store store.Version) ⊎ ((fault ≡ Busy) ⊎ (fault ≡ Write)))))
+
 -- 0: the store was copied; 1: a fault; 2: the words are not two, or can't be read
 abbrev pub copy_status_of : CopyEnd → ℕ
 copy_status_of Copied = 0
@@ -55,7 +61,7 @@ copy_status_of (Fault fault) = 1
 abbrev pub copy_words_of : CopyEnd → List ℕ
 copy_words_of Copied = []
 copy_words_of CommandLine = codes "command line\n"
-copy_words_of (Fault (Store fault)) = store.fault_line fault
+copy_words_of (Fault (Store fault)) = fault_lines.fault_line fault
 copy_words_of (Fault Busy) = codes "store busy\n"
 copy_words_of (Fault Exists) = codes "copy exists\n"
 copy_words_of (Fault Write) = codes "copy not written\n"

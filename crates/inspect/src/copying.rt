@@ -1,9 +1,11 @@
 // A new store that begins in the state of another one.
-ghost use Rattle.std.specs.Prelude.{◌≡◌, ◌≢◌, Err, IfErr, IfOk, OnErr, OnOk};
-ghost use Rattle.disk.specs.Moments.{CountsFailure, MayLeave, Passes};
+ghost use Rattle.std.specs.Prelude.{◌≡◌, ◌≢◌, Err, IfErr, IfOk, IsErrOf, OnErr, OnOk};
+ghost use Rattle.disk.specs.Moments.{CountsFailure, MayLeave, Passes, one_more};
 ghost use Rattle.disk.specs.Slots.{empty_slots};
-ghost use Rattle.inspect.specs.Copied.{IsCopyOf, IsImageOfRows, store_of};
+ghost use Rattle.inspect.specs.Copied.{IsCopyOf, IsImageOfRows, IsOfCopy, store_of};
+ghost use Rattle.ipc_model.specs.store.Recovery.{IsDamaged, IsOtherVersion};
 ghost use Rattle.recover.specs.AtRest.{IsAtRest};
+ghost use Rattle.standing.specs.Standing.{as_written};
 
 use crate::ListFault;
 use crate::looking::look_still;
@@ -104,12 +106,18 @@ fn write_store<E: Disk>(to: &mut E, image: &Image) -> Result<(), DiskFault>
 /// be in use, and isn't written to. All of the copy is on its disk then.
 ///
 /// `Store`: the store can't be read (`Device`, `Damaged`, `Version`), or an allocation failed (`NoMemory`). `Busy`: the store was
-/// changed at each try to read it. `Write`: the disk of the copy failed.
+/// changed at each try to read it. Nothing was written then. `Write`: the disk of the copy failed.
 pub fn copy<D: Disk, E: Disk>(alloc: Global, from: &mut D, to: &mut E) -> Result<(), CopyStoreFault>
     ensures copied { D.honest → E.honest → (E.view to.old).seen ≡ empty_slots → OnOk result (IsCopyOf (D.view from.old).seen (E.view to.new)) }
     ensures seen { D.honest → (D.view from.new).seen ≡ (D.view from.old).seen }
-    ensures still { D.honest → result ≢ Err CopyStoreFault.Busy }
-    ensures free { IfErr result (λ fault. fault ≢ CopyStoreFault.Exists) }
+    ensures version { D.honest → IsErrOf result (CopyStoreFault.Store StoreFault.Version) → IsOtherVersion (as_written (D.view from.old).seen) }
+    ensures damaged { D.honest → IsErrOf result (CopyStoreFault.Store StoreFault.Damaged) → IsDamaged (as_written (D.view from.old).seen) }
+    ensures still { D.honest → IsErrOf result CopyStoreFault.Busy → ⊥ }
+    ensures faults { IfErr result IsOfCopy }
+    ensures device { IsErrOf result (CopyStoreFault.Store StoreFault.Device) → D.failed_calls from.new ≡ one_more (D.failed_calls from.old) }
+    ensures quiet { OnOk result ((D.failed_calls from.new ≡ D.failed_calls from.old) × (E.failed_calls to.new ≡ E.failed_calls to.old)) }
+    ensures write { IsErrOf result CopyStoreFault.Write → (D.failed_calls from.new ≡ D.failed_calls from.old) × (E.failed_calls to.new ≡ one_more (E.failed_calls to.old)) }
+    ensures unwritten { IfErr result (λ fault. fault ≢ CopyStoreFault.Write → to.new ≡ to.old) }
 {
     let look = look_still(alloc, from)?;
     match image_of(alloc, look.snapshot) {
