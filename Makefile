@@ -1,4 +1,4 @@
-.PHONY: demo test quick bin bench load mutants gate-cost stress shortage
+.PHONY: demo test quick bin bench load mutants gate-cost stress shortage clients examples
 
 # The main job on a new folder, with its bytes explained. It proves nothing: the program runs checked, and where bin/ has
 # the proved one, that.
@@ -44,3 +44,11 @@ stress: bin
 # programs first, and wants a C compiler.
 shortage: bin
 	@stress/shortage
+
+# The tests of the clients in C and Python, against the server in bin/ where there is one, and against a stand-in.
+clients:
+	@clients/test
+
+# Programs that use the clients, while their server is killed. It proves the programs first.
+examples: bin
+	@examples/run
