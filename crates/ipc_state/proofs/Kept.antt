@@ -1,5 +1,5 @@
 -- The members are found where their places say, after each change.
-use Rattle.std.proofs.Common.{◌≡◌, ℕ, ◌+◌, ◌-◌, ◌^◌, ◌≤◌, nat_lt, arith, ◌<◌, ◌/◌, ◌%◌, ◌==◌, Bool, true, false, cond, Option, None, Some, is_some, option_map, option_and_then, refl, sym, ◌∙◌, ap, subst}
+use Rattle.std.proofs.Common.{◌≡◌, ℕ, ◌+◌, ◌^◌, ◌≤◌, nat_lt, arith, ◌<◌, ◌/◌, ◌%◌, ◌==◌, Bool, true, false, cond, Option, None, Some, is_some, option_map, option_and_then, refl, sym, ◌∙◌, ap, subst}
 use Rattle.std.proofs.lemmas.Bool.{eqb-true, eq-eqb, ltb-false, ltb-true}
 use Rattle.std.specs.Cmp.{nat_cmp_total}
 use Rattle.std.specs.Ordering.{nat_cmp, eq_by_cmp}

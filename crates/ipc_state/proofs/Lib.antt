@@ -3,3 +3,4 @@ mod Kept
 mod Releasing
 mod Alive
 mod Taking
+mod Covering

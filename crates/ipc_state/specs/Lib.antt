@@ -8,3 +8,4 @@ pub mod Passed
 pub mod Running
 pub mod SetNames
 pub mod There
+pub mod Waking

@@ -11,6 +11,7 @@ mod port_changes;
 mod sets;
 mod space_table;
 mod state;
+mod waking;
 
 pub use names::request_of;
 pub use ports::PortNumbers;

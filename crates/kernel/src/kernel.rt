@@ -8,6 +8,8 @@ ghost use Rattle.ipc_laws.specs.ImageLaws.{Spellable};
 ghost use Rattle.ipc_laws.specs.RecordedSteps.{IsAnsweredWhole};
 ghost use Rattle.ipc_model.specs.state.Circular.{Grounded};
 ghost use Rattle.ipc_model.specs.state.Lawful.{Lawful, ShortQueues};
+ghost use Rattle.waiting.specs.Places.{names};
+ghost use Rattle.waiting.specs.Waiting.{Wakes};
 
 use crate::choices::Shown;
 use crate::recording::{Recorder, step_recorded};
@@ -18,6 +20,7 @@ use ipc_model::{Call, Record, Reply, call_in_range};
 use port_calls::IpcState;
 use std::alloc::{AllocError, Global};
 use std::marker::Model;
+use waiting::Places;
 
 /// Why a record couldn't be replayed.
 #[derive(Clone, Copy, Debug, PartialEq, Eq)]
@@ -134,6 +137,39 @@ impl Kernel {
         call_in_range(call);
         match step_recorded(self.alloc, &mut self.state, space, call, recorder) {
             Ok(reply) => {
+                self.state.keep();
+                self.state.queues_are_short();
+                Ok(reply)
+            }
+            Err(error) => {
+                self.state.give_up();
+                Err(error)
+            }
+        }
+    }
+
+    /// Makes one step of the machine as `apply_recorded` does, and names the places at which it may have given a call that waits
+    /// something to do: no wake-up is lost.
+    pub fn apply_naming<R: Recorder>(
+        &mut self,
+        space: u32,
+        call: &Call,
+        recorder: &mut R,
+        places: &mut Places,
+    ) -> Result<Reply, AllocError>
+        requires { R.has_room recorder.old }
+        ensures step { IfOk result (λ reply. Step self.old space call.now reply self.new) }
+        ensures wakes { IfOk result (λ reply. Wakes self.old self.new (names places.new)) }
+        ensures number { IfOk result (λ reply. number_of_reply reply ≡ number_of_call call.now) }
+        ensures written { IfOk result (λ reply. has_record call.now reply ≡ true → R.wrote recorder.old space call.now reply recorder.new) }
+        ensures unwritten { IfOk result (λ reply. has_record call.now reply ≡ false → recorder.new ≡ recorder.old) }
+        ensures fits { IfOk result (λ reply. length (reply_text reply) ≤ MAX_FRAME_CONTENT) }
+        ensures err { OnErr result ((self.new ≡ self.old) × (recorder.new ≡ recorder.old)) }
+    {
+        call_in_range(call);
+        match step_recorded(self.alloc, &mut self.state, space, call, recorder) {
+            Ok(reply) => {
+                self.state.name_places(places);
                 self.state.keep();
                 self.state.queues_are_short();
                 Ok(reply)

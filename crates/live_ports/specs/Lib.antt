@@ -1,4 +1,5 @@
 pub mod Changed
+pub mod Noted
 pub mod PortSlot
 pub mod Seen
 pub mod SeenLaws

@@ -5,6 +5,7 @@ ghost use Rattle.ipc_model.specs.effects.Effects.{map_values};
 ghost use Rattle.ipc_model.specs.state.Lawful.{AreShort};
 ghost use Rattle.ipc_model.specs.state.State.{new_port};
 ghost use Rattle.live_ports.specs.Changed.{changed, messages_at, numbers_of, with_message, with_numbers, without_first};
+ghost use Rattle.live_ports.specs.Noted.{AreNoted};
 ghost use Rattle.live_ports.specs.PortTable.{ports_at_rest};
 ghost use Rattle.live_ports.specs.Seen.{lives_in, queue_after_death, seen_message, seen_port, seen_right, AreLive};
 
@@ -235,6 +236,14 @@ impl LivePorts {
                 Err(error)
             }
         }
+    }
+
+    /// The serials of the ports that may have changed since changes were last kept or given up. Each other port lives if it lived
+    /// then, and is as full.
+    pub fn changed_serials(&self) -> &[u128]
+        ensures { AreNoted self.now.before.ports self.now.current.ports result.now }
+    {
+        self.tables.touched.as_slice()
     }
 
     /// Keeps the changes. It takes no memory.

@@ -8,6 +8,7 @@ ghost use Rattle.ipc_model.specs.declared.message.RightKind.TheVariants as kind;
 ghost use Rattle.ipc_model.specs.state.Circular.{carries};
 ghost use Rattle.ipc_model.specs.state.Lawful.{AreShort};
 ghost use Rattle.live_ports.specs.Changed.{messages_at, numbers_of};
+ghost use Rattle.live_ports.specs.Noted.{AreNoted};
 ghost use Rattle.live_ports.specs.Seen.{seen_message, seen_right, lives_in};
 ghost use Rattle.pair_counts.specs.Rights.{right_weight};
 
@@ -35,6 +36,14 @@ impl Ports {
         ensures { result ≡ self.now.current.next }
     {
         self.ports.next_serial()
+    }
+
+    /// The serials of the ports that may have changed since changes were last kept or given up. Each other port lives if it lived
+    /// then, and is as full.
+    pub fn changed_serials(&self) -> &[u128]
+        ensures { AreNoted self.now.before.ports self.now.current.ports result.now }
+    {
+        self.ports.changed_serials()
     }
 
     /// Whether a port lives.

@@ -9,6 +9,8 @@ ghost use Rattle.session_core.specs.Keeping.{Ends, IsApart, IsSame, Loads, Makes
 ghost use Rattle.session_core.specs.Tokens.{Did, IsHistory};
 ghost use Rattle.session_core.specs.declared.keeper.TheConstants.{MOST_SESSIONS};
 ghost use Rattle.system.specs.Halves.{CanCut, CannotTake, IsFullFor, with_receipt};
+ghost use Rattle.waiting.specs.Places.{names};
+ghost use Rattle.waiting.specs.Waiting.{Wakes};
 
 use crate::counting::Tally;
 use crate::fault::SessionFault;
@@ -26,6 +28,7 @@ use std::sync::ledger::{Blank, Book};
 use storer::{End, Load};
 use storing::{Finished, Receipt};
 use system::{Kernel, SubmitFault, Ticket};
+use waiting::Places;
 
 /// How many sessions one history gives at most.
 pub const MOST_SESSIONS: u32 = u32::MAX;
@@ -91,13 +94,17 @@ impl<L: Founding> Keeper<L> {
     /// Makes a call of a session. Its session has then seen all of the history; also where the call isn't made, it may have seen
     /// more.
     ///
+    /// It names the places at which the call may have given one that waits something to do: no wake-up is lost.
+    ///
     /// `NoMemory`: a growth was refused. `EpochFull`: no room is left for the call's record, or the session isn't known to be in
     /// the history that is kept here: it has seen more, or is in a row of which that can't be told.
     pub fn submit(
         &mut self,
         session: Session<L>,
         call: &Call,
+        places: &mut Places,
     ) -> (Session<L>, Result<Ticket, SubmitFault>)
+        ensures wakes { IfOk result.1 (λ ticket. Wakes self.old.core.half.kernel self.new.core.half.kernel (names places.new)) }
         ensures given { IfOk result.1 (λ ticket. Did L.base session (called call.now ticket.answer) result.0 × (ticket.seen ≡ result.0.task.seen)) }
         ensures makes { IfOk result.1 (λ ticket. Makes self.old.core session.number session.task.space call.now ticket self.new.core × (self.new.given ≡ self.old.given)) }
         ensures full { IsErrOf result.1 SubmitFault.EpochFull → IsFullFor self.old.core.half session.task.space call.now ⊎ IsApart self.old.core.past session.past }
@@ -105,7 +112,7 @@ impl<L: Founding> Keeper<L> {
     {
         let Session { card, past } = session;
         let before = self.core.made();
-        let (past, made) = self.core.apply(card.number, card.space, past, call);
+        let (past, made) = self.core.apply(card.number, card.space, past, call, places);
         match made {
             Ok(ticket) => {
                 let mut card = card;

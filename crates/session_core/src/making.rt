@@ -7,6 +7,8 @@ ghost use Rattle.ipc_model.specs.state.Lawful.{Lawful};
 ghost use Rattle.session_core.specs.Keeping.{Applies, Ends, IsApart, IsSame, Learns, Loads, Makes, entries_in, entries_of_call, first_core, first_number};
 ghost use Rattle.session_core.specs.Tokens.{IsHistory};
 ghost use Rattle.system.specs.Halves.{CanCut, CannotTake, Gives, IsFullFor, with_receipt};
+ghost use Rattle.waiting.specs.Places.{names};
+ghost use Rattle.waiting.specs.Waiting.{Wakes};
 
 use crate::beside::Beside;
 use history::{CatchUpFault, Founding, Past, Row};
@@ -17,6 +19,7 @@ use std::sync::Arc;
 use storer::{End, Load};
 use storing::{Finished, Receipt};
 use system::{Kernel, KernelHalf, SubmitFault, Ticket};
+use waiting::Places;
 
 /// The half that makes calls, beside the history of what it made.
 #[derive(Drop)]
@@ -90,8 +93,10 @@ impl<L: Founding> Core<L> {
         space: u32,
         seen: Past<L>,
         call: &Call,
+        places: &mut Places,
     ) -> (Past<L>, Result<Ticket, SubmitFault>)
         requires { IsHistory L.base seen.entries }
+        ensures wakes { IfOk result.1 (λ ticket. Wakes self.old.half.kernel self.new.half.kernel (names places.new)) }
         ensures given { IfOk result.1 (λ ticket. Applies L.base number space seen.entries call.now ticket result.0.entries self.old.half.row.made self.new.half.row.made) }
         ensures makes { IfOk result.1 (λ ticket. Makes self.old number space call.now ticket self.new) }
         ensures full { IsErrOf result.1 SubmitFault.EpochFull → IsFullFor self.old.half space call.now ⊎ IsApart self.old.past seen }
@@ -108,6 +113,7 @@ impl<L: Founding> Core<L> {
             kept,
             seen,
             call,
+            places,
         );
         self.past = Some(kept);
         (mine, made)
@@ -286,7 +292,9 @@ fn apply_beside<L: Founding>(
     kept: Past<L>,
     seen: Past<L>,
     call: &Call,
+    places: &mut Places,
 ) -> (Past<L>, Past<L>, Result<Ticket, SubmitFault>)
+    ensures wakes { IfOk result.2 (λ ticket. Wakes half.old.kernel half.new.kernel (names places.new)) }
     ensures given { IfOk result.2 (λ ticket. Gives half.old space call.now ticket half.new) }
     ensures kept { IfOk result.2 (λ ticket. result.0.entries ≡ kept.entries ++ entries_of_call number space call.now ticket) }
     ensures seen { OnOk result.2 (result.1.entries ≡ result.0.entries) }
@@ -306,7 +314,7 @@ fn apply_beside<L: Founding>(
         kept,
         mine,
     };
-    let (beside, made) = half.submit_beside(space, call, beside);
+    let (beside, made) = half.submit_beside(space, call, beside, places);
     let Beside {
         alloc: _,
         number: _,

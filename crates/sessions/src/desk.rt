@@ -1,9 +1,15 @@
-ghost use Rattle.std.specs.Prelude.{◌≡◌};
+ghost use Rattle.std.specs.Prelude.{◌≡◌, IfOk, OnErr};
+ghost use Rattle.ipc_model.specs.history.History.{called, looked};
+ghost use Rattle.session_core.specs.Tokens.{Did};
 
 use codes::MAX_RECORDS;
 use history::Founding;
+use ipc_model::Call;
 use journal::StoreFault;
-use session_core::Keeper;
+use session_core::{Keeper, Session};
+use std::alloc::Global;
+use system::{SubmitFault, Ticket};
+use waiting::Places;
 
 /// How a wait for a change of the state ended.
 #[derive(Clone, Copy)]
@@ -21,6 +27,9 @@ pub enum Waited {
 pub(crate) struct Desk<L: Founding> {
     pub(crate) keeper: Keeper<L>,
 
+    // The places that the last call named.
+    pub(crate) places: Places,
+
     // What a loop met, and whether the loops are to end.
     fault: Option<StoreFault>,
     is_stopping: bool,
@@ -32,14 +41,27 @@ pub(crate) struct Desk<L: Founding> {
 
 impl<L: Founding> Desk<L> {
     /// With no loop yet.
-    pub(crate) fn new(keeper: Keeper<L>) -> Self {
+    pub(crate) fn new(alloc: Global, keeper: Keeper<L>) -> Self {
         Desk {
             keeper,
+            places: Places::none(alloc),
             fault: None,
             is_stopping: false,
             is_ended: false,
             makes_images: false,
         }
+    }
+
+    /// Makes a call of a session, as `Keeper::submit` does.
+    pub(crate) fn submit(
+        &mut self,
+        session: Session<L>,
+        call: &Call,
+    ) -> (Session<L>, Result<Ticket, SubmitFault>)
+        ensures given { IfOk result.1 (λ ticket. Did L.base session (called call.now ticket.answer) result.0 × (ticket.seen ≡ result.0.task.seen)) }
+        ensures err { OnErr result.1 (Did L.base session looked result.0) }
+    {
+        self.keeper.submit(session, call, &mut self.places)
     }
 
     /// Whether a ticket that saw so many records waits, and may be told one day.

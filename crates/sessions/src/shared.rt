@@ -67,7 +67,7 @@ impl<L: Founding, D: Disk, G: Drop> Shared<L, D, G> {
         Ok(Shared {
             alloc,
             gate,
-            desk: Mutex::new(Desk::new(keeper)),
+            desk: Mutex::new(Desk::new(alloc, keeper)),
             storer: Mutex::new(storer),
             calls: Condvar::new(),
             news: Condvar::new(),
@@ -101,7 +101,7 @@ impl<L: Founding, D: Disk, G: Drop> Shared<L, D, G> {
             .news
             .wait_while(rt, self.desk.lock(rt), |desk| desk.awaits_epoch());
         let before = desk.keeper.made();
-        let made = desk.keeper.submit(session, call);
+        let made = desk.submit(session, call);
         let has_more = before < desk.keeper.made();
         drop(desk);
         self.tell_of_record(has_more);

@@ -1,5 +1,5 @@
 -- The names by the ports whose receive rights they hold, that they stand for other rights to, and that their requests have as targets.
-use Rattle.std.proofs.Common.{nat_lt, if◌then◌else◌, ◌≡◌, ℕ, ◌^◌, ◌<◌, ◌≤◌, ◌/◌, ◌%◌, Bool, true, false, cond, Option, None, Some, MatchOption, is_some, option_map, option_and_then, refl, sym, ◌∙◌, ap, subst, arith}
+use Rattle.std.proofs.Common.{nat_lt, if◌then◌else◌, ◌≡◌, ℕ, ◌^◌, ◌<◌, ◌≤◌, ◌/◌, ◌%◌, Bool, true, false, cond, [], ◌∷◌, ◌++◌, Option, None, Some, MatchOption, is_some, option_map, option_and_then, refl, sym, ◌∙◌, ap, subst, arith}
 use Rattle.std.specs.Cmp.{nat_cmp_total}
 use Rattle.std.specs.Ordering.{nat_cmp, eq_by_cmp}
 use Rattle.std.specs.FinMap.{empty, get, insert, remove, get-empty, get-insert, get-remove}
@@ -35,6 +35,7 @@ pub record IsMoved (old new : NameIndexes) (number : ℕ) (former entry : Option
   pub counted : new.counts.current ≡ entry_fewer (entry_more old.counts.current entry) former
   pub former_words : AreWords former
   pub words : AreWords entry
+  pub noted : new.changed.items ≡ old.changed.items ++ number ∷ []
 
 pub record SameBefore (old new : NameIndexes) : Type 0 where
   pub held : new.sharers.before ≡ old.sharers.before
@@ -47,12 +48,14 @@ pub record AreGivenUp (old new : NameIndexes) : Type 0 where
   pub requested : new.requesters ≡ at_rest old.requesters.before
   pub received : new.receivers ≡ at_rest old.receivers.before
   pub counted : new.counts ≡ at_rest old.counts.before
+  pub noted : new.changed.items ≡ []
 
 pub record AreKept (old new : NameIndexes) : Type 0 where
   pub held : new.sharers ≡ at_rest old.sharers.current
   pub requested : new.requesters ≡ at_rest old.requesters.current
   pub received : new.receivers ≡ at_rest old.receivers.current
   pub counted : new.counts ≡ at_rest old.counts.current
+  pub noted : new.changed.items ≡ []
 
 -- the indexes once one name has changed
 pub moved_indexed : (spaces : SpaceMap) (old new : NameIndexes) (space name : ℕ) (names : Names) (change : Names → Names) (o : Option Entry) → name < 2 ^ 32 → space < 2 ^ 32 → get spaces space ≡ Some names

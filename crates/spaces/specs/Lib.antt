@@ -4,6 +4,7 @@ pub mod Indexes
 pub mod Laws
 pub mod Looking
 pub mod NextSpace
+pub mod Noted
 pub mod Numbers
 pub mod Passed
 pub mod Reading

@@ -1,5 +1,5 @@
 //! The names by the ports that they have to do with, as plain tables.
-ghost use Rattle.std.specs.Prelude.{◌≡◌, OnOk, option_and_then};
+ghost use Rattle.std.specs.Prelude.{◌≡◌, [], OnOk, option_and_then};
 ghost use Rattle.std.specs.FinMap as map;
 ghost use Rattle.ipc_model.specs.state.State.{received_port, request_of};
 ghost use Rattle.spaces.specs.Indexes.{IsMoved, SameBefore, AreGivenUp, AreKept};
@@ -13,14 +13,15 @@ use place_index::PlaceIndex;
 use std::alloc::{AllocError, Global};
 
 /// The places of names, each a space's number and the name as one number: by the port whose receive right a name holds, by
-/// the port that any other name stands for a right to, and by the target of its dead-name request; and how many send and
-/// send-once rights names stand for.
+/// the port that any other name stands for a right to, and by the target of its dead-name request; how many send and
+/// send-once rights names stand for; and which places were changed since changes were last kept or given up.
 #[derive(Drop)]
 pub(crate) struct NameIndexes {
     pub(crate) sharers: PlaceIndex,
     pub(crate) requesters: PlaceIndex,
     pub(crate) receivers: PlaceIndex,
     pub(crate) counts: PairCounts,
+    pub(crate) changed: Vec<u64>,
 }
 
 impl NameIndexes {
@@ -30,12 +31,14 @@ impl NameIndexes {
         ensures requested { result.requesters ≡ at_rest map.empty }
         ensures received { result.receivers ≡ at_rest map.empty }
         ensures counted { result.counts ≡ at_rest map.empty }
+        ensures noted { result.changed.items ≡ [] }
     {
         NameIndexes {
             sharers: PlaceIndex::new(alloc),
             requesters: PlaceIndex::new(alloc),
             receivers: PlaceIndex::new(alloc),
             counts: PairCounts::new(alloc),
+            changed: Vec::new(alloc),
         }
     }
 
@@ -49,6 +52,7 @@ impl NameIndexes {
         ensures ok { OnOk result (IsMoved self.old self.new place former entry) }
         ensures before { SameBefore self.old self.new }
     {
+        self.changed.push(place)?;
         self.sharers
             .change(place, shared_of(former), shared_of(entry))?;
         self.requesters
@@ -69,6 +73,7 @@ impl NameIndexes {
         self.requesters.keep();
         self.receivers.keep();
         self.counts.keep();
+        self.changed.clear();
     }
 
     /// Gives the changes up. It takes no memory.
@@ -79,6 +84,7 @@ impl NameIndexes {
         self.requesters.give_up();
         self.receivers.give_up();
         self.counts.give_up();
+        self.changed.clear();
     }
 }
 

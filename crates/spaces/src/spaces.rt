@@ -7,8 +7,9 @@ ghost use Rattle.ipc_model.specs.declared.message.RightKind.TheVariants as kind;
 ghost use Rattle.ipc_model.specs.state.State.{Names, received_port, request_of};
 ghost use Rattle.pair_counts.specs.Rights.{right_weight};
 ghost use Rattle.port_space.specs.References.{AreFewReferences};
-ghost use Rattle.spaces.specs.Indexes.{IsMoved, IsNextAt, SameBefore, lesser};
+ghost use Rattle.spaces.specs.Indexes.{AreSmall, IsMoved, IsNextAt, SameBefore, lesser};
 ghost use Rattle.spaces.specs.Looking.{entry_in, place, port_named, port_shared};
+ghost use Rattle.spaces.specs.Noted.{AreNoted};
 ghost use Rattle.spaces.specs.Numbers.{IsFreeNumber};
 ghost use Rattle.spaces.specs.Slots.{spaces_at_rest, names_changed};
 
@@ -29,6 +30,7 @@ pub struct Spaces {
 
 impl Model for Spaces {
     ghost use Rattle.spaces.specs.Indexes.{AreIndexed};
+    ghost use Rattle.spaces.specs.Noted.{AreNoted};
     ghost use Rattle.spaces.specs.Slots.{TrackedSpaces, spaces_code};
 
     ghost Value = { TrackedSpaces };
@@ -39,7 +41,8 @@ impl Model for Spaces {
 
     ghost invariant = { λ s.
         AreIndexed s.table.before s.indexes.sharers.before s.indexes.requesters.before s.indexes.receivers.before s.indexes.counts.before
-        × AreIndexed s.table.current s.indexes.sharers.current s.indexes.requesters.current s.indexes.receivers.current s.indexes.counts.current };
+        × AreIndexed s.table.current s.indexes.sharers.current s.indexes.requesters.current s.indexes.receivers.current s.indexes.counts.current
+        × AreNoted s.table.before s.table.current s.indexes.changed.items };
 }
 
 impl Spaces {
@@ -203,6 +206,15 @@ impl Spaces {
         ensures few { result < 2 ^ 63 }
     {
         self.indexes.counts.send_onces(port)
+    }
+
+    /// The places of the names that may have changed since changes were last kept or given up. Each other name stands for what it
+    /// stood for then.
+    pub fn changed_places(&self) -> &[u64]
+        ensures noted { AreNoted self.now.before self.now.current result.now }
+        ensures small { AreSmall self.now.before × AreSmall self.now.current }
+    {
+        self.indexes.changed.as_slice()
     }
 
     /// Keeps the changes. It takes no memory.

@@ -3,6 +3,8 @@ ghost use Rattle.codes.specs.declared.limits.TheConstants.{MAX_FRAME_CONTENT, MA
 ghost use Rattle.ipc_model.specs.calls.Step.{Step, has_record};
 ghost use Rattle.ipc_model.specs.texts.Texts.{reply_text};
 ghost use Rattle.system.specs.Halves.{CanCut, CannotTake, Cuts, Gives, IsFullFor, TakesBatch, Wrote, first_half, with_receipt};
+ghost use Rattle.waiting.specs.Places.{names};
+ghost use Rattle.waiting.specs.Waiting.{Wakes};
 
 use crate::Ticket;
 use crate::row::Row;
@@ -16,6 +18,7 @@ use phases::Kernel;
 use std::alloc::{AllocError, Global};
 use std::marker::Model;
 use storing::{Cut, Finished, Receipt};
+use waiting::Places;
 
 /// Why a call wasn't made. Nothing changed.
 #[derive(Clone, Copy, Debug, PartialEq, Eq)]
@@ -144,19 +147,24 @@ impl KernelHalf {
     }
 
     /// Makes a call as `submit` does, beside a witness, who learns of its record, if it has one, before the call is kept. Where
-    /// the witness can't learn of it, that is answered as want of memory, and nothing changed.
+    /// the witness can't learn of it, that is answered as out of memory, and nothing changed.
+    ///
+    /// It names the places at which the call may have given one that waits something to do: no wake-up is lost.
     pub fn submit_beside<W: Witness>(
         &mut self,
         space: u32,
         call: &Call,
         witness: W,
+        places: &mut Places,
     ) -> (W, Result<Ticket, SubmitFault>)
         ensures given { IfOk result.1 (λ ticket. Gives self.old space call.now ticket self.new) }
+        ensures wakes { IfOk result.1 (λ ticket. Wakes self.old.kernel self.new.kernel (names places.new)) }
         ensures learned { IfOk result.1 (λ ticket. has_record call.now ticket.answer ≡ true → W.learned witness space call.now ticket.answer result.0) }
         ensures unlearned { IfOk result.1 (λ ticket. has_record call.now ticket.answer ≡ false → result.0 ≡ witness) }
         ensures full { IsErrOf result.1 SubmitFault.EpochFull → IsFullFor self.old space call.now }
         ensures err { OnErr result.1 ((self.new ≡ self.old) × (result.0 ≡ witness)) }
     {
+        places.clear();
         // No machine makes so many records.
         if self.row.made() == u64::MAX {
             return (witness, Err(SubmitFault::NoMemory));
@@ -165,7 +173,7 @@ impl KernelHalf {
         if length >= MAX_RECORDS {
             return (witness, self.submit_without_room(space, call));
         }
-        let (witness, made) = self.submit_with_room(space, call, witness);
+        let (witness, made) = self.submit_with_room(space, call, witness, places);
         match made {
             Ok(ticket) => (witness, Ok(ticket)),
             Err(_) => (witness, Err(SubmitFault::NoMemory)),
@@ -178,15 +186,24 @@ impl KernelHalf {
         space: u32,
         call: &Call,
         witness: W,
+        places: &mut Places,
     ) -> (W, Result<Ticket, AllocError>)
         requires { (self.old.row.length < MAX_RECORDS) × (self.old.row.made < 2 ^ 64 - 1) }
         ensures given { IfOk result.1 (λ ticket. Gives self.old space call.now ticket self.new) }
+        ensures wakes { IfOk result.1 (λ ticket. Wakes self.old.kernel self.new.kernel (names places.new)) }
         ensures learned { IfOk result.1 (λ ticket. has_record call.now ticket.answer ≡ true → W.learned witness space call.now ticket.answer result.0) }
         ensures unlearned { IfOk result.1 (λ ticket. has_record call.now ticket.answer ≡ false → result.0 ≡ witness) }
         ensures err { OnErr result.1 ((self.new ≡ self.old) × (result.0 ≡ witness)) }
     {
         call_in_range(call);
-        let (witness, made) = apply_beside(&mut self.kernel, &mut self.row, space, call, witness);
+        let (witness, made) = apply_beside(
+            &mut self.kernel,
+            &mut self.row,
+            space,
+            call,
+            witness,
+            places,
+        );
         let reply = match made {
             Ok(reply) => reply,
             Err(refused) => return (witness, Err(refused)),
@@ -199,8 +216,8 @@ impl KernelHalf {
     fn submit_without_room(&mut self, space: u32, call: &Call) -> Result<Ticket, SubmitFault>
         requires { MAX_RECORDS ≤ self.old.row.length }
         ensures given { IfOk result (λ ticket. Gives self.old space call.now ticket self.new) }
+        ensures same { self.new ≡ self.old }
         ensures full { IsErrOf result SubmitFault.EpochFull → IsFullFor self.old space call.now }
-        ensures err { OnErr result (self.new ≡ self.old) }
     {
         call_in_range(call);
         let answer = self.kernel.answer_in_place(space, call)?;
@@ -297,9 +314,11 @@ fn apply_beside<W: Witness>(
     space: u32,
     call: &Call,
     witness: W,
+    places: &mut Places,
 ) -> (W, Result<Reply, AllocError>)
     requires { (row.old.length < MAX_RECORDS) × (row.old.made < 2 ^ 64 - 1) }
     ensures step { IfOk result.1 (λ reply. Step kernel.old space call.now reply kernel.new) }
+    ensures wakes { IfOk result.1 (λ reply. Wakes kernel.old kernel.new (names places.new)) }
     ensures recorded { IfOk result.1 (λ reply. has_record call.now reply ≡ true → Wrote row.old space call.now reply row.new × W.learned witness space call.now reply result.0) }
     ensures unrecorded { IfOk result.1 (λ reply. has_record call.now reply ≡ false → (row.new ≡ row.old) × (result.0 ≡ witness)) }
     ensures fits { IfOk result.1 (λ reply. length (reply_text reply) ≤ MAX_FRAME_CONTENT) }
@@ -310,7 +329,7 @@ fn apply_beside<W: Witness>(
         row: taken,
         witness,
     };
-    let made = kernel.apply_recorded(space, call, &mut both);
+    let made = kernel.apply_naming(space, call, &mut both, places);
     let Witnessed { row: left, witness } = both;
     *row = left;
     (witness, made)

@@ -7,6 +7,8 @@ use Rattle.session_core.proofs.Calls.{book_counts, called_session}
 use Rattle.session_core.proofs.Histories.{looks}
 use Rattle.system.specs.Halves.{IsFullFor}
 use Rattle.system.specs.declared.kernel_half.SubmitFault.TheVariants.{EpochFull}
+use Rattle.waiting.specs.Places.{names}
+use Rattle.waiting.specs.Waiting.{Wakes}
 use Rattle.session_core.proofs.keeper.Keeper.submit.Goals as goal
 
 pub invariant_of-self : goal.invariant_of-self
@@ -60,3 +62,8 @@ returns-in-Err-clause-full g c = λ told.
     let full = c.apply-past.ensures.full (subst (λ r. IsErrOf r EpochFull) (sym c.in-Err.is) told) in
     subst (λ (v : KeeperValue). IsFullFor v.core.half c.args.session.task.space call ⊎ IsApart v.core.past c.args.session.past) c.self.view_is
     (subst (λ (s : SessionValue). IsFullFor kept.half s.task.space call ⊎ IsApart kept.past s.past) c.session.view_is full)
+
+pub returns-in-Ok-clause-wakes : goal.returns-in-Ok-clause-wakes
+returns-in-Ok-clause-wakes g c =
+    let a = c.apply-past in
+    subst (λ (v : KeeperValue). Wakes v.core.half.kernel a.new.self.half.kernel (names a.new.places)) c.self.view_is (rw c.in-Ok.is at a.ensures.wakes)

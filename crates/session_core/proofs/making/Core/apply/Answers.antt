@@ -4,6 +4,9 @@ use Rattle.history.specs.Pasts.{PastValue}
 use Rattle.session_core.specs.Keeping.{CoreValue, IsApart, IsCore}
 use Rattle.session_core.proofs.Cores.{after_call, applied_call, handed_after, kept_some, unapplied_call}
 use Rattle.system.specs.Halves.{IsFullFor}
+use Rattle.std.specs.Prelude.{IfOk}
+use Rattle.waiting.specs.Places.{names}
+use Rattle.waiting.specs.Waiting.{Wakes}
 use Rattle.session_core.proofs.making.Core.apply.Goals as goal
 
 pub invariant_of-self : goal.invariant_of-self
@@ -37,3 +40,8 @@ returns-clause-full g c = λ full.
     let there = sym c.take.ensures.value ∙ c.in-Some.is in
     subst (λ (v : CoreValue). IsFullFor v.half c.args.space c.args.call.now ⊎ IsApart v.past c.args.seen) c.self.view_is
     (subst (λ (p : Option PastValue). IsFullFor c.self.inside.half c.args.space c.args.call.now ⊎ IsApart p c.args.seen) (sym there) (c.apply_beside-kept.ensures.full full))
+
+pub returns-clause-wakes : goal.returns-clause-wakes
+returns-clause-wakes g c =
+    let a = c.apply_beside-kept in
+    subst (λ (v : CoreValue). IfOk a.result.2 (λ ticket. Wakes v.half.kernel a.new.half.kernel (names a.new.places))) c.self.view_is a.ensures.wakes

@@ -4,6 +4,8 @@ use Rattle.ipc_model.specs.calls.Step.{Step}
 use Rattle.std.specs.Prelude.{is_none}
 use Rattle.system.specs.Halves.{KernelValue, RowValue, row_after}
 use Rattle.system.proofs.Making.{no_fewer, row_is_after}
+use Rattle.waiting.specs.Places.{names}
+use Rattle.waiting.specs.Waiting.{Wakes}
 use Rattle.system.proofs.kernel_half.KernelHalf.submit_with_room.Goals as goal
 
 pub invariant_of-self : goal.invariant_of-self
@@ -42,3 +44,8 @@ returns-clause-given g c =
       kept = λ is. (recorded is).0.1;
       rest = ap (λ (k : KernelValue). record k { kernel = c.apply_beside-witness.new.kernel; row = c.apply_beside-witness.new.row }) old;
     }
+
+pub returns-clause-wakes : goal.returns-clause-wakes
+returns-clause-wakes g c =
+    let a = c.apply_beside-witness in
+    subst (λ (k : KernelValue). Wakes k.kernel a.new.kernel (names a.new.places)) c.self.view_is (rw c.in-Ok.is at a.ensures.wakes)

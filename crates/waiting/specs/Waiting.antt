@@ -1,0 +1,86 @@
+-- Calls that find nothing to do, the places where they wait, and what a step has to name of these.
+use Rattle.std.specs.Prelude.{◌≡◌, ◌⊎◌, ℕ, Bool, true, false, List, [], ◌∷◌, length, flat_map, Contains, Option, None, Some, option_map, option_and_then, Result, Ok, Err}
+use Rattle.std.specs.FinMap as finmap
+use Rattle.codes.specs.declared.kern_return.KernReturn.{KernReturn}
+use Rattle.codes.specs.declared.kern_return.KernReturn.TheVariants.{SendTimedOut, RcvTimedOut}
+use Rattle.codes.specs.declared.name.TheConstants.{MACH_PORT_NULL}
+use Rattle.ipc_model.specs.calls.Step.{Answer}
+use Rattle.ipc_model.specs.declared.call.Call.{Call}
+use Rattle.ipc_model.specs.declared.call.Call.TheVariants as call
+use Rattle.ipc_model.specs.declared.entry.Entry.{Entry}
+use Rattle.ipc_model.specs.declared.entry.Entry.TheVariants.{Port, SendOnce, Set, Dead}
+use Rattle.ipc_model.specs.declared.port.PortState.{PortState}
+use Rattle.ipc_model.specs.messages.Items.{Item, names_of_item}
+use Rattle.ipc_model.specs.messages.Messages.{UsedParts, used_parts}
+use Rattle.ipc_model.specs.messages.Receiving.{without_message}
+use Rattle.ipc_model.specs.messages.Sending.{is_full, items_if_complex}
+use Rattle.ipc_model.specs.state.State.{State, entry_at, received_port}
+use Rattle.waiting.specs.Places.{place_of_name, place_of_port}
+
+-- A call of a task of this space finds nothing to do: a send no room in the queue, a receive no message. It may be answered so, and
+-- changes nothing then.
+abbrev pub FindsNothing : State → ℕ → Call → Type 0
+FindsNothing state space (call.Send message) = Answer state space (call.Send message) (without_message SendTimedOut 0 MACH_PORT_NULL)
+FindsNothing state space (call.Receive limit large name waited) = Answer state space (call.Receive limit large name waited) (without_message RcvTimedOut 0 MACH_PORT_NULL)
+FindsNothing state space c = ⊥
+
+-- the port that a name stands for a right to
+abbrev pub port_of : Entry → Option ℕ
+port_of (Port rights) = Some rights.port
+port_of (SendOnce port target) = Some port
+port_of Set = None
+port_of (Dead references) = None
+
+-- the names in a message's body
+abbrev pub names_in_items : Result (List Item) KernReturn → List ℕ
+names_in_items (Ok items) = flat_map names_of_item items
+names_in_items (Err code) = []
+
+-- the names that a message cites: its destination's, its reply port's, and those in its body
+abbrev pub names_cited : UsedParts → List ℕ
+names_cited parts = parts.remote ∷ parts.local ∷ names_in_items (items_if_complex parts.complex parts.body)
+
+-- where a send waits: at each name that its message cites, and at the port that its destination's stands for
+abbrev pub SendWaitsAt : State → ℕ → UsedParts → ℕ → Type 0
+SendWaitsAt state space parts place =
+    ((name : ℕ) × Contains (names_cited parts) name × (place ≡ place_of_name space name))
+    ⊎ ((serial : ℕ) × (option_and_then port_of (entry_at state space parts.remote) ≡ Some serial) × (place ≡ place_of_port serial))
+
+-- Where a call waits that finds nothing to do: a receive at its name.
+abbrev pub WaitsAt : State → ℕ → Call → ℕ → Type 0
+WaitsAt state space (call.Receive limit large name waited) place = place ≡ place_of_name space name
+WaitsAt state space (call.Send message) place = SendWaitsAt state space (used_parts message) place
+WaitsAt state space c place = ⊥
+
+-- No wake-up is lost: a call that found nothing to do before a step, and waits at no place that the step names, finds nothing after it.
+abbrev pub Wakes : State → State → (ℕ → Bool) → Type 0
+Wakes old new named = (space : ℕ) (call : Call) → FindsNothing old space call → ((place : ℕ) → WaitsAt old space call place → named place ≡ false) → FindsNothing new space call
+
+-- of a port what a call that waits depends on: how many messages its queue may hold and holds, and the port's set
+pub record Occupancy : Type 0 where
+  pub limit : ℕ
+  pub held : ℕ
+  pub set : Option ℕ
+
+abbrev pub occupancy : PortState → Occupancy
+occupancy port = record { limit = port.limit; held = length port.messages; set = port.set }
+
+abbrev pub occupancy_at : State → ℕ → Option Occupancy
+occupancy_at state serial = option_map occupancy (finmap.get state.ports serial)
+
+-- a port without a message, in no set
+abbrev pub IsQuiet : PortState → Type 0
+IsQuiet port = (port.set ≡ None) × (port.messages ≡ [])
+
+-- What the places name of the changes from one state to another.
+pub record Covers (old new : State) (named : ℕ → Bool) : Type 0 where
+  -- each name that stands for something else
+  pub entries : (space name : ℕ) → named (place_of_name space name) ≡ false → entry_at new space name ≡ entry_at old space name
+  -- each port whose queue was full and has room, or is gone
+  pub room : (serial : ℕ) → named (place_of_port serial) ≡ false → is_full old serial ≡ true → is_full new serial ≡ true
+  -- each name whose port got a message, or is in a set now
+  pub ports : (space name : ℕ) (entry : Entry) (serial : ℕ) (port : PortState) → named (place_of_name space name) ≡ false → entry_at new space name ≡ Some entry → received_port entry ≡ Some serial
+      → finmap.get new.ports serial ≡ Some port → IsQuiet port ⊎ (occupancy_at old serial ≡ occupancy_at new serial)
+  -- each set of whose members one got a message, or has come with one
+  pub sets : (space set name : ℕ) (entry : Entry) (serial : ℕ) (port : PortState) → named (place_of_name space set) ≡ false → entry_at new space name ≡ Some entry → received_port entry ≡ Some serial
+      → finmap.get new.ports serial ≡ Some port → port.set ≡ Some set → (port.messages ≡ []) ⊎ ((entry_at old space name ≡ Some entry) × (occupancy_at old serial ≡ occupancy_at new serial))

@@ -1,0 +1,181 @@
+-- No wake-up is lost where a step names what changed.
+use Rattle.std.proofs.Common.{◌≡◌, inl, inr, ℕ, Bool, true, false, List, [], ◌∷◌, nat_lt, Option, None, Some, MatchOption, option_and_then, Result, Ok, Err, refl, sym, ◌∙◌, ap, subst, arith}
+use Rattle.std.specs.Prelude.{Contains, MatchBool, MatchResult, suc, zero}
+use Rattle.std.specs.FinMap as finmap
+use Rattle.codes.specs.declared.kern_return.KernReturn.{KernReturn}
+use Rattle.codes.specs.declared.kern_return.KernReturn.TheVariants.{InvalidTask, Success, SendTimedOut, RcvTimedOut, RcvHeaderErrorSpace}
+use Rattle.codes.specs.declared.name.TheConstants.{MACH_PORT_NULL}
+use Rattle.ipc_model.specs.calls.Step.{ActsFrom, ActsIn, Step, refused}
+use Rattle.ipc_model.specs.declared.call.Call.{Call}
+use Rattle.ipc_model.specs.declared.call.Call.TheVariants as call
+use Rattle.ipc_model.specs.declared.call.Reply.{Reply}
+use Rattle.ipc_model.specs.declared.call.Reply.TheVariants as reply
+use Rattle.ipc_model.specs.declared.message.Message.{Message}
+use Rattle.ipc_model.specs.declared.port.PortState.{PortState}
+use Rattle.ipc_model.specs.effects.Effects.{Effect, settled}
+use Rattle.ipc_model.specs.messages.Messages.{UsedParts, used_parts}
+use Rattle.ipc_model.specs.messages.Receiving.{Receipt, Received, Receives, TakesOut, TooLarge, lacks_names, message_size, receive_refusal, without_message}
+use Rattle.ipc_model.specs.messages.Sending.{Ready, items_if_complex, ready_by_parts, ready_to_send, sent}
+use Rattle.ipc_model.specs.state.State.{State, Names, entry_at}
+use Rattle.waiting.specs.Places.{place_of_name, place_of_port}
+use Rattle.waiting.specs.Receiving.{stands, still_none}
+use Rattle.waiting.specs.Sending.{AllWanted, has_destination, of_parts}
+use Rattle.waiting.specs.Waiting.{Covers, FindsNothing, Wakes, WaitsAt, names_cited, names_in_items, port_of}
+
+abbrev code_in : Reply → KernReturn
+code_in (reply.Message code size member message) = code
+code_in answer = Success
+
+code_same : (a b : KernReturn) → without_message a 0 MACH_PORT_NULL ≡ without_message b 0 MACH_PORT_NULL → a ≡ b
+code_same a b e = ap code_in e
+
+some_code : (o : Option KernReturn) (code : KernReturn) (A B C : Type 0) → MatchOption o A (λ c. (without_message code 0 MACH_PORT_NULL ≡ without_message c 0 MACH_PORT_NULL) × B × C) → (A → ⊥) → o ≡ Some code
+some_code None code A B C is never = absurd (never is)
+some_code (Some c) code A B C is never = ap (λ (k : KernReturn). Some k) (sym (code_same code c is.0))
+
+-- a receive that takes a message, or has no room for its names, is answered otherwise
+takes_none : (old : State) (space : ℕ) (names : Names) (receipt : Receipt) (member serial : ℕ) (port : PortState) (message : Message) (acted : State) (effects : List Effect)
+    → TakesOut old space names receipt member serial port message (without_message RcvTimedOut 0 MACH_PORT_NULL) acted effects → ⊥
+takes_none old space names receipt member serial port message acted effects is = go (nat_lt receipt.limit (message_size message)) (lacks_names names message) is
+  where
+    answer : Reply
+    answer = without_message RcvTimedOut 0 MACH_PORT_NULL
+
+    go : (b c : Bool) → MatchBool b (TooLarge old member serial message receipt.large answer acted effects)
+        (MatchBool c ((answer ≡ without_message RcvHeaderErrorSpace 0 MACH_PORT_NULL) × (acted ≡ old) × (effects ≡ [])) (Received old space names member serial port message answer acted effects)) → ⊥
+    go true c is = cc (ap code_in is.0)
+    go false true is = cc (ap code_in is.0)
+    go false false is = cc (ap code_in is.3)
+
+refused_receive : (old : State) (space : ℕ) (names : Names) (receipt : Receipt) (acted : State) (effects : List Effect) → Receives old space names receipt (without_message RcvTimedOut 0 MACH_PORT_NULL) acted effects
+    → receive_refusal old names receipt ≡ Some RcvTimedOut
+refused_receive old space names receipt acted effects is =
+    some_code (receive_refusal old names receipt) RcvTimedOut _ (acted ≡ old) (effects ≡ []) is (λ takes. takes_none old space names receipt takes.0 takes.1 takes.2 takes.3 acted effects takes.9)
+
+abbrev failed : KernReturn → Result Ready KernReturn
+failed code = Err code
+
+refused_send : (old : State) (space : ℕ) (message : List ℕ) (acted : State) (effects : List Effect) (names : Names) → ActsIn old space names (call.Send message) (without_message SendTimedOut 0 MACH_PORT_NULL) acted effects → ready_to_send old space message ≡ Err SendTimedOut
+refused_send old space message acted effects names is = go (ready_to_send old space message) is
+  where
+    answer : Reply
+    answer = without_message SendTimedOut 0 MACH_PORT_NULL
+
+    go : (r : Result Ready KernReturn) → MatchResult r (λ ready. (answer ≡ without_message Success 0 MACH_PORT_NULL) × (acted ≡ (sent ready).0) × (effects ≡ (sent ready).1)) (λ code. (answer ≡ without_message code 0 MACH_PORT_NULL) × (acted ≡ old) × (effects ≡ []))
+        → r ≡ Err SendTimedOut
+    go (Ok ready) is = absurd (cc (ap code_in is.0))
+    go (Err code) is = ap failed (sym (code_same SendTimedOut code is.0))
+
+abbrev no_effects : List Effect
+no_effects = []
+
+-- and the other way round
+matches_code : (o : Option KernReturn) (code : KernReturn) (A B C : Type 0) → o ≡ Some code → B → C → MatchOption o A (λ c. (without_message code 0 MACH_PORT_NULL ≡ without_message c 0 MACH_PORT_NULL) × B × C)
+matches_code o code A B C is b c = subst (λ (p : Option KernReturn). MatchOption p A (λ c. (without_message code 0 MACH_PORT_NULL ≡ without_message c 0 MACH_PORT_NULL) × B × C)) (sym is) (refl, b, c)
+
+receive_refused : (new : State) (space : ℕ) (names : Names) (receipt : Receipt) → receive_refusal new names receipt ≡ Some RcvTimedOut → Receives new space names receipt (without_message RcvTimedOut 0 MACH_PORT_NULL) new no_effects
+receive_refused new space names receipt is = matches_code (receive_refusal new names receipt) RcvTimedOut _ (new ≡ new) (no_effects ≡ no_effects) is refl refl
+
+send_refused : (new : State) (space : ℕ) (message : List ℕ) (names : Names) → ready_to_send new space message ≡ Err SendTimedOut → ActsIn new space names (call.Send message) (without_message SendTimedOut 0 MACH_PORT_NULL) new no_effects
+send_refused new space message names is =
+    subst (λ (r : Result Ready KernReturn). MatchResult r (λ ready. (without_message SendTimedOut 0 MACH_PORT_NULL ≡ without_message Success 0 MACH_PORT_NULL) × (new ≡ (sent ready).0) × (no_effects ≡ (sent ready).1))
+    (λ code. (without_message SendTimedOut 0 MACH_PORT_NULL ≡ without_message code 0 MACH_PORT_NULL) × (new ≡ new) × (no_effects ≡ no_effects))) (sym is) (refl, refl, refl)
+
+-- a caller whose space is gone is refused with another code
+there : (old : State) (space : ℕ) (c : Call) (code : KernReturn) (acted : State) (effects : List Effect) → refused c InvalidTask ≡ without_message InvalidTask 0 MACH_PORT_NULL → (InvalidTask ≡ code → ⊥)
+    → ActsFrom old space (finmap.get old.spaces space) c (without_message code 0 MACH_PORT_NULL) acted effects
+    → (names : Names) × (finmap.get old.spaces space ≡ Some names) × ActsIn old space names c (without_message code 0 MACH_PORT_NULL) acted effects
+there old space c code acted effects gone other is = go (finmap.get old.spaces space) refl is
+  where
+    go : (o : Option Names) → finmap.get old.spaces space ≡ o → ActsFrom old space o c (without_message code 0 MACH_PORT_NULL) acted effects
+        → (names : Names) × (finmap.get old.spaces space ≡ Some names) × ActsIn old space names c (without_message code 0 MACH_PORT_NULL) acted effects
+    go None at acts = absurd (other (sym (code_same code InvalidTask (acts.0 ∙ gone))))
+    go (Some names) at acts = (names, at, acts)
+
+in_there : (new : State) (space : ℕ) (c : Call) (names : Names) (answer : Reply) → finmap.get new.spaces space ≡ Some names → ActsIn new space names c answer new [] → Step new space c answer new
+unfolding Step
+in_there new space c names answer at acts = (new, [], subst (λ (o : Option Names). ActsFrom new space o c answer new []) (sym at) acts, settled)
+
+acted_from : (old : State) (space : ℕ) (c : Call) (answer : Reply) → Step old space c answer old → (acted : State) × (effects : List Effect) × ActsFrom old space (finmap.get old.spaces space) c answer acted effects
+unfolding Step
+acted_from old space c answer is = (is.0, is.1, is.2)
+
+by_parts : (state : State) (space : ℕ) (message : List ℕ) → ready_to_send state space message ≡ Err SendTimedOut → ready_by_parts state space (used_parts message) ≡ Err SendTimedOut
+unfolding ready_to_send
+by_parts state space message is = is
+
+as_parts : (state : State) (space : ℕ) (message : List ℕ) → ready_by_parts state space (used_parts message) ≡ Err SendTimedOut → ready_to_send state space message ≡ Err SendTimedOut
+unfolding ready_to_send
+as_parts state space message is = is
+
+module _ (old new : State) (named : ℕ → Bool) (covers : Covers old new named) where
+  receives : (space limit : ℕ) (large : Bool) (name : ℕ) (waited : Bool) → FindsNothing old space (call.Receive limit large name waited) → ((place : ℕ) → WaitsAt old space (call.Receive limit large name waited) place → named place ≡ false)
+      → FindsNothing new space (call.Receive limit large name waited)
+  receives space limit large name waited found off =
+      let receipt : Receipt = record { limit = limit; large = large; name = name; waited = waited } in
+      let acts = acted_from old space (call.Receive limit large name waited) _ found in
+      let at = there old space (call.Receive limit large name waited) RcvTimedOut acts.0 acts.1 refl (λ e. cc e) acts.2 in
+      let still = still_none old new named covers space at.0 receipt at.1 (refused_receive old space at.0 receipt acts.0 acts.1 at.2) (off (place_of_name space name) refl) in
+      in_there new space (call.Receive limit large name waited) still.0 _ still.1
+      (receive_refused new space still.0 receipt still.2)
+
+  all_wanted : (space remote : ℕ) (wanted wanted_port : ℕ → Type 0) (names : List ℕ) → ((name : ℕ) → Contains names name → wanted name) → AllWanted space remote wanted wanted_port names
+  all_wanted space remote wanted wanted_port [] each = tt
+  all_wanted space remote wanted wanted_port (name ∷ names) each =
+      (each name (zero, omega arith, refl), all_wanted space remote wanted wanted_port names (λ n at. each n (suc at.0, omega (arith, at.1), at.2)))
+
+  sends : (space : ℕ) (message : List ℕ) → FindsNothing old space (call.Send message) → ((place : ℕ) → WaitsAt old space (call.Send message) place → named place ≡ false) → FindsNothing new space (call.Send message)
+  sends space message found off =
+      let acts = acted_from old space (call.Send message) _ found in
+      let at = there old space (call.Send message) SendTimedOut acts.0 acts.1 refl (λ e. cc e) acts.2 in
+      let full = refused_send old space message acts.0 acts.1 at.0 at.2 in
+      let kept = still (used_parts message) cited (λ serial to. off (place_of_port serial) (inr (serial, to, refl))) (by_parts old space message full) in
+      in_there new space (call.Send message) kept.0 _ kept.1
+      (send_refused new space message kept.0 (as_parts new space message kept.2))
+    where
+      wanted : ℕ → Type 0
+      wanted name = named (place_of_name space name) ≡ false
+
+      wanted_port : ℕ → Type 0
+      wanted_port serial = named (place_of_port serial) ≡ false
+
+      cited : (name : ℕ) → Contains (names_cited (used_parts message)) name → wanted name
+      cited name at = off (place_of_name space name) (inl (name, at, refl))
+
+      -- a send whose message cites these names
+      still : (parts : UsedParts) → ((name : ℕ) → Contains (names_cited parts) name → wanted name) → ((serial : ℕ) → option_and_then port_of (entry_at old space parts.remote) ≡ Some serial → wanted_port serial)
+          → ready_by_parts old space parts ≡ Err SendTimedOut → (after : Names) × (finmap.get new.spaces space ≡ Some after) × (ready_by_parts new space parts ≡ Err SendTimedOut)
+      still parts want want_port full =
+          let destination = has_destination old space parts full in
+          let after = stands (finmap.get new.spaces space) parts.remote destination.0 (covers.entries space parts.remote (want parts.remote (0, omega arith, refl)) ∙ destination.1) in (
+            after.names,
+            after.there,
+            of_parts space parts.remote wanted wanted_port old new parts refl (want parts.remote (0, omega arith, refl)) (want parts.local (1, omega arith, refl))
+                (all_wanted space parts.remote wanted wanted_port (names_in_items (items_if_complex parts.complex parts.body)) (λ name at. want name (suc (suc at.0), omega (arith, at.1), at.2)))
+                (record { entries = λ name w. covers.entries space name w; port = want_port; full = λ serial w full. covers.room serial w full }) full,
+          )
+
+  pub no_wake_up_lost : Wakes old new named
+  no_wake_up_lost space (call.Send message) found off = sends space message found off
+  no_wake_up_lost space (call.Receive limit large name waited) found off = receives space limit large name waited found off
+  no_wake_up_lost space (call.Attach _) found off = absurd found
+  no_wake_up_lost space call.Names found off = absurd found
+  no_wake_up_lost space (call.Type _) found off = absurd found
+  no_wake_up_lost space (call.Rename _ _) found off = absurd found
+  no_wake_up_lost space (call.AllocateName _ _) found off = absurd found
+  no_wake_up_lost space (call.Allocate _) found off = absurd found
+  no_wake_up_lost space (call.Destroy _) found off = absurd found
+  no_wake_up_lost space (call.Deallocate _) found off = absurd found
+  no_wake_up_lost space (call.GetRefs _ _) found off = absurd found
+  no_wake_up_lost space (call.ModRefs _ _ _) found off = absurd found
+  no_wake_up_lost space (call.SetQlimit _ _) found off = absurd found
+  no_wake_up_lost space (call.SetMscount _ _) found off = absurd found
+  no_wake_up_lost space (call.SetSeqno _ _) found off = absurd found
+  no_wake_up_lost space (call.GetReceiveStatus _) found off = absurd found
+  no_wake_up_lost space (call.GetSetStatus _) found off = absurd found
+  no_wake_up_lost space (call.MoveMember _ _) found off = absurd found
+  no_wake_up_lost space (call.RequestNotification _ _ _ _ _) found off = absurd found
+  no_wake_up_lost space (call.InsertRight _ _ _) found off = absurd found
+  no_wake_up_lost space (call.ExtractRight _ _) found off = absurd found
+  no_wake_up_lost space (call.SpaceCreate _ _) found off = absurd found
+  no_wake_up_lost space call.SpaceDestroy found off = absurd found

@@ -1,0 +1,123 @@
+ghost use Rattle.std.specs.Prelude.{◌≡◌, ◌⊎◌, ◌++◌, ◌∷◌, [], true, false};
+ghost use Rattle.waiting.specs.Places.{IsMore, names, place_of_name, place_of_port};
+
+use std::alloc::Global;
+use std::marker::Model;
+
+/// The place of a name of a space, at which receives of the name wait, and sends whose messages cite it.
+pub fn place_of_name(space: u32, name: u32) -> u128
+    ensures { result ≡ place_of_name space name }
+{
+    u128::from(space) * (1 << 32) + u128::from(name)
+}
+
+/// The place of a port, at which sends to it wait.
+pub fn place_of_port(serial: u64) -> u128
+    ensures { result ≡ place_of_port serial }
+{
+    (1 << 64) + u128::from(serial)
+}
+
+/// The places at which a step may have given calls that wait something to do.
+#[derive(Drop)]
+pub struct Places {
+    changed: Vec<u128>,
+    ready: Vec<u128>,
+    are_all: bool,
+}
+
+impl Model for Places {
+    ghost use Rattle.std.specs.Prelude.{◌≡◌};
+    ghost use Rattle.waiting.specs.Places.{Named};
+    ghost use Rattle.waiting.specs.PlacesCode.{named_code};
+
+    ghost Value = { Named };
+
+    ghost coded = { named_code };
+
+    ghost view = { λ p. record { changed = p.changed.items; ready = p.ready.items; are_all = p.are_all } };
+}
+
+impl Places {
+    /// No places. It takes no memory.
+    pub fn none(alloc: Global) -> Self
+        ensures { result ≡ record { changed = []; ready = []; are_all = false } }
+    {
+        Places {
+            changed: Vec::new(alloc),
+            ready: Vec::new(alloc),
+            are_all: false,
+        }
+    }
+
+    /// Forgets the places.
+    pub fn clear(&mut self)
+        ensures { self.new ≡ record { changed = []; ready = []; are_all = false } }
+    {
+        self.changed.clear();
+        self.ready.clear();
+        self.are_all = false;
+    }
+
+    /// Adds a place that changed: each call that waits there may be answered now. Where an allocation fails all places are named.
+    pub fn add_changed(&mut self, place: u128)
+        ensures added { names self.new place ≡ true }
+        ensures kept { IsMore self.old self.new }
+        ensures exact { (self.new ≡ record self.old { changed = self.old.changed ++ place ∷ [] }) ⊎ (self.new ≡ record self.old { are_all = true }) }
+    {
+        self.list_changed(place);
+    }
+
+    fn list_changed(&mut self, place: u128)
+        ensures { (self.new ≡ record self.old { changed = self.old.changed ++ place ∷ [] }) ⊎ (self.new ≡ record self.old { are_all = true }) }
+    {
+        if self.changed.push(place).is_err() {
+            self.are_all = true;
+        }
+    }
+
+    /// Adds a place at which one of the calls that wait may be done now. Where an allocation fails all places are named.
+    pub fn add_ready(&mut self, place: u128)
+        ensures added { names self.new place ≡ true }
+        ensures kept { IsMore self.old self.new }
+        ensures exact { (self.new ≡ record self.old { ready = self.old.ready ++ place ∷ [] }) ⊎ (self.new ≡ record self.old { are_all = true }) }
+    {
+        self.list_ready(place);
+    }
+
+    fn list_ready(&mut self, place: u128)
+        ensures { (self.new ≡ record self.old { ready = self.old.ready ++ place ∷ [] }) ⊎ (self.new ≡ record self.old { are_all = true }) }
+    {
+        if self.ready.push(place).is_err() {
+            self.are_all = true;
+        }
+    }
+
+    /// Names all places.
+    pub fn add_all(&mut self)
+        ensures { self.new ≡ record self.old { are_all = true } }
+    {
+        self.are_all = true;
+    }
+
+    /// The places that changed.
+    pub fn changed(&self) -> &[u128]
+        ensures { result.now ≡ self.now.changed }
+    {
+        self.changed.as_slice()
+    }
+
+    /// The places at which one call may be done.
+    pub fn ready(&self) -> &[u128]
+        ensures { result.now ≡ self.now.ready }
+    {
+        self.ready.as_slice()
+    }
+
+    /// Whether every place is named, as the list of them couldn't be kept.
+    pub fn are_all(&self) -> bool
+        ensures { result ≡ self.now.are_all }
+    {
+        self.are_all
+    }
+}
