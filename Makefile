@@ -30,15 +30,17 @@ bench:
 	@folder=$$(mktemp -d) && (cd crates/bench && rt run -- "$$folder") && rm -r "$$folder"
 
 # How many calls a second a server on a socket answers, for several numbers of connections and of frames that are written at once,
-# in a new folder: it proves the programs first.
+# in a new folder, and what those who wait cost: it proves the programs first.
 load:
 	.ci/bin machipcd load
 	@demo/load
+	@demo/waiting
 
-# Calls at random, to servers that are killed amid them, compared with the machine written down a second time. It proves the
-# programs first.
+# Calls at random, to servers that are killed amid them, compared with the machine written down a second time; and clients that
+# wait. It proves the programs first.
 stress: bin
 	@stress/run
+	@stress/waiting
 
 # Each allocation of a server, alone and on a socket, and of the lister refused in turn, with the same machine. It proves the
 # programs first, and wants a C compiler.

@@ -12,7 +12,7 @@ abbrev pub MakesOne : State → Option SessionValue → Call → TicketValue →
 MakesOne base (Some old) c ticket (Some new) = Did base old (called c ticket.answer) new × (ticket.seen ≡ new.task.seen)
 MakesOne base _ c ticket _ = ⊥
 
--- a call wasn't made, since memory or room for its record was wanted;
+-- a call wasn't made, since memory or room for its record was wanted, or its task had gone;
 abbrev pub LacksOne : State → Option SessionValue → Call → Option SessionValue → Type 0
 LacksOne base (Some old) c (Some new) = Did base old looked new
 LacksOne base _ c _ = ⊥

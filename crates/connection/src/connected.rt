@@ -6,13 +6,13 @@ ghost use Rattle.ipc_model.specs.declared.call.Call.{Call};
 ghost use Rattle.ipc_model.specs.texts.Texts.{reply_text};
 ghost use Rattle.serving.specs.Asking.{timed_out};
 
-use crate::patience::{Patience, Peer};
+use crate::patience::Patience;
 use codes::KernReturn;
 use disk::Disk;
 use ipc_model::{Call, Reply};
 use journal::StoreFault;
 use serving::Asker;
-use sessions::{Founding, Session, Shared, Waited};
+use sessions::{Founding, Peer, Seat, Session, Shared, Waited};
 use std::marker::Model;
 use std::sync::Wait;
 use std::time::Clock;
@@ -23,7 +23,7 @@ use system::Ticket;
 pub struct Connected<'a, L: Founding, D: Disk, G, R, P> {
     rt: &'a R,
     shared: &'a Shared<L, D, G>,
-    peer: P,
+    seat: Seat<P>,
 
     // None while a call is being made.
     session: Option<Session<L>>,
@@ -44,31 +44,38 @@ impl<'a, L: Founding, D: Disk, G, R, P> Model for Connected<'a, L, D, G, R, P> {
 }
 
 impl<'a, L: Founding, D: Disk, G, R, P> Connected<'a, L, D, G, R, P> {
-    /// The caller of this session, whose task is at the other side of this connection.
-    pub fn new(rt: &'a R, shared: &'a Shared<L, D, G>, peer: P, session: Session<L>) -> Self
+    /// The caller of this session, whose calls wait at this seat, and whose task is at the other side of this connection.
+    pub fn new(rt: &'a R, shared: &'a Shared<L, D, G>, seat: Seat<P>, session: Session<L>) -> Self
         ensures { result ≡ Some session }
     {
         Connected {
             rt,
             shared,
-            peer,
+            seat,
             session: Some(session),
         }
     }
 }
 
 impl<'a, L: Founding, D: Disk, G: Drop, R: Wait + Clock, P: Peer> Connected<'a, L, D, G, R, P> {
-    /// Waits as long as one wait may take: whether more was recorded, or None where the peer waits on.
+    /// Waits as long as one wait may take: whether the call's turn has come, or None where its task waits on. Whether the task has gone is
+    /// looked at behind the call's first attempt: if it goes later, its turn comes at once where it is watched.
     fn wait_once(&self, session: &Session<L>, patience: &Patience) -> Option<bool> {
-        let most = match patience.left(self.rt) {
-            Some(most) => most,
-            None => return Some(false),
+        if self.seat.peer().is_gone() {
+            return Some(false);
+        }
+        let Some(left) = patience.left(self.rt) else {
+            return Some(false);
         };
-        match self.shared.wait_for_more(self.rt, session, most) {
-            Waited::Changed => Some(true),
+        let most = if self.seat.peer().is_watched() {
+            left.time()
+        } else {
+            Some(left.until_look())
+        };
+        match self.shared.wait(self.rt, session, &self.seat, most) {
+            Waited::Turn => Some(true),
             Waited::Ended => Some(false),
-            Waited::Unchanged if self.peer.is_gone() => Some(false),
-            Waited::Unchanged => None,
+            Waited::TimeOver => None,
         }
     }
 }
@@ -89,14 +96,16 @@ impl<'a, L: Founding, D: Disk, G: Drop, R: Wait + Clock, P: Peer> Asker
 
     ghost fails = { λ old ticket fault new. new ≡ old };
 
-    fn submit(&mut self, call: &Call) -> Option<Ticket>
+    fn submit(&mut self, call: &Call, may_wait: bool) -> Option<Ticket>
         ensures makes { IfSome result (λ ticket. MakesOne L.base self.old call.now ticket self.new) }
         ensures lacks { IfNone result (LacksOne L.base self.old call.now self.new) }
     {
         let Some(session) = self.session.take() else {
             unreachable!()
         };
-        let (session, made) = self.shared.submit(self.rt, session, call);
+        let (session, made) = self
+            .shared
+            .submit_for(self.rt, session, call, &self.seat, may_wait);
         self.session = Some(session);
         made.ok()
     }
@@ -136,7 +145,7 @@ impl<'a, L: Founding, D: Disk, G: Drop, R: Wait + Clock, P: Peer> Asker
         Patience::new(self.rt, bound)
     }
 
-    /// Waits until more was recorded than the session has seen. It doesn't wait on for a peer that is gone.
+    /// Waits until the call's turn has come. It doesn't wait on for a task that has gone.
     fn wait(&self, patience: &Patience) -> bool {
         let Some(session) = &self.session else {
             return false;

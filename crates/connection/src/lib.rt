@@ -6,4 +6,4 @@ mod connected;
 mod patience;
 
 pub use connected::Connected;
-pub use patience::{Patience, Peer, SocketPeer};
+pub use patience::{Patience, SocketPeer};

@@ -1,8 +1,9 @@
+use sessions::Peer;
 use std::io::Write;
 use std::os::unix::net::UnixStream;
 use std::time::{Clock, Duration, Instant};
 
-/// For how many seconds a call waits before it is looked whether its task is still there.
+/// For how many seconds a call waits before it is looked whether its task is still there, where that isn't watched.
 const LOOK_SECONDS: u64 = 5;
 
 /// How long a call still waits.
@@ -14,6 +15,15 @@ pub enum Patience {
     Until(Instant),
     /// No longer.
     Over,
+}
+
+/// What is left of a patience that isn't over.
+#[derive(Clone, Copy)]
+pub(crate) enum Left {
+    /// All time.
+    Endless,
+    /// This time.
+    Time(Duration),
 }
 
 impl Patience {
@@ -28,17 +38,34 @@ impl Patience {
         }
     }
 
-    /// For how long a call waits at once, if it still does.
-    pub(crate) fn left(&self, clock: &impl Clock) -> Option<Duration> {
-        let most = Duration::from_secs(LOOK_SECONDS);
+    /// What is left of it, if it isn't over.
+    pub(crate) fn left(&self, clock: &impl Clock) -> Option<Left> {
         match self {
-            Patience::Endless => Some(most),
+            Patience::Endless => Some(Left::Endless),
             Patience::Over => None,
             Patience::Until(end) => {
                 let now = Instant::now(clock).ok()?;
-                let left = end.checked_duration_since(now)?;
-                Some(left.min(most))
+                end.checked_duration_since(now).map(Left::Time)
             }
+        }
+    }
+}
+
+impl Left {
+    /// The time that is left, if that is bounded.
+    pub(crate) fn time(self) -> Option<Duration> {
+        match self {
+            Left::Endless => None,
+            Left::Time(time) => Some(time),
+        }
+    }
+
+    /// The time until it is looked whether the task is still there.
+    pub(crate) fn until_look(self) -> Duration {
+        let look = Duration::from_secs(LOOK_SECONDS);
+        match self {
+            Left::Endless => look,
+            Left::Time(time) => time.min(look),
         }
     }
 }
@@ -51,22 +78,17 @@ fn until(end: Option<Instant>) -> Patience {
     }
 }
 
-/// The task at the other side of a connection.
-pub trait Peer: Drop {
-    /// Whether it is gone, so that nobody will read a reply.
-    fn is_gone(&self) -> bool;
-}
-
 /// The peer of a socket.
 #[derive(Drop)]
 pub struct SocketPeer<'a> {
     stream: &'a UnixStream,
+    is_watched: bool,
 }
 
 impl<'a> SocketPeer<'a> {
-    /// The peer of this stream.
-    pub fn new(stream: &'a UnixStream) -> Self {
-        SocketPeer { stream }
+    /// The peer of this stream, and whether it is watched.
+    pub fn new(stream: &'a UnixStream, is_watched: bool) -> Self {
+        SocketPeer { stream, is_watched }
     }
 }
 
@@ -75,5 +97,9 @@ impl<'a> Peer for SocketPeer<'a> {
     fn is_gone(&self) -> bool {
         let mut stream = self.stream;
         stream.write(&[]).is_err()
+    }
+
+    fn is_watched(&self) -> bool {
+        self.is_watched
     }
 }

@@ -4,6 +4,7 @@
 mod bound;
 mod program;
 mod threads;
+mod watch;
 
 pub use program::{serve_locked, serve_opened};
 pub use server::SocketEnd;

@@ -6,6 +6,7 @@ ghost use Rattle.wire.specs.Writing.{AppendsPart};
 
 use crate::bound::bind;
 use crate::threads::{accept, start_loops};
+use crate::watch::start_watch;
 use codes::MAX_RECORDS;
 use disk::Disk;
 use journal::StoreFault;
@@ -137,13 +138,42 @@ fn serve_history<
     let Ok(shared) = Arc::new(rt.alloc(), shared) else {
         return SocketEnd::Store(StoreFault::NoMemory);
     };
-    if start_loops(rt, rt.alloc(), &shared, path.as_str()).is_err() {
+    serve_shared(rt, path.as_str(), listener, &shared, output)
+}
+
+/// Starts the loops and the watcher, says that connections are taken, and serves them until the store fails.
+fn serve_shared<
+    L: Founding + Send + Sync + 'static,
+    D: Disk + Drop + Send + 'static,
+    R: Threads
+        + Wait
+        + Net<Listener = TcpListener, Stream = TcpStream>
+        + Clock
+        + AllocGlobal
+        + Copy
+        + Send
+        + Sync
+        + 'static,
+    O: Write,
+>(
+    rt: R,
+    path: &str,
+    listener: &UnixListener,
+    shared: &Arc<Shared<L, D, OpenGate>, Global>,
+    output: &mut O,
+) -> SocketEnd
+    ensures told { HasTold (O.contents output.old) (O.contents output.new) result }
+{
+    if start_loops(rt, rt.alloc(), shared, path).is_err() {
         return SocketEnd::Socket;
     }
+    let Ok(watch) = start_watch(rt, shared) else {
+        return SocketEnd::Socket;
+    };
     if tell_ready(output).is_err() {
         return SocketEnd::Socket;
     }
-    SocketEnd::Store(accept(rt, listener, &shared))
+    SocketEnd::Store(accept(rt, listener, shared, &watch))
 }
 
 /// Says that connections are taken.

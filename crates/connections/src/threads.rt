@@ -1,11 +1,12 @@
 //! The threads: one that stores, one that makes images, one for each connection.
 
+use crate::watch::Watch;
 use codes::CHECKPOINT_RECORDS;
 use connection::{Connected, SocketPeer};
 use disk::Disk;
 use journal::StoreFault;
 use serving::serve_asked;
-use sessions::{Founding, OpenGate, Shared};
+use sessions::{Founding, OpenGate, Seat, Shared};
 use std::alloc::{AllocGlobal, Global};
 use std::io::{self, BufReader, BufWriter};
 use std::net::{Net, Shutdown, TcpListener, TcpStream};
@@ -25,13 +26,18 @@ pub(crate) fn accept<
     L: Founding + Send + Sync + 'static,
     D: Disk + Drop + Send + 'static,
     R: Threads + Wait + AllocGlobal + Clock + Copy + Send + Sync + 'static,
->(rt: R, listener: &UnixListener, shared: &Arc<Shared<L, D, OpenGate>, Global>) -> StoreFault {
+>(
+    rt: R,
+    listener: &UnixListener,
+    shared: &Arc<Shared<L, D, OpenGate>, Global>,
+    watch: &Arc<Watch, Global>,
+) -> StoreFault {
     for stream in listener.incoming() {
         if let Some(fault) = shared.fault(&rt) {
             return fault;
         }
         match stream {
-            Ok(stream) => begin(rt, stream, shared),
+            Ok(stream) => begin(rt, stream, shared, watch),
             // No descriptor is left: wait for one.
             Err(_) => thread::sleep(&rt, Duration::from_millis(20)),
         }
@@ -44,12 +50,17 @@ fn begin<
     L: Founding + Send + Sync + 'static,
     D: Disk + Drop + Send + 'static,
     R: Threads + Wait + Clock + AllocGlobal + Copy + Send + Sync + 'static,
->(rt: R, stream: UnixStream, shared: &Arc<Shared<L, D, OpenGate>, Global>) {
-    let Ok(mine) = Arc::try_clone(shared) else {
+>(
+    rt: R,
+    stream: UnixStream,
+    shared: &Arc<Shared<L, D, OpenGate>, Global>,
+    watch: &Arc<Watch, Global>,
+) {
+    let (Ok(mine), Ok(watch)) = (Arc::try_clone(shared), Arc::try_clone(watch)) else {
         return;
     };
     let _ = thread::spawn(&rt, move || {
-        let _ = serve_stream(&rt, &stream, &mine);
+        let _ = serve_stream(&rt, &stream, &mine, &watch);
         let _ = stream.shutdown(Shutdown::Both);
     });
 }
@@ -59,6 +70,7 @@ fn serve_stream<L: Founding, D: Disk, R: Wait + Clock + AllocGlobal>(
     rt: &R,
     stream: &UnixStream,
     shared: &Shared<L, D, OpenGate>,
+    watch: &Watch,
 ) -> io::Result<()> {
     stream.set_write_timeout(Some(Duration::from_secs(PATIENCE_SECONDS)))?;
     let mut reader = BufReader::with_capacity(rt.alloc(), READ_BYTES, stream)?;
@@ -66,7 +78,9 @@ fn serve_stream<L: Founding, D: Disk, R: Wait + Clock + AllocGlobal>(
     let Ok(session) = shared.session(rt) else {
         return Ok(());
     };
-    let mut asker = Connected::new(rt, shared, SocketPeer::new(stream), session);
+    let peer = SocketPeer::new(stream, watch.add(stream, session.number()));
+    let seat = Seat::new(rt.alloc(), peer)?;
+    let mut asker = Connected::new(rt, shared, seat, session);
     if serve_asked(rt.alloc(), &mut reader, &mut writer, &mut asker).is_err() {
         // What the writer still holds fails at once then where it is dropped, and isn't waited for.
         return stream.shutdown(Shutdown::Both);

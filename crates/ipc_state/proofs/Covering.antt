@@ -19,7 +19,7 @@ use Rattle.spaces.specs.Looking.{at_place, entry_in, parts_of, place}
 use Rattle.spaces.specs.Noted.{entry_at_place}
 use Rattle.spaces.specs.Slots.{SpaceMap}
 use Rattle.tracked_map.specs.Touched.{is_touched, touched_append}
-use Rattle.waiting.specs.Places.{IsMore, Named, names, place_of_name, place_of_port}
+use Rattle.waiting.specs.Places.{IsMore, Named, all_named, names, place_of_name, place_of_port}
 use Rattle.waiting.specs.Waiting.{Covers, IsQuiet, Occupancy, occupancy, occupancy_at}
 
 -- more is named
@@ -245,3 +245,15 @@ module _ (spaces_before spaces : SpaceMap) (table_before table : PortTable) (nam
             | inl none ↦ inl none
             | inr on ↦ contradiction (place space set) off (subst (λ (k : ℕ). named (place k set) ≡ true) (parts_of space name q.2).0 on)
           ]
+
+-- Where all places are named, they cover every change.
+pub all_cover : (old new : State) (named : Named) → named.are_all ≡ true → Covers old new (names named)
+all_cover old new named all = record {
+  entries = λ space name off. clash (place_of_name space name) off;
+  room = λ serial off full. clash (place_of_port serial) off;
+  ports = λ space name entry serial port off there received at. clash (place_of_name space name) off;
+  sets = λ space set name entry serial port off there received at is. clash (place_of_name space set) off;
+}
+  where
+    clash : {A : Type 0} (place : ℕ) → names named place ≡ false → A
+    clash place off = absurd (cc (sym (all_named named place all) ∙ off))

@@ -20,10 +20,13 @@ use waiting::{Places, place_of_port};
 
 impl IpcState {
     /// Names the places at which a call that found nothing to do may find something, by what has changed since changes were last kept
-    /// or given up.
+    /// or given up. Where all places are named before, they stay so, and nothing is looked at.
     pub fn name_places(&self, places: &mut Places)
         ensures { Covers self.now.before self.now.current (names places.new) }
     {
+        if places.are_all() {
+            return;
+        }
         places.clear();
         name_names(&self.spaces, &self.ports, places);
         name_ports(&self.spaces, &self.ports, places);

@@ -7,6 +7,7 @@ mod dispatch;
 mod kernel;
 mod laws;
 mod messages;
+mod places;
 mod recording;
 mod reply;
 mod restored;

@@ -2,6 +2,7 @@
 //! of the tests is this server's (docs/FORMATS.md).
 #![tactic(auto)]
 
+mod cited;
 mod deliver;
 mod fault;
 mod full;
@@ -12,5 +13,6 @@ mod ready;
 mod send_message;
 mod take;
 
+pub use cited::cited_names;
 pub use fault::SendFault;
 pub use send_message::send;

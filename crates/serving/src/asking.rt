@@ -44,7 +44,7 @@ pub trait Asker {
     /// What it is after a call for which it gave a ticket.
     ghost makes: { Self → Call → Self.Ticket → Self → Type 0 };
 
-    /// What it is after a call that it didn't make, since memory or room for its record was wanted.
+    /// What it is after a call that it didn't make, since memory or room for its record was wanted, or its task has gone.
     ghost lacks: { Self → Call → Self → Type 0 };
 
     /// What it is after a ticket's reply was told.
@@ -53,8 +53,9 @@ pub trait Asker {
     /// How the store may fail before a ticket's reply is told, and what it is afterwards.
     ghost fails: { Self → Self.Ticket → StoreFault → Self → Type 0 };
 
-    /// Makes a call. `None`: memory or room for its record is wanted, and it isn't made.
-    fn submit(&mut self, call: &Call) -> Option<Self::Ticket>
+    /// Makes a call. Where it finds nothing to do and may wait, its wait begins. `None`: memory or room for its record is wanted, or its
+    /// task has gone, and it isn't made.
+    fn submit(&mut self, call: &Call, may_wait: bool) -> Option<Self::Ticket>
         ensures makes { IfSome result (λ ticket. makes self.old call.now ticket self.new) }
         ensures lacks { IfNone result (lacks self.old call.now self.new) };
 
@@ -76,6 +77,6 @@ pub trait Asker {
     /// What is left of a wait of so many milliseconds that begins now, or of one without a bound.
     fn patience(&self, bound: Option<u32>) -> Self::Patience;
 
-    /// Waits until a call may find something to do that found nothing before. Says whether it may still wait afterwards.
+    /// Waits until the call whose wait began last may find something to do. Says whether it may still wait afterwards.
     fn wait(&self, patience: &Self::Patience) -> bool;
 }

@@ -60,7 +60,7 @@ fn take_request<A: Asker>(alloc: Global, asker: &mut A, asked: Request) -> Hand<
 fn ask_one<A: Asker>(alloc: Global, asker: &mut A, call: &Call) -> Ready<A::Ticket>
     ensures { AsksOne A.answer A.makes A.lacks asker.old call.now result asker.new }
 {
-    match asker.submit(call) {
+    match asker.submit(call, false) {
         Some(ticket) => Ready::Made(ticket),
         None => lacking(alloc, call),
     }
@@ -238,10 +238,11 @@ fn try_call<A: Asker>(
     ensures patient { IfErr result (λ next. is_patient bound ≡ true) }
     ensures found { IfErr result (λ next. (ticket : A.Ticket) × A.makes asker.old call ticket asker.new × (timed_out (A.answer ticket) ≡ true)) }
 {
-    let Some(ticket) = asker.submit(&call) else {
+    let may_wait = may_wait && is_patient(bound);
+    let Some(ticket) = asker.submit(&call, may_wait) else {
         return Ok(lacking(alloc, &call));
     };
-    if !may_wait || !is_patient(bound) {
+    if !may_wait {
         return Ok(Ready::Made(ticket));
     }
     if !asker.is_timed_out(&ticket) {

@@ -10,7 +10,7 @@ ghost use Rattle.session_core.specs.Tokens.{Did, IsHistory};
 ghost use Rattle.session_core.specs.declared.keeper.TheConstants.{MOST_SESSIONS};
 ghost use Rattle.system.specs.Halves.{CanCut, CannotTake, IsFullFor, with_receipt};
 ghost use Rattle.waiting.specs.Places.{names};
-ghost use Rattle.waiting.specs.Waiting.{Wakes};
+ghost use Rattle.waiting.specs.Waiting.{Wakes, places_of_call};
 
 use crate::counting::Tally;
 use crate::fault::SessionFault;
@@ -125,6 +125,14 @@ impl<L: Founding> Keeper<L> {
 }
 
 impl<L: Founding> Keeper<L> {
+    /// The places where a call of a session waits that finds nothing to do. `None`: an allocation failed, or it is a send that is refused
+    /// whatever its names stand for.
+    pub fn places_of_call(&self, session: &Session<L>, call: &Call) -> Option<Vec<u128>>
+        ensures { IfSome result (λ places. places.items ≡ places_of_call self.now.core.half.kernel session.now.task.space call.now) }
+    {
+        self.core.kernel().places_of_call(session.card.space, call)
+    }
+
     /// A new session, of a task that is attached to space 1. It has seen all of the history. `NoMemory`: a growth was refused.
     /// `Spent`: no number is left.
     pub fn session(&mut self) -> Result<Session<L>, SessionFault>

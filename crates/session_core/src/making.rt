@@ -78,6 +78,13 @@ impl<L: Founding> Core<L> {
         }
     }
 
+    /// The kernel, as it stands.
+    pub(crate) fn kernel(&self) -> &Kernel
+        ensures { result.now ≡ self.now.half.kernel }
+    {
+        self.half.kernel()
+    }
+
     /// How many records were made.
     pub(crate) fn made(&self) -> u64
         ensures { result ≡ self.now.half.row.made }

@@ -1,5 +1,6 @@
 ghost use Rattle.std.specs.Prelude.{◌≡◌, ◌+◌, ◌≤◌, ◌<◌, ◌-◌, Some, length, option_map, slice_get, MatchOption, OnOk, OnErr};
-ghost use Rattle.session_core.specs.Tokens.{HasRead};
+ghost use Rattle.ipc_model.specs.history.History.{looked};
+ghost use Rattle.session_core.specs.Tokens.{Did, HasRead};
 
 use boxcar::tag::Tag;
 use history::{Founding, Past};
@@ -70,6 +71,13 @@ impl<L: Founding> Session<L> {
         ensures { result ≡ self.now.task.told }
     {
         self.card.told
+    }
+
+    /// A session that has seen no more has looked. It does nothing but show it.
+    pub fn show_looked(&self)
+        ensures { Did L.base self.now looked self.now }
+    {
+        let _ = &self.card;
     }
 
     /// Reads the records of the row that it saw last. It takes no lock. Where memory is wanted, what was read stays.

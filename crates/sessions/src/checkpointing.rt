@@ -14,7 +14,7 @@ use storing::Finished;
 impl<L: Founding, D: Disk, G: Gate> Shared<L, D, G> {
     /// Makes an image each time that the epoch's row has `records` records, until it is told to stop or the store fails.
     pub fn checkpointer<R: Wait + Clock>(&self, rt: &R, records: u64) {
-        self.desk.lock(rt).begin_images();
+        self.desk.lock(rt).begin_images(records);
         for _ in rt.forever() {
             let Some(end) = self.next_end(rt, records) else {
                 return;
@@ -43,7 +43,7 @@ impl<L: Founding, D: Disk, G: Gate> Shared<L, D, G> {
     /// Waits until the row has so many records. Answers whether the loop is to go on.
     fn await_records<R: Wait>(&self, rt: &R, records: u64) -> bool {
         let desk = self
-            .calls
+            .images
             .wait_while(rt, self.desk.lock(rt), |desk| desk.is_short(records));
         !desk.is_ending()
     }

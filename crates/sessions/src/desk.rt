@@ -2,7 +2,9 @@ ghost use Rattle.std.specs.Prelude.{◌≡◌, IfOk, OnErr};
 ghost use Rattle.ipc_model.specs.history.History.{called, looked};
 ghost use Rattle.session_core.specs.Tokens.{Did};
 
-use codes::MAX_RECORDS;
+use crate::seat::Bell;
+use crate::waiters::{Waiter, Waiters};
+use codes::{KernReturn, MAX_RECORDS};
 use history::Founding;
 use ipc_model::Call;
 use journal::StoreFault;
@@ -11,13 +13,13 @@ use std::alloc::Global;
 use system::{SubmitFault, Ticket};
 use waiting::Places;
 
-/// How a wait for a change of the state ended.
+/// How a wait for a turn ended.
 #[derive(Clone, Copy)]
 pub enum Waited {
-    /// More was recorded.
-    Changed,
-    /// Nothing was.
-    Unchanged,
+    /// The turn has come.
+    Turn,
+    /// The time is over.
+    TimeOver,
     /// Nothing is stored any more.
     Ended,
 }
@@ -27,16 +29,18 @@ pub enum Waited {
 pub(crate) struct Desk<L: Founding> {
     pub(crate) keeper: Keeper<L>,
 
-    // The places that the last call named.
-    pub(crate) places: Places,
+    // The places that the last call named, and the calls that wait at places.
+    places: Places,
+    waiters: Waiters,
 
     // What a loop met, and whether the loops are to end.
     fault: Option<StoreFault>,
     is_stopping: bool,
 
-    // Whether nothing is stored any more, and whether a loop makes images, so that a full row is followed by another.
+    // Whether nothing is stored any more; and how many records a row has when a loop makes an image, so that a full row is followed
+    // by another.
     is_ended: bool,
-    makes_images: bool,
+    image_records: Option<u64>,
 }
 
 impl<L: Founding> Desk<L> {
@@ -45,45 +49,110 @@ impl<L: Founding> Desk<L> {
         Desk {
             keeper,
             places: Places::none(alloc),
+            waiters: Waiters::none(alloc),
             fault: None,
             is_stopping: false,
             is_ended: false,
-            makes_images: false,
+            image_records: None,
         }
     }
 
-    /// Makes a call of a session, as `Keeper::submit` does.
+    /// Makes a call of a session, as `Keeper::submit` does, and gives their turn to those that wait and may find something to do now. One
+    /// that finds nothing is in line from then on, where it has a bell.
     pub(crate) fn submit(
         &mut self,
         session: Session<L>,
         call: &Call,
+        bell: Option<&Bell>,
     ) -> (Session<L>, Result<Ticket, SubmitFault>)
         ensures given { IfOk result.1 (λ ticket. Did L.base session (called call.now ticket.answer) result.0 × (ticket.seen ≡ result.0.task.seen)) }
         ensures err { OnErr result.1 (Did L.base session looked result.0) }
     {
-        self.keeper.submit(session, call, &mut self.places)
+        let waiter = self.waiters.take(session.number());
+        // Where nobody waits no place need be looked for.
+        if self.waiters.are_none() {
+            self.places.add_all();
+        } else {
+            self.places.clear();
+        }
+        let before = self.keeper.made();
+        let (session, made) = self.keeper.submit(session, call, &mut self.places);
+        if before < self.keeper.made() {
+            drop(waiter);
+            self.waiters.wake(&self.places);
+        } else if let Some(bell) = bell.filter(|_| finds_nothing(&made)) {
+            self.put_in_line(&session, call, bell, waiter);
+        } else {
+            self.waiters.pass_on(waiter);
+        }
+        (session, made)
+    }
+
+    /// Has a session's call wait for its turn: where it stood before, if it did. Where an allocation fails it is in no line.
+    fn put_in_line(
+        &mut self,
+        session: &Session<L>,
+        call: &Call,
+        bell: &Bell,
+        waiter: Option<Waiter>,
+    ) {
+        let Some(places) = self.keeper.places_of_call(session, call) else {
+            drop(waiter);
+            return;
+        };
+        let number = session.number();
+        let _ = match waiter {
+            Some(waiter) => self.waiters.add_again(number, waiter, places),
+            None => self.waiters.add(number, is_send(call), places, bell),
+        };
+    }
+
+    /// A session's call waits no longer, and isn't made again.
+    pub(crate) fn leave_line(&mut self, session: u32) {
+        let waiter = self.waiters.take(session);
+        self.waiters.pass_on(waiter);
+    }
+
+    /// Gives a session's call that waits its turn.
+    pub(crate) fn give_turn(&mut self, session: u32) {
+        self.waiters.give_turn(session);
+    }
+
+    /// Whether a turn has come that wasn't taken yet.
+    pub(crate) fn has_turns_due(&self) -> bool {
+        self.waiters.are_due()
+    }
+
+    /// Whether a session's call waits, or nothing is stored any more, so that none does.
+    pub(crate) fn is_waiting(&self, session: u32) -> bool {
+        self.is_closed() || self.waiters.has(session)
+    }
+
+    /// Whether a session's call waits for its turn.
+    pub(crate) fn is_in_line(&self, session: u32) -> bool {
+        !self.is_closed() && self.waiters.is_in_line(session)
+    }
+
+    /// How a wait for its turn ends of a session's call.
+    pub(crate) fn waited(&self, session: u32) -> Waited {
+        if self.is_closed() {
+            return Waited::Ended;
+        }
+        if self.waiters.is_in_line(session) {
+            Waited::TimeOver
+        } else {
+            Waited::Turn
+        }
+    }
+
+    /// Whether nothing is stored any more.
+    fn is_closed(&self) -> bool {
+        self.fault.is_some() || self.is_ended
     }
 
     /// Whether a ticket that saw so many records waits, and may be told one day.
     pub(crate) fn is_awaited(&self, seen: u64) -> bool {
-        self.fault.is_none() && !self.is_ended && self.keeper.handed() < seen
-    }
-
-    /// Whether no more than so many records were made, and more may be.
-    pub(crate) fn is_unchanged(&self, seen: u64) -> bool {
-        self.waited(seen) == Waited::Unchanged
-    }
-
-    /// How a wait ends of who has seen so many records.
-    pub(crate) fn waited(&self, seen: u64) -> Waited {
-        if self.fault.is_some() || self.is_ended {
-            return Waited::Ended;
-        }
-        if seen < self.keeper.made() {
-            Waited::Changed
-        } else {
-            Waited::Unchanged
-        }
+        !self.is_closed() && self.keeper.handed() < seen
     }
 
     /// What a loop met.
@@ -108,6 +177,14 @@ impl<L: Founding> Desk<L> {
         !self.is_ending() && self.keeper.row_length() < records
     }
 
+    /// Whether the loop that makes images has something to do.
+    pub(crate) fn has_image_due(&self) -> bool {
+        match self.image_records {
+            Some(records) => records <= self.keeper.row_length(),
+            None => false,
+        }
+    }
+
     /// Whether the loop that makes images is to end.
     pub(crate) fn is_ending(&self) -> bool {
         self.fault.is_some() || self.is_stopping
@@ -115,17 +192,18 @@ impl<L: Founding> Desk<L> {
 
     /// Whether the epoch's row is full, and the next epoch will begin.
     pub(crate) fn awaits_epoch(&self) -> bool {
-        self.makes_images && !self.is_ending() && self.keeper.row_length() >= MAX_RECORDS
+        self.image_records.is_some() && !self.is_ending() && self.keeper.row_length() >= MAX_RECORDS
     }
 
-    /// A loop makes images from now on.
-    pub(crate) fn begin_images(&mut self) {
-        self.makes_images = true;
+    /// A loop makes images from now on, each once a row has so many records.
+    pub(crate) fn begin_images(&mut self, records: u64) {
+        self.image_records = Some(records);
     }
 
     /// Nothing is stored any more.
     pub(crate) fn end(&mut self) {
         self.is_ended = true;
+        self.waiters.wake_all();
     }
 
     /// Tells the loops to end.
@@ -136,5 +214,24 @@ impl<L: Founding> Desk<L> {
     /// A loop met a fault. The first one stays.
     pub(crate) fn fail(&mut self, fault: StoreFault) {
         self.fault = self.fault.or(Some(fault));
+        self.waiters.wake_all();
+    }
+}
+
+/// Whether a call was answered that it found nothing to do.
+fn finds_nothing(made: &Result<Ticket, SubmitFault>) -> bool {
+    match made {
+        Ok(ticket) => match ticket.message_code() {
+            Some(KernReturn::SendTimedOut | KernReturn::RcvTimedOut) => true,
+            _ => false,
+        },
+        Err(_) => false,
+    }
+}
+
+fn is_send(call: &Call) -> bool {
+    match call {
+        Call::Send { .. } => true,
+        _ => false,
     }
 }

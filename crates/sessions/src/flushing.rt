@@ -1,16 +1,15 @@
 //! The loop that stores calls.
 
 use crate::gate::{Gate, Step};
-use crate::shared::Shared;
+use crate::shared::{PATIENCE_MILLISECONDS, Shared};
 use disk::Disk;
 use session_core::{Founding, Load};
 use std::sync::Wait;
-use std::thread;
 use std::time::{Clock, Duration};
 use storer::NotStored;
 
-/// For how many milliseconds a loop waits for memory before it tries again.
-const PATIENCE_MILLISECONDS: u64 = 10;
+/// For how many microseconds records wait for those that a turn was given to, so that one batch has what these record.
+const TURN_MICROSECONDS: u64 = 200;
 
 impl<L: Founding, D: Disk, G: Gate> Shared<L, D, G> {
     /// Stores what calls make, batch by batch, until it is told to stop and nothing waits, or the store fails. It is for one
@@ -33,6 +32,12 @@ impl<L: Founding, D: Disk, G: Gate> Shared<L, D, G> {
             let desk = self
                 .calls
                 .wait_while(rt, self.desk.lock(rt), |desk| desk.is_idle());
+            let (desk, _) = self.calls.wait_timeout_while(
+                rt,
+                desk,
+                Duration::from_micros(TURN_MICROSECONDS),
+                |desk| desk.has_turns_due(),
+            );
             let is_over = desk.is_over();
             drop(desk);
             if is_over {
@@ -118,10 +123,5 @@ impl<L: Founding, D: Disk, G: Gate> Shared<L, D, G> {
             Duration::from_millis(PATIENCE_MILLISECONDS),
             |storer| storer.epoch() != epoch && !storer.has_failed(),
         );
-    }
-
-    /// Waits a while.
-    pub(crate) fn pause<R: Wait + Clock>(&self, rt: &R) {
-        thread::sleep(rt, Duration::from_millis(PATIENCE_MILLISECONDS));
     }
 }

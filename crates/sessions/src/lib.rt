@@ -6,10 +6,14 @@ mod closing;
 mod desk;
 mod flushing;
 mod gate;
+mod lines;
+mod seat;
 mod shared;
+mod waiters;
 
 pub use closing::{Book, Unmatched, close};
 pub use desk::Waited;
 pub use gate::{Gate, OpenGate, Step};
+pub use seat::{Peer, Seat};
 pub use session_core::{Founding, MOST_SESSIONS, Row, Session, SessionFault, Unmet, meet};
-pub use shared::Shared;
+pub use shared::{NotMade, Shared};

@@ -7,16 +7,30 @@ ghost use Rattle.ipc_model.specs.texts.Texts.{reply_text};
 ghost use Rattle.session_core.specs.Tokens.{Did};
 
 use crate::desk::{Desk, Waited};
+use crate::seat::{Bell, Peer, Seat};
 use disk::Disk;
 use ipc_model::{Call, Reply};
 use journal::StoreFault;
 use session_core::{Founding, Keeper, MOST_SESSIONS, Past, Row, Session, SessionFault};
 use std::alloc::Global;
 use std::sync::ledger::Blank;
-use std::sync::{Arc, Condvar, Mutex, Wait};
+use std::sync::{Arc, Condvar, Mutex, MutexGuard, Wait};
+use std::thread;
 use std::time::{Clock, Duration};
 use storer::Storer;
 use system::{Opened, SubmitFault, Ticket};
+
+/// For how many milliseconds who lacks memory waits before it tries again.
+pub(crate) const PATIENCE_MILLISECONDS: u64 = 10;
+
+/// Why a call wasn't made. Nothing changed.
+#[derive(Clone, Copy)]
+pub enum NotMade {
+    /// As `submit` says.
+    Fault(SubmitFault),
+    /// Its task has gone, and would have received for nobody.
+    Gone,
+}
 
 /// The two halves of the core, each under a lock of its own, for any number of sessions, one thread that stores their calls and one
 /// that makes images. No lock is taken within the other.
@@ -27,11 +41,11 @@ pub struct Shared<L: Founding, D: Disk, G> {
     pub(crate) desk: Mutex<Desk<L>>,
     pub(crate) storer: Mutex<Storer<L, D>>,
 
-    // Waited on under the kernel's lock: that there is something to do for the loops, that replies can be told, and that the state
-    // changed.
+    // Waited on under the kernel's lock: that there is something to do for the loop that stores, and for the one that makes images; and
+    // that replies can be told, or an epoch has begun.
     pub(crate) calls: Condvar,
+    pub(crate) images: Condvar,
     pub(crate) news: Condvar,
-    pub(crate) changes: Condvar,
 
     // Waited on under the store's lock: that it changed.
     pub(crate) stored: Condvar,
@@ -70,8 +84,8 @@ impl<L: Founding, D: Disk, G: Drop> Shared<L, D, G> {
             desk: Mutex::new(Desk::new(alloc, keeper)),
             storer: Mutex::new(storer),
             calls: Condvar::new(),
+            images: Condvar::new(),
             news: Condvar::new(),
-            changes: Condvar::new(),
             stored: Condvar::new(),
         })
     }
@@ -97,41 +111,113 @@ impl<L: Founding, D: Disk, G: Drop> Shared<L, D, G> {
         ensures given { IfOk result.1 (λ ticket. Did L.base session (called call.now ticket.answer) result.0 × (ticket.seen ≡ result.0.task.seen)) }
         ensures err { OnErr result.1 (Did L.base session looked result.0) }
     {
-        let mut desk = self
-            .news
-            .wait_while(rt, self.desk.lock(rt), |desk| desk.awaits_epoch());
+        let desk = self.lock_desk(rt);
+        self.make(desk, session, call, None)
+    }
+
+    /// Makes a call of a session as `submit` does, for the task of this seat. A receive isn't made for one that has gone: a message
+    /// that was sent behind its end stays.
+    ///
+    /// Where it may wait, a send that finds no room, or a receive that finds no message, is in line from then on, until a call of the
+    /// session is made again or not made for this reason. Whose turn comes is woken; a turn that ends without a record is passed on.
+    pub fn submit_for<R: Wait, P: Peer>(
+        &self,
+        rt: &R,
+        session: Session<L>,
+        call: &Call,
+        seat: &Seat<P>,
+        may_wait: bool,
+    ) -> (Session<L>, Result<Ticket, NotMade>)
+        ensures given { IfOk result.1 (λ ticket. Did L.base session (called call.now ticket.answer) result.0 × (ticket.seen ≡ result.0.task.seen)) }
+        ensures err { OnErr result.1 (Did L.base session looked result.0) }
+    {
+        let mut desk = self.lock_desk(rt);
+        // With the lock held, as whatever is sent now is sent behind this look.
+        if is_receive(call) && seat.peer().is_gone() {
+            desk.leave_line(session.number());
+            drop(desk);
+            session.show_looked();
+            return (session, Err(NotMade::Gone));
+        }
+        let bell = if may_wait { Some(seat.bell()) } else { None };
+        let (session, made) = self.make(desk, session, call, bell);
+        (session, made.map_err(NotMade::Fault))
+    }
+
+    /// Locks what lies under the kernel's lock, once a call may be made.
+    fn lock_desk<R: Wait>(&self, rt: &R) -> MutexGuard<'_, Desk<L>> {
+        self.news
+            .wait_while(rt, self.desk.lock(rt), |desk| desk.awaits_epoch())
+    }
+
+    /// Makes a call, and tells the loops what they have to do.
+    fn make(
+        &self,
+        desk: MutexGuard<'_, Desk<L>>,
+        session: Session<L>,
+        call: &Call,
+        bell: Option<&Bell>,
+    ) -> (Session<L>, Result<Ticket, SubmitFault>)
+        ensures given { IfOk result.1 (λ ticket. Did L.base session (called call.now ticket.answer) result.0 × (ticket.seen ≡ result.0.task.seen)) }
+        ensures err { OnErr result.1 (Did L.base session looked result.0) }
+    {
+        let mut desk = desk;
         let before = desk.keeper.made();
-        let made = desk.submit(session, call);
+        let had_due = desk.has_turns_due();
+        let made = desk.submit(session, call, bell);
         let has_more = before < desk.keeper.made();
+        let are_over = had_due && !desk.has_turns_due();
+        let has_image_due = has_more && desk.has_image_due();
         drop(desk);
-        self.tell_of_record(has_more);
+        if has_more || are_over {
+            self.calls.notify_all();
+        }
+        if has_image_due {
+            self.images.notify_all();
+        }
         made
     }
 
-    /// Wakes the loops and all who wait for a change, where there was one.
-    fn tell_of_record(&self, has_more: bool) {
-        if has_more {
-            self.calls.notify_all();
-            self.changes.notify_all();
-        }
-    }
-
-    /// Waits until more was recorded than this session has seen, so that a call that found nothing to do may find something now; or
-    /// until this time is over, or nothing is stored any more.
-    pub fn wait_for_more<R: Wait + Clock>(
+    /// Waits at a session's seat until the turn of its call has come, or this time is over, or nothing is stored any more. Where its call
+    /// is in no line, as an allocation failed, it is its turn after a while.
+    pub fn wait<R: Wait + Clock, P: Peer>(
         &self,
         rt: &R,
         session: &Session<L>,
-        most: Duration,
+        seat: &Seat<P>,
+        most: Option<Duration>,
     ) -> Waited {
-        let seen = session.seen() as u64;
-        let (desk, _) = self.changes.wait_timeout_while(
-            rt,
-            self.desk.lock(rt),
-            most,
-            |desk| desk.is_unchanged(seen),
-        );
-        desk.waited(seen)
+        let number = session.number();
+        let desk = self.desk.lock(rt);
+        if !desk.is_waiting(number) {
+            drop(desk);
+            self.pause(rt);
+            return Waited::Turn;
+        }
+        let bell = seat.bell().condvar();
+        let desk = match most {
+            None => bell.wait_while(rt, desk, |desk| desk.is_in_line(number)),
+            Some(most) => {
+                let (desk, _) = bell.wait_timeout_while(
+                    rt,
+                    desk,
+                    most,
+                    |desk| desk.is_in_line(number),
+                );
+                desk
+            }
+        };
+        desk.waited(number)
+    }
+
+    /// Waits a while.
+    pub(crate) fn pause<R: Wait + Clock>(&self, rt: &R) {
+        thread::sleep(rt, Duration::from_millis(PATIENCE_MILLISECONDS));
+    }
+
+    /// Gives the call of the session of this number its turn, if it waits: for who knows that its task has gone.
+    pub fn give_turn(&self, rt: &impl Wait, session: u32) {
+        self.desk.lock(rt).give_turn(session);
     }
 
     /// The reply that a ticket of this session keeps, once all that its call saw is stored; until then it waits.
@@ -169,6 +255,7 @@ impl<L: Founding, D: Disk, G: Drop> Shared<L, D, G> {
     pub fn stop(&self, rt: &impl Wait) {
         self.desk.lock(rt).stop();
         self.calls.notify_all();
+        self.images.notify_all();
         self.news.notify_all();
     }
 
@@ -176,15 +263,21 @@ impl<L: Founding, D: Disk, G: Drop> Shared<L, D, G> {
     pub(crate) fn end(&self, rt: &impl Wait) {
         self.desk.lock(rt).end();
         self.news.notify_all();
-        self.changes.notify_all();
     }
 
     /// A loop met a fault: it tells all who wait.
     pub(crate) fn fail(&self, rt: &impl Wait, fault: StoreFault) {
         self.desk.lock(rt).fail(fault);
         self.news.notify_all();
-        self.changes.notify_all();
         self.calls.notify_all();
+        self.images.notify_all();
         self.stored.notify_all();
+    }
+}
+
+fn is_receive(call: &Call) -> bool {
+    match call {
+        Call::Receive { .. } => true,
+        _ => false,
     }
 }

@@ -120,6 +120,13 @@ impl KernelHalf {
         self.epoch
     }
 
+    /// The kernel, as it stands.
+    pub fn kernel(&self) -> &Kernel
+        ensures { result.now ≡ self.now.kernel }
+    {
+        &self.kernel
+    }
+
     /// How many records were made since it began, in all epochs.
     pub fn made(&self) -> u64
         ensures { result ≡ self.now.row.made }

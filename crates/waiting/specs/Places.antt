@@ -26,7 +26,7 @@ names named place = named.are_all || (is_touched place named.changed || is_touch
 abbrev pub IsMore : Named → Named → Type 0
 IsMore old new = (place : ℕ) → names old place ≡ true → names new place ≡ true
 
-all_named : (named : Named) (place : ℕ) → named.are_all ≡ true → names named place ≡ true
+pub all_named : (named : Named) (place : ℕ) → named.are_all ≡ true → names named place ≡ true
 all_named named place all = ap (λ (b : Bool). b || (is_touched place named.changed || is_touched place named.ready)) all
 
 or_more : (a b c d e : Bool) → (a || (b || c)) ≡ true → (b ≡ true → d ≡ true) → (c ≡ true → e ≡ true) → (a || (d || e)) ≡ true

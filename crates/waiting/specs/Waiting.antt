@@ -1,5 +1,5 @@
 -- Calls that find nothing to do, the places where they wait, and what a step has to name of these.
-use Rattle.std.specs.Prelude.{◌≡◌, ◌⊎◌, ℕ, Bool, true, false, List, [], ◌∷◌, length, flat_map, Contains, Option, None, Some, option_map, option_and_then, Result, Ok, Err}
+use Rattle.std.specs.Prelude.{◌≡◌, ◌⊎◌, ℕ, Bool, true, false, List, [], ◌∷◌, ◌++◌, length, map, flat_map, Contains, Option, None, Some, option_map, option_and_then, Result, Ok, Err}
 use Rattle.std.specs.FinMap as finmap
 use Rattle.codes.specs.declared.kern_return.KernReturn.{KernReturn}
 use Rattle.codes.specs.declared.kern_return.KernReturn.TheVariants.{SendTimedOut, RcvTimedOut}
@@ -41,16 +41,21 @@ abbrev pub names_cited : UsedParts → List ℕ
 names_cited parts = parts.remote ∷ parts.local ∷ names_in_items (items_if_complex parts.complex parts.body)
 
 -- where a send waits: at each name that its message cites, and at the port that its destination's stands for
-abbrev pub SendWaitsAt : State → ℕ → UsedParts → ℕ → Type 0
-SendWaitsAt state space parts place =
-    ((name : ℕ) × Contains (names_cited parts) name × (place ≡ place_of_name space name))
-    ⊎ ((serial : ℕ) × (option_and_then port_of (entry_at state space parts.remote) ≡ Some serial) × (place ≡ place_of_port serial))
+abbrev pub place_of_destination : Option ℕ → List ℕ
+place_of_destination (Some serial) = place_of_port serial ∷ []
+place_of_destination None = []
 
--- Where a call waits that finds nothing to do: a receive at its name.
+abbrev pub places_of_send : State → ℕ → UsedParts → List ℕ
+places_of_send state space parts = map (place_of_name space) (names_cited parts) ++ place_of_destination (option_and_then port_of (entry_at state space parts.remote))
+
+-- Where a call waits that finds nothing to do: a receive at its name. No other call waits.
+abbrev pub places_of_call : State → ℕ → Call → List ℕ
+places_of_call state space (call.Receive limit large name waited) = place_of_name space name ∷ []
+places_of_call state space (call.Send message) = places_of_send state space (used_parts message)
+places_of_call state space c = []
+
 abbrev pub WaitsAt : State → ℕ → Call → ℕ → Type 0
-WaitsAt state space (call.Receive limit large name waited) place = place ≡ place_of_name space name
-WaitsAt state space (call.Send message) place = SendWaitsAt state space (used_parts message) place
-WaitsAt state space c place = ⊥
+WaitsAt state space c place = Contains (places_of_call state space c) place
 
 -- No wake-up is lost: a call that found nothing to do before a step, and waits at no place that the step names, finds nothing after it.
 abbrev pub Wakes : State → State → (ℕ → Bool) → Type 0

@@ -1,7 +1,8 @@
 -- No wake-up is lost where a step names what changed.
-use Rattle.std.proofs.Common.{◌≡◌, inl, inr, ℕ, Bool, true, false, List, [], ◌∷◌, nat_lt, Option, None, Some, MatchOption, option_and_then, Result, Ok, Err, refl, sym, ◌∙◌, ap, subst, arith}
-use Rattle.std.specs.Prelude.{Contains, MatchBool, MatchResult, suc, zero}
+use Rattle.std.proofs.Common.{◌≡◌, inl, inr, ℕ, Bool, true, false, List, [], ◌∷◌, map, nat_lt, Option, None, Some, MatchOption, option_and_then, Result, Ok, Err, refl, sym, ◌∙◌, ap, subst, arith}
+use Rattle.std.specs.Prelude.{Contains, MatchBool, MatchResult, length, ◌<◌, slice_index_or, suc, zero}
 use Rattle.std.specs.FinMap as finmap
+use Rattle.std.proofs.lemmas.List.Elements.{Contains-append_left, Contains-append_right}
 use Rattle.codes.specs.declared.kern_return.KernReturn.{KernReturn}
 use Rattle.codes.specs.declared.kern_return.KernReturn.TheVariants.{InvalidTask, Success, SendTimedOut, RcvTimedOut, RcvHeaderErrorSpace}
 use Rattle.codes.specs.declared.name.TheConstants.{MACH_PORT_NULL}
@@ -20,7 +21,7 @@ use Rattle.ipc_model.specs.state.State.{State, Names, entry_at}
 use Rattle.waiting.specs.Places.{place_of_name, place_of_port}
 use Rattle.waiting.specs.Receiving.{stands, still_none}
 use Rattle.waiting.specs.Sending.{AllWanted, has_destination, of_parts}
-use Rattle.waiting.specs.Waiting.{Covers, FindsNothing, Wakes, WaitsAt, names_cited, names_in_items, port_of}
+use Rattle.waiting.specs.Waiting.{Covers, FindsNothing, Wakes, WaitsAt, names_cited, names_in_items, place_of_destination, port_of}
 
 abbrev code_in : Reply → KernReturn
 code_in (reply.Message code size member message) = code
@@ -108,6 +109,11 @@ as_parts : (state : State) (space : ℕ) (message : List ℕ) → ready_by_parts
 unfolding ready_to_send
 as_parts state space message is = is
 
+contains_mapped : (f : ℕ → ℕ) (xs : List ℕ) (x k : ℕ) → k < length xs → slice_index_or xs k x ≡ x → Contains (map f xs) (f x)
+contains_mapped f [] x k below is = absurd (omega (arith, below))
+contains_mapped f (y ∷ ys) x zero below is = (zero, omega arith, ap f is)
+contains_mapped f (y ∷ ys) x (suc k) below is = let rest = contains_mapped f ys x k (omega (arith, below)) is in (suc rest.0, omega (arith, rest.1), rest.2)
+
 module _ (old new : State) (named : ℕ → Bool) (covers : Covers old new named) where
   receives : (space limit : ℕ) (large : Bool) (name : ℕ) (waited : Bool) → FindsNothing old space (call.Receive limit large name waited) → ((place : ℕ) → WaitsAt old space (call.Receive limit large name waited) place → named place ≡ false)
       → FindsNothing new space (call.Receive limit large name waited)
@@ -115,7 +121,7 @@ module _ (old new : State) (named : ℕ → Bool) (covers : Covers old new named
       let receipt : Receipt = record { limit = limit; large = large; name = name; waited = waited } in
       let acts = acted_from old space (call.Receive limit large name waited) _ found in
       let at = there old space (call.Receive limit large name waited) RcvTimedOut acts.0 acts.1 refl (λ e. cc e) acts.2 in
-      let still = still_none old new named covers space at.0 receipt at.1 (refused_receive old space at.0 receipt acts.0 acts.1 at.2) (off (place_of_name space name) refl) in
+      let still = still_none old new named covers space at.0 receipt at.1 (refused_receive old space at.0 receipt acts.0 acts.1 at.2) (off (place_of_name space name) (zero, omega arith, refl)) in
       in_there new space (call.Receive limit large name waited) still.0 _ still.1
       (receive_refused new space still.0 receipt still.2)
 
@@ -129,7 +135,7 @@ module _ (old new : State) (named : ℕ → Bool) (covers : Covers old new named
       let acts = acted_from old space (call.Send message) _ found in
       let at = there old space (call.Send message) SendTimedOut acts.0 acts.1 refl (λ e. cc e) acts.2 in
       let full = refused_send old space message acts.0 acts.1 at.0 at.2 in
-      let kept = still (used_parts message) cited (λ serial to. off (place_of_port serial) (inr (serial, to, refl))) (by_parts old space message full) in
+      let kept = still (used_parts message) cited destined (by_parts old space message full) in
       in_there new space (call.Send message) kept.0 _ kept.1
       (send_refused new space message kept.0 (as_parts new space message kept.2))
     where
@@ -140,7 +146,12 @@ module _ (old new : State) (named : ℕ → Bool) (covers : Covers old new named
       wanted_port serial = named (place_of_port serial) ≡ false
 
       cited : (name : ℕ) → Contains (names_cited (used_parts message)) name → wanted name
-      cited name at = off (place_of_name space name) (inl (name, at, refl))
+      cited name at = off (place_of_name space name) (Contains-append_left (map (place_of_name space) (names_cited (used_parts message))) (place_of_destination (option_and_then port_of (entry_at old space (used_parts message).remote))) (place_of_name space name)
+          (contains_mapped (place_of_name space) (names_cited (used_parts message)) name at.0 at.1 at.2))
+
+      destined : (serial : ℕ) → option_and_then port_of (entry_at old space (used_parts message).remote) ≡ Some serial → wanted_port serial
+      destined serial to = off (place_of_port serial) (Contains-append_right (map (place_of_name space) (names_cited (used_parts message))) (place_of_destination (option_and_then port_of (entry_at old space (used_parts message).remote))) (place_of_port serial)
+          (subst (λ (o : Option ℕ). Contains (place_of_destination o) (place_of_port serial)) (sym to) (zero, omega arith, refl)))
 
       -- a send whose message cites these names
       still : (parts : UsedParts) → ((name : ℕ) → Contains (names_cited parts) name → wanted name) → ((serial : ℕ) → option_and_then port_of (entry_at old space parts.remote) ≡ Some serial → wanted_port serial)

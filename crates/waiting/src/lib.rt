@@ -3,4 +3,4 @@
 
 mod places;
 
-pub use places::{Places, place_of_name, place_of_port};
+pub use places::{Places, is_place_of_port, place_of_name, place_of_port};

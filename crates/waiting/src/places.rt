@@ -1,4 +1,4 @@
-ghost use Rattle.std.specs.Prelude.{◌≡◌, ◌⊎◌, ◌++◌, ◌∷◌, [], true, false};
+ghost use Rattle.std.specs.Prelude.{◌≡◌, ◌⊎◌, ◌<◌, ◌≤◌, ◌^◌, ◌++◌, ◌∷◌, [], true, false, MatchBool};
 ghost use Rattle.waiting.specs.Places.{IsMore, names, place_of_name, place_of_port};
 
 use std::alloc::Global;
@@ -16,6 +16,13 @@ pub fn place_of_port(serial: u64) -> u128
     ensures { result ≡ place_of_port serial }
 {
     (1 << 64) + u128::from(serial)
+}
+
+/// Whether a place is a port's, and not a name's.
+pub fn is_place_of_port(place: u128) -> bool
+    ensures { MatchBool result (2 ^ 64 ≤ place) (place < 2 ^ 64) }
+{
+    1 << 64 <= place
 }
 
 /// The places at which a step may have given calls that wait something to do.

@@ -1,0 +1,76 @@
+//! Where calls wait that find nothing to do.
+ghost use Rattle.std.specs.Prelude.{◌≡◌, ◌++◌, ◌∷◌, [], map, option_and_then, IfSome, OnOk};
+ghost use Rattle.ipc_model.specs.state.State.{entry_at};
+ghost use Rattle.waiting.specs.Places.{place_of_name};
+ghost use Rattle.waiting.specs.Waiting.{place_of_destination, places_of_call, places_of_send, port_of};
+ghost use Rattle.ipc_model.specs.messages.Messages.{used_parts};
+
+use crate::Kernel;
+use ipc_model::{Call, Entry};
+use port_calls::IpcState;
+use sending::cited_names;
+use std::alloc::{AllocError, Global};
+use waiting::{place_of_name, place_of_port};
+
+impl Kernel {
+    /// The places where a call of a task of this space waits that finds nothing to do. `None`: an allocation failed, or it is a send
+    /// that is refused whatever its names stand for.
+    pub fn places_of_call(&self, space: u32, call: &Call) -> Option<Vec<u128>>
+        ensures { IfSome result (λ places. places.items ≡ places_of_call self.now space call.now) }
+    {
+        match call {
+            Call::Receive { name, .. } => place_of_receive(self.alloc, space, *name),
+            Call::Send { message } => places_of_send(
+                self.alloc,
+                &self.state,
+                space,
+                message.as_slice(),
+            ),
+            _ => Some(Vec::new(self.alloc)),
+        }
+    }
+}
+
+/// The place where a receive waits.
+fn place_of_receive(alloc: Global, space: u32, name: u32) -> Option<Vec<u128>>
+    ensures { IfSome result (λ places. places.items ≡ place_of_name space name ∷ []) }
+{
+    let mut places = Vec::new(alloc);
+    places.push(place_of_name(space, name)).ok()?;
+    Some(places)
+}
+
+/// The places where a send waits.
+fn places_of_send(alloc: Global, state: &IpcState, space: u32, message: &[u8]) -> Option<Vec<u128>>
+    ensures { IfSome result (λ places. places.items ≡ places_of_send state.now.current space (used_parts message.now)) }
+{
+    let names = cited_names(alloc, message).ok()?;
+    let mut places = Vec::new(alloc);
+    push_names(space, &names, &mut places).ok()?;
+    let destination = *names.first()?;
+    if let Some(serial) = port_at(state, space, destination) {
+        places.push(place_of_port(serial)).ok()?;
+    }
+    Some(places)
+}
+
+/// Adds the places of names.
+fn push_names(space: u32, names: &[u32], places: &mut Vec<u128>) -> Result<(), AllocError>
+    ensures { OnOk result (places.new.items ≡ places.old.items ++ map (place_of_name space) names.now) }
+{
+    for name in names {
+        places.push(place_of_name(space, *name))?;
+    }
+    Ok(())
+}
+
+/// The port that a name stands for a right to.
+fn port_at(state: &IpcState, space: u32, name: u32) -> Option<u64>
+    ensures { result ≡ option_and_then port_of (entry_at state.now.current space name) }
+{
+    match state.entry(space, name)? {
+        Entry::Port(rights) => Some(rights.port),
+        Entry::SendOnce { port, .. } => Some(port),
+        Entry::Set | Entry::Dead { .. } => None,
+    }
+}

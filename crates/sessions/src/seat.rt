@@ -1,0 +1,64 @@
+//! Where a session's call waits, and for whom.
+
+use std::alloc::{AllocError, Global};
+use std::sync::{Arc, Condvar};
+
+/// The task that a session's calls are made for.
+pub trait Peer: Drop {
+    /// Whether it has gone, so that nobody will read a reply.
+    fn is_gone(&self) -> bool;
+
+    /// Whether a call of it that waits is given its turn as soon as it goes, so that it needn't be looked at meanwhile.
+    fn is_watched(&self) -> bool;
+}
+
+/// What is rung when the turn of a call that waits has come. It is made once for a session, so that a wait asks for no memory for it.
+#[derive(Drop)]
+pub(crate) struct Bell {
+    condvar: Arc<Condvar, Global>,
+}
+
+impl Bell {
+    /// The same bell, in the hand of another.
+    pub(crate) fn again(&self) -> Result<Bell, AllocError> {
+        let condvar = Arc::try_clone(&self.condvar)?;
+        Ok(Bell { condvar })
+    }
+
+    /// What is waited on.
+    pub(crate) fn condvar(&self) -> &Condvar {
+        &self.condvar
+    }
+}
+
+/// Where the calls of one session wait, and the task that they are made for.
+#[derive(Drop)]
+pub struct Seat<P> {
+    bell: Bell,
+    peer: P,
+}
+
+impl<P> Seat<P> {
+    /// A seat at which nobody waits.
+    pub fn new(alloc: Global, peer: P) -> Result<Self, AllocError>
+    where
+        P: Drop,
+    {
+        match Arc::new(alloc, Condvar::new()) {
+            Ok(condvar) => Ok(Seat {
+                bell: Bell { condvar },
+                peer,
+            }),
+            Err(_) => Err(AllocError),
+        }
+    }
+
+    /// The task.
+    pub fn peer(&self) -> &P {
+        &self.peer
+    }
+
+    pub(crate) fn bell(&self) -> &Bell {
+        &self.bell
+    }
+}
