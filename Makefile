@@ -1,4 +1,4 @@
-.PHONY: demo test quick bin bench load mutants gate-cost stress shortage clients examples
+.PHONY: demo test quick bin bench load mutants gate-cost stress shortage clients examples install uninstall
 
 # The main job on a new folder, with its bytes explained. It proves nothing: the program runs checked, and where bin/ has
 # the proved one, that.
@@ -54,3 +54,8 @@ clients:
 # Programs that use the clients, while their server is killed. It proves the programs first.
 examples: bin
 	@examples/run
+
+# The programs of bin/, the clients, manual pages and the unit, below PREFIX (/usr/local). It proves the programs only where
+# bin/ lacks one. contrib/install says what else can be set; `make uninstall` wants the same words.
+install uninstall:
+	@contrib/install $@
