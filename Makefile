@@ -1,4 +1,4 @@
-.PHONY: demo test quick bin bench load mutants gate-cost stress shortage clients examples install uninstall
+.PHONY: demo test quick bin bench load mutants gate-cost stress shortage clients examples install uninstall deb package-test
 
 # The main job on a new folder, with its bytes explained. It proves nothing: the program runs checked, and where bin/ has
 # the proved one, that.
@@ -59,3 +59,11 @@ examples: bin
 # bin/ lacks one. contrib/install says what else can be set; `make uninstall` wants the same words.
 install uninstall:
 	@contrib/install $@
+
+# The same as a package of Debian, wannikol_VERSION_ARCHITECTURE.deb, in this folder.
+deb:
+	@contrib/deb
+
+# Installs that package in a fresh root, where its server is killed, upgraded and removed. As root, on Debian.
+package-test:
+	@contrib/test-package
