@@ -5,7 +5,8 @@
 demo:
 	./demo/run
 
-# The gate, from nothing: every proof, named mutant, test and stored run, and a round of stress and shortage.
+# The gate, from nothing: every proof, named mutant, test and stored run, a round of stress and shortage, and the tests of the
+# clients.
 test:
 	.ci/run
 
