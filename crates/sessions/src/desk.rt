@@ -8,10 +8,13 @@ use codes::{KernReturn, MAX_RECORDS};
 use history::Founding;
 use ipc_model::Call;
 use journal::StoreFault;
-use session_core::{Keeper, Session};
+use session_core::{Keeper, Load, Session};
 use std::alloc::Global;
 use system::{SubmitFault, Ticket};
 use waiting::Places;
+
+/// How many records are few, so that one more in their batch is worth a wait.
+const FEW_RECORDS: u64 = 4;
 
 /// How a wait for a turn ended.
 #[derive(Clone, Copy)]
@@ -28,6 +31,9 @@ pub enum Waited {
 #[derive(Drop)]
 pub(crate) struct Desk<L: Founding> {
     pub(crate) keeper: Keeper<L>,
+
+    // How many records were made since some were taken.
+    fresh: u64,
 
     // The places that the last call named, and the calls that wait at places.
     places: Places,
@@ -48,6 +54,7 @@ impl<L: Founding> Desk<L> {
     pub(crate) fn new(alloc: Global, keeper: Keeper<L>) -> Self {
         Desk {
             keeper,
+            fresh: 0,
             places: Places::none(alloc),
             waiters: Waiters::none(alloc),
             fault: None,
@@ -79,6 +86,7 @@ impl<L: Founding> Desk<L> {
         let (session, made) = self.keeper.submit(session, call, &mut self.places);
         if before < self.keeper.made() {
             drop(waiter);
+            self.fresh = self.fresh.saturating_add(1);
             self.waiters.wake(&self.places);
         } else if let Some(bell) = bell.filter(|_| finds_nothing(&made)) {
             self.put_in_line(&session, call, bell, waiter);
@@ -116,6 +124,17 @@ impl<L: Founding> Desk<L> {
     /// Gives a session's call that waits its turn.
     pub(crate) fn give_turn(&mut self, session: u32) {
         self.waiters.give_turn(session);
+    }
+
+    /// Takes the records that wait to be stored, as `Keeper::take` does. None where memory is wanted too.
+    pub(crate) fn take(&mut self) -> Option<Load<L>> {
+        self.fresh = 0;
+        self.keeper.take().ok().flatten()
+    }
+
+    /// Whether only a few records wait to be stored, and a turn has come that wasn't taken yet and may make one more.
+    pub(crate) fn may_soon_have_more(&self) -> bool {
+        self.fresh <= FEW_RECORDS && self.waiters.are_due()
     }
 
     /// Whether a turn has come that wasn't taken yet.

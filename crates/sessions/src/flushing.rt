@@ -8,7 +8,7 @@ use std::sync::Wait;
 use std::time::{Clock, Duration};
 use storer::NotStored;
 
-/// For how many microseconds records wait for those that a turn was given to, so that one batch has what these record.
+/// For how many microseconds a few records wait for those that a turn was given to, so that one batch has what these record.
 const TURN_MICROSECONDS: u64 = 200;
 
 impl<L: Founding, D: Disk, G: Gate> Shared<L, D, G> {
@@ -32,11 +32,11 @@ impl<L: Founding, D: Disk, G: Gate> Shared<L, D, G> {
             let desk = self
                 .calls
                 .wait_while(rt, self.desk.lock(rt), |desk| desk.is_idle());
-            let (desk, _) = self.calls.wait_timeout_while(
+            let (desk, _) = self.turns.wait_timeout_while(
                 rt,
                 desk,
                 Duration::from_micros(TURN_MICROSECONDS),
-                |desk| desk.has_turns_due(),
+                |desk| desk.may_soon_have_more(),
             );
             let is_over = desk.is_over();
             drop(desk);
@@ -55,7 +55,7 @@ impl<L: Founding, D: Disk, G: Gate> Shared<L, D, G> {
     /// Takes the records that wait.
     fn take_load<R: Wait>(&self, rt: &R) -> Option<Load<L>> {
         self.gate.pass(rt, Step::Take);
-        self.desk.lock(rt).keeper.take().ok().flatten()
+        self.desk.lock(rt).take()
     }
 
     /// Stores a load, and hands its receipt in. Says whether it did: else the store failed, which all are told.

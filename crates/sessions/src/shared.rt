@@ -41,9 +41,10 @@ pub struct Shared<L: Founding, D: Disk, G> {
     pub(crate) desk: Mutex<Desk<L>>,
     pub(crate) storer: Mutex<Storer<L, D>>,
 
-    // Waited on under the kernel's lock: that there is something to do for the loop that stores, and for the one that makes images; and
-    // that replies can be told, or an epoch has begun.
+    // Waited on under the kernel's lock: that there is something to do for the loop that stores, that no turn is due that it waits for,
+    // and that there is something to do for the loop that makes images; and that replies can be told, or an epoch has begun.
     pub(crate) calls: Condvar,
+    pub(crate) turns: Condvar,
     pub(crate) images: Condvar,
     pub(crate) news: Condvar,
 
@@ -84,6 +85,7 @@ impl<L: Founding, D: Disk, G: Drop> Shared<L, D, G> {
             desk: Mutex::new(Desk::new(alloc, keeper)),
             storer: Mutex::new(storer),
             calls: Condvar::new(),
+            turns: Condvar::new(),
             images: Condvar::new(),
             news: Condvar::new(),
             stored: Condvar::new(),
@@ -169,8 +171,11 @@ impl<L: Founding, D: Disk, G: Drop> Shared<L, D, G> {
         let are_over = had_due && !desk.has_turns_due();
         let has_image_due = has_more && desk.has_image_due();
         drop(desk);
-        if has_more || are_over {
+        if has_more {
             self.calls.notify_all();
+        }
+        if are_over {
+            self.turns.notify_all();
         }
         if has_image_due {
             self.images.notify_all();
