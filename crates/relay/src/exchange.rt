@@ -47,7 +47,7 @@ fn next_request<I: Read>(alloc: Global, input: &mut I) -> Result<Option<Frame>, 
 }
 
 /// The peer's next frame. A peer that ends before it is `Short`.
-fn next_reply<P: Read>(alloc: Global, replies: &mut P) -> Result<Frame, WireFault>
+pub fn next_reply<P: Read>(alloc: Global, replies: &mut P) -> Result<Frame, WireFault>
     ensures found { IfOk result (λ frame. IsTaken (P.remaining replies.old) frame.content (P.remaining replies.new)) }
     ensures unanswered { IfErr result (λ fault. IsUnanswered (P.remaining replies.old) fault (P.remaining replies.new)) }
 {
@@ -59,7 +59,7 @@ fn next_reply<P: Read>(alloc: Global, replies: &mut P) -> Result<Frame, WireFaul
 }
 
 /// Writes a frame, and flushes it.
-fn send<W: Write + Drop>(writer: &mut BufWriter<W>, frame: &Frame) -> Result<(), WireFault>
+pub fn send<W: Write + Drop>(writer: &mut BufWriter<W>, frame: &Frame) -> Result<(), WireFault>
     ensures ok { OnOk result (Appends (writer_contents W.contents writer.old) (writer_contents W.contents writer.new) (frame_text frame.now.content)) }
     ensures flushed { OnOk result (writer_buffer writer.new ≡ []) }
     ensures part { OnErr result (AppendsPart (writer_contents W.contents writer.old) (writer_contents W.contents writer.new) (frame_text frame.now.content)) }

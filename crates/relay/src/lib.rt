@@ -7,4 +7,4 @@ mod exchange;
 
 pub use ask::{ask_peer, run_client};
 pub use end::RelayEnd;
-pub use exchange::relay;
+pub use exchange::{next_reply, relay, send};

@@ -1,0 +1,28 @@
+-- How a run of the shell ends.
+use Rattle.std.specs.Prelude.{◌≡◌, ◌⊎◌, ℕ, Bool, true, false, List, [], Result, Ok, Err}
+use Rattle.relay.specs.Relaying.{Side}
+use Rattle.relay.specs.declared.end.RelayEnd.{RelayEnd}
+use Rattle.relay.specs.declared.end.RelayEnd.TheVariants.{Relayed, CommandLine, Socket, Fault}
+use Rattle.relay.specs.Ending.{line_of as end_line, status_of as end_status}
+use Rattle.shell.specs.Turns.{Stops, TalksAll}
+use Rattle.wire.specs.declared.fault.WireFault.TheVariants.{NoMemory}
+
+-- 0: all lines were read, and nothing was wrong or another; 1: something was, or a fault came
+abbrev pub status_of : Result Bool RelayEnd → ℕ
+status_of (Ok true) = 0
+status_of (Ok false) = 1
+status_of (Err end) = end_status end
+
+-- the line of errors; none where all lines were read
+abbrev pub line_of : Result Bool RelayEnd → List ℕ
+line_of (Ok well) = []
+line_of (Err end) = end_line end
+
+module _ (own own_new : Side) where
+  -- some peer was talked to
+  abbrev pub Talks : Result Bool RelayEnd → Type 0
+  Talks (Ok well) = (peer peer_new : Side) × TalksAll own peer own_new peer_new well
+  Talks (Err Relayed) = ⊥
+  Talks (Err CommandLine) = ⊥
+  Talks (Err Socket) = own_new ≡ own
+  Talks (Err (Fault fault)) = ((fault ≡ NoMemory) × (own_new ≡ own)) ⊎ ((peer : Side) × Stops own peer own_new)

@@ -1,0 +1,5 @@
+pub mod Answers
+pub mod Asking
+pub mod Telling
+pub mod Turns
+pub mod Ending

@@ -1,0 +1,22 @@
+//! A shell over a server's socket: lines of a script go to the server as frames, and each is printed with its answer.
+#![tactic(auto)]
+
+mod asked;
+mod attempt;
+mod code;
+mod reply;
+mod rows;
+mod run;
+mod talk;
+mod told;
+mod turn;
+
+pub use asked::{Asked, read_asked};
+pub use attempt::push_attempt;
+pub use reply::read_reply;
+pub use run::{run_shell, script_socket};
+pub use talk::{Turn, converse, take_turn};
+pub use told::{
+    is_same_reply, push_answered, push_difference, push_long, push_strange, push_wrong,
+};
+pub use turn::{Place, Told, hear};
