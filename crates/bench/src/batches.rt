@@ -1,5 +1,5 @@
-//! What batches cost: records a second that are stored by so many at once, beside plain writes of as many bytes and beside
-//! pairs of syncs.
+//! What batches cost: records stored per second in batches of each size, alongside plain writes of as many bytes and
+//! alongside pairs of syncs.
 
 use crate::Fault;
 use crate::context::{Context, Folder, hundredths, per_second};
@@ -12,14 +12,15 @@ use crate::ways::HERE;
 use disk::Disk;
 use std::alloc::Global;
 
-/// How many records a batch has, and how many batches are stored in a turn, as many plain writes made, and as many pairs of
-/// syncs.
+/// How many records a batch has, and how many batches are stored in a turn, with as many plain writes and as many pairs
+/// of syncs.
 static SIZES: [(u64, u64); 5] = [(1, 16), (16, 16), (64, 16), (256, 8), (4_096, 1)];
 
-/// How many turns there are: the shortest time of each counts.
+/// How many turns there are; the shortest time of each measure counts.
 const TURNS: u32 = 14;
 
-/// A kind of batch: its calls, made in turn, and what is made before the first turn and behind each one, which isn't measured.
+/// A kind of batch: its calls, made in turn, and what is made before the first turn and after each one, which isn't
+/// measured.
 #[derive(Drop)]
 struct Kind {
     steps: Vec<Step>,
@@ -27,7 +28,7 @@ struct Kind {
     behind: Vec<Step>,
 }
 
-/// Names are allocated in two spaces, since one has 4,096 at most; with their space they go.
+/// Names are allocated in two spaces, since one has at most 4,096; they go with their space.
 static ALLOCATE: [Line<'static>; 2] = [
     (2, "allocate dead_name", 0, 1),
     (3, "allocate dead_name", 0, 1),
@@ -44,7 +45,7 @@ static NEW_SPACES: [Line<'static>; 3] = [
     (HERE, "space_create 0x100 make_send", 0, 2),
 ];
 
-/// Messages go to a port by send-once rights, which no limit of its queue stops; with their port they go.
+/// Messages go to a port by send-once rights, which no limit of its queue stops; they go with their port.
 static ONE_PORT: [Line<'static>; 1] = [(HERE, "allocate receive", 0, 1)];
 
 static NEW_PORT: [Line<'static>; 2] = [
@@ -52,8 +53,8 @@ static NEW_PORT: [Line<'static>; 2] = [
     (HERE, "allocate receive", 0, 1),
 ];
 
-/// The nanoseconds that batches take with their calls and replies, and to be stored alone; plain writes, each where a batch
-/// would be stored and then back to back; and pairs.
+/// The nanoseconds that batches take with their calls and replies, and just to be stored; plain writes, each where a
+/// batch would be stored and then back to back; and pairs.
 #[derive(Clone, Copy)]
 struct Times {
     whole: u64,
@@ -85,7 +86,7 @@ fn kind_of(
     })
 }
 
-/// Makes so many calls, in turn, and gives the last one's ticket.
+/// Makes `count` calls, in turn, and returns the last one's ticket.
 fn submit_all<C: Core>(core: &mut C, steps: &[Step], count: u64) -> Result<u64, Fault> {
     let mut last = 0;
     for index in 0..count {
@@ -100,7 +101,7 @@ fn submit_all<C: Core>(core: &mut C, steps: &[Step], count: u64) -> Result<u64, 
     Ok(last)
 }
 
-/// Asks for so many replies up to a ticket's, each of which has to be of a call that was done.
+/// Asks for `count` replies up to a ticket's, each of which has to be of a call that was done.
 fn answer_all<C: Core>(core: &mut C, last: u64, count: u64) -> Result<(), Fault> {
     let behind = last.saturating_add(1);
     for ticket in behind.saturating_sub(count)..behind {
@@ -111,7 +112,7 @@ fn answer_all<C: Core>(core: &mut C, last: u64, count: u64) -> Result<(), Fault>
     Ok(())
 }
 
-/// Makes so many calls and stores them as one batch. How long that takes, and to store them alone.
+/// Makes `count` calls and stores them as one batch. Returns how long that takes, and how long just the storing takes.
 fn time_batch<C: Core>(
     context: &Context<'_>,
     core: &mut C,
@@ -127,7 +128,7 @@ fn time_batch<C: Core>(
     Ok((context.since(start), stored))
 }
 
-/// Makes so many batches. How long they take, and to be stored alone.
+/// Makes batches. Returns how long they take, and how long just their storing takes.
 fn time_batches<C: Core>(
     context: &Context<'_>,
     core: &mut C,
@@ -143,8 +144,9 @@ fn time_batches<C: Core>(
     Ok((whole, stored))
 }
 
-/// Makes as many calls as such batches have, and a plain write where each of them would be stored, which it is behind that. How
-/// long the writes take: what stands before a write counts too, so a batch's storing and these stand behind the same.
+/// Makes as many calls as such batches have, and a plain write where each batch would be stored, which is stored after
+/// that. Returns how long the writes take: what comes before a write counts too, so a batch's storing and these writes
+/// come after the same.
 fn time_instead<C: Core>(
     context: &Context<'_>,
     core: &mut C,
@@ -163,7 +165,7 @@ fn time_instead<C: Core>(
     Ok(written)
 }
 
-/// One turn, whose times count where they are shorter: batches, plain writes of so many bytes, and pairs of syncs.
+/// One turn, whose times count if they are shorter: batches, plain writes of this many bytes, and pairs of syncs.
 fn time_turn<C: Core + Maker>(
     context: &Context<'_>,
     core: &mut C,
@@ -187,7 +189,7 @@ fn time_turn<C: Core + Maker>(
     })
 }
 
-/// Lets go of what a turn made, and of its records, of which a journal holds 65,536 at most.
+/// Removes what a turn made, and its records, of which a journal holds at most 65,536.
 fn end_turn<C: Core + Maker>(core: &mut C, kind: &Kind) -> Result<(), Fault> {
     make_steps(core, &kind.behind)?;
     make_checkpoint(core)
@@ -226,7 +228,7 @@ fn bytes_of<C: Core + Maker>(
     Ok(bytes)
 }
 
-/// Prints batches of this size, of so many bytes each.
+/// Prints batches of this size, of this many bytes each.
 fn print_times(context: &Context<'_>, label: &str, size: (u64, u64), bytes: u64, times: &Times) {
     let (count, batches) = size;
     let moved = bytes.saturating_mul(batches);

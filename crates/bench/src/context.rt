@@ -1,4 +1,5 @@
-//! What each measure has at hand: the clock, the folder that is free for it, the memory of this process, and rows of figures.
+//! What each measure has at hand: the clock, a folder that is free for it, the memory of this process, and rows of
+//! figures.
 
 use crate::Fault;
 use disk::{Disk, FileDisk};
@@ -29,7 +30,7 @@ impl<'a> Context<'a> {
         })
     }
 
-    /// The nanoseconds since the program began; 0 where the clock can't be read.
+    /// The nanoseconds since the program began; 0 if the clock can't be read.
     pub(crate) fn nanos(&self) -> u64 {
         match self.start.elapsed(self.rt) {
             Ok(duration) => u64::try_from(duration.as_nanos()).unwrap_or(u64::MAX),
@@ -58,7 +59,7 @@ impl<'a> Context<'a> {
         Ok(File::create(self.rt, path.as_str())?)
     }
 
-    /// A figure of this process in kilobytes, as the system tells it behind a label; 0 where it doesn't.
+    /// A figure of this process in kilobytes, as the system gives it after a label; 0 if it doesn't.
     pub(crate) fn memory(&self, label: &str) -> u64 {
         match fs::read_to_string(self.rt, "/proc/self/status") {
             Ok(status) => figure_behind(status.as_str(), label),
@@ -66,7 +67,7 @@ impl<'a> Context<'a> {
         }
     }
 
-    /// Prints figures behind what they are of, and then ratios, which are hundredths.
+    /// Prints a label, figures, and then ratios, which are hundredths.
     pub(crate) fn print_row(&self, label: &str, figures: &[u64], ratios: &[u64]) {
         let _ = print!(self.rt; "{label}:");
         for figure in figures {
@@ -80,8 +81,8 @@ impl<'a> Context<'a> {
     }
 }
 
-/// Where stores are made on files. What is measured on them is over any such folder, so that the proof of each measure carries
-/// nothing of files.
+/// Where stores are made on files. Measures are generic in such a folder, so that the proof of each carries nothing of
+/// files.
 pub(crate) trait Folder {
     type Files: Disk + Drop;
 
@@ -102,7 +103,7 @@ impl<'a> Folder for Context<'a> {
     }
 }
 
-/// The number behind the label that a line begins with; 0 where there is none.
+/// The number after the label that a line begins with; 0 if there is none.
 fn figure_behind(text: &str, label: &str) -> u64 {
     for line in text.lines() {
         if let Some(rest) = line.strip_prefix(label) {
@@ -120,12 +121,12 @@ fn first_number(line: &str) -> u64 {
     }
 }
 
-/// How many hundredths of a figure another one is.
+/// A figure as hundredths of another one.
 pub(crate) fn hundredths(figure: u64, of: u64) -> u64 {
     figure.saturating_mul(100).checked_div(of).unwrap_or(0)
 }
 
-/// So many in so many nanoseconds, as so many a second.
+/// How many per second, given a count and its nanoseconds.
 pub(crate) fn per_second(count: u64, nanos: u64) -> u64 {
     count
         .saturating_mul(1_000_000_000)

@@ -1,4 +1,4 @@
-//! What each kind of call costs as what stands beside it grows: ports, names of the same space, spaces and messages.
+//! What each kind of call costs as the state around it grows: ports, names of the same space, spaces and messages.
 
 use crate::Fault;
 use crate::context::Context;
@@ -17,7 +17,7 @@ static ROWS: [Row<'static>; 10] = [
         rounds: 100,
         is_done: true,
     },
-    // One send right more under a name, and one less.
+    // One more send right under a name, and one less.
     Row {
         label: "",
         parts: &[
@@ -33,7 +33,7 @@ static ROWS: [Row<'static>; 10] = [
         rounds: 200,
         is_done: true,
     },
-    // A send-once right under a new name, and its end, of which a notice is sent.
+    // A send-once right under a new name, and its end, for which a notice is sent.
     Row {
         label: "",
         parts: &[
@@ -103,7 +103,7 @@ static ROWS: [Row<'static>; 10] = [
         rounds: 100,
         is_done: true,
     },
-    // Calls that take back what was done, or change nothing.
+    // Calls that undo what was done, or change nothing.
     Row {
         label: "",
         parts: &[
@@ -213,7 +213,7 @@ static ROWS: [Row<'static>; 10] = [
         rounds: 100,
         is_done: false,
     },
-    // This grows as the names do.
+    // This grows with the names.
     Row {
         label: "",
         parts: &[("names of the space", HERE, "names", 0, 1)],

@@ -1,12 +1,12 @@
-//! What the death of a port costs, by the names that hold rights to it, with a notice of each or with none.
+//! What the death of a port costs, by the names that hold rights to it, with a notice for each or with none.
 
 use crate::Fault;
 use crate::context::Context;
 use crate::turns::{Machine, Placed, Row, print_row};
 use crate::ways::HERE;
 
-/// Deaths that are measured: by how many holders, each a name with a send-once right; how many of these have a notice sent
-/// to another port; and how often in a turn.
+/// Deaths that are measured: how many holders there are, each a name with a send-once right; for how many of these a
+/// notice is sent to another port; and how many deaths a turn has.
 static DEATHS: [(&str, u32, u32, u64); 6] = [
     ("1 holder", 1, 0, 100),
     ("10 holders", 10, 0, 50),

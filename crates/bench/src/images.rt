@@ -9,7 +9,7 @@ use crate::states::{LEAST, Shape, make_state};
 use disk::{Disk, Slot};
 use plain_disk::PlainDisk;
 
-/// How many checkpoints are made of a state: the shortest time of each part counts, since other work can only make one
+/// How many checkpoints are made of a state. The shortest time of each part counts, since other work can only make one
 /// longer.
 const CHECKPOINTS: u32 = 3;
 
@@ -115,7 +115,7 @@ fn time_pieces<C: Core>(context: &Context<'_>, core: &mut C) -> (u64, u64) {
     (pieces, slowest)
 }
 
-/// Makes a whole checkpoint, whose times count where they are shorter.
+/// Makes a whole checkpoint, whose times count if they are shorter.
 fn time_checkpoint<C: Core>(
     context: &Context<'_>,
     core: &mut C,
@@ -136,7 +136,7 @@ fn time_checkpoint<C: Core>(
     })
 }
 
-/// Makes a state and its checkpoints, and gives the shortest time of each part.
+/// Makes a state and its checkpoints, and returns the shortest time of each part.
 fn time_parts<C: Core + Maker>(
     context: &Context<'_>,
     core: &mut C,
@@ -150,7 +150,7 @@ fn time_parts<C: Core + Maker>(
     Ok(least)
 }
 
-/// Makes a state in a new store, with its checkpoints, and gives what they took, and the disk.
+/// Makes a state in a new store, with its checkpoints, and returns what they took, and the disk.
 fn make_store<D: Disk + Drop>(
     context: &Context<'_>,
     disk: D,

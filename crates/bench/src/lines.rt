@@ -1,17 +1,17 @@
-//! Calls as lines of a script, each made by the task of a space, and who makes them.
+//! Calls as lines of a script, each made by the task of a space, and what makes them.
 
 use crate::Fault;
 use ipc_model::Call;
 use script::read_request_line;
 use std::alloc::Global;
 
-/// A line and how often it is made: the space of the task, the line, the number that its `#` stands for, which is the next
-/// one each time, and how many times.
+/// A line and how many times it is made: the space of the task, the line, the number that its `#` stands for, which is
+/// the next one each time, and how many times.
 pub(crate) type Line<'a> = (u32, &'a str, u32, u32);
 
-/// Who makes calls.
+/// Makes calls.
 pub(crate) trait Maker {
-    /// Makes a call of a task of this space. Whether it was done, or refused where that is expected.
+    /// Makes a call of a task of this space. Returns whether it was done, or refused if that is expected.
     fn make(&mut self, space: u32, call: &Call, is_done: bool) -> bool;
 }
 

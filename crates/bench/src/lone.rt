@@ -1,5 +1,5 @@
-//! What calls of a lone connection cost, beside plain writes of as many bytes with two syncs each, which is what a stored
-//! call costs at least.
+//! What calls of a single connection cost, alongside plain writes of as many bytes with two syncs each, which is the
+//! least that a stored call costs.
 
 use crate::Fault;
 use crate::context::{Context, hundredths, per_second};
@@ -10,17 +10,17 @@ use disk::Disk;
 use server::Caller;
 use std::alloc::Global;
 
-/// How often calls, requests and plain writes are timed by turns: the shortest time of each counts.
+/// How many times calls, requests and plain writes are timed, interleaved; the shortest time of each counts.
 const TURNS: u32 = 25;
 
-/// How often the lines of each kind are made in a turn, and how many plain writes are.
+/// How many times the lines of each kind are made in a turn, and how many plain writes are.
 const PAIRS: u64 = 25;
 
 const TRIPS: u64 = 12;
 
 const WRITES: u64 = 50;
 
-/// Two ports: that to which requests go, and that of the replies.
+/// Two ports: one for requests, and one for the replies.
 static BEFORE: [&str; 2] = ["allocate receive", "allocate receive"];
 
 /// Calls that are stored one by one.
@@ -50,7 +50,7 @@ fn make<C: Caller>(alloc: Global, caller: &mut C, line: &str) -> Result<(), Faul
     }
 }
 
-/// Makes the calls of lines so often, and gives how long that takes.
+/// Makes the calls of lines `times` times, and returns how long that takes.
 fn time_lines<C: Caller>(
     context: &Context<'_>,
     caller: &mut C,
@@ -66,7 +66,7 @@ fn time_lines<C: Caller>(
     Ok(context.since(start))
 }
 
-/// One turn, whose times count where they are shorter.
+/// One turn, whose times count if they are shorter.
 fn time_turn<C: Caller>(
     context: &Context<'_>,
     caller: &mut C,
@@ -112,8 +112,8 @@ fn time_disk<D: Disk + Drop>(
     times
 }
 
-/// Prints how many calls a second are stored, how many requests with their replies, which are four calls, and how many
-/// plain writes are made, on a disk that has no store yet.
+/// Prints how many calls per second are stored, how many requests with their replies, which are four calls, and how
+/// many plain writes are made, on a disk that has no store yet.
 pub(crate) fn print_lone<D: Disk + Drop>(
     context: &Context<'_>,
     disk: Result<D, Fault>,

@@ -1,6 +1,7 @@
-//! `bench FOLDER` measures the product in the folder FOLDER, in which it makes folders and files of its own: how long and in
-//! how much memory stores are opened, acknowledged calls and batches beside plain writes with as many syncs, what each kind
-//! of call, message and death costs in memory beside little and beside more, and what checkpoints cost.
+//! `bench FOLDER` measures the product in the folder FOLDER, in which it makes folders and files of its own: how long
+//! and in how much memory stores are opened, acknowledged calls and batches alongside plain writes with as many syncs,
+//! what each kind of call, message and death costs in memory in a small state and in larger ones, and what checkpoints
+//! cost.
 #![tactic(auto)]
 
 mod batches;
@@ -37,7 +38,7 @@ use server::Kernel;
 use std::process::ExitCode;
 use std::{env, io};
 
-/// How many names stand beside at most where ports die that a thousand names hold rights to.
+/// How many more names the space has at most when ports die that a thousand names hold rights to.
 const ROOM_FOR_DEATHS: u32 = 3_080;
 
 /// What went wrong.
@@ -66,7 +67,7 @@ impl Fault {
     }
 }
 
-/// Measures calls and batches that are stored, beside plain writes.
+/// Measures calls and batches that are stored, alongside plain writes.
 fn print_stored<F: Folder>(context: &Context<'_>, folder: &F) -> Result<(), Fault> {
     let mut plain = Plain::create(context)?;
     print_lone(context, folder.new_files(), &mut plain)?;
@@ -102,7 +103,7 @@ fn run(rt: &HostRuntime, folder: &str) -> Result<(), Fault> {
     print_all::<Context<'_>, Kernel>(&context, &context)
 }
 
-/// The word behind the program's name, where it is the only one.
+/// The word after the program's name, if it is the only one.
 fn only_argument(rt: &HostRuntime) -> Option<String> {
     let mut words = env::args(rt).ok()?.skip(1);
     let word = words.next()?;

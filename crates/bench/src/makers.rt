@@ -1,4 +1,4 @@
-//! Who makes calls: a kernel alone in memory, and a core that stores each before it goes on.
+//! What makes calls: a kernel by itself in memory, and a core that stores each call before it goes on.
 
 use crate::Fault;
 use crate::lines::Maker;
@@ -40,13 +40,13 @@ pub(crate) enum Work {
 
 /// A core that stores calls.
 pub(crate) trait Core {
-    /// Makes a call, and gives its ticket; none where it wasn't made.
+    /// Makes a call, and returns its ticket; `None` if it wasn't made.
     fn submit_call(&mut self, space: u32, call: &Call) -> Option<u64>;
 
-    /// Does a piece of work. Whether it was done.
+    /// Does a piece of work. Returns whether it was done.
     fn work(&mut self, work: Work) -> bool;
 
-    /// Asks for a ticket's reply. Whether its call was done, or refused where that is expected.
+    /// Asks for a ticket's reply. Returns whether its call was done, or refused if that is expected.
     fn answer(&mut self, ticket: u64, is_done: bool) -> bool;
 }
 
@@ -90,7 +90,7 @@ impl<D: Disk> Maker for System<D> {
     }
 }
 
-/// The work that stores what waits; of a checkpoint, up to the pieces of its image; and behind them.
+/// The work that stores what waits; that of a checkpoint, up to the pieces of its image; and that after them.
 pub(crate) static STORE: [Work; 3] = [Work::Take, Work::Append, Work::Durable];
 
 pub(crate) static ROLL: [Work; 3] = [Work::RollClose, Work::RollHead, Work::RollOpen];
@@ -126,7 +126,7 @@ pub(crate) fn make_checkpoint<C: Core>(core: &mut C) -> Result<(), Fault> {
     work_all(core, &END)
 }
 
-/// Makes a call. Where the epoch's row is full a checkpoint goes before.
+/// Makes a call. If the epoch log is full, a checkpoint is made before.
 fn submit<C: Core>(core: &mut C, space: u32, call: &Call) -> Result<u64, Fault> {
     if let Some(ticket) = core.submit_call(space, call) {
         return Ok(ticket);
@@ -135,7 +135,8 @@ fn submit<C: Core>(core: &mut C, space: u32, call: &Call) -> Result<u64, Fault> 
     core.submit_call(space, call).ok_or(Fault::Call)
 }
 
-/// Makes a call that has a record, stores it and asks for its reply. Whether it was done, or refused where that is expected.
+/// Makes a call that has a record, stores it and asks for its reply. Returns whether it was done, or refused if that is
+/// expected.
 fn make_stored<C: Core>(core: &mut C, space: u32, call: &Call, is_done: bool) -> bool {
     let Ok(ticket) = submit(core, space, call) else {
         return false;
@@ -154,7 +155,7 @@ pub(crate) fn open_core<D: Disk + Drop>(alloc: Global, disk: D) -> Result<System
     }
 }
 
-/// A lone caller of a store on a disk.
+/// A single caller of a store on a disk.
 pub(crate) fn open_alone<D: Disk + Drop>(alloc: Global, disk: D) -> Result<Alone<D>, Fault> {
     match open(alloc, disk) {
         Ok(opened) => Ok(Alone::new(alloc, opened)),

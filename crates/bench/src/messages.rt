@@ -1,4 +1,4 @@
-//! What messages cost: a send with its receipt, by size and by rights, and a request with the reply to it.
+//! What messages cost: a send with its receive, by size and by rights, and a request with its reply.
 
 use crate::Fault;
 use crate::context::Context;
@@ -6,8 +6,8 @@ use crate::turns::{Machine, Placed, Row, print_row};
 use crate::ways::{CLIENT, HERE};
 use std::alloc::{AllocError, Global};
 
-/// The messages that are measured: their size, how many rights they carry, and how often five of them are sent and received
-/// in a turn.
+/// The messages that are measured: their size, how many rights they carry, and how many times five of them are sent and
+/// received in a turn.
 static MESSAGES: [(&str, u32, u32, u64); 8] = [
     ("24 bytes", 24, 0, 200),
     ("1 KiB", 1_024, 0, 200),
@@ -19,8 +19,8 @@ static MESSAGES: [(&str, u32, u32, u64); 8] = [
     ("8 KiB with 256 rights", 8_192, 256, 2),
 ];
 
-/// Messages of 24 bytes to the port at which messages wait in one of the ways; and a request with a right to reply by, its
-/// receipt, the reply, and its receipt.
+/// Messages of 24 bytes to the port at which messages wait in one of the ways; and a request with a right for the
+/// reply, its receive, the reply, and its receive.
 static SMALL: [Row<'static>; 2] = [
     Row {
         label: "24 bytes, where messages wait",
@@ -53,7 +53,7 @@ static SMALL: [Row<'static>; 2] = [
 /// How a message goes to the port 0x100, by a send right that is made for it.
 pub(crate) const BY_SEND: &str = "send make_send 0x100 id 7";
 
-/// Adds an item of so many bytes.
+/// Adds an item of `count` bytes.
 fn push_item(line: &mut String, count: u32) -> Result<(), AllocError> {
     line.push_str(" item bytes ")?;
     for _ in 0..count {
@@ -62,7 +62,7 @@ fn push_item(line: &mut String, count: u32) -> Result<(), AllocError> {
     Ok(())
 }
 
-/// Adds items of so many bytes in all, each of 4,000 bytes at most behind its descriptor.
+/// Adds items of `count` bytes in all, each of at most 4,000 bytes after its descriptor.
 fn push_bytes(line: &mut String, count: u32) -> Result<(), AllocError> {
     for _ in 0..count / 4_004 {
         push_item(line, 4_000)?;
@@ -74,7 +74,7 @@ fn push_bytes(line: &mut String, count: u32) -> Result<(), AllocError> {
     Ok(())
 }
 
-/// Adds what a message of this size has behind its header, with so many send rights, which are moved.
+/// Adds what a message of this size has after its header, with this many send rights, which are moved.
 fn push_body(line: &mut String, size: u32, rights: u32) -> Result<(), AllocError> {
     let mut left = size.saturating_sub(24);
     if rights > 0 {
@@ -87,7 +87,7 @@ fn push_body(line: &mut String, size: u32, rights: u32) -> Result<(), AllocError
     push_bytes(line, left)
 }
 
-/// The line that sends a message so, of this size and with so many send rights.
+/// The line that sends a message in this way, of this size and with this many send rights.
 pub(crate) fn send_line(alloc: Global, how: &str, size: u32, rights: u32) -> Result<String, Fault> {
     let mut line = String::new(alloc);
     if line.push_str(how).is_err() || push_body(&mut line, size, rights).is_err() {

@@ -11,18 +11,18 @@ use disk::{Disk, Slot};
 use server::{System, open};
 use std::alloc::Global;
 
-/// A small call, and the one that takes back what it made.
+/// A small call, and the one that undoes it.
 const SMALL: (&str, &str) = ("allocate receive", "destroy 0x102");
 
-/// What receives the message of 8 KiB that was sent before.
+/// The call that receives the message of 8 KiB that was sent before.
 const RECEIPT: &str = "receive 0x100 limit 8192";
 
-/// How many pairs of calls stores have, behind the two that begin each: 32,768 records, and 65,536.
+/// How many pairs of calls stores have, after the two that begin each: 32,768 records, and 65,536.
 const HALF: u32 = 16_383;
 
 const ALL: u32 = 32_767;
 
-/// Makes two ports, and then so many pairs of calls.
+/// Makes two ports, and then pairs of calls.
 fn make_records<M: Maker>(
     alloc: Global,
     maker: &mut M,
@@ -56,7 +56,7 @@ fn make_store<D: Disk + Drop>(
     Ok(disk)
 }
 
-/// How long it takes to open a store, and its disk again.
+/// How long it takes to open a store, and the store's disk.
 pub(crate) fn time_opening<D: Disk + Drop>(
     context: &Context<'_>,
     disk: D,
@@ -70,7 +70,7 @@ pub(crate) fn time_opening<D: Disk + Drop>(
     }
 }
 
-/// The shortest time of three in which a store is opened, and its disk again.
+/// The shortest of three times to open a store, and the store's disk.
 pub(crate) fn shortest_opening<D: Disk + Drop>(
     context: &Context<'_>,
     disk: D,
@@ -81,7 +81,7 @@ pub(crate) fn shortest_opening<D: Disk + Drop>(
     Ok((first.min(second).min(third), disk))
 }
 
-/// How many microseconds it takes to open a store of so many pairs of small records, on a disk that has none.
+/// How many microseconds it takes to open a store with this many pairs of small records, on a disk that has none.
 fn micros_of_small<D: Disk + Drop>(
     context: &Context<'_>,
     disk: Result<D, Fault>,
@@ -92,7 +92,7 @@ fn micros_of_small<D: Disk + Drop>(
     Ok(nanos / 1_000)
 }
 
-/// A store of 8 KiB messages and their receipts, on a disk that has none.
+/// A store of 8 KiB messages and their receives, on a disk that has none.
 fn store_of_messages<D: Disk + Drop>(context: &Context<'_>, disk: D) -> Result<D, Fault> {
     let line = send_line(context.alloc, BY_SEND, 8_192, 0)?;
     make_store(context.alloc, disk, (line.as_str(), RECEIPT), ALL)

@@ -36,7 +36,7 @@ impl Plain {
         self.file.sync_all()
     }
 
-    /// How long so many writes take, of so many bytes each.
+    /// How long `count` writes take, of this many bytes each.
     pub(crate) fn time(
         &mut self,
         context: &Context<'_>,

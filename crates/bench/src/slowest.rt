@@ -1,4 +1,4 @@
-//! The slowest calls of a lone caller on files, while no checkpoint is under way and while one is.
+//! The slowest calls of a single caller on files, while no checkpoint is under way and while one is.
 
 use crate::Fault;
 use crate::context::{Context, Folder};
@@ -13,12 +13,13 @@ use ipc_model::Call;
 use server::Caller;
 use std::alloc::Global;
 
-/// States that are measured: their ports and spaces, in how many stores each, and how many calls are made in each store before
-/// a checkpoint begins. One of 10 ports is done after three calls more, so it wants more stores.
+/// States that are measured: their ports and spaces, in how many stores each, and how many calls are made in each store
+/// before a checkpoint begins. A checkpoint of 10 ports is done after three more calls, so that state needs more
+/// stores.
 static STATES: [(u32, u32, u32, u32); 2] = [(10, 1, 20, 20), (16_000, 4, 1, 400)];
 
-/// How many calls are made of a store at most. An image of 16,000 ports has some hundreds of pieces, one of which is written
-/// behind each call.
+/// How many calls are made to a store at most. An image of 16,000 ports has some hundreds of pieces, and one is written
+/// after each call.
 const MOST_CALLS: u32 = 4_000;
 
 /// A name of a port, and a call with a record that leaves the state as it is.
@@ -26,7 +27,7 @@ const FIRST_NAME: u32 = 0x100;
 
 const RECORDED: &str = "set_mscount 0x100 1";
 
-/// Times of calls, each from its beginning to its reply, or of rests behind them.
+/// Times of calls, each from its beginning to its reply, or of rests after them.
 #[derive(Clone, Copy)]
 struct Times {
     count: u64,
@@ -66,7 +67,7 @@ const NEITHER: Both = Both {
     rests: NONE,
 };
 
-/// How long a call and the rest behind it took, and whether that wrote: only a step of a checkpoint does.
+/// How long a call and the rest after it took, and whether that wrote: only a step of a checkpoint does.
 #[derive(Clone, Copy)]
 struct Round {
     call: u64,
@@ -74,7 +75,7 @@ struct Round {
     is_step: bool,
 }
 
-/// Makes ports, and as many other calls as leave so many to the beginning of a checkpoint.
+/// Makes ports, and as many other calls as leave this many to the beginning of a checkpoint.
 fn prepare<M: Maker>(
     alloc: Global,
     maker: &mut M,
@@ -91,7 +92,7 @@ fn prepare<M: Maker>(
     make_line(alloc, maker, (HERE, RECORDED, 0, count))
 }
 
-/// A new store in which that is made.
+/// A new store in which this was made.
 fn prepared<D: Disk + Drop>(
     alloc: Global,
     disk: D,
@@ -105,7 +106,7 @@ fn prepared<D: Disk + Drop>(
     Ok(disk)
 }
 
-/// Makes a call and rests, and gives how long each took.
+/// Makes a call and rests, and returns how long each took.
 fn time_round<C: Caller>(
     context: &Context<'_>,
     caller: &mut C,
@@ -133,8 +134,8 @@ fn time_round<C: Caller>(
     })
 }
 
-/// Makes calls until a checkpoint was begun and done. A call is made while one is under way if there was a step of it before
-/// and behind it.
+/// Makes calls until a checkpoint was begun and done. A call counts as made while one is under way if there was a step
+/// of it before and after the call.
 fn time_rounds<C: Caller>(
     context: &Context<'_>,
     caller: &mut C,
@@ -163,8 +164,8 @@ fn time_rounds<C: Caller>(
     Err(Fault::Store)
 }
 
-/// Times the calls of one store, whose syncs are left out until all is prepared; then it is opened again, which syncs all of
-/// it.
+/// Times the calls of one store, whose syncs are left out until all is prepared; then it is opened again, which syncs
+/// everything.
 fn time_store<D: Disk + Drop>(
     context: &Context<'_>,
     disk: Result<D, Fault>,

@@ -12,8 +12,8 @@ const PORTS_OF_SPACE: u32 = 4_000;
 /// How many messages a queue takes.
 const MESSAGES_OF_QUEUE: u32 = 5;
 
-/// What a state has: spaces, ports in the first ones of them, names in each of them, dead but for its first one, and messages
-/// of a size in queues of the first space.
+/// What a state has: spaces, ports in the first of them, names in each of them, dead except for its first one, and
+/// messages of a size in queues of the first space.
 #[derive(Clone, Copy)]
 pub(crate) struct Shape {
     pub(crate) spaces: u32,
@@ -32,7 +32,7 @@ pub(crate) const LEAST: Shape = Shape {
     size: 0,
 };
 
-/// Makes what one space has: ports and dead names behind its first name.
+/// Makes what one space has: ports and dead names after its first name.
 fn make_space<M: Maker>(
     alloc: Global,
     maker: &mut M,
@@ -61,7 +61,7 @@ fn make_messages<M: Maker>(alloc: Global, maker: &mut M, shape: Shape) -> Result
     Ok(())
 }
 
-/// Makes a state, where there is none.
+/// Makes a state from an empty one.
 pub(crate) fn make_state<M: Maker>(
     alloc: Global,
     maker: &mut M,

@@ -1,4 +1,5 @@
-//! The memory and the bytes of a store whose lone connection goes on for long, by calls that leave the state as it was.
+//! The memory and the bytes of a store whose single connection goes on for long, by calls that leave the state as it
+//! was.
 
 use crate::Fault;
 use crate::context::{Context, Folder, hundredths};
@@ -13,8 +14,8 @@ use words::take_word;
 /// What is made before: the receive right 0x100.
 static BEFORE: [u8; 12] = [8, 0, 0, 0, 5, 0, 0, 0, 1, 0, 0, 0];
 
-/// The calls that are made again and again. They leave of what they made the sequence number and the make-send count of the
-/// first port alone, and the next port's serial number.
+/// The calls that are made again and again. Of what they made, they leave only the sequence number and the make-send
+/// count of the first port, and the next port's serial number.
 static CYCLE: [&[u8]; 8] = [
     // A receive right is allocated: 0x101.
     &[8, 0, 0, 0, 5, 0, 0, 0, 1, 0, 0, 0],
@@ -34,7 +35,7 @@ static CYCLE: [&[u8]; 8] = [
     // Two reads: the type of 0x102, and how many send rights 0x101 has.
     &[8, 0, 0, 0, 2, 0, 0, 0, 2, 1, 0, 0],
     &[12, 0, 0, 0, 8, 0, 0, 0, 1, 1, 0, 0, 0, 0, 0, 0],
-    // The send-once right is given up, of which a notice goes to 0x101; and that is destroyed with the notice.
+    // The send-once right is given up, for which a notice goes to 0x101; and that is destroyed with the notice.
     &[8, 0, 0, 0, 7, 0, 0, 0, 2, 1, 0, 0],
     &[8, 0, 0, 0, 6, 0, 0, 0, 1, 1, 0, 0],
 ];
@@ -49,9 +50,10 @@ const IN_MEMORY: (u32, u32) = (100, 1_000);
 
 const ON_FILES: (u32, u32) = (100, 300);
 
-/// For how many thousands of calls a look lasts: 33,000 records, so that it sees an epoch of 32,768 in each of its phases, the
-/// checkpoint among them, wherever it ends. Where they end the phases differ: with the first call, 100,000 calls have 75,001
-/// records, 9,465 of them in the third epoch, and 1,000,000 calls 750,001, 29,105 of them in the twenty-third.
+/// For how many thousands of calls a look lasts: 33,000 records, so that it sees an epoch of 32,768 in each of its
+/// phases, including the checkpoint, wherever it ends. The two looks end in different phases: with the first call,
+/// 100,000 calls have 75,001 records, 9,465 of them in the third epoch, and 1,000,000 calls 750,001, 29,105 of them in
+/// the twenty-third.
 const LOOK: u32 = 44;
 
 /// The most that was seen: resident memory, in kilobytes, and the bytes of the store.
@@ -66,7 +68,7 @@ const NOTHING: Most = Most {
     bytes: 0,
 };
 
-/// The bytes behind a reply with code 0.
+/// The bytes after a reply with code 0.
 fn behind_done(replies: &[u8]) -> Option<&[u8]> {
     let (length, reply) = take_word(replies)?;
     let (_, results) = take_word(reply)?;
@@ -77,7 +79,7 @@ fn behind_done(replies: &[u8]) -> Option<&[u8]> {
     reply.get(length as usize..)
 }
 
-/// Whether bytes are so many replies, each with code 0.
+/// Whether bytes are `count` replies, each with code 0.
 fn are_done(replies: &[u8], count: u64) -> bool {
     let mut rest = replies;
     for _ in 0..count {
@@ -121,7 +123,7 @@ fn serve_frames<C: Caller>(
     }
 }
 
-/// Serves so many thousands of frames, and gives the most that is seen behind a thousand of them.
+/// Serves `thousands` thousands of frames, and returns the most that is seen after a thousand of them.
 fn serve_thousands<C: Caller>(
     context: &Context<'_>,
     caller: &mut C,
@@ -138,7 +140,7 @@ fn serve_thousands<C: Caller>(
     Ok(most)
 }
 
-/// Serves up to two counts of calls, and gives the most of the look that ends with each.
+/// Serves up to two counts of calls, and returns the most of the look that ends with each.
 fn serve_long<C: Caller>(
     context: &Context<'_>,
     caller: &mut C,

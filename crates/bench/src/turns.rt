@@ -1,4 +1,4 @@
-//! Calls that are measured in memory by turns, beside little and beside more.
+//! Calls that are measured in memory, interleaved, in a small state and in larger ones.
 
 use crate::Fault;
 use crate::context::{Context, hundredths};
@@ -9,15 +9,15 @@ use std::alloc::Global;
 /// How many parts a row has at most.
 const MOST_PARTS: usize = 16;
 
-/// How often a row is measured in each way, by turns: the shortest time of each counts, since other work slows the machine
-/// for longer than a turn takes.
+/// How many times a row is measured in each way, interleaved. The shortest time of each counts, since other work slows
+/// the machine for longer than a turn takes.
 const TURNS: u32 = 15;
 
 /// Calls that are timed together: what they are, or nothing if that isn't printed; and their line.
 pub(crate) type Part<'a> = (&'a str, u32, &'a str, u32, u32);
 
-/// Parts that together leave the state as it was: what they are together, or nothing if that isn't printed; how often they are
-/// made in a turn, and whether they are done or refused.
+/// Parts that together leave the state as it was: what they are together, or nothing if that isn't printed; how many
+/// times they are made in a turn, and whether they are done or refused.
 #[derive(Clone, Copy)]
 pub(crate) struct Row<'a> {
     pub(crate) label: &'a str,
@@ -26,7 +26,7 @@ pub(crate) struct Row<'a> {
     pub(crate) is_done: bool,
 }
 
-/// Who makes calls in memory.
+/// Makes calls in memory.
 pub(crate) trait Machine: Maker {
     /// In the opening state.
     fn opened(alloc: Global) -> Option<Self>;
@@ -54,7 +54,7 @@ fn place<M: Machine + Drop>(alloc: Global, beside: Beside) -> Result<Placed<M>, 
     })
 }
 
-/// A machine in the state of each way, with so many names beside at most.
+/// A machine in the state of each way, with at most this many extra names.
 pub(crate) fn place_all<M: Machine + Drop>(
     alloc: Global,
     most_names: u32,
@@ -187,7 +187,7 @@ fn sums_of(least: &[Nanos; WAYS]) -> [u64; WAYS] {
     sums
 }
 
-/// Prints the nanoseconds for one of so many beside little, and how many times as long each other way takes.
+/// Prints the nanoseconds for one of `count` in the small state, and how many times as long each other way takes.
 fn print_times(context: &Context<'_>, label: &str, count: u64, times: &[u64; WAYS]) {
     if label.is_empty() {
         return;
@@ -201,7 +201,7 @@ fn print_times(context: &Context<'_>, label: &str, count: u64, times: &[u64; WAY
     context.print_row(label, &[each], &ratios[1..]);
 }
 
-/// Measures the calls of a row, and prints its parts, and then all of them for one of so many.
+/// Measures the calls of a row, and prints its parts, and then all of them together, for one of `count`.
 pub(crate) fn print_row<M: Machine>(
     context: &Context<'_>,
     machines: &mut [Placed<M>],

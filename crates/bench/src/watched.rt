@@ -1,4 +1,4 @@
-//! A disk that tells how it is used, and on which syncs can be left out, so that stores are made in a short time.
+//! A disk that reports how it is used, and on which syncs can be left out, so that stores are made in a short time.
 
 use disk::{Disk, DiskFault, Slot};
 use std::cell::Cell;
@@ -21,7 +21,7 @@ impl Watch {
         }
     }
 
-    /// How often it was written to or cut.
+    /// How many times it was written to or truncated.
     pub(crate) fn writes(&self) -> u64 {
         self.writes.get()
     }
@@ -31,13 +31,13 @@ impl Watch {
         self.bytes.get()
     }
 
-    /// From now on syncs are done.
+    /// Does syncs from now on.
     pub(crate) fn begin_syncs(&self) {
         self.is_syncing.set(true);
     }
 }
 
-/// A disk and who watches it.
+/// A disk, and what watches it.
 #[derive(Drop)]
 pub(crate) struct Watched<'a, D> {
     pub(crate) disk: D,
@@ -45,7 +45,7 @@ pub(crate) struct Watched<'a, D> {
 }
 
 impl<'a, D: Disk> Watched<'a, D> {
-    /// Tells the watch what the slots have after one more write.
+    /// Reports to the watch what the slots have after one more write.
     fn tell(&self) {
         let mut bytes = 0u64;
         for slot in [Slot::Image0, Slot::Image1, Slot::Segment0, Slot::Segment1] {
@@ -59,7 +59,7 @@ impl<'a, D: Disk> Watched<'a, D> {
 }
 
 impl<'a, D: Disk> Disk for Watched<'a, D> {
-    // It keeps no disk model: where syncs are left out a stop may leave anything.
+    // It keeps no disk model: if syncs are left out, a crash may leave anything.
     ghost honest = { ⊥ };
 
     ghost view = { λ watched. D.view watched.disk };

@@ -1,4 +1,4 @@
-//! The states in which calls are measured: little, and more of each kind.
+//! The states in which calls are measured: a small one, and larger ones of each kind.
 
 use crate::Fault;
 use crate::lines::{Line, Maker, make_lines};
@@ -13,11 +13,11 @@ pub(crate) const CLIENT: u32 = 2;
 /// Stands for the space that is made next.
 pub(crate) const NEXT: u32 = 0;
 
-/// In how many ways calls are measured, the first of them beside little.
+/// In how many ways calls are measured, the first of them in the small state.
 pub(crate) const WAYS: usize = 5;
 
-/// What is made in each way: twelve ports 0x100 to 0x10b, of which 0x100 and 0x101 have send rights, a set 0x200 of ten of
-/// them, 0x101 to 0x10a, and the other space. So there are 13 ports, and 13 names in the space of the calls.
+/// What is made in each way: twelve ports 0x100 to 0x10b, of which 0x100 and 0x101 have send rights, a set 0x200 of ten
+/// of them, 0x101 to 0x10a, and the other space. So there are 13 ports, and 13 names in the space of the calls.
 static BASE: [Line<'static>; 8] = [
     (HERE, "allocate receive", 0, 12),
     (HERE, "insert_right 0x100 0x100 make_send", 0, 1),
@@ -29,8 +29,8 @@ static BASE: [Line<'static>; 8] = [
     (CLIENT, "allocate receive", 0, 1),
 ];
 
-/// What is made beside: more spaces, with a send right each to the port 0x100; ports in each of the first four of them; dead
-/// names in the space of the calls; and messages in the queue of the port 0x10b.
+/// What is made in addition: more spaces, with a send right each to the port 0x100; ports in each of the first four of
+/// them; dead names in the space of the calls; and messages in the queue of the port 0x10b.
 #[derive(Clone, Copy)]
 pub(crate) struct Beside {
     spaces: u32,
@@ -46,7 +46,8 @@ const LITTLE: Beside = Beside {
     messages: 0,
 };
 
-/// The ways: little, 16,000 ports, 4,096 names but for ten, 255 spaces, which leaves room for one, and 1,000 messages.
+/// The ways: the small state, 16,000 ports, 4,096 names but for ten, 255 spaces, which leaves room for one, and 1,000
+/// messages.
 pub(crate) static ALL_WAYS: [Beside; WAYS] = [
     LITTLE,
     Beside {
@@ -74,7 +75,7 @@ impl Beside {
         self.spaces.saturating_add(3)
     }
 
-    /// The same with so many names at most.
+    /// The same with at most this many names.
     pub(crate) fn with_names(self, most: u32) -> Beside {
         Beside {
             names: self.names.min(most),
@@ -82,7 +83,7 @@ impl Beside {
         }
     }
 
-    /// Makes the base, and this beside it.
+    /// Makes the base, and this in addition.
     pub(crate) fn make<M: Maker>(self, alloc: Global, maker: &mut M) -> Result<(), Fault> {
         make_lines(alloc, maker, &BASE)?;
         let lines = [

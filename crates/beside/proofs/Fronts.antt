@@ -1,4 +1,4 @@
--- What the front of a slot tells of it.
+-- What the front of a slot shows of the slot.
 use Rattle.std.specs.Prelude.{◌≡◌, ℕ, ◌+◌, ◌-◌, ◌%◌, ◌≤◌, List, ◌++◌, length, take, drop}
 use Rattle.std.proofs.Common.{sym, ap, inl, inr, ◌∙◌, arith, append_assoc, length-take, take-append-drop}
 use Rattle.std.proofs.Math.Seq.{take-append-add}

@@ -1,4 +1,5 @@
--- A copy of a slot that only grows behind a front: what it begins with was the front at some moment while it was read.
+-- A copy of a slot that only grows after a front: what the copy begins with was the front at some moment while the slot
+-- was read.
 use Rattle.std.specs.Prelude.{◌≡◌, ◌⊎◌, ℕ, ◌-◌, ◌<◌, List, [], ◌∷◌, ◌++◌, length, take, drop}
 use Rattle.std.proofs.Common.{zero, suc, refl, sym, ap, subst, inl, inr, ◌∙◌, arith, append_assoc, length-append, length-take, take-append-drop}
 use Rattle.std.proofs.lemmas.Bool.{cases_lt}
@@ -7,7 +8,7 @@ use Rattle.std.proofs.Math.Seq.{take-append-add}
 use Rattle.ipc_model.specs.store.Store.{IsClosed}
 use Rattle.still_disk.specs.Live.{Copied, IsCopy, nothing_yet, one_piece_more}
 
--- what stands behind a gate that isn't open may be cut anywhere
+-- bytes whose gate isn't open may be truncated anywhere
 closed_front : (k : ℕ) (xs : List ℕ) → IsClosed xs → IsClosed (take k xs)
 closed_front zero xs closed = tt
 closed_front (suc k) [] closed = tt
@@ -28,7 +29,7 @@ module _ {Moment : Type 0} (Later : Moment → Moment → Type 0) (stays : (m : 
   abbrev Within : Moment → List ℕ → Type 0
   Within now copy = (rest : List ℕ) × (front now ≡ copy ++ rest)
 
-  -- or it is the front of some moment, and behind that stands a gate that isn't open. At the end of a slot nothing may stand there.
+  -- or it is the front of some moment, followed by a gate that isn't open, or by nothing at the end of a slot
   pub record Ends (ended : Moment) (copy : List ℕ) : Type 0 where
     pub at : Moment
     pub since : Later begun at
@@ -46,7 +47,7 @@ module _ {Moment : Type 0} (Later : Moment → Moment → Type 0) (stays : (m : 
       let more = grows a b since later in
       (within.0 ++ more.0, more.1 ∙ ap (λ l. l ++ more.0) within.1 ∙ append_assoc copy within.0 more.0)
 
-  -- a piece more of what stands behind the front
+  -- one more piece of what stands after the front
   piece_past : (now : Moment) (copy rest behind : List ℕ) (far : ℕ) → Later begun now → 0 < far → front now ≡ copy ++ rest → IsClosed behind → Reads now (copy ++ (rest ++ take far behind))
   piece_past now copy rest [] far since some within shut =
       inl ([], within ∙ sym (append-nil (copy ++ rest)) ∙ ap (λ l. l ++ []) (ap (λ l. copy ++ l) (sym (append-nil rest) ∙ ap (λ l. rest ++ l) (sym (take_all far [] (omega arith))))))
@@ -62,7 +63,7 @@ module _ {Moment : Type 0} (Later : Moment → Moment → Type 0) (stays : (m : 
     omega (arith, some, length-take far (gate ∷ behind)),
   )
 
-  -- A piece more of a slot whose front the copy is within: it ends within the front, or behind it.
+  -- One more piece of a slot whose front the copy is within: it ends within the front, or after it.
   piece_within : (now : Moment) (copy : List ℕ) (count : ℕ) → Later begun now → Within now copy → Reads now (copy ++ take count (drop (length copy) (slot now)))
   piece_within now copy count since within =
       let rest = within.0 in
@@ -84,7 +85,7 @@ module _ {Moment : Type 0} (Later : Moment → Moment → Type 0) (stays : (m : 
             ))
       ]
 
-  -- A piece more, of what stands there by then.
+  -- One more piece, of what stands there by then.
   piece_more : (last now : Moment) (copy : List ℕ) (count : ℕ) → Later begun last → Later last now → Reads last copy → Reads now (copy ++ take count (drop (length copy) (slot now)))
   piece_more last now copy count since later (inl within) = piece_within now copy count (joins begun last now since later) (within_later last now copy since later within)
   piece_more last now copy count since later (inr ends) =
@@ -108,7 +109,7 @@ module _ {Moment : Type 0} (Later : Moment → Moment → Type 0) (stays : (m : 
       let before = reads last copy copied in
       (joins begun last now before.0 later, subst (Reads now) (sym is) (piece_more last now copy count before.0 later before.1))
 
-  -- A whole copy is the front of some moment while it was made, and behind that stands nothing, or a gate that isn't open.
+  -- A whole copy is the front of some moment while it was made, followed by nothing, or by a gate that isn't open.
   pub copy_ends : (ended : Moment) (copy : List ℕ) → IsCopy Later slot begun ended copy → Ends ended copy
   copy_ends ended copy is =
       let known = reads is.last copy is.copied in

@@ -1,4 +1,4 @@
--- What copies of the slots stand for that were made while the store came no further than its half of an epoch.
+-- What copies of the slots stand for if they were made while the store stayed in one half of an epoch.
 use Rattle.std.specs.Prelude.{◌≡◌, ℕ, ◌+◌, ◌∷◌, Bool, true, false, List, [], ◌++◌, length}
 use Rattle.std.proofs.Common.{refl, sym, ap, subst, ◌∙◌, arith, append_assoc}
 use Rattle.std.proofs.lemmas.List.{append-nil}
@@ -30,7 +30,7 @@ front_grows epoch xs ys =
     let behind = batches_joined 0 xs ys in
     (behind.0, ap (λ l. segment_header open_gate epoch ++ l) behind.1 ∙ sym (append_assoc (segment_header open_gate epoch) (batches_text 0 xs) behind.0))
 
--- what begins with the front of a segment and goes on with no open gate spells its records
+-- what begins with the front of a segment and continues without an open gate encodes the segment's records
 spells_front : (epoch : ℕ) (slot copy : List ℕ) (batches : List (List Record)) (rest : List ℕ) → HoldsBatches epoch slot batches → copy ≡ front epoch batches ++ rest → IsClosed rest
     → SpellsSegment epoch copy (all_records batches)
 spells_front epoch slot copy batches rest held text shut = record {
@@ -48,7 +48,7 @@ spells_front epoch slot copy batches rest held text shut = record {
   };
 }
 
--- the next segment of a store that has turned
+-- the next segment of a store that has rotated
 pub next_segment : (h : Bool) (epoch : ℕ) (slot : List ℕ) (next : List (List Record)) → h ≡ true → OtherSegment h epoch slot next → HoldsBatches (epoch + 1) slot next
 next_segment true epoch slot next is other = other
 next_segment false epoch slot next is other = let none : 0 ≡ 1 = ap half is in absurd (omega (arith, none))
@@ -65,7 +65,7 @@ module _ (start : Moment) where
   abbrev at_slot : Slot → Moment → List ℕ
   at_slot slot m = slot_of m.slots slot
 
-  -- what is copied of the epoch's own image is that image, whatever is copied behind it
+  -- what is copied of the epoch's own image is that image, whatever is copied after it
   pub image_copied : (begun ended : Moment) (copy : List ℕ) → Appends start begun → IsCopy Appends (at_slot (image_slot start.epoch)) begun ended copy → HoldsImage start.epoch copy start.base
   image_copied begun ended copy since is =
       let slot = slot_of start.slots (image_slot start.epoch) in
@@ -80,7 +80,7 @@ module _ (start : Moment) where
         short = start.image.short;
       }
 
-  -- A segment in use: its copy spells what it spelled at some moment.
+  -- A segment in use: its copy encodes what the segment encoded at some moment.
   pub record SpelledAt (begun ended : Moment) (epoch : ℕ) (copy : List ℕ) (batches : Moment → List (List Record)) : Type 0 where
     pub at : Moment
     pub since : Appends begun at

@@ -1,4 +1,4 @@
--- A reading beside a server, told slot by slot.
+-- A reading while a server runs, slot by slot.
 use Rattle.std.specs.Prelude.{◌≡◌, ℕ, ◌+◌, ◌%◌, ◌≤◌, ◌==◌, Bool, true, false, if◌then◌else◌, List, take}
 use Rattle.std.proofs.Common.{sym, ap, inl, inr, ◌∙◌, arith}
 use Rattle.disk.specs.Slots.{Slots, slot_of}
@@ -83,7 +83,7 @@ module _ (begun ended : Moment) (fronts copies again : Slots) (tried : Tried Lat
   abbrev back : FrontsRead Later (λ m. m.slots) tried.stop ended again
   back = tried.after
 
-  -- the moments of the fronts' first reading, and of their second one
+  -- the moments of the first reading of the fronts, and of the second
   to_second : Later begun front.second
   to_second = later_joins begun front.first front.second front.to_first front.to_second
 

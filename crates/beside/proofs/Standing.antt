@@ -46,7 +46,7 @@ no_next_segment e x (inr before) is_open is =
     let prior : before.0 + 1 ≡ e = omega (arith, before.1) in
     absurd (omega (arith, same, prior))
 
--- a later moment whose image slot has the same front is of the same epoch, or of one after the next
+-- a later moment whose image slot has the same front isn't of the next epoch
 image_front_tells : (a b : Moment) → b.epoch ≡ a.epoch + 1
     → take 24 (slot_of a.slots (image_slot (a.epoch + 1))) ≡ take 24 (slot_of b.slots (image_slot (a.epoch + 1))) → ⊥
 image_front_tells a b next same =
@@ -56,7 +56,8 @@ image_front_tells a b next same =
     no_next_image a.epoch mine a.other_image (open_image_alike slot mine (sym same) (image_is_open (a.epoch + 1) slot b.base image))
     (image_epoch_alike ((a.epoch + 1) % 2) (a.epoch + 1) slot mine (sym same) (image_header_is (a.epoch + 1) slot b.base a.fits image))
 
--- A moment at which the next segment isn't open; and that segment's front is the same when it is, in this epoch or as the next one's own.
+-- A moment at which the next segment isn't open: the front of its slot differs from that of the open segment, in this
+-- epoch or as the next epoch's own.
 segment_front_tells : (a : Moment) (slot : List ℕ) (batches : _) → a.has_turned ≡ false → HoldsBatches (a.epoch + 1) slot batches
     → take 16 (slot_of a.slots (segment_slot (a.epoch + 1))) ≡ take 16 slot → ⊥
 segment_front_tells a slot batches shut held same =
@@ -134,7 +135,7 @@ module _ (begun ended : Moment) (copies : Slots) (r : Reading begun ended copies
   fronts_here : take 16 (slot_of u.slots (segment_slot (u.epoch + 1))) ≡ take 16 (slot_of v.slots (segment_slot (r.start.epoch + 1)))
   fronts_here = ap (λ k. take 16 (slot_of u.slots (segment_slot (k + 1)))) u_epoch ∙ r.segment_fronts (r.start.epoch + 1)
 
-  -- a store that hadn't turned as the fronts were read first has not when they are read again
+  -- a store that hadn't rotated when the fronts were first read hasn't when they are read again
   not_turned_by_then : u.has_turned ≡ false → (v.epoch ≡ r.start.epoch) × (v.has_turned ≡ false)
   not_turned_by_then shut = elim (cases_lt r.start.epoch v.epoch) as (λ _. (v.epoch ≡ r.start.epoch) × (v.has_turned ≡ false)) [
     | inl later ↦
@@ -184,7 +185,7 @@ module _ (begun ended : Moment) (copies : Slots) (r : Reading begun ended copies
           let none : 1 ≡ 0 = ap half (sym late ∙ then_.1) in
           absurd (omega (arith, none))
 
-  -- while the copies were made the store came no further than its half of an epoch
+  -- while the copies were made the store stayed in its half of an epoch
   one_half : place r.stop ≡ place r.start
   one_half = ap (λ k. 2 * k + half r.stop.has_turned) stop_epoch ∙ ap (λ h. 2 * r.start.epoch + half h) (stop_turned u.has_turned refl ∙ sym (start_turned u.has_turned refl))
 

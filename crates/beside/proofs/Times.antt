@@ -31,7 +31,7 @@ turned_place a true passed is = refl
 turned_place true false passed is = absurd (omega (arith, passed))
 turned_place false false passed is = is
 
--- within an epoch a store that has turned stays so
+-- within an epoch a store that has rotated stays so
 pub stays_turned : (a b : Moment) → Later a b → a.epoch ≡ b.epoch → a.has_turned ≡ true → b.has_turned ≡ true
 stays_turned a b later same =
     let passed : 2 * a.epoch + half a.has_turned ≤ 2 * b.epoch + half b.has_turned = no_earlier a b later in
@@ -63,7 +63,7 @@ more_appended a b c front back = record {
   next = back.next ∙ ap (λ l. l ++ back.next_more) front.next ∙ append_assoc a.next front.next_more back.next_more;
 }
 
--- where the store has come no further batches were appended alone
+-- if the store has come no further, batches were only appended
 pub same_half : (a b : Moment) → Later a b → place b ≤ place a → Appends a b
 same_half a b (inl more) here = more
 same_half a b (inr past) here = absurd (omega (arith, past, here))

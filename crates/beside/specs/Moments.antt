@@ -1,4 +1,4 @@
--- A store in use from moment to moment, as its server changes it: what a reader meets that reads it meanwhile.
+-- A store in use from moment to moment, as its server changes it: what a reader meets that reads the store meanwhile.
 use Rattle.std.specs.Prelude.{◌≡◌, ◌⊎◌, ℕ, ◌+◌, ◌*◌, ◌^◌, ◌<◌, ◌≤◌, Bool, true, false, if◌then◌else◌, List, [], ◌++◌, length}
 use Rattle.codes.specs.declared.limits.TheConstants.{MAX_RECORDS}
 use Rattle.disk.specs.Slots.{Slots, slot_of}
@@ -14,7 +14,7 @@ use Rattle.standing.specs.Standing.{IsPassedImage, IsPassedSegment}
 abbrev pub front : ℕ → List (List Record) → List ℕ
 front epoch batches = segment_header open_gate epoch ++ batches_text 0 batches
 
--- A segment of an epoch holds these batches, and behind them stands a gate that isn't open, or nothing.
+-- A segment of an epoch holds these batches, and after them stands a gate that isn't open, or nothing.
 pub record HoldsBatches (epoch : ℕ) (slot : List ℕ) (batches : List (List Record)) : Type 0 where
   pub behind : List ℕ
   pub text : slot ≡ front epoch batches ++ behind
@@ -28,8 +28,8 @@ abbrev pub OtherSegment : Bool → ℕ → List ℕ → List (List Record) → T
 OtherSegment false epoch slot next = IsPassedSegment epoch slot × (next ≡ [])
 OtherSegment true epoch slot next = HoldsBatches (epoch + 1) slot next
 
--- A store in use at one moment: an epoch's image, the batches of its segment, and once the store has turned to the next epoch's
--- segment, that one's batches; and the state after all of these records.
+-- A store in use at one moment: an epoch's image, the batches of its segment and, once the store has rotated to the
+-- next epoch's segment, that one's batches; and the state after all of these records.
 pub record Moment : Type 0 where
   pub slots : Slots
   pub epoch : ℕ
@@ -49,8 +49,8 @@ pub record Moment : Type 0 where
 abbrev pub place : Moment → ℕ
 place m = 2 * m.epoch + (if m.has_turned then 1 else 0)
 
--- From one moment to another of the same half of an epoch batches are appended to the segment in use. The image and a segment that
--- is full stay as they are.
+-- From one moment to another in the same half of an epoch: batches are appended to the segment in use. The image, and a
+-- segment that is full, stay as they are.
 pub record Appends (before now : Moment) : Type 0 where
   pub epoch : now.epoch ≡ before.epoch
   pub half : now.has_turned ≡ before.has_turned
@@ -62,6 +62,6 @@ pub record Appends (before now : Moment) : Type 0 where
   pub next_more : List (List Record)
   pub next : now.next ≡ before.next ++ next_more
 
--- A later moment, or the same: batches were appended since, or the store has turned.
+-- A later moment, or the same: batches were appended since, or the store is in a later half of an epoch.
 abbrev pub Later : Moment → Moment → Type 0
 Later before now = Appends before now ⊎ (place before < place now)

@@ -1,10 +1,10 @@
--- What copies stand for that are made of a store beside its server.
+-- What copies of a store stand for that are made while its server runs.
 use Rattle.disk.specs.Slots.{Slots}
 use Rattle.ipc_model.specs.store.Recovery.{Recovered}
 use Rattle.standing.specs.Standing.{as_written}
 use Rattle.beside.specs.Moments.{Later, Moment}
 
--- What is recovered from copies is the state that the store had at some moment from the first one to the last.
+-- What is recovered from the copies is the state that the store had at some moment, from the first one to the last.
 pub record StandFor (begun ended : Moment) (copies : Slots) : Type 0 where
   pub at : Moment
   pub since : Later begun at

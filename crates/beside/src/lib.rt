@@ -1,4 +1,4 @@
-//! What a reader reads of a store beside the server that has it, told over moments of the store: a law and what it speaks of.
+//! What a reader reads of a store alongside the server that has it, over moments of the store: a law and its terms.
 #![tactic(auto)]
 
 ghost use Rattle.std.specs.Prelude.{◌+◌, ◌≤◌};
@@ -7,8 +7,8 @@ ghost use Rattle.still_disk.specs.Live.{IsReading};
 ghost use Rattle.beside.specs.Moments.{Later, Moment};
 ghost use Rattle.beside.specs.Standing.{StandFor};
 
-/// Copies of the slots that were made between two readings of their fronts which agree stand for a state that the store had meanwhile,
-/// where it turned to another epoch once at most.
+/// Copies of the slots that were made between two readings of their fronts which agree stand for a state that the store
+/// had meanwhile, if at most one epoch ended during that time.
 pub fn copies_stand()
     ensures { (begun ended : Moment) (copies : Slots) → IsReading Later (λ m. m.slots) begun ended copies → ended.epoch ≤ begun.epoch + 1 → StandFor begun ended copies }
 {}

@@ -34,7 +34,7 @@ front_of content arguments (request.One c) is (m, fits, spelled, e) = absurd (ne
 front_of content arguments (request.Message m) is asks = (arguments, is, asks)
 front_of content arguments (request.Answered code) is asks = (arguments, is, asks)
 
--- what the arguments of a mach_msg ask for, its frame does
+-- what the arguments of a mach_msg ask for, its frame asks for
 pub asks_in_front : (content arguments : List ℕ) (r : Result Request CallFault) → content ≡ word MACH_MSG ++ arguments → IfOk r (λ q. AsksMachMsg arguments q) → IfOk r (λ q. Asks content q)
 asks_in_front content arguments (Ok q) is asks = front_of content arguments q is asks
 asks_in_front content arguments (Err e) is asks = tt
@@ -46,7 +46,7 @@ not_one content arguments c is other text = other (same_word (number_of_call c) 
 behind : (arguments others : List ℕ) (q : Request) → word MACH_MSG ++ arguments ≡ word MACH_MSG ++ others → AsksMachMsg others q → AsksMachMsg arguments q
 behind arguments others q same asks = let e : others ≡ arguments = ap (λ (l : List ℕ). drop 4 l) (sym same) in subst (λ (l : List ℕ). AsksMachMsg l q) e asks
 
--- and what its frame asks for, they do
+-- and what its frame asks for, they ask for
 pub asks_behind : (content arguments : List ℕ) (r : Result Request CallFault) → content ≡ word MACH_MSG ++ arguments
     → ((q : Request) → AsksMachMsg arguments q → (r ≡ Ok q) ⊎ (r ≡ Err NoMemory)) → (q : Request) → Asks content q → (r ≡ Ok q) ⊎ (r ≡ Err NoMemory)
 asks_behind content arguments r is only (request.One c) (other, fits, text) = absurd (not_one content arguments c is other text)

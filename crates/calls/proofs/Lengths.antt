@@ -1,4 +1,4 @@
--- How long the texts of rows are.
+-- How long the encodings of rows are.
 use Rattle.std.proofs.Common.{◌≡◌, ℕ, ◌+◌, ◌*◌, ◌<◌, ◌≤◌, List, [], ◌∷◌, ◌++◌, length, take, flat_map, refl, subst, ap, arith, length-append, length-take}
 use Rattle.ipc_model.specs.declared.call.NamedType.{NamedType}
 use Rattle.ipc_model.specs.declared.call.Reply.{Reply}
@@ -15,7 +15,7 @@ pub length-words_text : (numbers : List ℕ) → length (flat_map word numbers) 
 length-words_text [] = refl
 length-words_text (n ∷ numbers) = let others = length-words_text numbers in omega (arith, others, length-append (word n) (flat_map word numbers))
 
--- rows of a reply whose text is short are short
+-- rows of a reply whose encoding is short are short
 pub length-names_reply : (names : List NamedType) → length (reply_text (reply.Names names)) ≡ 12 + 8 * length names
 unfolding reply_text
 length-names_reply names = let row = length-names_text names in omega (arith, row)
@@ -34,7 +34,7 @@ few_members r members most is short =
     let few : length (reply_text (reply.SetStatus members)) ≤ most = subst (λ (x : Reply). length (reply_text x) ≤ most) is short in
     omega (arith, few, length-members_reply members)
 
--- room for one item more, where some of a row have been added
+-- room for one more item, once some of a row have been added
 pub words_room : (old content numbers : List ℕ) (i : ℕ) → content ≡ old ++ flat_map word (take i numbers) → i < length numbers → length content + 4 ≤ length old + 4 * length numbers
 words_room old content numbers i is less =
     let added = length-words_text (take i numbers) in

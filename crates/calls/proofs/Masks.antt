@@ -1,8 +1,8 @@
--- The message that is kept of one, as masks are laid over it one by one.
+-- What is kept of a message, as masks are applied to it one by one.
 use Rattle.std.proofs.Common.{◌≡◌, ℕ, zero, suc, ◌+◌, ◌<◌, ◌≤◌, min, List, [], ◌∷◌, length, take, drop, get_or, set, slice_index, bit_and, refl, ap, ◌∙◌, arith}
 use Rattle.ipc_model.specs.messages.Kept.{masked}
 
--- one mask more
+-- one more mask
 masked_more : (masks bytes : List ℕ) (i v : ℕ) → i < length masks → i < length bytes
     → set (masked (take i masks) bytes) i (bit_and (get_or (masked (take i masks) bytes) i v) (get_or masks i 0)) ≡ masked (take (suc i) masks) bytes
 masked_more [] bytes i v less within = absurd (omega arith)

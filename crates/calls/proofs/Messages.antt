@@ -1,4 +1,4 @@
--- Sends and receipts as a record has them.
+-- Sends and receives as a record has them.
 use Rattle.std.proofs.Common.{◌≡◌, ℕ, ◌+◌, ◌<◌, ◌^◌, Bool, true, false, not, eqb, List, [], ◌++◌, drop, Option, Some, slice_index, refl, sym, ap, subst, ◌∙◌, arith}
 use Rattle.std.proofs.lemmas.Bool.Decides.{Decides-eqb}
 use Rattle.std.proofs.lemmas.Slice.Eq.{slice_eq-Decides}
@@ -27,12 +27,12 @@ same_bytes xs ys differ is none = (slice_eq-Decides Decides-eqb xs ys (pointwise
 pub other_bytes : (xs ys : List ℕ) (differ : Bool) → differ ≡ not (pointwise eqb xs ys) → differ ≡ true → xs ≡ ys → ⊥
 other_bytes xs ys differ is some same = false_of_not (pointwise eqb xs ys) (sym is ∙ some) ((slice_eq-Decides Decides-eqb xs ys (pointwise eqb xs ys) refl).1 same)
 
--- what stands behind bytes is bytes
+-- what follows bytes is bytes
 pub bytes_behind : (bytes behind : List ℕ) (n : ℕ) → AreBytes bytes → drop n bytes ≡ behind → AreBytes behind
 bytes_behind bytes behind n are is i =
     subst (λ (l : List ℕ). slice_index l i < 256) is (subst (λ (k : ℕ). k < 256) (sym (at_drop n bytes i)) (are (n + i)))
 
--- behind the option of a receipt stands a receipt
+-- after the option of a receive comes a receive
 pub only_receipt : (large : Bool) (words : List ℕ) (r : Option Call)
     → ((limit name : ℕ) (waited : Bool) → limit < 2 ^ 32 → name < 2 ^ 32 → words ≡ word limit ++ (word name ++ word (number_of_bool waited)) → r ≡ Some (call.Receive limit large name waited))
     → (c : Call) → IsKeptCall c → number_of_call c ≡ MACH_MSG → word (receive_option large) ++ words ≡ arguments_text c → r ≡ Some c
@@ -44,7 +44,7 @@ only_receipt false words r only (call.Receive limit true name waited) fits numbe
 only_receipt false words r only (call.Receive limit false name waited) fits number is = only limit name waited fits.fits.0 fits.fits.1 (ap (λ (l : List ℕ). drop 4 l) is)
 only_receipt large words r only c fits number is = absurd (omega (arith, number))
 
--- a message that is kept is as it is kept
+-- a message in its kept form is kept unchanged
 message_of : Call → List ℕ
 message_of (call.Send message) = message
 message_of c = []

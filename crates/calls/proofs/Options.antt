@@ -1,4 +1,4 @@
--- The options of a send or a receipt in a record.
+-- The options of a send or a receive in a record.
 use Rattle.std.proofs.Common.{◌≡◌, ℕ, ◌<◌, ◌^◌, true, false, List, ◌++◌, bit_and, refl, sym, subst, arith}
 use Rattle.bitflags.specs.Sets.{known_bits, known_from}
 use Rattle.codes.specs.declared.call_number.TheConstants.{MACH_MSG}

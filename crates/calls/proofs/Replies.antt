@@ -1,4 +1,4 @@
--- Replies that stand in records, by their texts.
+-- Replies in records, by their encodings.
 use Rattle.std.proofs.Common.{◌≡◌, ℕ, ◌<◌, ◌≤◌, ◌^◌, Bool, true, false, ◌&&◌, ◌||◌, List, ◌++◌, length, Some, refl, sym, ap, subst, ◌∙◌, arith}
 use Rattle.ipc_model.specs.declared.call.Call.{Call}
 use Rattle.ipc_model.specs.declared.call.Reply.{Reply}
@@ -19,14 +19,14 @@ recorded_too true x true y both succeeds = refl
 recorded_too true x false y both succeeds = absurd cc
 recorded_too false x s y both succeeds = absurd cc
 
--- one reply that stands in a record has this text
+-- only one reply that stands in a record has this encoding
 pub same_reply : (c : Call) (mine answer : Reply) (text : List ℕ) → FitsReply mine → has_record c mine ≡ true → text ≡ reply_text mine → IsRecordedReply c answer → text ≡ reply_text answer → mine ≡ answer
 same_reply c mine answer text fits recorded e is_too e_too = reply_text_once c c mine answer fits is_too.fits recorded is_too.recorded (sym e ∙ e_too)
 
 pub one_reply : (c : Call) (mine answer : Reply) (text : List ℕ) → IsRecordedReply c mine → text ≡ reply_text mine → IsRecordedReply c answer → text ≡ reply_text answer → Some mine ≡ Some answer
 one_reply c mine answer text is e is_too e_too = ap (λ (r : Reply). Some r) (same_reply c mine answer text is.fits is.recorded e is_too e_too)
 
--- the same, where the call is one that another reply with a record is to
+-- the same, if another reply with a record is one to this call
 pub one_done : (c : Call) (mine answer : Reply) (text : List ℕ) → FitsReply mine → succeeded c mine ≡ true → text ≡ reply_text mine → IsRecordedReply c answer → text ≡ reply_text answer → Some mine ≡ Some answer
 one_done c mine answer text fits succeeds e is_too e_too =
     let recorded = recorded_too (is_recorded c) (succeeded c answer || destroyed_message c answer) (succeeded c mine) (destroyed_message c mine) is_too.recorded succeeds in

@@ -1,4 +1,4 @@
--- What is added for a call is its text.
+-- What is added for a call is its encoding.
 use Rattle.std.proofs.Common.{◌≡◌, ◌++◌, List, ℕ, OnOk, Result, sym, subst}
 use Rattle.std.specs.declared.alloc.AllocError.{AllocError}
 use Rattle.ipc_model.specs.declared.call.Call.{Call}

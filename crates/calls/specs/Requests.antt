@@ -35,7 +35,7 @@ known_options = 0x913
 abbrev pub has_option : ℕ → ℕ → Bool
 has_option option bit = bit_and option bit == bit
 
--- the arguments of mach_msg: four words, and the message behind them
+-- the arguments of mach_msg: four words, followed by the message
 pub record MachMsg : Type 0 where
   pub option : ℕ
   pub limit : ℕ
@@ -53,7 +53,7 @@ pub record FitsMachMsg (m : MachMsg) : Type 0 where
 abbrev pub mach_msg_arguments : MachMsg → List ℕ
 mach_msg_arguments m = word m.option ++ (word m.limit ++ (word m.name ++ (word m.timeout ++ m.message)))
 
--- The send and the receipt that it asks for, in this order, and how long each may wait.
+-- The send and the receive that it asks for, in this order, and how long each may wait.
 abbrev pub asked_send : ℕ → List ℕ → Option Call
 asked_send option message = if has_option option send_msg then Some (call.Send message) else None
 

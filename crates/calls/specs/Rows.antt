@@ -3,6 +3,6 @@ use Rattle.std.specs.Prelude.{ℕ, List, ◌++◌, flat_map}
 use Rattle.ipc_model.specs.declared.call.NamedType.{NamedType}
 use Rattle.words.specs.Words.{word}
 
--- names with their type bits
+-- the encoding of names with their type bits
 abbrev pub names_text : List NamedType → List ℕ
 names_text names = flat_map (λ (n : NamedType). word n.name ++ word n.bits) names

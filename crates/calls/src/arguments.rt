@@ -15,7 +15,7 @@ use codes::{
 };
 use ipc_model::Call;
 
-/// The call of this number that has no arguments.
+/// The call with this number that has no arguments.
 fn call_of_none(number: u32) -> Option<Call>
     ensures found { IfSome result (λ call. (number_of_call call ≡ number) × (arguments_text call ≡ []) × IsKeptCall call) }
     ensures none { IfNone result (count_of_words number ≢ 0) }
@@ -27,7 +27,7 @@ fn call_of_none(number: u32) -> Option<Call>
     }
 }
 
-/// The call of this number that has this argument.
+/// The call with this number that has this argument.
 fn call_of_one(number: u32, a: u32) -> Option<Call>
     ensures found { IfSome result (λ call. (number_of_call call ≡ number) × (arguments_text call ≡ word a) × IsKeptCall call) }
     ensures none { IfNone result (count_of_words number ≢ 1) }
@@ -44,7 +44,7 @@ fn call_of_one(number: u32, a: u32) -> Option<Call>
     }
 }
 
-/// The call of this number that has these two arguments.
+/// The call with this number that has these two arguments.
 fn call_of_two(number: u32, a: u32, b: u32) -> Option<Call>
     ensures found { IfSome result (λ call. (number_of_call call ≡ number) × (arguments_text call ≡ word a ++ word b) × IsKeptCall call) }
     ensures none { IfNone result (count_of_words number ≢ 2) }
@@ -72,7 +72,7 @@ fn call_of_two(number: u32, a: u32, b: u32) -> Option<Call>
     }
 }
 
-/// The call of this number that has these three arguments.
+/// The call with this number that has these three arguments.
 fn call_of_three(number: u32, a: u32, b: u32, c: u32) -> Option<Call>
     ensures found { IfSome result (λ call. (number_of_call call ≡ number) × (arguments_text call ≡ word a ++ (word b ++ word c)) × IsKeptCall call) }
     ensures none { IfNone result (count_of_words number ≢ 3) }

@@ -24,7 +24,7 @@ fn put_words(frame: &mut Frame, numbers: &[u32])
     }
 }
 
-/// Makes this a frame of a call's number, a code and these numbers.
+/// Makes this a frame with a call's number, a code and these numbers.
 fn start_reply(frame: &mut Frame, number: u32, code: u32, numbers: &[u32])
     requires room { MAX_FRAME_CONTENT ≤ frame.old.room }
     requires limit { 8 + 4 * length numbers.now ≤ MAX_FRAME_CONTENT }

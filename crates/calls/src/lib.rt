@@ -1,4 +1,4 @@
-//! Calls and replies as bytes and as frames, one spelling each.
+//! Calls and replies as bytes and as frames, in one canonical encoding each.
 #![tactic(auto)]
 
 mod arguments;

@@ -27,7 +27,7 @@ fn flag_of(number: u32) -> Option<bool>
     }
 }
 
-/// A receipt as a record has it, behind its option.
+/// A receive as a record has it, after its option.
 fn read_receive(large: bool, words: &[u8]) -> Option<Call>
     ensures found { IfSome result (λ call. (word (receive_option large) ++ words.now ≡ arguments_text call)
         × (number_of_call call ≡ MACH_MSG) × IsKeptCall call) }
@@ -45,7 +45,7 @@ fn read_receive(large: bool, words: &[u8]) -> Option<Call>
     })
 }
 
-/// What stands behind three numbers that are 0.
+/// What stands after three numbers that are 0.
 fn behind_zeros(bytes: &[u8]) -> Option<&[u8]>
     ensures found { IfSome result (λ behind. bytes.now ≡ word 0 ++ (word 0 ++ (word 0 ++ behind.now))) }
     ensures none { IfNone result ((behind : List ℕ) → bytes.now ≡ word 0 ++ (word 0 ++ (word 0 ++ behind)) → ⊥) }
@@ -56,7 +56,7 @@ fn behind_zeros(bytes: &[u8]) -> Option<&[u8]>
     }
 }
 
-/// A send as a record has it, behind its option.
+/// A send as a record has it, after its option.
 fn read_send(alloc: Global, words: &[u8]) -> Result<Option<Call>, AllocError>
     ensures found { IfOk result (λ found. IfSome found (λ call. (word 1 ++ words.now ≡ arguments_text call)
         × (number_of_call call ≡ MACH_MSG) × IsKeptCall call)) }
@@ -77,7 +77,7 @@ fn read_send(alloc: Global, words: &[u8]) -> Result<Option<Call>, AllocError>
     Ok(Some(Call::Send { message }))
 }
 
-/// The send or the receipt whose arguments in a record these are.
+/// The send or the receive whose arguments in a record these are.
 fn read_message_call(alloc: Global, arguments: &[u8]) -> Result<Option<Call>, AllocError>
     ensures found { IfOk result (λ found. IfSome found (λ call. (arguments.now ≡ arguments_text call)
         × (number_of_call call ≡ MACH_MSG) × IsKeptCall call)) }
@@ -100,8 +100,8 @@ fn read_message_call(alloc: Global, arguments: &[u8]) -> Result<Option<Call>, Al
 }
 
 #[tactic(auto, unfolding(ipc_model::specs::texts::Texts::call_text))]
-/// The call whose text these bytes are, if they are that of a call as a record has it. Memory is wanted for the
-/// message of a send alone.
+/// The call that these bytes encode, if they encode a call as a record has it. It can run out of memory only for the
+/// message of a send.
 pub fn read_call(alloc: Global, content: &[u8]) -> Result<Option<Call>, AllocError>
     ensures found { IfOk result (λ found. IfSome found (λ call. (content.now ≡ call_text call) × IsKeptCall call)) }
     ensures only { (call : Call) → IsKeptCall call → content.now ≡ call_text call

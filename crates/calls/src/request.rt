@@ -12,17 +12,17 @@ use std::alloc::{AllocError, Global};
 use wire::Frame;
 use words::take_word;
 
-/// What a `mach_msg` asks for: to send, to receive, or first the one and then the other. How long each may wait is
-/// for the session; the machine never waits.
+/// What a `mach_msg` asks for: to send, to receive, or first the one and then the other. The session decides how long
+/// each may wait; the machine never waits.
 #[derive(Drop)]
 pub struct MessageRequest {
     /// The send, if it asks for one.
     pub send: Option<Call>,
-    /// The receipt, if it asks for one.
+    /// The receive, if it asks for one.
     pub receive: Option<Call>,
     /// How long the send may wait, if there is a bound.
     pub send_timeout: Option<u32>,
-    /// How long the receipt may wait, if there is a bound.
+    /// How long the receive may wait, if there is a bound.
     pub receive_timeout: Option<u32>,
 }
 
@@ -33,21 +33,21 @@ pub enum Request {
     One(Call),
     /// A `mach_msg` that sends, receives or both.
     Message(MessageRequest),
-    /// A `mach_msg` that is answered with this code at once, with size 0 and no port's name: `InvalidArgument` where
-    /// an option isn't known, `Success` where it asks for nothing.
+    /// A `mach_msg` that is answered with this code at once, with size 0 and no port's name: `InvalidArgument` if an
+    /// option isn't known, `Success` if it asks for nothing.
     Answered(KernReturn),
 }
 
 /// Why a frame is no request.
 #[derive(Clone, Copy, Debug, PartialEq, Eq)]
 pub enum CallFault {
-    /// The number is that of no call, or the arguments have another length than the call's.
+    /// There is no call with this number, or the arguments don't have the call's length.
     NoCall = 1,
-    /// No memory for the message of a send.
+    /// Out of memory for the message of a send.
     NoMemory = 2,
 }
 
-/// Whether the options ask for a send or a receipt.
+/// Whether the options ask for a send or a receive.
 fn asks_for_some(options: MessageOptions) -> bool
     ensures { result ≡ (requests.has_option (bits_of options) requests.send_msg || requests.has_option (bits_of options) requests.rcv_msg) }
 {
@@ -70,7 +70,7 @@ fn asked_send(
     Ok(Some(Call::Send { message }))
 }
 
-/// The receipt that the options ask for.
+/// The receive that the options ask for.
 fn asked_receive(options: MessageOptions, limit: u32, name: u32) -> Option<Call>
     ensures { result ≡ requests.asked_receive (bits_of options) limit name }
 {
@@ -130,7 +130,7 @@ fn request_of(
     }))
 }
 
-/// The four numbers that stand in front, and the bytes behind them.
+/// The four numbers that stand in front, and the bytes after them.
 fn take_four(bytes: &[u8]) -> Option<(u32, u32, u32, u32, &[u8])>
     ensures found { IfSome result (λ r. bytes.now ≡ word r.0 ++ (word r.1 ++ (word r.2 ++ (word r.3 ++ r.4.now)))) }
     ensures fits { IfSome result (λ r. (r.0 < 2 ^ 32) × (r.1 < 2 ^ 32) × (r.2 < 2 ^ 32) × (r.3 < 2 ^ 32)) }
@@ -143,7 +143,7 @@ fn take_four(bytes: &[u8]) -> Option<(u32, u32, u32, u32, &[u8])>
     Some((a, b, c, d, rest))
 }
 
-/// What a `mach_msg` of these arguments asks for.
+/// What a `mach_msg` with these arguments asks for.
 fn read_mach_msg(alloc: Global, arguments: &[u8]) -> Result<Request, CallFault>
     ensures found { IfOk result (λ request. requests.AsksMachMsg arguments.now request) }
     ensures only { (asks : Request) → requests.AsksMachMsg arguments.now asks
@@ -160,8 +160,8 @@ fn read_mach_msg(alloc: Global, arguments: &[u8]) -> Result<Request, CallFault>
 }
 
 #[tactic(auto, unfolding(ipc_model::specs::texts::Texts::call_text))]
-/// What a frame asks for. `NoCall`: no call has this number and arguments of this length. `NoMemory`, which comes for a
-/// send alone: no memory for its message.
+/// What a frame asks for. `NoCall`: no call has this number and arguments of this length. `NoMemory`, only for a send:
+/// out of memory for its message.
 pub fn read_request(alloc: Global, frame: &Frame) -> Result<Request, CallFault>
     ensures found { IfOk result (λ request. requests.Asks frame.now.content request) }
     ensures only { (asks : Request) → requests.Asks frame.now.content asks

@@ -16,7 +16,7 @@ use ipc_model::{Call, Reply, RightKind, Sequence, is_message_size};
 use std::alloc::{AllocError, Global};
 use words::take_word;
 
-/// Whether the call is a receipt that destroys a message that is too large.
+/// Whether the call is a receive that destroys a message that is too large.
 fn destroys(call: &Call) -> bool
     ensures { result ≡ has_destroyed call.now KernReturn.RcvTooLarge }
 {
@@ -39,7 +39,7 @@ fn recorded_code(call: &Call, number: u32) -> Option<KernReturn>
     }
 }
 
-/// Whether the call, where it is done, has no results.
+/// Whether the call has no results when it is done.
 fn has_no_results(call: &Call) -> bool
     ensures { result ≡ has_no_results call.now }
 {
@@ -54,8 +54,8 @@ fn has_no_results(call: &Call) -> bool
     )
 }
 
-/// Whether a receipt with this limit tells this of the message that it took out: its size, the name of its port and,
-/// where it wasn't destroyed, its bytes.
+/// Whether a receive with this limit reports this of the message that it took out: its size, the name of its port and,
+/// unless it was destroyed, its bytes.
 fn is_of_receipt(limit: u32, code: KernReturn, size: u32, member: u32, message: &[u8]) -> bool
     ensures yes { result ≡ true → IsOfReceipt limit code size member message.now }
     ensures no { result ≡ false → IsOfReceipt limit code size member message.now → ⊥ }
@@ -70,7 +70,7 @@ fn is_of_receipt(limit: u32, code: KernReturn, size: u32, member: u32, message: 
     }
 }
 
-/// Whether a `mach_msg` brings these results: a send brings none.
+/// Whether a `mach_msg` returns these results: a send returns none.
 fn brings(call: &Call, code: KernReturn, size: u32, member: u32, message: &[u8]) -> bool
     ensures yes { result ≡ true → Brings call.now code size member message.now }
     ensures no { result ≡ false → Brings call.now code size member message.now → ⊥ }
@@ -82,7 +82,7 @@ fn brings(call: &Call, code: KernReturn, size: u32, member: u32, message: &[u8])
     }
 }
 
-/// The size, the port's name and the message that stand behind the code of a `mach_msg`.
+/// The size, the port's name and the message that stand after the code of a `mach_msg`.
 fn take_message(results: &[u8]) -> Option<(u32, u32, &[u8])>
     ensures found { IfSome result (λ r. results.now ≡ word r.0 ++ (word r.1 ++ r.2.now)) }
     ensures fits { IfSome result (λ r. (r.0 < 2 ^ 32) × (r.1 < 2 ^ 32)) }
@@ -94,7 +94,7 @@ fn take_message(results: &[u8]) -> Option<(u32, u32, &[u8])>
 }
 
 #[tactic(auto, unfolding(ipc_model::specs::texts::Texts::reply_text))]
-/// The reply to a `mach_msg` that has a record, of which this is the code and what stands behind it.
+/// The reply to a `mach_msg` that has a record, from its code and what stands after it.
 fn read_message_reply(
     alloc: Global,
     call: &Call,
@@ -127,7 +127,7 @@ fn read_message_reply(
 }
 
 #[tactic(auto, unfolding(ipc_model::specs::texts::Texts::reply_text))]
-/// The reply to a call of this number, of any but `mach_msg`, that was done and has these results.
+/// The reply to a call with this number, any but `mach_msg`, that was done and has these results.
 fn read_plain_reply(number: u32, results: &[u8]) -> Option<Reply>
     ensures found { IfSome result (λ answer. (done_text number results.now ≡ reply_text answer) × FitsReply answer
         × (number_of_reply answer ≡ number)
@@ -158,7 +158,7 @@ fn read_plain_reply(number: u32, results: &[u8]) -> Option<Reply>
 }
 
 #[tactic(auto, unfolding(ipc_model::specs::texts::Texts::reply_text))]
-/// The reply to a call that has a record, of which this is the code and what stands behind it.
+/// The reply to a call that has a record, from its code and what stands after it.
 fn read_results(
     alloc: Global,
     call: &Call,
@@ -187,8 +187,8 @@ fn read_results(
     Ok(None)
 }
 
-/// The reply whose text these bytes are, if they are that of a reply that stands in a record of this call. Memory
-/// is wanted for a received message alone.
+/// The reply that these bytes encode, if they encode a reply in a record of this call. It can run out of memory only
+/// for a received message.
 pub fn read_recorded_reply(
     alloc: Global,
     call: &Call,

@@ -50,7 +50,7 @@ fn push_send(out: &mut Vec<u8>, message: &[u8]) -> Result<(), AllocError>
 }
 
 #[tactic(auto, unfolding(ipc_model::specs::texts::Texts::call_text))]
-/// Adds the number and the arguments of a call. Where memory is wanted some of them may have been added.
+/// Adds the number and the arguments of a call. If an allocation fails, some of them may have been added.
 pub fn push_call(out: &mut Vec<u8>, call: &Call) -> Result<(), AllocError>
     ensures ok { OnOk result (out.new.items ≡ out.old.items ++ call_text call.now) }
 {
@@ -147,7 +147,7 @@ pub fn push_call(out: &mut Vec<u8>, call: &Call) -> Result<(), AllocError>
 
 #[tactic(auto, unfolding(ipc_model::specs::texts::Texts::call_text))]
 /// Adds the number and the arguments of a call as a record keeps it: of a send the message with 0 in place of what a
-/// send ignores. Where memory is wanted some of them may have been added.
+/// send ignores. If an allocation fails, some of them may have been added.
 pub fn push_kept_call(alloc: Global, out: &mut Vec<u8>, call: &Call) -> Result<(), AllocError>
     ensures ok { OnOk result (out.new.items ≡ out.old.items ++ call_text (kept_call call.now)) }
 {
@@ -158,14 +158,14 @@ pub fn push_kept_call(alloc: Global, out: &mut Vec<u8>, call: &Call) -> Result<(
     push_send(out, &kept)
 }
 
-/// A yes or no in a word.
+/// A flag as a word.
 fn bool_number(flag: bool) -> u32
     ensures { result ≡ number_of_bool flag }
 {
     flag as u32
 }
 
-/// Adds names with their type bits, behind their count.
+/// Adds names with their type bits, after their count.
 fn push_names(out: &mut Vec<u8>, names: &[NamedType]) -> Result<(), AllocError>
     requires { length names.now < 2 ^ 32 }
     ensures ok { OnOk result (out.new.items ≡ out.old.items ++ (word (length names.now) ++ names_text names.now)) }
@@ -194,7 +194,7 @@ pub(crate) fn status_words(status: &ReceiveStatus) -> [u32; 9]
     ]
 }
 
-/// Adds the reply of the state of a port.
+/// Adds the reply with the state of a port.
 fn push_status(out: &mut Vec<u8>, status: &ReceiveStatus) -> Result<(), AllocError>
     ensures ok { OnOk result (out.new.items ≡ out.old.items ++ done_text MACH_PORT_GET_RECEIVE_STATUS (status_text status.now)) }
 {
@@ -203,8 +203,7 @@ fn push_status(out: &mut Vec<u8>, status: &ReceiveStatus) -> Result<(), AllocErr
 }
 
 #[tactic(auto, unfolding(ipc_model::specs::texts::Texts::reply_text))]
-/// Adds the number, the code and the results of a reply. Where memory is wanted some of them may have been
-/// added.
+/// Adds the number, the code and the results of a reply. If an allocation fails, some of them may have been added.
 pub fn push_reply(out: &mut Vec<u8>, reply: &Reply) -> Result<(), AllocError>
     requires { length (reply_text reply.now) < 2 ^ 32 }
     ensures ok { OnOk result (out.new.items ≡ out.old.items ++ reply_text reply.now) }

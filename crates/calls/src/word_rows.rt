@@ -4,7 +4,7 @@ ghost use Rattle.words.specs.Words.{word};
 use std::alloc::AllocError;
 use words::{push_word, take_word};
 
-/// Adds numbers of four bytes. Where memory is wanted some of them may have been added.
+/// Adds numbers of four bytes. If an allocation fails, some of them may have been added.
 pub(crate) fn push_words(out: &mut Vec<u8>, numbers: &[u32]) -> Result<(), AllocError>
     ensures ok { OnOk result (out.new.items ≡ out.old.items ++ flat_map word numbers.now) }
 {

@@ -1,4 +1,4 @@
--- What is said of a slot, an epoch and a text, said of equal ones.
+-- What holds of a slot, an epoch and an encoding holds of equal ones.
 use Rattle.std.proofs.Common.{◌≡◌, ℕ, List, subst}
 use Rattle.disk.specs.declared.slot.Slot.{Slot}
 

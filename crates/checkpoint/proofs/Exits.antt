@@ -1,4 +1,4 @@
--- At an exit with a fault nothing is owed of what is said of an `Ok`.
+-- At an exit with a fault, clauses about an `Ok` ask for nothing.
 use Rattle.std.proofs.Common.{Result, Ok, Err, OnOk}
 use Rattle.std.specs.Prelude.{IsErrAnd}
 

@@ -1,4 +1,4 @@
--- An image's text behind its header's place, and then the whole image.
+-- An image's encoding after the place of its header, and then the whole image.
 use Rattle.std.proofs.Common.{◌≡◌, ℕ, ◌<◌, ◌≤◌, List, [], ◌∷◌, ◌++◌, length, take, drop, sym, ap, ◌∙◌, arith, append_assoc, length-append}
 use Rattle.std.proofs.lemmas.List.{append-nil, drop_at}
 use Rattle.disk.specs.declared.slot.Slot.{Slot}
@@ -10,20 +10,20 @@ use Rattle.slot_steps.proofs.Gates.{behind_first}
 use Rattle.slot_steps.proofs.Lengths.{closed_cut, cut_length, own_of}
 use Rattle.slot_steps.proofs.Moments.{with_twice}
 
--- a slot that was cut to the place of a header, behind a gate that isn't open
+-- a slot that was truncated to the place of a header, whose gate isn't open
 pub cut_to_header : (slot : Slot) (old new : Slots) → 24 ≤ length (slot_of old slot) → IsClosed (slot_of old slot) → new ≡ with_slot old slot (take 24 (slot_of old slot)) → HoldsBehind (slot_of new slot) []
 cut_to_header slot old new long shut is =
     let front : List ℕ = take 24 (slot_of old slot) in
     record { head = front; long = cut_length (slot_of old slot) 24 long; shut = closed_cut (slot_of old slot) shut; whole = own_of slot old new front is ∙ sym (append-nil front) }
 
--- what stands behind the first byte once the header is written
+-- what stands after the first byte once the header is written
 behind_header : (bytes text header : List ℕ) → (holds : HoldsBehind bytes text) → drop 1 (take 1 bytes ++ (header ++ drop 24 bytes)) ≡ header ++ text
 behind_header bytes text header holds =
     let some : 0 < length bytes = omega (arith, holds.long, ap length holds.whole, length-append holds.head text) in
     behind_first bytes (header ++ drop 24 bytes) some
     ∙ ap (λ (l : List ℕ). header ++ l) (ap (λ (l : List ℕ). drop 24 l) holds.whole ∙ drop_at holds.head text 24 holds.long)
 
--- an image's content is its header and its text
+-- an image's content is its header and its encoding
 content_is : (epoch : ℕ) (text : List ℕ) → (epoch_text epoch ++ long_word (length text)) ++ text ≡ image_content epoch text
 content_is epoch text = append_assoc (epoch_text epoch) (long_word (length text)) text
 
@@ -39,7 +39,7 @@ pub gate_written : (slot : Slot) (old mid new : Slots) (epoch : ℕ) (text bytes
 gate_written slot old mid new epoch text bytes before behind is =
     is ∙ (λ i. with_slot (before i) slot (open_gate ∷ behind i)) ∙ with_twice slot old bytes (open_gate ∷ image_content epoch text)
 
--- more of the text was written behind what stood there
+-- more of the encoding was written after what stood there
 pub held_more : (slot : Slot) (old new : Slots) (text more whole : List ℕ) → HoldsBehind (slot_of old slot) text → new ≡ with_slot old slot (slot_of old slot ++ more) → text ++ more ≡ whole → HoldsBehind (slot_of new slot) whole
 held_more slot old new text more whole holds is joined = record {
   head = holds.head;

@@ -4,7 +4,7 @@ use Rattle.std.specs.Coded.{Coded, code_by, coded×, coded_ℕ, coded_list}
 use Rattle.ipc_model.specs.store.Store.{IsClosed, open_gate, image_content}
 use Rattle.ipc_model.specs.world.World.{piece_length}
 
--- an epoch's image: its text, and how many pieces of it were written
+-- an epoch's image: its encoding, and how many pieces of it were written
 pub record ImageValue : Type 0 where
   pub epoch : ℕ
   pub text : List ℕ
@@ -21,14 +21,14 @@ unwritten epoch text = record { epoch = epoch; text = text; written = 0 }
 abbrev pub one_more : ImageValue → ImageValue
 one_more image = record image { written = image.written + 1 }
 
--- A slot holds this text, and in front of it a gate that isn't open and the place of a header.
+-- A slot holds these bytes, preceded by a gate that isn't open and room for the rest of a header.
 pub record HoldsBehind (slot text : List ℕ) : Type 0 where
   pub head : List ℕ
   pub long : length head ≡ 24
   pub shut : IsClosed head
   pub whole : slot ≡ head ++ text
 
--- so many pieces of a text
+-- the first pieces of an encoding, this many
 abbrev pub first_pieces : ℕ → List ℕ → List ℕ
 first_pieces count text = take (piece_length * count) text
 
@@ -36,6 +36,6 @@ first_pieces count text = take (piece_length * count) text
 abbrev pub open_image : ℕ → List ℕ → List ℕ
 open_image epoch text = open_gate ∷ image_content epoch text
 
--- An image is finished: its gate isn't open, or the whole image stands there.
+-- An image is being finished: its gate isn't open, or the whole image stands there.
 abbrev pub IsFinishing : ℕ → List ℕ → List ℕ → List ℕ → Type 0
 IsFinishing epoch text before after = IsClosed after ⊎ (after ≡ open_image epoch text)

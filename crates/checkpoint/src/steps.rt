@@ -13,10 +13,11 @@ use slot_steps::{
     IMAGE_HEADER, OPEN_GATE, close_slot, cut_behind, sync_behind, write_behind, write_gate,
 };
 
-/// How many bytes of an image's text are written at once.
+/// How many bytes of an encoded state are written at once.
 pub const PIECE: usize = 4096;
 
-/// What stands behind the gate of an image before its text: version 1, six zero bytes, its epoch, and the text's length.
+/// What stands after the gate of an image before its encoded state: version 1, six zero bytes, its epoch, and the
+/// length of that encoding.
 fn image_start(epoch: u64, length: u64) -> [u8; 23]
     ensures { result ≡ epoch_text epoch ++ long_word length }
 {
@@ -27,7 +28,7 @@ fn image_start(epoch: u64, length: u64) -> [u8; 23]
     ]
 }
 
-/// Writes zeros where an image has its header behind the gate.
+/// Writes zeros where an image has its header after the gate.
 fn write_zeros<D: Disk>(disk: &mut D, slot: Slot) -> Result<(), DiskFault>
     requires { D.honest → 0 < length (slot_of (D.view disk.old).seen slot) }
     ensures long { D.honest → OnOk result (24 ≤ length (slot_of (D.view disk.new).seen slot)) }
@@ -41,7 +42,7 @@ fn write_zeros<D: Disk>(disk: &mut D, slot: Slot) -> Result<(), DiskFault>
     write_behind(disk, slot, 1, &[0; 23])
 }
 
-/// Clears an image slot: a closed gate and the place of a header stand there, and nothing else.
+/// Clears an image slot: it then holds a closed gate and the place of a header, and nothing else.
 pub(crate) fn clear<D: Disk>(disk: &mut D, slot: Slot) -> Result<(), DiskFault>
     ensures cleared { D.honest → OnOk result (HoldsBehind (slot_of (D.view disk.new).seen slot) []) }
     ensures others { D.honest → OnOk result ((D.view disk.new).seen ≡ with_slot (D.view disk.old).seen slot (slot_of (D.view disk.new).seen slot)) }
@@ -55,14 +56,14 @@ pub(crate) fn clear<D: Disk>(disk: &mut D, slot: Slot) -> Result<(), DiskFault>
     cut_behind(disk, slot, 24)
 }
 
-/// How many pieces a text has.
+/// How many pieces an encoding has.
 pub(crate) fn pieces_in(text: &[u8]) -> u64
     ensures { result ≡ pieces_of text.now }
 {
     text.len().div_ceil(PIECE) as u64
 }
 
-/// A piece of a text, by how many stand before it.
+/// A piece of an encoding, by how many come before it.
 pub(crate) fn piece_at(text: &[u8], before: u64) -> &[u8]
     ensures { first_pieces before text.now ++ result.now ≡ first_pieces (before + 1) text.now }
 {
@@ -71,7 +72,7 @@ pub(crate) fn piece_at(text: &[u8], before: u64) -> &[u8]
     &text[from..to]
 }
 
-/// Writes a piece of an image's text behind what stands in the slot.
+/// Writes a piece of an encoded state after what stands in the slot.
 pub(crate) fn push_piece<D: Disk>(disk: &mut D, slot: Slot, piece: &[u8]) -> Result<(), DiskFault>
     requires { D.honest → 0 < length (slot_of (D.view disk.old).seen slot) }
     ensures written { D.honest → OnOk result ((D.view disk.new).seen
@@ -85,7 +86,7 @@ pub(crate) fn push_piece<D: Disk>(disk: &mut D, slot: Slot, piece: &[u8]) -> Res
     write_behind(disk, slot, end, piece)
 }
 
-/// Writes all of a text behind the place of the header.
+/// Writes a whole encoding after the place of the header.
 fn write_text<D: Disk>(disk: &mut D, slot: Slot, text: &[u8]) -> Result<(), DiskFault>
     requires { D.honest → HoldsBehind (slot_of (D.view disk.old).seen slot) [] }
     ensures held { D.honest → OnOk result (HoldsBehind (slot_of (D.view disk.new).seen slot) text.now) }
@@ -101,7 +102,7 @@ fn write_text<D: Disk>(disk: &mut D, slot: Slot, text: &[u8]) -> Result<(), Disk
     Ok(())
 }
 
-/// Writes an image's header behind the gate, on the disk.
+/// Writes an image's header after the gate, on the disk.
 fn write_header<D: Disk>(disk: &mut D, slot: Slot, epoch: u64, size: u64) -> Result<(), DiskFault>
     requires { D.honest → 24 ≤ length (slot_of (D.view disk.old).seen slot) }
     ensures written { D.honest → OnOk result ((D.view disk.new).seen ≡ with_slot (D.view disk.old).seen slot
@@ -115,7 +116,7 @@ fn write_header<D: Disk>(disk: &mut D, slot: Slot, epoch: u64, size: u64) -> Res
     sync_behind(disk, slot)
 }
 
-/// Writes the header of an image, all of whose text stands in the slot, and opens the gate.
+/// Writes the header of an image whose whole encoding stands in the slot, and opens the gate.
 pub(crate) fn finish<D: Disk>(
     disk: &mut D,
     slot: Slot,
@@ -133,7 +134,7 @@ pub(crate) fn finish<D: Disk>(
     write_gate(disk, slot, OPEN_GATE)
 }
 
-/// Writes all of an image, from the closing of its slot to the opening of its gate.
+/// Writes a whole image, from the closing of its slot to the opening of its gate.
 pub(crate) fn write_all<D: Disk>(
     disk: &mut D,
     slot: Slot,

@@ -14,7 +14,7 @@ use snapshot::Snapshot;
 use std::alloc::{AllocError, Global};
 use std::marker::Model;
 
-/// An epoch's image: its text, and how many pieces of it were written into the slot.
+/// An epoch's image: its encoding, and how many pieces of it were written into the slot.
 #[derive(Drop)]
 pub struct Image {
     epoch: u64,
@@ -50,7 +50,7 @@ impl Image {
         })
     }
 
-    /// How many bytes its text has.
+    /// How many bytes its encoding has.
     pub fn size(&self) -> u64
         ensures size { result ≡ length self.now.text }
         ensures fits { length self.now.text < 2 ^ 64 }
@@ -58,7 +58,7 @@ impl Image {
         self.text.len() as u64
     }
 
-    /// How many pieces its text has.
+    /// How many pieces its encoding has.
     pub fn pieces(&self) -> u64
         ensures { result ≡ pieces_of self.now.text }
     {
@@ -86,7 +86,7 @@ impl Image {
         steps::clear(disk, image_slot(self.epoch))
     }
 
-    /// Writes the next piece behind those that stand in the slot.
+    /// Writes the next piece after those that stand in the slot.
     pub fn write_piece<D: Disk>(&mut self, disk: &mut D) -> Result<(), DiskFault>
         requires more { self.old.written < pieces_of self.old.text }
         requires holds { D.honest → HoldsBehind (slot_of (D.view disk.old).seen (slot_of_epoch self.old.epoch)) (first_pieces self.old.written self.old.text) }
@@ -106,7 +106,7 @@ impl Image {
         Ok(())
     }
 
-    /// Opens the gate of the image, whose whole text stands in the slot: once that and the header are on the disk.
+    /// Opens the gate of the image, whose whole encoding stands in the slot, once that and the header are on the disk.
     pub fn finish<D: Disk>(&self, disk: &mut D) -> Result<(), DiskFault>
         requires all { self.now.written ≡ pieces_of self.now.text }
         requires holds { D.honest → HoldsBehind (slot_of (D.view disk.old).seen (slot_of_epoch self.now.epoch)) (first_pieces self.now.written self.now.text) }
@@ -120,7 +120,7 @@ impl Image {
         steps::finish(disk, image_slot(self.epoch), self.epoch, &self.text)
     }
 
-    /// Writes all of the image at once, from the closing of its slot to the opening of its gate.
+    /// Writes the whole image at once, from the closing of its slot to the opening of its gate.
     pub fn write<D: Disk>(&self, disk: &mut D) -> Result<(), DiskFault>
         ensures made { D.honest → OnOk result ((D.view disk.new).seen
             ≡ with_slot (D.view disk.old).seen (slot_of_epoch self.now.epoch) (open_image self.now.epoch self.now.text)) }

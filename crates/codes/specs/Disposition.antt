@@ -1,4 +1,4 @@
--- The dispositions by which a task names rights for a message or a call (mach_msg_type_name_t).
+-- The dispositions by which a task hands rights over in a message or a call (mach_msg_type_name_t).
 use Rattle.std.specs.Prelude.{ℕ, Option, None, Some, ◌==◌, if◌then◌else◌}
 use Rattle.codes.specs.declared.disposition.Disposition.{Disposition}
 use Rattle.codes.specs.declared.disposition.Disposition.TheVariants.{MoveReceive, MoveSend, MoveSendOnce, CopySend, MakeSend, MakeSendOnce}

@@ -1,7 +1,7 @@
 // The numbers of the calls, as they stand at the front of a frame. The calls on ports and messages have Mach's names;
 // those without the prefix are this server's own.
 
-/// The task goes on in another space.
+/// The task moves to another space.
 pub const ATTACH: u32 = 0;
 
 pub const MACH_PORT_NAMES: u32 = 1;
@@ -39,9 +39,9 @@ pub const MACH_PORT_REQUEST_NOTIFICATION: u32 = 16;
 pub const MACH_PORT_INSERT_RIGHT: u32 = 17;
 
 pub const MACH_PORT_EXTRACT_RIGHT: u32 = 18;
-/// Sends and receives; its results are shown in any case.
+/// Sends and receives. Its reply has results whatever the code.
 pub const MACH_MSG: u32 = 19;
-/// A new space, whose one name holds a right of the caller's.
+/// Makes a space whose one name holds a right of the caller's.
 pub const SPACE_CREATE: u32 = 20;
-/// The caller's space goes with all its names.
+/// Removes the caller's space with all its names.
 pub const SPACE_DESTROY: u32 = 21;

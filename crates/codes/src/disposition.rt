@@ -19,7 +19,7 @@ pub enum Disposition {
 }
 
 impl Disposition {
-    /// The disposition of a number, if it is one.
+    /// The disposition with this number, if there is one.
     pub fn from_number(number: u32) -> Option<Disposition>
         ensures { result ≡ disposition_of number }
     {

@@ -34,7 +34,7 @@ pub enum KernReturn {
     RcvPortChanged = 0x1000_4006,
     RcvPortDied = 0x1000_4009,
     RcvInSet = 0x1000_400a,
-    /// `MACH_RCV_HEADER_ERROR` with `MACH_MSG_IPC_KERNEL`: no memory.
+    /// `MACH_RCV_HEADER_ERROR` with `MACH_MSG_IPC_KERNEL`: out of memory.
     RcvHeaderErrorKernel = 0x1000_480b,
     /// `MACH_RCV_HEADER_ERROR` with `MACH_MSG_IPC_SPACE`: no name is left.
     RcvHeaderErrorSpace = 0x1000_600b,

@@ -1,7 +1,7 @@
-/// The least count of bytes that a frame's length may give: those of the call's number.
+/// The least number of bytes that a frame's length may give: those of the call's number.
 pub const MIN_FRAME_CONTENT: u32 = 4;
 
-/// The greatest count of bytes that a frame's length may give. With the length word a frame has 65,536.
+/// The greatest number of bytes that a frame's length may give. With the length word a frame has 65,536.
 pub const MAX_FRAME_CONTENT: u32 = 65_532;
 
 /// How many names a space holds at most.

@@ -7,7 +7,7 @@ pub const MACH_PORT_DEAD: u32 = 0xffff_ffff;
 /// The least name that this server hands out by itself. A task may choose lower ones.
 pub const FIRST_NAME: u32 = 0x100;
 
-/// The number of the space that is there from the start, to which a connection's task is attached at first.
+/// The number of the space that exists from the start. A connection's task is attached to it at first.
 pub const FIRST_SPACE: u32 = 1;
 
 /// How many messages a new port's queue holds (`MACH_PORT_QLIMIT_DEFAULT`).

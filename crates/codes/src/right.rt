@@ -19,7 +19,7 @@ impl Right {
         self as u32
     }
 
-    /// The right of a number, if it is one.
+    /// The right with this number, if there is one.
     pub fn from_number(number: u32) -> Option<Right>
         ensures known { IsSome result ↔ (number < 5) }
         ensures value { IfSome result (λ right. number_of right ≡ number) }

@@ -17,7 +17,8 @@ pub enum Question {
     Version,
 }
 
-/// What the words ask about the program itself: `--help` or `--version`, alone. A folder of such a name is `./--help`.
+/// What the words ask about the program itself: `--help` or `--version`, if it is the only word. A folder with such a
+/// name is `./--help`.
 pub fn question_in(words: Option<&[String]>) -> Option<Question>
     ensures help { (result ≡ Some Question.Help) ↔ (option_map (λ texts. map string_bytes texts.now) words.entry ≡ Some (codes "--help" ∷ [])) }
     ensures version { (result ≡ Some Question.Version) ↔ (option_map (λ texts. map string_bytes texts.now) words.entry ≡ Some (codes "--version" ∷ [])) }
@@ -29,8 +30,8 @@ pub fn question_in(words: Option<&[String]>) -> Option<Question>
     }
 }
 
-/// Writes what a program of this name and help is asked for, and flushes it. It gives the status to end with: 0, or 1 where the
-/// output can't be written, and then some first bytes may have been.
+/// Writes what a program with this name and help is asked for, and flushes it. It returns the status to end with: 0, or
+/// 1 if the output can't be written, and then some first bytes may have been.
 pub fn tell_about<W: Write>(question: Question, name: &str, help: &str, output: &mut W) -> u8
     ensures ok { result ≡ 0 → Appends (W.contents output.old) (W.contents output.new) (told name.now help.now question) }
     ensures part { AppendsPart (W.contents output.old) (W.contents output.new) (told name.now help.now question) }
@@ -46,7 +47,7 @@ pub fn tell_about<W: Write>(question: Question, name: &str, help: &str, output: 
     }
 }
 
-/// Writes a text whole, and flushes it. Where the writer fails some first bytes may have been written.
+/// Writes a whole text, and flushes it. If the writer fails, some first bytes may have been written.
 fn send<W: Write>(output: &mut W, text: &str) -> Result<(), WireFault>
     ensures ok { OnOk result (Appends (W.contents output.old) (W.contents output.new) text.now) }
     ensures part { OnErr result (AppendsPart (W.contents output.old) (W.contents output.new) text.now) }

@@ -1,4 +1,4 @@
-//! The words of a program's command line, and what a program tells of itself.
+//! The words of a program's command line, and what a program says of itself.
 #![tactic(auto)]
 
 mod about;

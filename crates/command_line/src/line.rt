@@ -5,9 +5,9 @@ use std::alloc::AllocGlobal;
 use std::env;
 use std::rt::Env;
 
-/// The words behind the program's name, or none where they can't be read: one isn't UTF-8, or memory for them is wanted.
+/// The words after the program's name; `None` if they can't be read: one isn't UTF-8, or memory for them ran out.
 ///
-/// What a system gives as words no contract can say.
+/// No contract can say what the system passes as words.
 pub fn read_words<R: Env + AllocGlobal>(rt: &R) -> Option<Vec<String>> {
     let mut words = Vec::new(rt.alloc());
     for word in env::args(rt).ok()?.skip(1) {
@@ -16,7 +16,7 @@ pub fn read_words<R: Env + AllocGlobal>(rt: &R) -> Option<Vec<String>> {
     Some(words)
 }
 
-/// The word, where there is just one.
+/// The word, if there is exactly one.
 pub fn one_word(words: Option<&[String]>) -> Option<&str>
     ensures one { IfSome result (λ word. option_map (λ texts. map string_bytes texts.now) words.entry ≡ Some (word.now ∷ [])) }
     ensures other { IfNone result ((word : List ℕ) → option_map (λ texts. map string_bytes texts.now) words.entry ≢ Some (word ∷ [])) }

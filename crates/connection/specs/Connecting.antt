@@ -1,4 +1,4 @@
--- A connection among others: what the calls of its task make of its session.
+-- A connection among others: how the calls of its task change its session.
 use Rattle.std.specs.Prelude.{◌≡◌, Option, Some}
 use Rattle.ipc_model.specs.declared.call.Call.{Call}
 use Rattle.ipc_model.specs.history.History.{called, looked, redemption}
@@ -6,13 +6,13 @@ use Rattle.ipc_model.specs.state.State.{State}
 use Rattle.session_core.specs.Tokens.{SessionValue, Did}
 use Rattle.system.specs.Halves.{TicketValue}
 
--- What becomes of a connection's session, which there is between calls: a call was made, whose ticket saw all that the session had
--- seen then;
+-- What becomes of a connection's session, which exists between calls: a call was made, whose ticket saw all that the
+-- session had then seen;
 abbrev pub MakesOne : State → Option SessionValue → Call → TicketValue → Option SessionValue → Type 0
 MakesOne base (Some old) c ticket (Some new) = Did base old (called c ticket.answer) new × (ticket.seen ≡ new.task.seen)
 MakesOne base _ c ticket _ = ⊥
 
--- a call wasn't made, since memory or room for its record was wanted, or its task had gone;
+-- a call wasn't made, since there was no memory or no room for its record, or its client had gone;
 abbrev pub LacksOne : State → Option SessionValue → Call → Option SessionValue → Type 0
 LacksOne base (Some old) c (Some new) = Did base old looked new
 LacksOne base _ c _ = ⊥

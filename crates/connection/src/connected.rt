@@ -25,7 +25,7 @@ pub struct Connected<'a, L: Founding, D: Disk, G, R, P> {
     shared: &'a Shared<L, D, G>,
     seat: Seat<P>,
 
-    // None while a call is being made.
+    // `None` while a call is being made.
     session: Option<Session<L>>,
 }
 
@@ -44,7 +44,8 @@ impl<'a, L: Founding, D: Disk, G, R, P> Model for Connected<'a, L, D, G, R, P> {
 }
 
 impl<'a, L: Founding, D: Disk, G, R, P> Connected<'a, L, D, G, R, P> {
-    /// The caller of this session, whose calls wait at this seat, and whose task is at the other side of this connection.
+    /// The caller of this session, whose calls wait at this seat, and whose task is at the other end of this
+    /// connection.
     pub fn new(rt: &'a R, shared: &'a Shared<L, D, G>, seat: Seat<P>, session: Session<L>) -> Self
         ensures { result ≡ Some session }
     {
@@ -58,8 +59,9 @@ impl<'a, L: Founding, D: Disk, G, R, P> Connected<'a, L, D, G, R, P> {
 }
 
 impl<'a, L: Founding, D: Disk, G: Drop, R: Wait + Clock, P: Peer> Connected<'a, L, D, G, R, P> {
-    /// Waits as long as one wait may take: whether the call's turn has come, or None where its task waits on. Whether the task has gone is
-    /// looked at behind the call's first attempt: if it goes later, its turn comes at once where it is watched.
+    /// Waits as long as one wait may take. Returns whether the call's turn has come, or `None` if its task waits on.
+    /// Whether the task has gone is checked after the call's first attempt; if it goes later and is watched, its turn
+    /// comes at once.
     fn wait_once(&self, session: &Session<L>, patience: &Patience) -> Option<bool> {
         if self.seat.peer().is_gone() {
             return Some(false);

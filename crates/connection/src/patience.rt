@@ -3,13 +3,13 @@ use std::io::Write;
 use std::os::unix::net::UnixStream;
 use std::time::{Clock, Duration, Instant};
 
-/// For how many seconds a call waits before it is looked whether its task is still there, where that isn't watched.
+/// How many seconds a call waits before the server checks whether its task is still there, if that isn't watched.
 const LOOK_SECONDS: u64 = 5;
 
 /// How long a call still waits.
 #[derive(Clone, Copy)]
 pub enum Patience {
-    /// For ever.
+    /// Forever.
     Endless,
     /// Until this time.
     Until(Instant),
@@ -27,7 +27,8 @@ pub(crate) enum Left {
 }
 
 impl Patience {
-    /// The patience of a call that waits from now on for so many milliseconds at most. Where the clock can't be read it is over.
+    /// The patience of a call that waits from now on for at most this many milliseconds. If the clock can't be read, it
+    /// is over.
     pub(crate) fn new(clock: &impl Clock, bound: Option<u32>) -> Self {
         let Some(milliseconds) = bound else {
             return Patience::Endless;
@@ -52,7 +53,7 @@ impl Patience {
 }
 
 impl Left {
-    /// The time that is left, if that is bounded.
+    /// The time that is left, if it is bounded.
     pub(crate) fn time(self) -> Option<Duration> {
         match self {
             Left::Endless => None,
@@ -60,7 +61,7 @@ impl Left {
         }
     }
 
-    /// The time until it is looked whether the task is still there.
+    /// The time until the next check whether the task is still there.
     pub(crate) fn until_look(self) -> Duration {
         let look = Duration::from_secs(LOOK_SECONDS);
         match self {
@@ -93,7 +94,7 @@ impl<'a> SocketPeer<'a> {
 }
 
 impl<'a> Peer for SocketPeer<'a> {
-    /// A write of nothing fails once the other side is closed. One that only stopped writing is still there.
+    /// A write of nothing fails once the other side is closed. A peer that only stopped writing is still there.
     fn is_gone(&self) -> bool {
         let mut stream = self.stream;
         stream.write(&[]).is_err()

@@ -6,12 +6,13 @@ use Rattle.server.specs.declared.ending.SocketEnd.{SocketEnd}
 use Rattle.server.specs.declared.ending.SocketEnd.TheVariants.{Socket, InUse, Unlockable, Store}
 use Rattle.wire.specs.Writing.{AppendsPart}
 
--- the line that says that connections are taken
+-- the line that says that the server accepts connections
 abbrev pub ready_line : List ℕ
 ready_line = codes "machipcd: ready\n"
 
--- An opened store is served, so its folder is locked. A store that fails as it is served does so behind the whole line; where memory is wanted before, nothing is written; and a
--- server that ends otherwise has written some first bytes of the line, or none.
+-- An opened store is served, so its folder is locked. If the store fails while it is served, the whole line was written
+-- before; if memory runs out before that, nothing is written. A server that ends in another way has written a prefix of
+-- the line, maybe nothing.
 abbrev pub HasTold : Option (List ℕ) → Option (List ℕ) → SocketEnd → Type 0
 HasTold old new Socket = AppendsPart old new ready_line
 HasTold old new InUse = ⊥

@@ -6,7 +6,8 @@ use std::os::unix::fs::FileTypeExt;
 use std::os::unix::net::{UnixListener, UnixStream};
 use std::rt::Files;
 
-/// A listener at the path, or `None` where a server is there, or none can be made. A file of a server that is gone is removed.
+/// A listener at the path, or `None` if a server is there, or none can be made. A file of a server that is gone is
+/// removed.
 pub(crate) fn bind<R: Files + Net>(rt: &R, path: &str) -> Option<UnixListener> {
     match UnixListener::bind(rt, path) {
         Ok(listener) => Some(listener),
@@ -29,7 +30,7 @@ fn bind_again<R: Files + Net>(rt: &R, path: &str) -> Option<UnixListener> {
     UnixListener::bind(rt, path).ok()
 }
 
-/// Whether nobody listens at a socket's file.
+/// Whether no server listens at a socket's file.
 fn is_gone<R: Net>(rt: &R, path: &str) -> bool {
     match UnixStream::connect(rt, path) {
         Ok(_) => false,

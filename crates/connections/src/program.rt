@@ -25,8 +25,9 @@ use std::time::Clock;
 use system::Opened;
 use wire::{WireFault, write_bytes};
 
-/// Serves a store that was opened behind a lock (`server::open_locked`) at the socket's path, as `serve_opened` does, and keeps the lock
-/// until that has ended, which is only by a fault. Where it wasn't opened the run ends so, and nothing is written.
+/// Serves a store that was opened after a lock (`server::open_locked`) at the socket's path, as `serve_opened` does,
+/// and keeps the lock until that has ended, which happens only after a fault. If the store wasn't opened, the run ends
+/// that way, and nothing is written.
 pub fn serve_locked<
     K: Drop,
     D: Disk + Drop + Send + 'static,
@@ -55,8 +56,8 @@ pub fn serve_locked<
     }
 }
 
-/// Binds the socket's path, says on the output that it is ready, and serves an opened store there, each connection in a thread of its
-/// own as a session of the store's history. It ends only by a fault.
+/// Binds the socket's path, says on the output that it is ready, and serves an opened store there, each connection in a
+/// thread of its own as a session of the store's history. It ends only after a fault.
 pub fn serve_opened<
     D: Disk + Drop + Send + 'static,
     R: Threads
@@ -84,7 +85,7 @@ pub fn serve_opened<
     serve_history::<Brand, _, _, _>(rt, path, &listener, opened, row, blank, output)
 }
 
-/// The listener at a socket's path, the row of the history's first entries, and the path.
+/// The listener at a socket's path, the entry block of the history's first entries, and the path.
 fn prepare<R: Files + Net + AllocGlobal>(
     rt: &R,
     path: &str,
@@ -98,7 +99,7 @@ fn prepare<R: Files + Net + AllocGlobal>(
     Ok((listener, row, path))
 }
 
-/// The row of the history's first entries.
+/// The entry block of the history's first entries.
 fn first_row(alloc: Global) -> Option<Arc<Row, Global>> {
     let row = Row::new(alloc, MAX_RECORDS as usize).ok()?;
     Arc::new(alloc, row).ok()
@@ -141,7 +142,7 @@ fn serve_history<
     serve_shared(rt, path.as_str(), listener, &shared, output)
 }
 
-/// Starts the loops and the watcher, says that connections are taken, and serves them until the store fails.
+/// Starts the loops and the watcher, says that connections are accepted, and serves them until the store fails.
 fn serve_shared<
     L: Founding + Send + Sync + 'static,
     D: Disk + Drop + Send + 'static,
@@ -176,7 +177,7 @@ fn serve_shared<
     SocketEnd::Store(accept(rt, listener, shared, &watch))
 }
 
-/// Says that connections are taken.
+/// Says that connections are accepted.
 fn tell_ready<O: Write>(output: &mut O) -> Result<(), WireFault>
     ensures ok { OnOk result (Appends (O.contents output.old) (O.contents output.new) ready_line) }
     ensures part { OnErr result (AppendsPart (O.contents output.old) (O.contents output.new) ready_line) }

@@ -15,7 +15,7 @@ use std::sync::{Arc, Wait};
 use std::thread::{self, Threads};
 use std::time::{Clock, Duration};
 
-/// For how many seconds a peer may leave unread what it was sent before its connection is closed.
+/// How many seconds a peer may leave unread what it was sent before its connection is closed.
 const PATIENCE_SECONDS: u64 = 5;
 
 /// How many bytes of a connection are read at once.
@@ -45,7 +45,7 @@ pub(crate) fn accept<
     StoreFault::Failed
 }
 
-/// Begins to serve a connection. One that no session, thread or memory is there for is closed.
+/// Begins to serve a connection. If there is no session, thread or memory for it, it is closed.
 fn begin<
     L: Founding + Send + Sync + 'static,
     D: Disk + Drop + Send + 'static,
@@ -82,13 +82,13 @@ fn serve_stream<L: Founding, D: Disk, R: Wait + Clock + AllocGlobal>(
     let seat = Seat::new(rt.alloc(), peer)?;
     let mut asker = Connected::new(rt, shared, seat, session);
     if serve_asked(rt.alloc(), &mut reader, &mut writer, &mut asker).is_err() {
-        // What the writer still holds fails at once then where it is dropped, and isn't waited for.
+        // What the writer still holds then fails at once when it is dropped, and isn't waited for.
         return stream.shutdown(Shutdown::Both);
     }
     Ok(())
 }
 
-/// Starts the loops that store and make images. Says whether both run.
+/// Starts the loops that store and make images. Returns whether both run.
 pub(crate) fn start_loops<
     L: Founding + Send + Sync + 'static,
     D: Disk + Drop + Send + 'static,
@@ -121,7 +121,7 @@ pub(crate) fn start_loops<
     Ok(())
 }
 
-/// Wakes the thread that accepts, which looks then whether the store failed.
+/// Wakes the thread that accepts, which then checks whether the store failed.
 fn wake<R: Net>(rt: &R, path: &str) {
     let _ = UnixStream::connect(rt, path);
 }

@@ -1,4 +1,4 @@
-//! Who watches the other sides of all connections, so that a call that waits learns at once that its task has gone.
+//! Watches the other sides of all connections, so that a waiting call learns at once that its task has gone.
 
 use disk::Disk;
 use mio::event::Events;
@@ -14,23 +14,23 @@ use std::sync::{Arc, Wait};
 use std::thread::{self, Threads};
 use std::time::{Clock, Duration};
 
-/// How many closed connections are learned of at once.
+/// How many closed connections one wait reports at most.
 const MOST_AT_ONCE: usize = 64;
 
-/// For how many milliseconds the watcher waits before it goes on behind a failure.
+/// How many milliseconds the watcher waits before it goes on after a failure.
 const PATIENCE_MILLISECONDS: u64 = 20;
 
-/// The sockets that are watched. Each is until it is closed.
+/// The sockets that are watched. Each is watched until it is closed.
 #[derive(Drop)]
 pub(crate) struct Watch {
     registry: Registry,
 }
 
 impl Watch {
-    /// Has a connection watched, whose calls are those of the session of this number. Says whether it is.
+    /// Watches a connection, whose calls are those of the session with this number. Returns whether it is watched.
     ///
-    /// Nothing but urgent bytes is asked for, which a Unix socket hardly has; that the other side was closed is told in any case, and
-    /// bytes that come in wake nobody.
+    /// It asks only for urgent bytes, which a Unix socket hardly has. That the other side was closed is reported in any
+    /// case, and bytes that come in wake no thread.
     pub(crate) fn add(&self, stream: &UnixStream, session: u32) -> bool {
         let descriptor = stream.as_raw_fd();
         let mut source = SourceFd(&descriptor);
@@ -61,7 +61,7 @@ pub(crate) fn start_watch<
     Ok(watch)
 }
 
-/// Waits until connections are closed, and gives their calls that wait their turn.
+/// Waits until connections are closed, and gives their waiting calls their turn.
 fn turn_to_gone<L: Founding, D: Disk, R: Wait + Clock>(
     rt: &R,
     poll: &mut Poll,

@@ -25,7 +25,7 @@ all_released (Ok v) state serial target old first second new released told last 
     last ∙ (ap (λ (t : Option ℕ). second ++ release_of_target t) (sym same) ∙ (ap (λ (l : List Effect). l ++ rest) (told ∙ ap (λ (l : List Effect). l ++ dead) one)
     ∙ (append_assoc (old ++ rights) dead rest ∙ append_assoc old rights (dead ++ rest))))
 
--- a send-once right's notice, which is dropped where the port is dead
+-- a send-once right's notice, which is dropped if the port is dead
 untold : (state : State) (serial : ℕ) → notified state serial notice.SendOnce ≡ (released_if_live state serial kind.SendOnce (get state.ports serial)).0
 untold state serial = by_case (get state.ports serial) refl
   where
@@ -43,7 +43,7 @@ pub told_once : {T E : Type 0} (r : Result T E) (state new : State) (serial : �
 told_once (Err e) state new serial told = tt
 told_once (Ok v) state new serial told = told ∙ untold state serial
 
--- where send rights are left nobody is told
+-- while send rights are left, no notice is sent
 pub senders_left : (state : State) (serial : ℕ) (o : Option PortState) → not (send_count state serial == 0) ≡ true → state ≡ (released_if_live state serial kind.Send o).0
 senders_left state serial None left = refl
 senders_left state serial (Some port) left =

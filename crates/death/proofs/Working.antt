@@ -1,4 +1,4 @@
--- Working a list of effects off, one after another.
+-- Draining a list of effects, one after another.
 use Rattle.std.proofs.Common.{◌≡◌, ℕ, ◌<◌, Bool, true, cond, List, [], ◌∷◌, ◌++◌, Option, None, Some, is_some, option_map, refl, sym, ◌∙◌, ap, subst}
 use Rattle.std.specs.Cmp.{nat_cmp_total}
 use Rattle.std.specs.FinMap.{get, insert, get-insert}
@@ -26,7 +26,7 @@ module _ (state new : State) (effects rest after : List Effect) (first : Effect)
 pub all_done : (state : State) (effects : List Effect) → effects ≡ [] → Settles state effects state
 all_done state effects none = subst (λ (es : List Effect). Settles state es state) (sym none) settled
 
--- a port that lives does so whatever it keeps
+-- a live port lives whatever it keeps
 pub lives_on : (state new : State) (serial : ℕ) (numbers : PortNumbers) (change : PortState → PortState) → option_map numbers_of (get state.ports serial) ≡ Some numbers → new ≡ with_port state serial change → lives new serial ≡ true
 lives_on state new serial numbers change there is = ap (λ (s : State). lives s serial) is ∙ by_case (get state.ports serial) refl there
   where

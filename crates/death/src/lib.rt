@@ -1,4 +1,4 @@
-//! What rights that go set off: notices, and the death of ports. The effects of a call are worked off here.
+//! What rights that go set off: notices, and the death of ports. The effects of a call are drained here.
 #![tactic(auto)]
 
 mod notices;

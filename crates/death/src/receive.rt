@@ -11,8 +11,8 @@ use ipc_model::RightKind;
 use std::alloc::{AllocError, Global};
 use transit::{IpcState, PortNumbers, would_circle};
 
-/// A receive right was released: a port-destroyed request takes it along, unless it would come back to its own
-/// queue; else the port dies.
+/// A receive right was released. A port-destroyed request takes it along, unless it would come back to its own queue;
+/// else the port dies.
 pub fn release_receive(
     alloc: Global,
     state: &mut IpcState,
@@ -40,7 +40,7 @@ fn taker(state: &IpcState, serial: u64, request: Option<u64>) -> Option<u64>
     (state.has_port(target) && !would_circle(state, serial, target)).then_some(target)
 }
 
-/// The receive right of a live port goes to the request's target with a port-destroyed notice.
+/// Sends the receive right of a live port to the request's target, with a port-destroyed notice.
 #[tactic(auto, using(crate::proofs::Working::lives_on))]
 fn send_to_target(
     alloc: Global,
@@ -64,8 +64,9 @@ fn send_to_target(
     notify_port_destroyed(alloc, state, target, serial)
 }
 
-/// A port dies: the rights of its messages are released, names of it become dead names with their notices, carried rights to it
-/// become `MACH_PORT_DEAD`, requests that were to tell it go, and the target that no notice will go to is released.
+/// A port dies: the rights of its messages are released, names of it become dead names with their notices, carried
+/// rights to it become `MACH_PORT_DEAD`, requests whose target it is are removed, and the target that no notice will go
+/// to is released.
 fn die(
     state: &mut IpcState,
     serial: u64,

@@ -8,7 +8,7 @@ use ipc_model::RightKind;
 use std::alloc::{AllocError, Global};
 use transit::{IpcState, PortNumbers};
 
-/// A send right was released: where none is left, a no-senders request is taken, and its notice goes out.
+/// A send right was released. If none is left, a no-senders request is taken, and its notice goes out.
 pub fn release_send(alloc: Global, state: &mut IpcState, serial: u64) -> Result<(), AllocError>
     ensures ok { OnOk result (state.new.current ≡ (released_if_live state.old.current serial RightKind.Send (map.get state.old.current.ports serial)).0) }
     ensures before { state.new.before ≡ state.old.before }
@@ -31,7 +31,7 @@ pub fn release_send(alloc: Global, state: &mut IpcState, serial: u64) -> Result<
     notify(alloc, state, target, Notice::NoSenders { count })
 }
 
-/// A send-once right was released: a send-once notice comes by it.
+/// A send-once right was released. It is used to send a send-once notice.
 pub fn release_send_once(alloc: Global, state: &mut IpcState, serial: u64) -> Result<(), AllocError>
     ensures ok { OnOk result (state.new.current ≡ (released_if_live state.old.current serial RightKind.SendOnce (map.get state.old.current.ports serial)).0) }
     ensures before { state.new.before ≡ state.old.before }

@@ -1,4 +1,4 @@
--- One call more in a log.
+-- One more call in a log.
 use Rattle.std.proofs.Common.{◌≡◌, ℕ, ◌+◌, ◌≤◌, List, [], ◌∷◌, ◌++◌, length, take, refl, sym, ◌∙◌, ap, subst, arith, length-append}
 use Rattle.std.specs.Prelude.{Bool, true, false, if◌then◌else◌, Vec}
 use Rattle.std.specs.declared.alloc.Global.{Global}
@@ -46,7 +46,7 @@ module _ (first : Slots) (log : List LoggedCall) (call : LoggedCall) (new_log : 
             subst (λ s. left_after call s (outcomes_at (take (length log) log)) c) (sym is) (subst (λ l. left_after call (replayed first log) (outcomes_at l) c) kept step);
       }
 
-  -- a stop may leave all that the call allows
+  -- the post-crash contents are all that the call allows
   pub leaves_all : (seen new : Slots) → seen ≡ replayed first log → (c : Slots) → left_after call seen (MayLeave (view_of first log seen)) c → MayLeave (view_of first new_log new) c
   leaves_all seen new is c left =
       let outcomes_at : List LoggedCall → Slots → Type 0 = outcomes (λ d. d ≡ first) first in
@@ -55,13 +55,13 @@ module _ (first : Slots) (log : List LoggedCall) (call : LoggedCall) (new_log : 
       let whole : log ++ call ∷ [] ≡ take (length new_log) new_log = sym (take_all (length new_log) new_log (omega arith) ∙ logged) in
       subst (λ l. outcomes_at l c) whole (outcomes_of_left (λ d. d ≡ first) first log call c step)
 
--- the same where the log had room for the call, or stays
+-- the same whether the log had room for the call, or stays as it is
 pub replayed_unless_full : (first seen : Slots) (log new_log : List LoggedCall) (slot : Slot) (fits : Bool) → new_log ≡ (if fits then log ++ Sync slot ∷ [] else log) → seen ≡ replayed first log → seen ≡ replayed first new_log
 replayed_unless_full first seen log new_log slot true logged is = replayed_on first log (Sync slot) new_log logged seen seen is refl
 replayed_unless_full first seen log new_log slot false logged is = is ∙ ap (replayed first) (sym logged)
 
 module _ (first : Slots) (log : List LoggedCall) (slot : Slot) (new_log : List LoggedCall) where
-  -- what a write and a sync do to what a stop may leave
+  -- how a write and a sync change the post-crash contents
   pub write_passes : (at : ℕ) (copy : Vec ℕ Global) (is_done : Bool) (bytes : List ℕ) (seen new : Slots) → new_log ≡ log ++ Write slot at copy is_done ∷ [] → at ≤ length (slot_of seen slot) → length copy.items ≡ length bytes → seen ≡ replayed first log → Passes (view_of first log seen) (view_of first new_log new) (Follows (view_of first log seen) slot (TornWrite at (length bytes)))
   write_passes at copy is_done bytes seen new logged le same is =
       let begins : within seen slot at ≡ at = omega arith in
@@ -90,7 +90,7 @@ write_after seen new slot at copy true bytes le same is =
     is ∙ sym (ap (λ b. with_slot seen slot (written_at (slot_of seen slot) (within seen slot at) b)) same ∙ ap (λ n. with_slot seen slot (written_at (slot_of seen slot) n bytes)) begins)
 write_after seen new slot at copy false bytes le same is = is
 
--- what a call may leave is less
+-- what a crash may leave satisfies a weaker property too
 pub passes_less : (old new : View) (P Q : Slots → Type 0) → Passes old new P → ((c : Slots) → P c → Q c) → Passes old new Q
 passes_less old new P Q time less = record { later = time.later; past = time.past; since = λ k c after le left. less c (time.since k c after le left) }
 

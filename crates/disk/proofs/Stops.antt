@@ -1,4 +1,4 @@
--- What is left by choosing, for each slot, either torn bytes or those that a read gives, is what a stop may leave.
+-- Contents that have, for each slot, either torn bytes or those that a read gives, are post-crash contents.
 use Rattle.std.proofs.Common.{◌≡◌, ◌⊎◌, inl, inr, ℕ, ◌+◌, ◌-◌, ◌≤◌, List, [], ◌∷◌, ◌++◌, length, take, drop, refl, sym, ◌∙◌, ap, subst, arith, length-append, append_assoc}
 use Rattle.std.specs.Prelude.{true, false}
 use Rattle.std.proofs.lemmas.List.{take_at, drop_at, take_all, length-take, length-drop}
@@ -57,7 +57,7 @@ with_same Image1 seen = refl
 with_same Segment0 seen = refl
 with_same Segment1 seen = refl
 
--- a stop may lose a write or a cut, or leave it whole
+-- a crash may lose a write or a truncation, or leave it whole
 pub write_lost : (at n : ℕ) (old : List ℕ) → TornWrite at n old old
 write_lost at n old = record { before = refl; after = refl; no_shorter = omega arith; no_longer = omega arith }
 
@@ -92,7 +92,7 @@ module _ (P : Slots → Type 0) (left seen new : Slots) (all : (c : Slots) → I
   mixed_on slot R y z now torn done is becomes c mixed =
       step_on slot R P left seen y z torn done all c (subst (λ s. IsMixed (with_slot left slot y) s c) becomes (subst (λ s. IsMixed s now c) is mixed))
 
-  -- one call more
+  -- one more call
   pub tears_on : (call : LoggedCall) → Tears call seen left new → (c : Slots) → IsMixed new (seen_after call seen) c → left_after call seen P c
   tears_on (Write slot at bytes true) torn c mixed =
       let begins : within seen slot at ≤ length (slot_of seen slot) = omega arith in
@@ -105,8 +105,8 @@ module _ (P : Slots → Type 0) (left seen new : Slots) (all : (c : Slots) → I
       mixed_on slot (TornCut len) torn.0 (slot_of seen slot) seen torn.1 (cut_lost len (slot_of seen slot)) torn.2 (sym (with_same slot seen)) c mixed
   tears_on (Sync slot) torn c mixed = sync_on slot P left seen all c (subst (λ s. IsMixed s seen c) torn mixed)
 
--- The torn bytes and what a read gives, after the first calls of a log: each mixture of them is what a stop
--- then may leave.
+-- The torn bytes and what a read gives, after the first calls of a log: each mixture of them is what a crash then may
+-- leave.
 pub record IsTornReplay (first : Slots) (log : List LoggedCall) (left seen : Slots) : Type 0 where
   pub is_replay : seen ≡ replayed first log
   pub all : (c : Slots) → IsMixed left seen c → outcomes (λ d. d ≡ first) first log c

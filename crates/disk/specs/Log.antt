@@ -1,4 +1,4 @@
--- A log of calls: what a read gives after it, and what a stop after it may leave.
+-- A log of calls: what a read gives after it, and the post-crash contents after it.
 use Rattle.std.specs.Prelude.{◌≡◌, ℕ, List, [], ◌∷◌, min, length, take, if◌then◌else◌}
 use Rattle.disk.specs.declared.slot.Slot.{Slot}
 use Rattle.disk.specs.declared.log.Contents.{Contents}
@@ -16,7 +16,7 @@ slots_of contents = record {
   segment1 = contents.segment1.items;
 }
 
--- where a write begins, which is at the slot's end at most
+-- where a write begins: at the slot's end at most
 abbrev pub within : Slots → Slot → ℕ → ℕ
 within seen slot at = min at (length (slot_of seen slot))
 
@@ -27,7 +27,8 @@ seen_after (Write slot at bytes is_done) seen =
 seen_after (Cut slot len is_done) seen = if is_done then with_slot seen slot (take len (slot_of seen slot)) else seen
 seen_after (Sync slot) seen = seen
 
--- What a stop after a call may leave, where before it a read gave `seen` and a stop might leave what has P.
+-- The post-crash contents after a call. Before it, a read gave `seen` and the post-crash contents were those that
+-- satisfy P.
 abbrev pub left_after : LoggedCall → Slots → (Slots → Type 0) → Slots → Type 0
 left_after (Write slot at bytes is_done) seen P c =
     (d : Slots) × P d × TornWrite (within seen slot at) (length bytes.items) (slot_of d slot) (slot_of c slot) × (c ≡ with_slot d slot (slot_of c slot))
@@ -40,13 +41,13 @@ unfoldable pub replayed : Slots → List LoggedCall → Slots
 replayed seen [] = seen
 replayed seen (call ∷ calls) = replayed (seen_after call seen) calls
 
--- what a stop after these calls may leave
+-- the post-crash contents after these calls
 unfoldable pub outcomes : (Slots → Type 0) → Slots → List LoggedCall → Slots → Type 0
 outcomes P seen [] c = P c
 outcomes P seen (call ∷ calls) c = outcomes (left_after call seen P) (seen_after call seen) calls c
 
--- The disk over time, where it held `first` at first and `log` has the calls since then: moment k is that
--- after the first k of them.
+-- The disk over time, if it first held `first`, and `log` has the calls since then: moment k is after the first k of
+-- them.
 abbrev pub view_of : Slots → List LoggedCall → Slots → View
 view_of first log seen = record {
   seen = seen;

@@ -15,14 +15,14 @@ memory_view disk = view_of (slots_of disk.first) disk.log.items (slots_of disk.s
 abbrev pub plan_of : MemDisk → Plan
 plan_of disk = disk.plan
 
--- A read gives this, a stop leaves this alone, and no call has failed or is planned to.
+-- A read gives this, a crash leaves only this, and no call has failed or is planned to.
 pub record IsAtRest (disk : MemDisk) (slots : Slots) : Type 0 where
   pub seen : (memory_view disk).seen ≡ slots
   pub left : (c : Slots) → MayLeave (memory_view disk) c → c ≡ slots
   pub unfailing : disk.failures ≡ 0
   pub unplanned : plan_of disk ≡ no_plan
 
--- A read gives the same, a stop at each moment leaves the same, and no more calls have failed.
+-- A read gives the same, the post-crash contents at each moment are the same, and no more calls have failed.
 pub record IsUnchanged (old new : MemDisk) : Type 0 where
   pub seen : (memory_view new).seen ≡ (memory_view old).seen
   pub moment : (memory_view new).moment ≡ (memory_view old).moment

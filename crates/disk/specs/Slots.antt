@@ -32,16 +32,17 @@ with_slot slots Segment1 bytes = record slots { segment1 = bytes }
 abbrev pub written_at : List ℕ → ℕ → List ℕ → List ℕ
 written_at old at bytes = take at old ++ bytes ++ drop (at + length bytes) old
 
--- After a write of n bytes from `at` on that a stop may have cut short: any bytes in that range and past the
--- old end, the same bytes elsewhere, and a length between those before and after.
+-- After a write of n bytes from `at` on that a crash may have interrupted: any bytes in that range and past the old
+-- end, the same bytes elsewhere, and a length between those before and after.
 pub record TornWrite (at n : ℕ) (old new : List ℕ) : Type 0 where
   pub before : take at new ≡ take at old
   pub after : drop (at + n) new ≡ drop (at + n) old
   pub no_shorter : length old ≤ length new
   pub no_longer : length new ≤ max (length old) (at + n)
 
--- After a cut to n bytes that a stop may have cut short: a length between, and any bytes past n. What a stop
--- leaves may be shorter than n before the cut, where an earlier write is lost, and then it stays as it is.
+-- After a truncation to n bytes that a crash may have interrupted: a length between, and any bytes past n. The
+-- post-crash contents before the truncation may be shorter than n, where an earlier write is lost; then they stay as
+-- they are.
 pub record TornCut (n : ℕ) (old new : List ℕ) : Type 0 where
   pub front : take n new ≡ take n old
   pub no_shorter : min n (length old) ≤ length new

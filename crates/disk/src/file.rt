@@ -9,9 +9,9 @@ use std::fs::{self, File, OpenFile, OpenOptions};
 use std::io::{self, ErrorKind, Read, Seek, SeekFrom, Write};
 use std::rt::Files;
 
-/// A slot in each of the files `image0`, `image1`, `segment0` and `segment1` of a folder. A file that isn't
-/// there is an empty slot, and the first write or cut of its slot makes it. A read looks for it again, as another
-/// process may write to the store; lengths are those that were measured when the disk was opened.
+/// A slot in each of the files `image0`, `image1`, `segment0` and `segment1` of a folder. A file that doesn't exist is
+/// an empty slot; the first write to the slot, or the first truncation, creates it. A read looks for it again, since
+/// another process may write to the store. Lengths are those measured when the disk was opened.
 ///
 /// Nothing is proved of the contents: that these files keep the disk model is a premise.
 pub struct FileDisk<R: Files + Drop> {
@@ -19,15 +19,16 @@ pub struct FileDisk<R: Files + Drop> {
     folder: String,
     slots: SlotFiles<R::File>,
 
-    // The folder's names are on the disk. At first that isn't known, since an earlier run may have made them.
+    // Whether the folder's names are on the disk. At first that isn't known, since an earlier run may have created
+    // them.
     is_folder_synced: bool,
 
-    // A sync failed. The system may have dropped what it could not write, so that later syncs would say nothing.
+    // Whether a sync failed. The system may have dropped what it couldn't write, so later syncs would prove nothing.
     is_sync_lost: bool,
     failures: u64,
 }
 
-// Written out, as proofs above then know one function, and not the parts.
+// Written out, so that proofs above know one function and not its parts.
 impl<R: Files + Drop> Drop for FileDisk<R> {
     fn drop(self) {
         let FileDisk {
@@ -81,7 +82,7 @@ struct SlotFile<F> {
 }
 
 impl<F: Read + Write + Seek + OpenFile + Drop> SlotFile<F> {
-    // A file for reading, if it is there.
+    // A file for reading, if it exists.
     fn opened<R: Files<File = F>>(files: &R, path: &str) -> io::Result<Option<F>> {
         match fs::metadata(files, path) {
             Ok(found) if found.is_file() => Ok(Some(File::open(files, path)?)),
@@ -91,7 +92,7 @@ impl<F: Read + Write + Seek + OpenFile + Drop> SlotFile<F> {
         }
     }
 
-    // Opens the file for reading, if it is there.
+    // Opens the file for reading, if it exists.
     fn find<R: Files<File = F>>(
         alloc: Global,
         files: &R,
@@ -112,7 +113,7 @@ impl<F: Read + Write + Seek + OpenFile + Drop> SlotFile<F> {
         })
     }
 
-    // Opens the file for writing too, and answers whether it made it.
+    // Opens the file for writing too, and returns whether it created it.
     fn open_for_writing<R: Files<File = F>>(&mut self, files: &R) -> io::Result<bool> {
         if self.is_writable {
             return Ok(false);
@@ -128,7 +129,7 @@ impl<F: Read + Write + Seek + OpenFile + Drop> SlotFile<F> {
         Ok(is_missing)
     }
 
-    // Looks for a file again that wasn't there: who writes to the store may have made it since.
+    // Looks again for a file that didn't exist: the process that writes to the store may have created it since.
     fn find_again<R: Files<File = F>>(&mut self, files: &R) -> io::Result<()> {
         if self.file.is_none() {
             self.file = SlotFile::opened(files, self.path.as_str())?;
@@ -161,7 +162,7 @@ impl<F: Read + Write + Seek + OpenFile + Drop> SlotFile<F> {
         file.seek(SeekFrom::Start(at))?;
         let written = file.write_all(bytes);
         let end = self.length.max(at.saturating_add(bytes.len() as u64));
-        // A write that failed may have come anywhere between.
+        // A write that failed may have stopped anywhere between.
         self.length = match &written {
             Ok(()) => end,
             Err(_) => measured(file).unwrap_or(end),
@@ -206,8 +207,8 @@ fn read_full<F: Read>(file: &mut F, buffer: &mut [u8]) -> io::Result<usize>
 }
 
 impl<R: Files + Drop> FileDisk<R> {
-    /// Opens the files that are in the folder, for reading only. The error is that the folder isn't there or
-    /// is no folder, that something in it can't be opened as a file, or that there is no memory.
+    /// Opens the files that are in the folder, for reading only. The error is that the folder doesn't exist or isn't a
+    /// folder, that something in it can't be opened as a file, or that memory ran out.
     pub fn at(alloc: Global, files: R, folder: &str) -> Result<FileDisk<R>, DiskFault>
         ensures { IfOk result (λ disk. ⟦<FileDisk<R> as Disk>⟧.failed_calls disk ≡ 0) }
     {
@@ -281,7 +282,7 @@ impl<R: Files + Drop> FileDisk<R> {
         };
         file.sync_all()?;
         if !self.is_folder_synced {
-            // Else a stop could leave the folder without the file's name.
+            // Without this, a crash could leave the folder without the file's name.
             File::open(&self.files, self.folder.as_str())?.sync_all()?;
             self.is_folder_synced = true;
         }

@@ -37,7 +37,7 @@ impl Contents {
     }
 }
 
-// A call that changes what a stop may leave. A call that isn't done changes nothing that a read gives.
+// A call that changes what a crash may leave. A call that isn't done doesn't change what a read returns.
 #[derive(Drop)]
 pub enum LoggedCall {
     Write {

@@ -1,4 +1,4 @@
-// A disk in memory that keeps the disk model: it has each call since it was made, and what it held then.
+// A disk in memory that keeps the disk model. It has every call since it was made, and what it held then.
 ghost use Rattle.std.specs.Prelude.{◌≡◌, ◌+◌, ◌-◌, ◌≤◌, ◌<◌, ◌++◌, length, take, drop, min, if◌then◌else◌, IfOk, OnOk};
 ghost use Rattle.disk.specs.Slots.{Slots, empty_slots, slot_of, with_slot, written_at, TornWrite, TornCut};
 ghost use Rattle.disk.specs.Moments.{Passes, Follows, IsSynced, MayLeave};
@@ -11,9 +11,9 @@ use crate::stop::{front, overwritten, redo};
 use crate::{Disk, DiskFault, Slot, Torn};
 use std::alloc::{AllocError, Global};
 
-/// Four slots in memory. A stop leaves of it whatever the disk model lets a stop leave.
+/// Four slots in memory. A crash leaves whatever the disk model allows.
 ///
-/// It keeps each write since it was made. A call that lacks memory fails and changes nothing.
+/// It keeps each write since it was made. A call that runs out of memory fails and changes nothing.
 pub struct MemDisk {
     alloc: Global,
     first: Contents,
@@ -24,7 +24,7 @@ pub struct MemDisk {
     ghost is_replay: { slots_of seen ≡ replayed (slots_of first) log.items },
 }
 
-// Written out, as proofs above then know one function, and not the parts.
+// Written out, so that proofs above know one function and not its parts.
 impl Drop for MemDisk {
     fn drop(self) {
         let MemDisk {
@@ -65,7 +65,7 @@ fn empty(alloc: Global) -> Contents
     }
 }
 
-// The four slots in another place of memory.
+// Copies the four slots.
 fn copy_of(alloc: Global, slots: &Contents) -> Result<Contents, AllocError>
     ensures { IfOk result (λ copy. slots_of copy ≡ slots_of slots.now) }
 {
@@ -94,7 +94,7 @@ impl MemDisk {
         }
     }
 
-    /// A disk with these bytes in its slots, all of them on the disk. The error is that there is no memory.
+    /// A disk with these bytes in its slots, all of them on the disk. The error is that memory ran out.
     pub fn with_slots(
         alloc: Global,
         image0: &[u8],
@@ -127,19 +127,19 @@ impl MemDisk {
         })
     }
 
-    /// The bytes of a slot, as a read gives them.
+    /// The bytes of a slot, as a read returns them.
     pub fn content(&self, slot: Slot) -> &[u8]
         ensures bytes { result.now ≡ slot_of (memory_view self.now).seen slot }
 
-        // A stop may leave this, so what is shown of all that a stop leaves says something.
+        // A crash may leave this, so a claim about everything that a crash may leave isn't vacuous.
         ensures may_be_left { MayLeave (memory_view self.now) (memory_view self.now).seen }
     {
         self.seen.slot(slot)
     }
 
     /// Plans failures of the device calls from now on, which count from 1: all but `length` and `failures`. At
-    /// `stop_at` that call and all later ones fail, at `fail_at` that one alone. A write or cut that fails so
-    /// has begun: a stop may leave of it what `torn` says.
+    /// `stop_at` that call and all later ones fail, at `fail_at` only that one. A write or truncation that fails in
+    /// this way has begun: `torn` says what a crash leaves of it.
     pub fn plan(&mut self, stop_at: Option<u64>, fail_at: Option<u64>, torn: Torn)
         ensures planned { plan_of self.new ≡ record { stop_at = stop_at; fail_at = fail_at; torn = torn; calls = 0 } }
         ensures unchanged { IsUnchanged self.old self.new }
@@ -152,8 +152,8 @@ impl MemDisk {
         };
     }
 
-    /// The disk that a stop now leaves, as the plan says. All that it holds is on the disk, no failure is
-    /// planned, and none is counted. The error is that there is no memory.
+    /// The disk that a crash now leaves, as the plan says. All that it holds is on the disk, no failure is planned, and
+    /// none is counted. The error is that memory ran out.
     pub fn after_stop(self) -> Result<MemDisk, AllocError>
         ensures left { IfOk result (λ disk. MayLeave (memory_view self) (memory_view disk).seen) }
         ensures at_rest { IfOk result (λ disk. IsAtRest disk (memory_view disk).seen) }
@@ -165,7 +165,7 @@ impl MemDisk {
         MemDisk::holding(alloc, left)
     }
 
-    // What a stop now leaves in the slots, as the plan says.
+    // What a crash now leaves in the slots, as the plan says.
     fn left_by_stop(&self) -> Result<Contents, AllocError>
         ensures { IfOk result (λ left. MayLeave (memory_view self.now) (slots_of left)) }
     {
@@ -177,7 +177,7 @@ impl MemDisk {
         Ok(left)
     }
 
-    // Notes a write as begun, and does it where that is wanted. At `Err` it has changed nothing.
+    // Notes a write as begun, and does it if asked to. At `Err` it has changed nothing.
     fn note_write(
         &mut self,
         slot: Slot,
@@ -208,7 +208,7 @@ impl MemDisk {
         Ok(())
     }
 
-    // The same for a cut.
+    // The same for a truncation.
     fn note_cut(&mut self, slot: Slot, len: u64, is_done: bool) -> Result<(), AllocError>
         ensures seen { OnOk result (slots_of self.new.seen ≡ (if is_done
             then with_slot (slots_of self.old.seen) slot (take len (slot_of (slots_of self.old.seen) slot))

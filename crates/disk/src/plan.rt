@@ -1,18 +1,18 @@
-// Which calls of a disk in memory fail, and what a stop then leaves.
+// Which calls of a disk in memory fail, and what a crash then leaves.
 ghost use Rattle.std.specs.Prelude.{◌≡◌, ◌↔◌, ◌+◌, ◌-◌, ◌^◌, min, IsTrue};
 ghost use Rattle.disk.specs.Plan.{no_plan, IsAdmitted};
 
-/// What a stop leaves of the writes and cuts since a slot's last sync.
+/// What a crash leaves of the writes and truncations since a slot's last sync.
 #[derive(Clone, Copy, Debug, PartialEq, Eq)]
 pub enum Torn {
-    /// The least length, and each range as it was before.
+    /// The least length, with each range as it was before.
     Old,
-    /// The greatest length, and each range as it was written.
+    /// The greatest length, with each range as it was written.
     New,
-    /// The greatest length, and the first half of each range, rounded up, as it was written. The rest is as
-    /// before, and 0 past the old end.
+    /// The greatest length, with the first half of each range, rounded up, as it was written. The rest is as before,
+    /// and 0 past the old end.
     Half,
-    /// The greatest length, and this byte all over each range.
+    /// The greatest length, with this byte all over each range.
     Fill(u8),
 }
 
@@ -36,7 +36,7 @@ impl Plan {
         }
     }
 
-    // Counts a call, and answers whether it is let through.
+    // Counts a call, and returns whether it goes through.
     pub fn admit(&mut self) -> bool
         ensures counted { self.new ≡ record self.old { calls = min (self.old.calls + 1) (2 ^ 64 - 1) } }
         ensures admitted { IsTrue result ↔ IsAdmitted self.new }

@@ -1,4 +1,4 @@
-// What a stop leaves of a disk in memory: its calls are done again, torn where no sync came after them.
+// What a crash leaves of a disk in memory: its calls are done again, torn unless a sync came after them.
 ghost use Rattle.std.specs.Prelude.{◌≡◌, length, take, IfOk, OnOk};
 ghost use Rattle.disk.specs.Slots.{written_at, TornWrite, TornCut};
 ghost use Rattle.disk.specs.Log.{slots_of, seen_after};
@@ -28,7 +28,7 @@ pub fn overwritten(alloc: Global, old: &[u8], at: u64, bytes: &[u8]) -> Result<V
     Ok(new)
 }
 
-// The bytes of a range after a write that is torn, over these that stood there before.
+// The bytes of a range after a torn write over the bytes that stood there before.
 fn torn_range(alloc: Global, torn: Torn, below: &[u8], bytes: &[u8]) -> Result<Vec<u8>, AllocError>
     ensures { IfOk result (λ new. length new.items ≡ length bytes.now) }
 {
@@ -74,7 +74,7 @@ fn torn_cut(alloc: Global, torn: Torn, old: &[u8], len: u64) -> Result<Vec<u8>, 
     }
 }
 
-/// Does a call again: in `seen` as it was done, and in `left` as a stop may leave it.
+/// Does a call again: in `seen` as it was done, and in `left` as a crash may leave it.
 pub fn redo(
     alloc: Global,
     torn: Torn,

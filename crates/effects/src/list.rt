@@ -8,7 +8,7 @@ use std::alloc::{AllocError, Global};
 use std::collections::VecDeque;
 use std::marker::Model;
 
-/// The effects that wait. Contracts see the list of them.
+/// The effects that wait. Contracts see them as a list.
 #[derive(Drop)]
 pub struct Effects {
     waiting: VecDeque<Effect>,
@@ -35,7 +35,7 @@ impl Effects {
         }
     }
 
-    /// Adds an effect at the end. Where memory is wanted nothing changed.
+    /// Adds an effect at the end. If an allocation fails, nothing changed.
     pub fn push(&mut self, effect: Effect) -> Result<(), AllocError>
         ensures ok { OnOk result (self.new ≡ self.old ++ effect_meant effect ∷ []) }
         ensures err { OnErr result (self.new ≡ self.old) }
@@ -51,7 +51,7 @@ impl Effects {
         self.waiting.pop_front()
     }
 
-    /// Adds the release of a right that a message carried, where it is a right to a port.
+    /// Adds the release of a right that a message carried, if it is a right to a port.
     pub fn release(&mut self, carried: CarriedRight) -> Result<(), AllocError>
         ensures ok { OnOk result (self.new ≡ self.old ++ machine.release_of carried) }
         ensures err { OnErr result (self.new ≡ self.old) }
@@ -82,7 +82,7 @@ impl Effects {
         Ok(())
     }
 
-    /// Adds the notice that a name with this request ceased to be, where there is a request.
+    /// Adds the notice that a name with this request ceased to exist, if there is a request.
     pub fn port_deleted(&mut self, name: u32, request: Option<u64>) -> Result<(), AllocError>
         ensures ok { OnOk result (self.new ≡ self.old ++ machine.port_deleted name request) }
         ensures err { OnErr result (self.new ≡ self.old) }
@@ -94,7 +94,7 @@ impl Effects {
         self.push(Effect::Notify { target, notice })
     }
 
-    /// Adds the notice that a name with this request has become a dead name, where there is a request.
+    /// Adds the notice that a name with this request has become a dead name, if there is a request.
     pub fn dead_name(&mut self, name: u32, request: Option<u64>) -> Result<(), AllocError>
         ensures ok { OnOk result (self.new ≡ self.old ++ machine.dead_name_notice name request) }
         ensures err { OnErr result (self.new ≡ self.old) }
@@ -106,7 +106,7 @@ impl Effects {
         self.push(Effect::Notify { target, notice })
     }
 
-    /// Adds the release of a request's target, where there is a request.
+    /// Adds the release of a request's target, if there is a request.
     pub fn release_target(&mut self, request: Option<u64>) -> Result<(), AllocError>
         ensures ok { OnOk result (self.new ≡ self.old ++ machine.release_of_target request) }
         ensures err { OnErr result (self.new ≡ self.old) }

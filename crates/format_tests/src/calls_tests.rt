@@ -13,8 +13,8 @@ use std::alloc::Global;
 use std::process::Abort;
 use wire::Frame;
 
-// No function here says what the library gives back, so that a test's proof carries nothing of it. What owns a call or a
-// text has one exit, which drops it, and hands on what was seen with its `None`s, which no test wants.
+// No function here says what the library returns, so that a test's proof carries nothing of it. A function that owns a
+// call or an encoding has one exit, which drops it. It passes on what was seen with its `None`s, which no test expects.
 
 // Numbers of four bytes, lowest byte first.
 fn text_of(alloc: Global, numbers: &[u32]) -> Option<Vec<u8>> {
@@ -36,12 +36,12 @@ fn call_of_line(alloc: Global, line: &str) -> Option<Call> {
     read_request_line(alloc, line.as_bytes()).ok()
 }
 
-// The call of a record, if its text is one.
+// The call of a record, if this is its encoding.
 fn call_of_record(alloc: Global, text: &[u8]) -> Option<Option<Call>> {
     read_call(alloc, text).ok()
 }
 
-// What a frame of this content asks for, if it is a request.
+// What a frame with this content asks for, if it is a request.
 fn request_of(alloc: Global, content: &[u8]) -> Option<Result<Request, CallFault>> {
     let frame = frame_of(alloc, content)?;
     let request = read_request(alloc, &frame);
@@ -60,7 +60,7 @@ fn is_spelled_as(alloc: Global, call: &Call, text: &[u8]) -> Option<bool> {
     Some(written.as_slice() == text)
 }
 
-// Whether there is a call, and it is written as this text.
+// Whether there is a call, and this is its encoding.
 fn is_found_as(alloc: Global, call: Option<Call>, text: &[u8]) -> Option<bool> {
     let call = call?;
     let spelled = is_spelled_as(alloc, &call, text);
@@ -68,7 +68,7 @@ fn is_found_as(alloc: Global, call: Option<Call>, text: &[u8]) -> Option<bool> {
     spelled
 }
 
-// Whether a line's call is written as this text, and so written again once it was read of a record.
+// Whether this is the encoding of a line's call, and is written again after it was read from a record.
 fn record_spellings(alloc: Global, line: &str, text: &[u8]) -> Option<[Option<bool>; 2]> {
     let read = call_of_record(alloc, text)?;
     Some([
@@ -77,7 +77,7 @@ fn record_spellings(alloc: Global, line: &str, text: &[u8]) -> Option<[Option<bo
     ])
 }
 
-// Whether one call is asked for, and it is written as this text.
+// Whether one call is asked for, and this is its encoding.
 fn is_asked_as(alloc: Global, request: &Request, text: &[u8]) -> Option<bool> {
     match request {
         Request::One(call) => is_spelled_as(alloc, call, text),
@@ -85,7 +85,7 @@ fn is_asked_as(alloc: Global, request: &Request, text: &[u8]) -> Option<bool> {
     }
 }
 
-// Whether a frame of this text asks for a call that is written as the text again.
+// Whether a frame of these bytes asks for a call that is encoded as these bytes again.
 fn frame_spelling(alloc: Global, text: &[u8]) -> Option<bool> {
     let request = request_of(alloc, text)?.ok()?;
     let spelled = is_asked_as(alloc, &request, text);
@@ -102,7 +102,7 @@ fn is_no_call_of_record(alloc: Global, text: &[u8]) -> Option<bool> {
     Some(!is_there(call_of_record(alloc, text)?))
 }
 
-// Whether a text with a byte more is no call, neither in a frame nor in a record.
+// Whether an encoding with one more byte is no call, neither in a frame nor in a record.
 fn is_no_call_if_longer(alloc: Global, text: &mut Vec<u8>) -> Option<[bool; 2]> {
     text.push(0).ok()?;
     Some([
@@ -111,8 +111,8 @@ fn is_no_call_if_longer(alloc: Global, text: &mut Vec<u8>) -> Option<[bool; 2]> 
     ])
 }
 
-// How a call is written: from its line and from a record, and from a frame; and whether its text with a byte more is
-// no call.
+// How a call is encoded: from its line and from a record, and from a frame; and whether its encoding with one more byte
+// is no call.
 type Spellings = (Option<[Option<bool>; 2]>, Option<bool>, Option<[bool; 2]>);
 
 fn spellings(alloc: Global, line: &str, numbers: &[u32]) -> Option<Spellings> {
@@ -179,13 +179,13 @@ fn a_send_as_records_have_it(rt: HostRuntime) {
     let mut sized = SEND;
     sized[24] = 28;
     let refused = is_no_call_of_record(alloc, &sized);
-    // A message of 25 bytes, a size that none has.
+    // A message of 25 bytes, a size that no message has.
     let odd = is_no_call_of_record(alloc, &SEND[..45]);
     let found = is_found_as(alloc, read.flatten(), &SEND);
     same(&rt, [spelled, found, refused, odd], [Some(true); 4]);
 }
 
-// The same of a text of these numbers.
+// The same for an encoding that consists of these numbers.
 fn record_spellings_in_words(
     alloc: Global,
     line: &str,
@@ -216,7 +216,7 @@ fn receipts_as_records_have_them(rt: HostRuntime) {
     same(&rt, is_no_call_of_record(rt.alloc(), text), Some(true));
 }
 
-// What a frame of these numbers and this message asks for.
+// What a frame with these numbers and this message asks for.
 fn asked(alloc: Global, numbers: &[u32], message: &[u8]) -> Option<Request> {
     let mut content = text_of(alloc, numbers)?;
     content.extend_from_slice(message).ok()?;
@@ -231,18 +231,18 @@ fn kept_call_bytes(alloc: Global, call: &Call) -> Option<Vec<u8>> {
     Some(text)
 }
 
-// Whether what a request sends is kept as this text.
+// Whether what a request sends is kept as these bytes.
 fn is_kept_as(alloc: Global, request: &MessageRequest, kept: &[u8]) -> Option<bool> {
     let text = kept_call_bytes(alloc, request.send.as_ref()?)?;
     Some(text.as_slice() == kept)
 }
 
-// How long a request's send may wait, and its receipt.
+// How long a request's send may wait, and its receive.
 fn timeouts(request: &MessageRequest) -> [Option<u32>; 2] {
     [request.send_timeout, request.receive_timeout]
 }
 
-// Whether a request's send is kept as this text, whether it receives nothing, and its timeouts.
+// Whether a request's send is kept as these bytes, whether it receives nothing, and its timeouts.
 type SendSeen = (Option<bool>, bool, [Option<u32>; 2]);
 
 fn send_seen(alloc: Global, request: &Request, kept: &[u8]) -> Option<SendSeen> {
@@ -256,7 +256,7 @@ fn send_seen(alloc: Global, request: &Request, kept: &[u8]) -> Option<SendSeen> 
     }
 }
 
-// What is seen of a mach_msg that sends this message.
+// What is seen of a `mach_msg` that sends this message.
 fn send_asked(alloc: Global, message: &[u8], kept: &[u8]) -> Option<SendSeen> {
     let request = asked(alloc, &[19, 0x11, 5, 6, 7], message)?;
     let seen = send_seen(alloc, &request, kept);
@@ -279,15 +279,15 @@ fn a_send_is_kept_without_what_it_ignores(rt: HostRuntime) {
     }
 }
 
-// A receipt as a record has it.
+// A receive as a record has it.
 const RECEIPT: &[u8; 20] = b"\x13\0\0\0\x02\x08\0\0\x1c\0\0\0\0\x01\0\0\0\0\0\0";
 
-// Whether there is a call, which stays its owner's, and it is written as this text.
+// Whether there is a call, which stays its owner's, and this is its encoding.
 fn is_part_as(alloc: Global, call: &Option<Call>, text: &[u8]) -> Option<bool> {
     is_spelled_as(alloc, call.as_ref()?, text)
 }
 
-// Whether a request has the send and the receipt, and its timeouts.
+// Whether a request has the send and the receive, and its timeouts.
 type PartsSeen = ([Option<bool>; 2], [Option<u32>; 2]);
 
 fn parts_seen(alloc: Global, request: &Request) -> Option<PartsSeen> {
@@ -316,7 +316,7 @@ fn a_mach_msg_sends_and_receives(rt: HostRuntime) {
     same(&rt, parts_asked(rt.alloc()), Some(wanted));
 }
 
-// The code that a request is answered with at once.
+// The code with which a request is answered at once.
 fn answer_of(request: &Request) -> Option<KernReturn> {
     match request {
         Request::Answered(code) => Some(*code),
@@ -324,7 +324,7 @@ fn answer_of(request: &Request) -> Option<KernReturn> {
     }
 }
 
-// The code that a mach_msg with this option is answered with at once.
+// The code with which a `mach_msg` with this option is answered at once.
 fn answer_at_once(alloc: Global, option: u32) -> Option<KernReturn> {
     let request = asked(alloc, &[19, option, 28, 0x100, 0], b"ab")?;
     let answer = answer_of(&request);
@@ -349,7 +349,7 @@ fn a_mach_msg_that_asks_for_nothing(rt: HostRuntime) {
     same(&rt, is_no_request(rt.alloc(), short), Some(true));
 }
 
-// Whether this is how a reply is spelled to a Vec.
+// Whether this is how a reply is encoded into a `Vec`.
 fn is_pushed_as(alloc: Global, reply: &Reply, text: &[u8]) -> Option<bool>
     requires { length (reply_text reply.now) ≤ MAX_FRAME_CONTENT }
 {
@@ -358,7 +358,7 @@ fn is_pushed_as(alloc: Global, reply: &Reply, text: &[u8]) -> Option<bool>
     Some(out.as_slice() == text)
 }
 
-// Whether this is how a reply is spelled in a frame.
+// Whether this is how a reply is encoded in a frame.
 fn is_framed_as(alloc: Global, reply: &Reply, text: &[u8]) -> Option<bool>
     requires { length (reply_text reply.now) ≤ MAX_FRAME_CONTENT }
 {
@@ -367,7 +367,7 @@ fn is_framed_as(alloc: Global, reply: &Reply, text: &[u8]) -> Option<bool>
     Some(frame.content() == text)
 }
 
-// Whether this is how a reply is spelled, to a Vec and in a frame.
+// Whether this is how a reply is encoded, into a `Vec` and in a frame.
 type Spelled = Option<[Option<bool>; 2]>;
 
 const SPELLED: Spelled = Some([Some(true); 2]);
@@ -536,7 +536,7 @@ fn rows_as_bytes(rt: HostRuntime) {
     same(&rt, seen, [SPELLED; 3]);
 }
 
-// The reply to a call of a record, if its text is one.
+// The reply to a call of a record, if this is its encoding.
 fn reply_of_record(alloc: Global, call: &Call, text: &[u8]) -> Option<Option<Reply>> {
     read_recorded_reply(alloc, call, text).ok()
 }
@@ -563,7 +563,7 @@ fn an_allocation_of_a_record(rt: HostRuntime) {
     same(&rt, name_of_record(rt.alloc(), text), Some(0x100));
 }
 
-// Whether a record of the line's call has the reply of this text.
+// Whether a record of the line's call has the reply with this encoding.
 fn is_recorded(alloc: Global, line: &str, text: &[u8]) -> Option<bool> {
     let call = call_of_line(alloc, line)?;
     let reply = reply_of_record(alloc, &call, text);
@@ -571,7 +571,7 @@ fn is_recorded(alloc: Global, line: &str, text: &[u8]) -> Option<bool> {
     Some(is_there(reply?))
 }
 
-// The same of a text of these numbers.
+// The same for an encoding that consists of these numbers.
 fn is_recorded_in_words(alloc: Global, line: &str, numbers: &[u32]) -> Option<bool> {
     let text = text_of(alloc, numbers)?;
     let recorded = is_recorded(alloc, line, &text);
@@ -599,7 +599,7 @@ fn replies_of_records(rt: HostRuntime) {
     }
 }
 
-// The text of a reply to mach_msg: code, size and member, and a message of so many bytes.
+// The encoding of a reply to `mach_msg`: code, size and member, and a message of `length` bytes.
 fn message_reply(alloc: Global, results: &[u32; 3], length: usize) -> Option<Vec<u8>> {
     let [code, size, member] = *results;
     let mut text = text_of(alloc, &[19, code, size, member])?;
@@ -607,7 +607,7 @@ fn message_reply(alloc: Global, results: &[u32; 3], length: usize) -> Option<Vec
     Some(text)
 }
 
-// Whether a record of the line's call has the reply with these results and a message of so many bytes.
+// Whether a record of the line's call has the reply with these results and a message of `length` bytes.
 fn brings(alloc: Global, line: &str, results: &[u32; 3], length: usize) -> Option<bool> {
     let text = message_reply(alloc, results, length)?;
     let recorded = is_recorded(alloc, line, &text);
@@ -615,7 +615,8 @@ fn brings(alloc: Global, line: &str, results: &[u32; 3], length: usize) -> Optio
     recorded
 }
 
-// A receipt's line, the code, size and member of a reply, how long its message is, and whether a record has it so.
+// A receive's line, the code, size and member of a reply, how long its message is, and whether a record has it in this
+// form.
 type MessageRow = (&'static str, [u32; 3], usize, bool);
 
 fn compare(rt: &impl Abort, alloc: Global, rows: &[MessageRow]) {
@@ -645,7 +646,7 @@ fn received_messages_of_records(rt: HostRuntime) {
     compare(&rt, rt.alloc(), &RECEIVED);
 }
 
-// A receipt that destroys a message that is too large changes the state. What it destroys it doesn't bring.
+// A receive that destroys a message that is too large changes the state. It doesn't return what it destroys.
 static DESTROYED: [MessageRow; 12] = [
     ("receive 0x100 limit 28", [0x1000_4004, 32, 0x100], 0, true),
     (

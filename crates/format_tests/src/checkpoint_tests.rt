@@ -6,7 +6,7 @@ use image::read;
 use journal::{roll_close, roll_head, roll_open};
 use std::alloc::Global;
 
-/// What stands before the text of one port in the image of epoch 1.
+/// What comes before the encoding of one port in the image of epoch 1.
 static HEADER: [u8; 24] = [
     0x5a, 1, 0, 0, 0, 0, 0, 0, 1, 0, 0, 0, 0, 0, 0, 0, 94, 0, 0, 0, 0, 0, 0, 0,
 ];
@@ -19,7 +19,7 @@ static FORMER: [u8; 30] = [
     0x5a, 1, 0, 0, 0, 0, 0, 0, 3, 0, 0, 0, 0, 0, 0, 0, 6, 0, 0, 0, 0, 0, 0, 0, 1, 2, 3, 4, 5, 6,
 ];
 
-/// What a stop leaves of what isn't synced.
+/// What a crash leaves of what isn't synced.
 static OUTCOMES: [Torn; 6] = [
     Torn::Old,
     Torn::New,
@@ -32,12 +32,12 @@ static OUTCOMES: [Torn; 6] = [
 /// How many calls of the device a segment and an image of one piece take.
 const CALLS: u64 = 18;
 
-/// A disk that stops as it is planned to. No method has a clause, so that a test's proof carries nothing of one.
+/// A disk that crashes as planned. No method has a clause, so that a test's proof carries nothing of one.
 trait Store: Disk {
-    /// A disk whose slots of odd epochs hold what stood there before, and of which the calls from this one on fail.
+    /// A disk whose slots of odd epochs hold what stood there before, and whose calls fail from this one on.
     fn former(alloc: Global, stop_at: u64, torn: Torn) -> Option<Self>;
 
-    /// What a stop leaves.
+    /// What a crash leaves.
     fn stop(self) -> Option<Self>;
 
     /// The bytes of a slot.
@@ -60,7 +60,7 @@ impl Store for MemDisk {
     }
 }
 
-/// The image of epoch 1 that has the text of one port.
+/// The image of epoch 1 that has the encoding of one port.
 fn image_of_one_port(alloc: Global) -> Option<Image> {
     let snapshot = read(alloc, &ONE_PORT).ok()?;
     let image = Image::of(alloc, 1, &snapshot);
@@ -100,7 +100,7 @@ fn is_left(slot: &[u8], header: usize, whole: &[u8]) -> bool {
     slot == FORMER.as_slice() || slot == whole
 }
 
-/// Whether a stop at this call of the device fails, and leaves both slots so.
+/// Whether a crash at this device call makes it fail, and leaves each slot not open, as it was, or whole.
 fn stopped_well<S: Store + Drop>(
     alloc: Global,
     image: &Image,
@@ -115,7 +115,7 @@ fn stopped_well<S: Store + Drop>(
     Some(failed && segment && is_left(left.bytes(Slot::Image1), 24, whole))
 }
 
-/// The first stop that doesn't, by its call and by what it leaves of what isn't synced.
+/// The first crash that doesn't, by its call and by what it leaves of what isn't synced.
 fn stopped_badly<S: Store + Drop>(
     alloc: Global,
     image: &Image,

@@ -1,4 +1,4 @@
-//! The client's ends: what it tells of its words and its socket, and what goes to the peer and comes from it.
+//! The client's ends: what it reports of its words and its socket, and what goes to the peer and comes from it.
 use crate::expect::{same, same_in_row};
 use relay::run_client;
 use std::alloc::Global;
@@ -32,7 +32,7 @@ impl Net for OneSocket {
     }
 }
 
-/// What a run of the client gave.
+/// What a run of the client produced.
 #[derive(Drop)]
 struct Ended {
     status: u8,
@@ -101,7 +101,7 @@ fn a_wrong_line_or_no_socket_is_told(rt: HostRuntime) {
     }
 }
 
-/// Runs the client on a socket, whose end it closes behind it.
+/// Runs the client on a socket, whose end it closes afterwards.
 fn run_on(alloc: Global, stream: UnixStream, input: &[u8]) -> Option<Ended> {
     run(alloc, &OneSocket(Some(stream)), &["/a"], input)
 }
@@ -113,7 +113,7 @@ fn sent_to(alloc: Global, mut peer: &UnixStream) -> Option<Vec<u8>> {
     Some(requests)
 }
 
-/// Runs the client on a peer that has sent these bytes, and gives what the peer was sent.
+/// Runs the client on a peer that has sent these bytes, and returns what the peer was sent.
 fn with_peer(rt: &HostRuntime, input: &[u8], replies: &[u8]) -> Option<(Ended, Vec<u8>)> {
     let (peer, stream) = UnixStream::pair(rt).ok()?;
     let mut writer = &peer;
@@ -122,7 +122,8 @@ fn with_peer(rt: &HostRuntime, input: &[u8], replies: &[u8]) -> Option<(Ended, V
     Some((ended, sent_to(rt.alloc(), &peer)?))
 }
 
-/// Whether such a run ends with this status, all that the peer has sent and this line of errors, and the peer was sent this.
+/// Whether such a run ends with this status, all that the peer has sent and this line of errors, and the peer was sent
+/// this.
 fn is_relayed(
     rt: &HostRuntime,
     input: &[u8],

@@ -15,7 +15,7 @@ pub(crate) static ONE_PORT: [u8; 94] = [
 ];
 
 /// Every kind of entry, in two spaces; a port that is in a set, with a request and a message that carries the receive
-/// right of another and a send-once right of it to reply by; and that other port, with a request.
+/// right of another and a send-once right to it for the reply; and that other port, with a request.
 static EVERY_KIND: [u8; 223] = [
     3, 0, 0, 0, 0, 0, 0, 0, 2, 0, 0, 0, 1, 0, 0, 0, 4, 0, 0, 0, 0, 1, 0, 0, 1, 1, 0, 0, 0, 0, 0, 0,
     0, 1, 2, 0, 0, 0, 2, 0, 0, 0, 0, 0, 0, 0, 1, 1, 0, 0, 2, 1, 0, 0, 0, 0, 0, 0, 0, 0, 0, 0, 0, 0,
@@ -27,10 +27,10 @@ static EVERY_KIND: [u8; 223] = [
     0, 0,
 ];
 
-/// A byte of the last one that is another: its place, and the byte. What it spells then is no image, in order: spaces that
-/// don't rise; names that don't; no kind of entry; no flag; a message by a receive right; a port where there is no reply; no
-/// kind of right; nothing that stands in a port's place; a dead port with a serial; a size below a header's; a body beyond the
-/// message; no flag; ports that don't rise; a message that isn't there.
+/// A byte of the last one that is replaced: its place, and the new byte. What it encodes then is no image, in order:
+/// spaces that don't ascend; names that don't; no kind of entry; no flag; a message by a receive right; a port where
+/// there is no reply; no kind of right; nothing that stands in a port's place; a dead port with a serial; a size below
+/// a header's; a body beyond the message; no flag; ports that don't ascend; a message that is missing.
 static OTHERWISE: [(usize, u8); 14] = [
     (12, 8),
     (20, 1),
@@ -48,7 +48,7 @@ static OTHERWISE: [(usize, u8); 14] = [
     (219, 1),
 ];
 
-/// A text that is read and written again.
+/// An encoding that is read and written again.
 fn again(alloc: Global, text: &[u8]) -> Result<Vec<u8>, ImageFault> {
     let snapshot = read(alloc, text)?;
     let mut out = Vec::new(alloc);
@@ -56,7 +56,7 @@ fn again(alloc: Global, text: &[u8]) -> Result<Vec<u8>, ImageFault> {
     Ok(out)
 }
 
-/// Whether a text is read and written again byte for byte.
+/// Whether an encoding is read and written again byte for byte.
 fn is_kept(alloc: Global, text: &[u8]) -> bool {
     match again(alloc, text) {
         Ok(out) => out.as_slice() == text,
@@ -64,7 +64,7 @@ fn is_kept(alloc: Global, text: &[u8]) -> bool {
     }
 }
 
-/// Whether a text is no image.
+/// Whether bytes are no image.
 fn is_none(alloc: Global, text: &[u8]) -> bool {
     match again(alloc, text) {
         Ok(_) => false,
@@ -72,7 +72,7 @@ fn is_none(alloc: Global, text: &[u8]) -> bool {
     }
 }
 
-/// Whether the last text is no image with one byte as another.
+/// Whether the last encoding is no image after one byte is replaced.
 fn is_none_changed(alloc: Global, place: usize, byte: u8) -> Option<bool> {
     let mut text = Vec::from_slice(alloc, &EVERY_KIND).ok()?;
     if let Some(at) = text.as_mut_slice().get_mut(place) {
@@ -81,8 +81,8 @@ fn is_none_changed(alloc: Global, place: usize, byte: u8) -> Option<bool> {
     Some(is_none(alloc, &text))
 }
 
-/// Where the body of its message is cut, the size that the message then has, and whether it is an image still: a size is a
-/// multiple of 4.
+/// Where the body of its message is cut off, the size that the message then has, and whether it is still an image: a
+/// size is a multiple of 4.
 static BODIES: [(usize, u8, bool); 5] = [
     (171, 24, true),
     (173, 26, false),
@@ -91,7 +91,7 @@ static BODIES: [(usize, u8, bool); 5] = [
     (179, 32, true),
 ];
 
-/// The last text with its message's body cut, and this size.
+/// The last encoding with its message's body cut off, and this size.
 fn with_body(alloc: Global, end: usize, size: u8) -> Option<Vec<u8>> {
     if end > 179 {
         return None;
@@ -110,14 +110,14 @@ fn seen_with_body(alloc: Global, end: usize, size: u8) -> Option<(bool, bool)> {
     Some((is_kept(alloc, &text), is_none(alloc, &text)))
 }
 
-/// Whether it is none with one byte more.
+/// Whether it is no image with one more byte.
 fn is_none_longer(alloc: Global) -> Option<bool> {
     let mut text = Vec::from_slice(alloc, &EVERY_KIND).ok()?;
     text.push(0).ok()?;
     Some(is_none(alloc, &text))
 }
 
-/// How many of a text's beginnings are no images.
+/// How many of an encoding's prefixes are no images.
 fn refused_beginnings(alloc: Global, text: &[u8]) -> usize {
     let mut count = 0usize;
     for length in 0..text.len() {
@@ -128,7 +128,7 @@ fn refused_beginnings(alloc: Global, text: &[u8]) -> usize {
     count
 }
 
-/// Whether a text is an image, and how many of its beginnings are none.
+/// Whether bytes are an image, and how many of their prefixes are none.
 fn seen(alloc: Global, text: &[u8]) -> (bool, usize) {
     (is_kept(alloc, text), refused_beginnings(alloc, text))
 }

@@ -47,7 +47,8 @@ fn what_changed_the_state_has_a_record(rt: HostRuntime) {
     same(&rt, call.has_record(&full), false);
 }
 
-/// Whether a reply is a refusal, whether it is the results of a message of size 0 by no port, and whether it is a success.
+/// Whether a reply is a refusal, whether it has the results of a message of size 0 by no port, and whether it is a
+/// success.
 fn seen_of(reply: Reply) -> [bool; 3] {
     let seen = [
         matches!(&reply, Reply::Refused { .. }),

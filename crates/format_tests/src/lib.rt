@@ -1,6 +1,6 @@
-//! Tests of the formats: words, codes, frames, calls, messages and records; images and their texts, new segments and images
-//! in their slots, and what an inspector prints; and of the relay of frames between streams that are cut, that end and that
-//! fail.
+//! Tests of the formats: words, codes, frames, calls, messages and records; images and their encodings, new segments
+//! and images in their slots, and what an inspector prints; and of the relay of frames between streams that are cut
+//! off, that end and that fail.
 #![tactic(auto)]
 
 #[cfg(test)]

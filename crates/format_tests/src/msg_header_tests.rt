@@ -3,8 +3,8 @@ use codes::KernReturn;
 use msg_header::{Header, parse};
 use std::alloc::Global;
 
-/// A complex message of a header alone: the destination 0x102 by MACH_MSG_TYPE_COPY_SEND, the reply right 0x103 by
-/// MACH_MSG_TYPE_MAKE_SEND_ONCE, sequence number 7 and id 0x864.
+/// A complex message that is only a header: the destination 0x102 by `MACH_MSG_TYPE_COPY_SEND`, the reply right 0x103
+/// by `MACH_MSG_TYPE_MAKE_SEND_ONCE`, sequence number 7 and id 0x864.
 const MESSAGE: &[u8; 24] =
     b"\x13\x15\x00\x80\x18\x00\x00\x00\x02\x01\x00\x00\x03\x01\x00\x00\x07\x00\x00\x00\x64\x08\x00\x00";
 

@@ -34,7 +34,7 @@ impl Echo {
     }
 }
 
-/// What the peer sends back, a byte a read.
+/// What the peer sends back, one byte per read.
 #[derive(Drop)]
 struct Back<'a>(&'a Echo);
 
@@ -56,7 +56,7 @@ impl<'a> Read for Back<'a> {
     }
 }
 
-/// What the peer is sent, a byte a write.
+/// What the peer is sent, one byte per write.
 #[derive(Drop)]
 struct Forth<'a>(&'a Echo);
 
@@ -74,7 +74,7 @@ impl<'a> Write for Forth<'a> {
     }
 }
 
-/// Takes one byte a write, up to some number of bytes, and fails from then on.
+/// Takes one byte per write, up to some number of bytes, and fails from then on.
 #[derive(Drop)]
 struct Filling {
     output: Vec<u8>,
@@ -98,14 +98,14 @@ impl Write for Filling {
     }
 }
 
-/// What a relay answered, and what was written to its output.
+/// What a relay returned, and what was written to its output.
 #[derive(Drop)]
 pub(crate) struct Relayed {
     pub(crate) end: Result<(), WireFault>,
     pub(crate) output: Vec<u8>,
 }
 
-/// Relays an input between the peer and a writer with room for so many bytes.
+/// Relays an input between the peer and a writer with room for `room` bytes.
 pub(crate) fn relay_to(alloc: Global, input: &[u8], peer: &Echo, room: usize) -> Option<Relayed> {
     let filling = Filling {
         output: Vec::new(alloc),

@@ -20,7 +20,7 @@ const SEND: [u8; 84] = [
     34, 17, 16, 0, 0, 0, 19, 0, 0, 0, 0, 0, 0, 0, 0, 0, 0, 0, 0, 0, 0, 0,
 ];
 
-// Number 2: space 1, a receipt with limit 28, and the message that it brought.
+// Number 2: space 1, a receive with limit 28, and the message that it returned.
 const RECEIPT: [u8; 84] = [
     2, 0, 0, 0, 0, 0, 0, 0, 1, 0, 0, 0, 20, 0, 0, 0, 19, 0, 0, 0, 2, 0, 0, 0, 28, 0, 0, 0, 0, 1, 0,
     0, 0, 0, 0, 0, 44, 0, 0, 0, 19, 0, 0, 0, 0, 0, 0, 0, 28, 0, 0, 0, 0, 1, 0, 0, 0, 17, 0, 0, 28,
@@ -36,7 +36,7 @@ fn record_bytes(alloc: Global, number: u64, record: &Record) -> Option<Vec<u8>>
     Some(out)
 }
 
-// Writes a record behind which nothing stands.
+// Writes a record with nothing after it.
 fn written_alone(alloc: Global, number: u64, record: &Record, rest: &[u8]) -> Option<Vec<u8>>
     requires call { length (call_text «record».now.call) < 2 ^ 32 }
     requires reply { length (reply_text «record».now.reply) < 2 ^ 32 }
@@ -115,13 +115,13 @@ fn written_records(rt: HostRuntime) {
     same_bytes(&rt, raw_send_bytes(rt.alloc()), &SEND);
 }
 
-// Puts a byte in the place of another.
+// Replaces a byte.
 fn put_byte(text: &mut [u8], at: usize, byte: u8) -> Option<()> {
     *text.get_mut(at)? = byte;
     Some(())
 }
 
-// Whether a text with one byte put in the place of another is a record.
+// Whether an encoding with one byte replaced is a record.
 fn is_record_once_bent(alloc: Global, text: &[u8], at: usize, byte: u8) -> Option<bool> {
     let mut bent = Vec::from_slice(alloc, text).ok()?;
     let put = put_byte(&mut bent, at, byte);
@@ -130,8 +130,8 @@ fn is_record_once_bent(alloc: Global, text: &[u8], at: usize, byte: u8) -> Optio
     put.and(found)
 }
 
-// The reply is one to another call; the message isn't as it is kept; a send brings something; a receipt has another
-// size, its message is above its limit, or no port that it could have come by.
+// The reply is one to another call; the message isn't as it is kept; a send returns something; a receive has another
+// size, its message is above its limit, or there is no port by which it could have come.
 static BENT: [(&'static [u8], usize, u8); 8] = [
     (&ALLOCATION, 28, 4),
     (&SEND, 38, 1),

@@ -19,13 +19,13 @@ fn told(relayed: &Relayed, peer: &Echo, input: &[u8]) -> Told {
     (relayed.end, peer.sent(), first)
 }
 
-/// Relays an input to a peer, and to a writer with room for so many bytes.
+/// Relays an input to a peer, and to a writer with room for `room` bytes.
 fn relayed(alloc: Global, input: &[u8], peer: &Echo, room: usize) -> Option<Told> {
     let relayed = relay_to(alloc, input, peer, room)?;
     Some(told(&relayed, peer, input))
 }
 
-/// Relays an input to a peer that sends so many bytes back, and to a writer with room for so many.
+/// Relays an input to a peer that sends `peer_room` bytes back, and to a writer with room for `room` bytes.
 fn run(alloc: Global, input: &[u8], peer_room: usize, room: usize) -> Option<Told> {
     relayed(alloc, input, &Echo::new(alloc, peer_room), room)
 }

@@ -108,7 +108,7 @@ fn exchanges_as_lines(rt: HostRuntime) {
     }
 }
 
-// Where a line, or that of a call alone, is no line, and what was expected there.
+// Where a line, or the line of just a call, is no line, and what was expected there.
 fn unreadable<T: Drop>(read: Result<T, LineFault>) -> Option<(usize, Expected)> {
     match read.err()? {
         LineFault::Unreadable { column, expected } => Some((column, expected)),
@@ -147,7 +147,7 @@ fn what_is_no_line(rt: HostRuntime) {
     }
 }
 
-// Prints the calls and the replies of a script's lines, one behind the other.
+// Prints the calls and the replies of a script's lines, one after the other.
 fn push_parts(printed: &mut Vec<u8>, lines: &[Line]) -> Result<(), AllocError> {
     for line in lines {
         push_call(printed, &line.exchange.call)?;

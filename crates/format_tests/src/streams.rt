@@ -3,7 +3,7 @@
 use std::io;
 use std::io::Read;
 
-/// Gives one byte a read, and fails once `before` reads are over.
+/// Gives one byte per read, and fails once `before` reads are over.
 #[derive(Drop)]
 pub(crate) struct OneByte<'a> {
     pub(crate) bytes: &'a [u8],

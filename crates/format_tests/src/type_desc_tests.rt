@@ -5,15 +5,15 @@ use type_desc::{
     ItemFault, first_item, has_too_many_ports, items, push_filled_body, push_stored_items,
 };
 
-/// Three ports by MACH_MSG_TYPE_MAKE_SEND: 0x101, NULL and DEAD.
+/// Three ports by `MACH_MSG_TYPE_MAKE_SEND`: 0x101, `MACH_PORT_NULL` and `MACH_PORT_DEAD`.
 const PORTS: &[u8] = b"\x14\x20\x03\x10\x01\x01\x00\x00\x00\x00\x00\x00\xff\xff\xff\xff";
 
 /// The same as a queued message has them.
 const STORED_PORTS: &[u8] = b"\x11\x20\x03\x10\x00\x00\x00\x00\x00\x00\x00\x00\x00\x00\x00\x00";
 
-/// Bodies, and how many items they are or what is wrong with them: a long descriptor whose data isn't there, one that is
-/// cut, one with fields in its word, data that is cut, data out of line, a bit of deallocate, the unused bit, ports of 64
-/// bits, and a fault behind an item.
+/// Bodies, and how many items they are or what is wrong with them: a long descriptor whose data is missing, one that is
+/// cut off, one with fields in its word, data that is cut off, data out of line, a deallocate bit, the unused bit,
+/// ports of 64 bits, and a fault after an item.
 static BODIES: [(&[u8], Result<usize, ItemFault>); 14] = [
     (b"", Ok(0)),
     (PORTS, Ok(1)),

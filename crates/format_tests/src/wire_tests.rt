@@ -5,7 +5,7 @@ use std::io;
 use std::io::{Read, Write};
 use wire::{Frame, WireFault, read_frame, write_frame};
 
-// The frame of the number 5 and the argument 1.
+// The frame with the number 5 and the argument 1.
 const FRAME: [u8; 12] = [8, 0, 0, 0, 5, 0, 0, 0, 1, 0, 0, 0];
 
 // Takes `room` bytes, and then fails, or takes none if it is `stuck`.
@@ -70,7 +70,7 @@ fn written(alloc: Global, frame: &Option<Frame>) -> Option<Vec<u8>> {
     Some(output)
 }
 
-/// Whether there is no frame where there are no bytes.
+/// Whether there is no frame if there are no bytes.
 fn is_at_end(alloc: Global) -> Option<bool> {
     Some(!is_there(read_frame(alloc, &mut &[][..]).ok()?))
 }
@@ -116,7 +116,7 @@ fn makes_frames(rt: HostRuntime) {
     same(&rt, copied, Some(true));
 }
 
-/// Gives the frame of the number 5 and the argument 1, and fails once so many reads are over.
+/// Gives the frame with the number 5 and the argument 1, and fails once `before` reads are over.
 fn reader(before: usize) -> OneByte<'static> {
     let bytes: &'static [u8] = b"\x08\0\0\0\x05\0\0\0\x01\0\0\0";
     OneByte { bytes, before }
@@ -133,7 +133,7 @@ fn readers_that_give_little(rt: HostRuntime) {
     }
 }
 
-/// The fault of writing a frame where there is so much room, if there is one, and how much room is left.
+/// The fault of writing a frame into this much room, if there is one, and how much room is left.
 type Writing = (Option<WireFault>, usize);
 
 fn writing(frame: &Option<Frame>, room: usize, stuck: bool) -> Option<Writing> {

@@ -1,4 +1,4 @@
--- Lists of entries of which one begins the other.
+-- Lists of entries of which one is a prefix of the other.
 use Rattle.std.proofs.Common.{◌≡◌, ℕ, zero, suc, refl, ◌≤◌, List, [], ◌∷◌, ◌++◌, length, take, drop, take-append-drop, length-append, ap, sym, ◌∙◌, ◌⊎◌, inl, inr, arith}
 use Rattle.std.proofs.Math.Seq.{take-length}
 use Rattle.std.proofs.lemmas.Bool.{cases_lt}
@@ -16,14 +16,14 @@ pub begins_trans : (xs ys zs : List Entry) → Begins xs ys → Begins ys zs →
 begins_trans xs ys zs first second =
     sym (take-take (length xs) (length ys) zs (begins_length xs ys first)) ∙ (ap (take (length xs)) second ∙ first)
 
--- a list that begins another with one item more, and has one less, is that other
+-- a prefix of a list with one more item, of the list's own length, is that list
 pub begins_same : (xs ys : List Entry) (e : Entry) → Begins xs (ys ++ e ∷ []) → length ys ≡ length xs → ys ≡ xs
 begins_same xs ys e begins long = sym (take_at ys (e ∷ []) (length xs) long) ∙ begins
 
 pub begins_itself : (xs : List Entry) → Begins xs xs
 begins_itself xs = take-length xs
 
--- a list is what begins it and the rest
+-- a list is any prefix of it, and then the rest
 pub begins_rest : (xs ys : List Entry) → Begins xs ys → ys ≡ xs ++ drop (length xs) ys
 begins_rest xs ys begins = sym (take-append-drop (length xs) ys) ∙ ap (λ (l : List Entry). l ++ drop (length xs) ys) begins
 
@@ -35,7 +35,7 @@ pub begins_records_length : (xs ys : List Entry) → Begins xs ys → length (re
 begins_records_length xs ys begins =
     omega (arith, begins_length xs ys begins, length-map xs (λ (e : Entry). e.«record»), length-map ys (λ (e : Entry). e.«record»))
 
--- a list that begins another of its length is that other
+-- a prefix of a list that is as long as the list is that list
 pub begins_whole : (xs ys : List Entry) → Begins xs ys → length ys ≡ length xs → ys ≡ xs
 begins_whole xs ys begins same = sym (take-length ys) ∙ ap (λ (n : ℕ). take n ys) same ∙ begins
 

@@ -1,4 +1,4 @@
--- What notes of cells tell. f gives a note's cell, and g what it knows.
+-- What notes of cells show. f gives a note's cell, and g what it knows.
 use Rattle.std.proofs.Common.{◌≡◌, ℕ, ◌+◌, ◌-◌, ◌<◌, ◌≤◌, Option, Some, None, List, [], ◌∷◌, ◌++◌, length, map, take, drop, slice_get, is_some, true, IfSome, refl, ap, sym, ◌∙◌, subst, arith, inl, inr, length-append}
 use Rattle.std.specs.Option.{option_map}
 use Rattle.std.proofs.lemmas.List.{map-append, length-map, length-take, length-drop, drop-append-le, take-append-le, take-take, take-map, take-append-drop}
@@ -59,14 +59,14 @@ notes_more cells noted known name p are at before =
           ∙ (ap (map Some) (sym (placed-append entries p.entry)) ∙ ap (λ es. map Some (placed es)) (sym (known_more known p)))));
     }
 
--- no more was read of a row than is known of it
+-- no more was read of an entry block than is known of it
 pub read_within : (first : RowNames) (place : PlaceValue) (noted : List ℕ) (known : List (Option PlacedValue)) (seen : List PlacedValue) → IsPast first place noted known seen
     → length seen ≤ length (known_entries known) - place.start
 read_within first place noted known seen is =
     let lie = placed (known_entries known) in
     omega (arith, ap length is.read, length-take (length seen) (drop place.start lie), length-drop place.start lie, length-placed_from [] (known_entries known))
 
--- what was read at a place of the row is the entry there
+-- what was read at a place of the block is the entry there
 pub read_at : (first : RowNames) (place : PlaceValue) (noted : List ℕ) (known : List (Option PlacedValue)) (seen : List PlacedValue) (i : ℕ) (p : PlacedValue) → IsPast first place noted known seen
     → slice_get seen i ≡ Some p → slice_get (known_entries known) (place.start + i) ≡ Some p.entry
 read_at first place noted known seen i p is at =
@@ -77,7 +77,7 @@ read_at first place noted known seen i p is at =
     ∙ (sym (ap (λ (l : List PlacedValue). slice_get l i) is.read) ∙ at)) in
     (placed_from_at [] entries (place.start + i) p here).0
 
--- a place of the row, among those of all rows
+-- a place of the block, among those of all blocks
 pub row_cell : (first row : RowNames) (links : List LinkValue) (start at : ℕ) → IsRowAt first links start row → start ≤ at → slice_get row.cells (at - start) ≡ slice_get (names_after first links).cells at
 row_cell first row links start at is less =
     ap (λ (l : List ℕ). slice_get l (at - start)) is.same_cells ∙ (slice_get-drop start (at - start) (names_after first links).cells ∙ ap (slice_get (names_after first links).cells) (omega arith))
@@ -87,7 +87,7 @@ module _ {X : Type 0} (f : X → ℕ) (g : X → Option PlacedValue) where
   entries_more old new x p more knows =
       ap known_entries (ap (map g) more ∙ (map-append g old (x ∷ []) ∙ ap (λ (k : Option PlacedValue). map g old ++ k ∷ []) knows)) ∙ known_more (map g old) p
 
-  -- one entry more
+  -- one more entry
   pub past_more : (first : RowNames) (place : PlaceValue) (old new : List X) (x : X) (p : PlacedValue) (seen : List PlacedValue) → IsPast first place (map f old) (map g old) seen → new ≡ old ++ x ∷ []
       → slice_get (names_after first place.links).cells (length old) ≡ Some (f x) → g x ≡ Some p → p.before ≡ numbers_of (known_entries (map g old)) → IsPast first place (map f new) (map g new) seen
   past_more first place old new x p seen is more at knows before =
@@ -111,7 +111,7 @@ module _ {X : Type 0} (f : X → ℕ) (g : X → Option PlacedValue) where
             ∙ ap (take (length seen)) (sym (drop-append-le place.start lie (place_after entries p.entry ∷ []) begun) ∙ ap (drop place.start) (sym (placed-append entries p.entry) ∙ ap placed (sym all))));
       }
 
-  -- two beginnings, by what the notes of the last cell of one of them tell
+  -- two prefixes, by what the notes of the last cell of one of them show
   pub begins_by : (mine theirs : List X) (x : X) (i : ℕ) → AreKnown (map g mine) → AreKnown (map g theirs) → slice_get theirs i ≡ Some x
       → i < length mine → IfSome (g x) (λ seen. IfSome (slice_get (map g mine) i) (λ known. IfSome known (λ own. own ≡ seen)))
       → (length mine ≡ i + 1 → Begins (known_entries (map g mine)) (known_entries (map g theirs))) × (length theirs ≡ i + 1 → Begins (known_entries (map g theirs)) (known_entries (map g mine)))
@@ -126,7 +126,7 @@ module _ {X : Type 0} (f : X → ℕ) (g : X → Option PlacedValue) where
             (known_long (map g theirs) other ∙ (length-map theirs g ∙ long)) there.2 here.2 (sym same),
       )
 
--- the next row
+-- the next entry block
 pub past_next : (first row : RowNames) (place : PlaceValue) (noted : List ℕ) (known : List (Option PlacedValue)) (seen : List PlacedValue) (long : ℕ) → IsPast first place noted known seen → long ≡ length noted
     → IsPast first (rows.place_after first place long row) noted known []
 past_next first row place noted known seen long is at =
@@ -147,7 +147,7 @@ past_next first row place noted known seen long is at =
       read = refl;
     }
 
--- Where a row was left, its notes are of the cells of those who went on.
+-- Up to where a block was left, its notes are of the same cells as the notes of pasts that went on.
 pub behind : (first : RowNames) (mine theirs : List LinkValue) (own other : List ℕ) (known others : List (Option PlacedValue)) (s : ℕ) → AreNotes (names_after first mine).cells own known
     → AreNotes (names_after first theirs).cells other others → Leads first theirs (names_after first theirs).cells (length other) → take (length mine) theirs ≡ mine
     → option_map (λ (l : LinkValue). l.start) (slice_get theirs (length mine)) ≡ Some s → (s ≤ length other) × ((i : ℕ) → i < length own → i < s → slice_get own i ≡ slice_get other i)
@@ -160,7 +160,7 @@ behind first mine theirs own other known others s are go leads begins starts =
           ∙ (leads_cell first theirs cells (length other) (length mine) s i leads starts less ∙ sym (name_at cells other others i go (omega (arith, left.0))))),
     )
 
--- in one row the notes are of the same cells
+-- in the same block the notes are of the same cells
 pub beside : (first : RowNames) (mine theirs : List LinkValue) (own other : List ℕ) (known others : List (Option PlacedValue)) (i : ℕ) → AreNotes (names_after first mine).cells own known
     → AreNotes (names_after first theirs).cells other others → mine ≡ theirs → i < length own → i < length other → slice_get own i ≡ slice_get other i
 beside first mine theirs own other known others i are go same within inside =
@@ -184,7 +184,7 @@ module _ {X : Type 0} (f : X → ℕ) (g : X → Option PlacedValue) where
       ∙ (sym (name_at cells (map f notes) (map g notes) (start + i) are (omega (arith, length-map notes f, slice_get_within notes (start + i) x at)))
       ∙ (slice_get-map f notes (start + i) ∙ ap (option_map f) at)))
 
-  -- one entry more was read
+  -- one more entry was read
   pub read_more : (first : RowNames) (place : PlaceValue) (notes : List X) (x : X) (p : PlacedValue) (seen more : List PlacedValue) → IsPast first place (map f notes) (map g notes) seen
       → slice_get notes (place.start + length seen) ≡ Some x → g x ≡ Some p → more ≡ seen ++ p ∷ [] → IsPast first place (map f notes) (map g notes) more
   read_more first place notes x p seen more is at knows grown =
@@ -202,7 +202,7 @@ module _ {X : Type 0} (f : X → ℕ) (g : X → Option PlacedValue) where
             ∙ (sym (take_next (length seen) (drop place.start lie) p next) ∙ ap (λ (n : ℕ). take n (drop place.start lie)) (sym (ap length grown ∙ length-append seen (p ∷ [])))));
       }
 
-  -- notes of the same cells that know a beginning, with what others have more
+  -- notes of the same cells that know a prefix, and then those that the others have more
   grown : (mine theirs new : List X) → AreKnown (map g mine) → AreKnown (map g theirs) → map f mine ≡ take (length mine) (map f theirs) → Begins (known_entries (map g mine)) (known_entries (map g theirs))
       → new ≡ mine ++ drop (length mine) theirs → (map f new ≡ map f theirs) × (map g new ≡ map g theirs)
   grown mine theirs new own other cells begins more =
@@ -218,7 +218,7 @@ module _ {X : Type 0} (f : X → ℕ) (g : X → Option PlacedValue) where
             ∙ (ap (λ (l : List (Option PlacedValue)). take n (map g theirs) ++ l) (sym (drop_map g n theirs)) ∙ take-append-drop n (map g theirs)))),
       )
 
-  -- what another has more in the same row
+  -- what another past has more in the same block
   pub learned : (first : RowNames) (place other : PlaceValue) (mine theirs new : List X) (seen others : List PlacedValue) → IsPast first place (map f mine) (map g mine) seen
       → IsPast first other (map f theirs) (map g theirs) others → place.links ≡ other.links → length mine ≤ length theirs → Begins (known_entries (map g mine)) (known_entries (map g theirs))
       → new ≡ mine ++ drop (length mine) theirs → IsPast first place (map f new) (map g new) seen × (known_entries (map g new) ≡ known_entries (map g theirs))
@@ -245,7 +245,7 @@ module _ {X : Type 0} (f : X → ℕ) (g : X → Option PlacedValue) where
         ap known_entries same.1,
       )
 
-  -- what another has more, with its place
+  -- what another past has more, with its place
   pub followed : (first : RowNames) (other : PlaceValue) (mine theirs new : List X) (others : List PlacedValue) → AreKnown (map g mine) → IsPast first other (map f theirs) (map g theirs) others
       → map f mine ≡ take (length mine) (map f theirs) → Begins (known_entries (map g mine)) (known_entries (map g theirs)) → new ≡ mine ++ drop (length mine) theirs
       → IsPast first other (map f new) (map g new) [] × (known_entries (map g new) ≡ known_entries (map g theirs))
@@ -264,7 +264,7 @@ module _ {X : Type 0} (f : X → ℕ) (g : X → Option PlacedValue) where
       subst (λ (l : List PlacedValue). IsPast first other (map f new) (map g new) l) (sym empty)
       (subst (λ (l : List X). IsPast first other (map f l) (map g l) []) (sym more) (subst (λ (p : PlaceValue). IsPast first p (map f mine) (map g mine) []) (sym same) whole))
 
--- up to where a row was left the notes are of the first cells of those who went on
+-- up to where a block was left, the notes are of the first cells of pasts that went on
 pub front_cells : (first : RowNames) (mine theirs : List LinkValue) (own other : List ℕ) (known others : List (Option PlacedValue)) (s : ℕ) → AreNotes (names_after first mine).cells own known
     → AreNotes (names_after first theirs).cells other others → Leads first theirs (names_after first theirs).cells (length other) → take (length mine) theirs ≡ mine
     → option_map (λ (l : LinkValue). l.start) (slice_get theirs (length mine)) ≡ Some s → length own ≤ s → own ≡ take (length own) other

@@ -1,4 +1,4 @@
--- How cells stay the same from row to row.
+-- How cells stay the same from entry block to entry block.
 use Rattle.std.proofs.Common.{◌≡◌, ℕ, zero, suc, ◌<◌, ◌≤◌, Some, List, [], ◌∷◌, ◌++◌, length, take, slice_get, ap, sym, ◌∙◌, arith}
 use Rattle.std.specs.Option.{option_map}
 use Rattle.std.proofs.lemmas.List.{take-append-le, take-take, length-take-le}
@@ -13,7 +13,7 @@ pub leads_more : (here : RowNames) (links : List LinkValue) (cells : List ℕ) (
 leads_more here [] cells long more leads less = tt
 leads_more here (l ∷ links) cells long more leads less = (omega (arith, leads.0), leads.1, leads_more l.next links cells long more leads.2 less)
 
--- one link more, behind all entries
+-- one more link, after all entries
 pub leads_next : (here : RowNames) (links : List LinkValue) (cells row : List ℕ) (long : ℕ) (last : LinkValue) → Leads here links cells long → cells ≡ (names_after here links).cells → last.start ≡ long → long ≤ length cells
     → Leads here (links ++ last ∷ []) (take long cells ++ row) long
 leads_next here [] cells row long last leads same at fits =
@@ -21,7 +21,7 @@ leads_next here [] cells row long last leads same at fits =
 leads_next here (l ∷ links) cells row long last leads same at fits =
     (leads.0, leads.1 ∙ sym (take_front l.start long cells row leads.0 fits), leads_next l.next links cells row long last leads.2 same at fits)
 
--- up to where a row was left, its cells are those of all rows behind it
+-- up to where a block was left, its cells are those of all blocks after it
 pub leads_at : (here : RowNames) (links : List LinkValue) (cells : List ℕ) (long e s : ℕ) → Leads here links cells long → option_map (λ (l : LinkValue). l.start) (slice_get links e) ≡ Some s
     → (s ≤ long) × (take s (names_after here (take e links)).cells ≡ take s cells)
 leads_at here [] cells long e s leads at = absurd (cc at)

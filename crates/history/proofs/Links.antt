@@ -1,4 +1,4 @@
--- What notes of links tell. f gives a note's cell, and g what it knows.
+-- What notes of links show. f gives a note's cell, and g what it knows.
 use Rattle.std.proofs.Common.{◌≡◌, ℕ, zero, suc, ◌+◌, ◌<◌, ◌≤◌, Option, Some, None, List, [], ◌∷◌, ◌++◌, length, map, take, drop, slice_get, IfSome, refl, ap, sym, ◌∙◌, arith, inl, inr}
 use Rattle.std.specs.Option.{option_map}
 use Rattle.std.proofs.lemmas.List.{map-append, length-map, drop_at, length-take-le}
@@ -54,14 +54,14 @@ map_some-append [] l = refl
 map_some-append (x ∷ xs) l = ap (λ rest. Some x ∷ rest) (map_some-append xs l)
 
 module _ {X : Type 0} (f : X → ℕ) (g : X → Option LinkValue) (first : RowNames) where
-  -- where a note is of the cell behind its place's links
+  -- a note is of the cell that comes after the links before it
   pub cell_at : (notes : List X) (i : ℕ) → AreLinks first (map f notes) (map g notes) → i < length notes
       → slice_get (map f notes) i ≡ Some (names_after first (take i (known_links (map g notes)))).link
   cell_at notes i are within =
       let links = known_links (map g notes) in
       ap (λ (l : List ℕ). slice_get l i) are.names ∙ link_cell_at first links i (omega (arith, links_long first (map f notes) (map g notes) are, length-map notes g))
 
-  -- behind the same links the next notes are of one cell
+  -- after the same links the next notes are of one cell
   pub same_link_cell : (mine theirs : List X) (x : X) (i : ℕ) → AreLinks first (map f mine) (map g mine) → AreLinks first (map f theirs) (map g theirs)
       → take i (known_links (map g mine)) ≡ take i (known_links (map g theirs)) → slice_get theirs i ≡ Some x → i < length mine → slice_get (map f mine) i ≡ Some (f x)
   same_link_cell mine theirs x i own other same at within =
@@ -69,7 +69,7 @@ module _ {X : Type 0} (f : X → ℕ) (g : X → Option LinkValue) (first : RowN
       ∙ (ap (λ (l : List LinkValue). Some (names_after first l).link) same
       ∙ (sym (cell_at theirs i other (slice_get_within theirs i x at)) ∙ (slice_get-map f theirs i ∙ ap (option_map f) at)))
 
-  -- and where the comparison says so, one link more is the same
+  -- and if the comparison says so, one more link is the same
   pub links_next : (mine theirs : List X) (x : X) (i : ℕ) → AreLinks first (map f mine) (map g mine) → AreLinks first (map f theirs) (map g theirs)
       → take i (known_links (map g mine)) ≡ take i (known_links (map g theirs)) → slice_get theirs i ≡ Some x → i < length mine
       → IfSome (g x) (λ seen. IfSome (slice_get (map g mine) i) (λ known. IfSome known (λ own. own ≡ seen)))
@@ -87,7 +87,7 @@ module _ {X : Type 0} (f : X → ℕ) (g : X → Option LinkValue) (first : RowN
   links_more old new x l more knows =
       ap known_links (ap (map g) more ∙ (map-append g old (x ∷ []) ∙ ap (λ (k : Option LinkValue). map g old ++ k ∷ []) knows)) ∙ known_links-append (map g old) l
 
-  -- one link more
+  -- one more link
   pub are_links-more : (old new : List X) (x : X) (l : LinkValue) → AreLinks first (map f old) (map g old) → new ≡ old ++ x ∷ [] → f x ≡ (names_after first (known_links (map g old))).link → g x ≡ Some l
       → AreLinks first (map f new) (map g new)
   are_links-more old new x l are more at knows =
@@ -101,7 +101,7 @@ module _ {X : Type 0} (f : X → ℕ) (g : X → Option LinkValue) (first : RowN
         links = known ∙ (ap (λ (k : List (Option LinkValue)). k ++ Some l ∷ []) are.links ∙ (sym (map_some-append links l) ∙ ap (map Some) (sym all)));
       }
 
-  -- where a row is left, its link's cell is the next one of the links that go on
+  -- where a block is left, its link's cell is the next one of the links that go on
   pub left_cell : (notes : List X) (links all : List LinkValue) (i cell : ℕ) → AreLinks first (map f notes) (map g notes) → known_links (map g notes) ≡ all → i ≡ length links → length links < length all
       → take (length links) all ≡ links → cell ≡ (names_after first links).link → slice_get (map f notes) i ≡ Some cell
   left_cell notes links all i cell are is at more begins same =
@@ -120,7 +120,7 @@ module _ {X : Type 0} (f : X → ℕ) (g : X → Option LinkValue) (first : RowN
       ∙ (ap (λ (n : ℕ). option_map (λ (v : LinkValue). v.start) (slice_get (known_links (map g notes)) n)) (sym at)
       ∙ (ap (option_map (λ (v : LinkValue). v.start)) here.2 ∙ (ap (λ (v : LinkValue). Some v.start) same ∙ starts)))
 
-  -- the place behind a link more
+  -- the place after one more link
   pub begins_row : (old new : List X) (x : X) (l : LinkValue) (left row : RowNames) (start long : ℕ) (links : List LinkValue) → IsPlace first left (map f old) (map g old) start → known_links (map g old) ≡ links
       → new ≡ old ++ x ∷ [] → f x ≡ left.link → g x ≡ Some l → l ≡ record { start = long; next = next_names (names_after first links) long row } → long ≤ length (names_after first links).cells
       → IsPlace first row (map f new) (map g new) long

@@ -1,4 +1,4 @@
--- Entries in their cells: which numbers tell them, and which list stands before each.
+-- Entries in their cells: which numbers determine them, and which list stands before each.
 use Rattle.std.proofs.Common.{◌≡◌, ℕ, zero, suc, ◌+◌, ◌≤◌, Some, List, [], ◌∷◌, ◌++◌, length, take, drop, slice_get, refl, ap, sym, ◌∙◌, arith, append_assoc}
 use Rattle.std.proofs.lemmas.List.{append-nil, take_all, take_more_same, take-append-drop, drop_all}
 use Rattle.std.proofs.lemmas.Option.{get_or_from_slice_get, slice_get_within}
@@ -8,7 +8,7 @@ use Rattle.history.specs.declared.entry.Entry.{Entry}
 use Rattle.history.specs.contracts.entry.Entry as entry
 use Rattle.history.specs.Entries.{numbers_of_tree, numbers_of, PlacedValue, place_after, placed_from, placed, Begins}
 
--- no tree's numbers begin another's
+-- no tree's numbers are a prefix of another tree's
 same_tree : (a b : Gv) (xs ys : List ℕ) → numbers_of_tree a ++ xs ≡ numbers_of_tree b ++ ys → (a ≡ b) × (xs ≡ ys)
 unfolding numbers_of_tree
 same_tree gnil gnil xs ys e = (refl, cc e)
@@ -38,7 +38,7 @@ placed_from-append before (x ∷ entries) e =
     ap (λ rest. place_after before x ∷ rest) (placed_from-append (before ++ x ∷ []) entries e
     ∙ ap (λ all. placed_from (before ++ x ∷ []) entries ++ place_after all e ∷ []) (append_assoc before (x ∷ []) entries))
 
--- one entry more lies behind all entries before it
+-- one more entry lies after all entries before it
 pub placed-append : (entries : List Entry) (e : Entry) → placed (entries ++ e ∷ []) ≡ placed entries ++ place_after entries e ∷ []
 placed-append entries e = placed_from-append [] entries e
 
@@ -46,7 +46,7 @@ pub length-placed_from : (before entries : List Entry) → length (placed_from b
 length-placed_from before [] = refl
 length-placed_from before (e ∷ entries) = ap suc (length-placed_from (before ++ e ∷ []) entries)
 
--- what lies in a cell is the entry of its place, with the numbers of those before it
+-- what lies in a cell is the entry at its place, with the numbers of those before it
 pub placed_from_at : (before entries : List Entry) (i : ℕ) (p : PlacedValue) → slice_get (placed_from before entries) i ≡ Some p
     → (slice_get entries i ≡ Some p.entry) × (p.before ≡ numbers_of (before ++ take i entries))
 placed_from_at before [] i p at = absurd (cc at)
@@ -55,7 +55,7 @@ placed_from_at before (e ∷ entries) (suc i) p at =
     let rest = placed_from_at (before ++ e ∷ []) entries i p at in
     (rest.0, rest.1 ∙ ap numbers_of (append_assoc before (e ∷ []) (take i entries)))
 
--- where the last one of these lies in the same cell of those, they begin those
+-- if the last of the first entries lies in the same cell as one of the others, they are a prefix of the others
 pub begins_at : (xs ys : List Entry) (i : ℕ) (p q : PlacedValue) → length xs ≡ i + 1 → slice_get (placed xs) i ≡ Some p → slice_get (placed ys) i ≡ Some q → p ≡ q → Begins xs ys
 begins_at xs ys i p q long mine theirs same =
     let here = placed_from_at [] xs i p mine in

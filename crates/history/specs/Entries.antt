@@ -12,7 +12,7 @@ numbers_of_tree gnil = 0 ∷ []
 numbers_of_tree (gnum n) = 1 ∷ n ∷ []
 numbers_of_tree (gcons left right) = 2 ∷ (numbers_of_tree left ++ numbers_of_tree right)
 
--- entries as numbers: other entries have other numbers
+-- entries as numbers: different entries have different numbers
 unfoldable pub numbers_of : List Entry → List ℕ
 numbers_of entries = numbers_of_tree ((coded_list entry.the_row.coded).code entries)
 
@@ -24,11 +24,11 @@ pub record PlacedValue : Type 0 where
 abbrev pub placed_code : Coded PlacedValue
 placed_code = code_by (Entry × List ℕ) (coded× entry.the_row.coded (coded_list coded_ℕ)) (λ p. (p.entry, p.before)) (λ p. record { entry = p.0; before = p.1 }) (λ _. refl)
 
--- the entry that comes behind these
+-- the entry that comes after these
 abbrev pub place_after : List Entry → Entry → PlacedValue
 place_after before e = record { entry = e; before = numbers_of before }
 
--- entries as they lie in their cells, behind the ones before them
+-- entries as they lie in their cells, after the ones before them
 abbrev pub placed_from : List Entry → List Entry → List PlacedValue
 placed_from before [] = []
 placed_from before (e ∷ entries) = place_after before e ∷ placed_from (before ++ e ∷ []) entries
@@ -36,7 +36,7 @@ placed_from before (e ∷ entries) = place_after before e ∷ placed_from (befor
 abbrev pub placed : List Entry → List PlacedValue
 placed entries = placed_from [] entries
 
--- one list begins the other
+-- one list is a prefix of the other
 abbrev pub Begins : List Entry → List Entry → Type 0
 Begins short long = take (length short) long ≡ short
 

@@ -1,4 +1,4 @@
--- Beginnings of the history, as notes of cells tell them.
+-- Prefixes of the history, as notes of cells show them.
 use Rattle.std.specs.Prelude.{◌≡◌, ℕ, ◌≤◌, Option, Some, None, List, [], ◌∷◌, length, map, take, drop, refl}
 use Rattle.std.specs.Coded.{Coded, code_by, coded×, coded_ℕ, coded_list}
 use Rattle.history.specs.declared.entry.Entry.{Entry}
@@ -6,8 +6,8 @@ use Rattle.history.specs.contracts.entry.Entry as entry
 use Rattle.history.specs.Entries.{PlacedValue, placed}
 use Rattle.history.specs.Rows.{RowNames, PlaceValue, names_code, names_after, Leads}
 
--- A beginning of the history: its entries, how many rows came before its row, where that row begins and the names of its
--- cells, and how many of the row's entries were read.
+-- A prefix of the history: its entries, how many entry blocks came before its block, where that block begins and the
+-- names of its cells, and how many of the block's entries were read.
 pub record PastValue : Type 0 where
   pub entries : List Entry
   pub rows : ℕ
@@ -25,7 +25,7 @@ known_entries [] = []
 known_entries (None ∷ known) = known_entries known
 known_entries (Some p ∷ known) = p.entry ∷ known_entries known
 
--- each note knows the entry of its place, with all entries before it
+-- each note knows the entry at its place, with all entries before it
 abbrev pub AreKnown : List (Option PlacedValue) → Type 0
 AreKnown known = known ≡ map Some (placed (known_entries known))
 
@@ -34,8 +34,8 @@ pub record AreNotes (cells noted : List ℕ) (known : List (Option PlacedValue))
   pub names : noted ≡ take (length noted) cells
   pub entries : AreKnown known
 
--- Of a beginning of the history: its notes are of the cells of all rows that led there, and what was read are the row's first
--- entries.
+-- Of a prefix of the history: its notes are of the cells of all entry blocks that led there, and what was read is the
+-- first entries of the current block.
 pub record IsPast (first : RowNames) (place : PlaceValue) (noted : List ℕ) (known : List (Option PlacedValue)) (seen : List PlacedValue) : Type 0 where
   pub notes : AreNotes (names_after first place.links).cells noted known
   pub leads : Leads first place.links (names_after first place.links).cells (length noted)

@@ -1,9 +1,9 @@
--- Rows of cells, and how each one leads to the next.
+-- Entry blocks, each a row of cells, and how each one leads to the next.
 use Rattle.std.specs.Prelude.{◌≡◌, ℕ, ◌≤◌, Option, Some, None, List, [], ◌∷◌, ◌++◌, map, take, drop, refl}
 use Rattle.std.specs.Coded.{Coded, code_by, coded×, coded_ℕ, coded_list}
 
--- The names of a row's cells: of its link, which tells the next row, and of those of its entries. Where rows follow one
--- another, the cells are those of all entries so far, with the row's behind them.
+-- The names of an entry block's cells: of its link, which names the next block, and of those of its entries. Where
+-- blocks follow one another, the cells are those of all entries so far, followed by the block's.
 pub record RowNames : Type 0 where
   pub link : ℕ
   pub cells : List ℕ
@@ -19,7 +19,7 @@ abbrev pub names_of_numbers : List ℕ → RowNames
 names_of_numbers [] = record { link = 0; cells = [] }
 names_of_numbers (link ∷ cells) = record { link = link; cells = cells }
 
--- what a link tells: how many entries there were when its row was left, and the names from then on
+-- what a link says: how many entries there were when its block was left, and the names from then on
 pub record LinkValue : Type 0 where
   pub start : ℕ
   pub next : RowNames
@@ -27,11 +27,11 @@ pub record LinkValue : Type 0 where
 abbrev pub link_code : Coded LinkValue
 link_code = code_by (ℕ × RowNames) (coded× coded_ℕ names_code) (λ l. (l.start, l.next)) (λ p. record { start = p.0; next = p.1 }) (λ _. refl)
 
--- the names after so many entries, where this row comes next
+-- the names after this many entries, where this block comes next
 abbrev pub next_names : RowNames → ℕ → RowNames → RowNames
 next_names here long row = record { link = row.link; cells = take long here.cells ++ row.cells }
 
--- the names behind these links
+-- the names after these links
 abbrev pub names_after : RowNames → List LinkValue → RowNames
 names_after here [] = here
 names_after here (l ∷ links) = names_after l.next links
@@ -47,12 +47,12 @@ known_links [] = []
 known_links (None ∷ known) = known_links known
 known_links (Some l ∷ known) = l ∷ known_links known
 
--- There is a note for each link, from the first row on. It knows the link.
+-- There is a note for each link, from the first block on. It knows the link.
 pub record AreLinks (first : RowNames) (noted : List ℕ) (known : List (Option LinkValue)) : Type 0 where
   pub names : noted ≡ link_cells first (known_links known)
   pub links : known ≡ map Some (known_links known)
 
--- A place in the history: the links that led there, where its row begins, and the names of that row.
+-- A place in the history: the links that led there, where its block begins, and the names of that block.
 pub record PlaceValue : Type 0 where
   pub links : List LinkValue
   pub start : ℕ
@@ -62,22 +62,22 @@ abbrev pub place_code : Coded PlaceValue
 place_code =
     code_by (List LinkValue × (ℕ × RowNames)) (coded× (coded_list link_code) (coded× coded_ℕ names_code)) (λ p. (p.links, (p.start, p.row))) (λ p. record { links = p.0; start = p.1.0; row = p.1.1 }) (λ _. refl)
 
--- this is the row behind these links
+-- this is the block after these links
 pub record IsRowAt (first : RowNames) (links : List LinkValue) (start : ℕ) (row : RowNames) : Type 0 where
   pub same_link : row.link ≡ (names_after first links).link
   pub same_cells : row.cells ≡ drop start (names_after first links).cells
 
--- Of a place: its notes know the links, and its row is the one that they lead to.
+-- Of a place: its notes know the links, and its block is the one that they lead to.
 pub record IsPlace (first row : RowNames) (noted : List ℕ) (known : List (Option LinkValue)) (start : ℕ) : Type 0 where
   pub notes : AreLinks first noted known
   pub here : IsRowAt first (known_links known) start row
 
--- the place behind the next row
+-- the place after the next block
 abbrev pub place_after : RowNames → PlaceValue → ℕ → RowNames → PlaceValue
 place_after first place long row =
     record { links = place.links ++ (record { start = long; next = next_names (names_after first place.links) long row } ∷ []); start = long; row = row }
 
--- Each link was made behind entries that are still there, whose cells are the same.
+-- Each link was made after entries that are still there, in the same cells.
 abbrev pub Leads : RowNames → List LinkValue → List ℕ → ℕ → Type 0
 Leads here [] cells long = Unit {0}
 Leads here (l ∷ links) cells long = (l.start ≤ long) × (take l.start here.cells ≡ take l.start cells) × Leads l.next links cells long

@@ -5,7 +5,7 @@ use crate::AddFault;
 use once_cell::race::{Note, OnceBox};
 use std::alloc::{AllocError, Global};
 
-/// Sets an empty cell, and gives a note that knows what lies there now.
+/// Sets an empty cell, and returns a note that knows what lies there now.
 pub(crate) fn set_cell<T: Drop>(
     alloc: Global,
     cell: &OnceBox<T>,

@@ -3,11 +3,11 @@ use std::alloc::AllocError;
 /// Why an entry wasn't added. Nothing changed.
 #[derive(Clone, Copy, Debug, PartialEq, Eq)]
 pub enum AddFault {
-    /// A growth was refused.
+    /// An allocation failed.
     NoMemory,
-    /// The row has no cell left.
+    /// The entry block has no cell left.
     RowFull,
-    /// The cell had been set: the history is longer.
+    /// The cell was set already: the history is longer.
     CellTaken,
 }
 
@@ -22,12 +22,12 @@ impl From<AllocError> for AddFault {
     }
 }
 
-/// Why nothing was learned of another beginning. Nothing changed.
+/// Why nothing was learned of another prefix. Nothing changed.
 #[derive(Clone, Copy, Debug, PartialEq, Eq)]
 pub enum CatchUpFault {
-    /// A growth was refused.
+    /// An allocation failed.
     NoMemory,
-    /// They are in rows of which it can't be told that one leads to the other.
+    /// They are in entry blocks of which it isn't known whether one leads to the other.
     Apart,
 }
 

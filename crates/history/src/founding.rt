@@ -2,8 +2,8 @@ use crate::FirstRow;
 use std::marker::Brand;
 use std::sync::ledger::Ledger;
 
-/// Which history it is: the names of its first row's cells, the ledger that counts its records, and the state that it begins
-/// with. A program picks it at a call.
+/// Which history it is: the names of its first entry block's cells, the ledger that counts its records, and the state
+/// that it begins with. A program picks it at a call.
 pub trait Founding: Ledger + FirstRow {
     ghost use Rattle.ipc_model.specs.state.State.{State};
 

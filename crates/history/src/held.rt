@@ -6,14 +6,14 @@ use std::alloc::{AllocError, Global};
 use std::marker::Model;
 use std::sync::Arc;
 
-/// An entry, and in proofs alone all entries before it.
+/// An entry, and ghost: all entries before it.
 #[derive(Drop)]
 struct Placed {
     entry: Entry,
     before: Tag,
 }
 
-/// An entry as it lies in its cell and in the lists of those who read it, who share it.
+/// An entry as it lies in its cell and in the lists of its readers, which share it.
 #[derive(Drop)]
 pub(crate) struct Held {
     placed: Arc<Placed, Global>,
@@ -31,7 +31,7 @@ impl Model for Held {
 }
 
 impl Held {
-    /// An entry behind those that the tag tells.
+    /// An entry that comes after those that the tag stands for.
     pub(crate) fn new(alloc: Global, entry: Entry, before: Tag) -> Result<Self, AllocError>
         ensures { IfOk result (λ held. held ≡ record { entry = entry; before = before.numbers }) }
     {
@@ -39,7 +39,7 @@ impl Held {
         Ok(Held { placed })
     }
 
-    /// The same entry once more.
+    /// Another handle to the same entry.
     pub(crate) fn share(&self) -> Result<Self, AllocError>
         ensures { IfOk result (λ held. held ≡ self.now) }
     {

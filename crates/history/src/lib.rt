@@ -1,4 +1,4 @@
-//! One history of all sessions, in rows of cells that are set once and read with no lock.
+//! One history of all sessions, in blocks of cells that are set once and read with no lock.
 #![tactic(auto)]
 
 mod cell;

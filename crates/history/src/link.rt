@@ -4,7 +4,7 @@ ghost use Rattle.history.specs.Rows.{names_of_numbers, numbers_of_names, next_na
 use boxcar::tag::{Names, Tag};
 use std::marker::Model;
 
-/// Where a row was left for the next one, and in proofs alone the names of cells from then on.
+/// Where one entry block ended and the next began, and ghost: the names of the cells from then on.
 #[derive(Drop)]
 pub(crate) struct Link {
     start: usize,
@@ -21,7 +21,7 @@ impl Model for Link {
     ghost view = { λ l. record { start = l.start; next = names_of_numbers l.next.numbers } };
 }
 
-/// The names so far, and those of the row that comes next.
+/// The names so far, and those of the block that comes next.
 struct Left {
     here: Tag,
     long: usize,
@@ -38,7 +38,7 @@ impl Names<Left> for NextNames {
 }
 
 impl Link {
-    /// The link from the names so far, after so many entries, to a row.
+    /// The link from the names so far, after `long` entries, to an entry block.
     pub(crate) fn new(here: Tag, long: usize, row: Tag) -> Self
         ensures { result ≡ record { start = long; next = next_names (names_of_numbers here.numbers) long (names_of_numbers row.numbers) } }
     {

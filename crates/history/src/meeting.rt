@@ -11,8 +11,8 @@ use once_cell::race::Note;
 use std::alloc::AllocError;
 
 impl<L: FirstRow> Past<L> {
-    /// Compares two beginnings, of which the shorter then begins the longer. Says whether they could be compared, as two in one
-    /// row always can.
+    /// Compares two prefixes, after which the shorter is known to begin the longer. Returns whether they could be
+    /// compared, which two in one entry block always can.
     pub fn agree(&mut self, other: &mut Past<L>) -> bool
         ensures same { (self.new ≡ self.old) × (other.new ≡ other.old) }
         ensures begins { result ≡ true → length self.old.entries ≤ length other.old.entries → Begins self.old.entries other.old.entries }
@@ -33,7 +33,7 @@ impl<L: FirstRow> Past<L> {
         true
     }
 
-    /// Adds an entry behind all that both have, so that neither lacks it. Nothing changed where it isn't added.
+    /// Adds an entry after all that both have, so that both have it. If it isn't added, nothing changed.
     pub fn add_to_both(&mut self, other: &mut Past<L>, entry: Entry) -> Result<(), AddFault>
         requires rows { self.old.rows ≡ other.old.rows }
         requires entries { length self.old.entries ≡ length other.old.entries }
@@ -54,7 +54,7 @@ impl<L: FirstRow> Past<L> {
         }
     }
 
-    /// Compares two beginnings in one row.
+    /// Compares two prefixes in one entry block.
     fn agree_in_row(&mut self, other: &mut Past<L>)
         requires { self.old.rows ≡ other.old.rows }
         ensures same { (self.new ≡ self.old) × (other.new ≡ other.old) }
@@ -66,7 +66,7 @@ impl<L: FirstRow> Past<L> {
         compare_last(&mut self.notes, &mut other.notes, both);
     }
 
-    /// Whether it is seen to begin one that is in a later row.
+    /// Whether this one is seen to begin one that is in a later entry block.
     fn begins(&mut self, other: &mut Past<L>) -> bool
         requires { self.old.rows < other.old.rows }
         ensures same { (self.new ≡ self.old) × (other.new ≡ other.old) }
@@ -80,7 +80,7 @@ impl<L: FirstRow> Past<L> {
         )
     }
 
-    /// Moves on to the later row of one that it is seen to begin. Says whether it is.
+    /// Moves on to the later entry block of a prefix that this one is seen to begin. Returns whether it is.
     fn follow(&mut self, other: &mut Past<L>) -> Result<bool, AllocError>
         requires { self.old.rows < other.old.rows }
         ensures same { other.new ≡ other.old }
@@ -104,7 +104,8 @@ impl<L: FirstRow> Past<L> {
         Ok(true)
     }
 
-    /// Learns what another beginning has more, and moves on to its row. It has then the longer of the two.
+    /// Learns what another prefix has beyond this one, and moves on to its entry block. It then has the longer of the
+    /// two.
     pub fn catch_up(&mut self, other: &mut Past<L>) -> Result<(), CatchUpFault>
         ensures same { other.new ≡ other.old }
         ensures ok { OnOk result (self.new.entries ≡ self.old.entries ++ drop (length self.old.entries) other.old.entries) }
@@ -132,7 +133,7 @@ impl<L: FirstRow> Past<L> {
         Err(CatchUpFault::Apart)
     }
 
-    /// Learns what another beginning in its row has more.
+    /// Learns what another prefix in its entry block has beyond this one.
     fn learn(&mut self, other: &mut Past<L>) -> Result<(), AllocError>
         requires { self.old.rows ≡ other.old.rows }
         ensures same { other.new ≡ other.old }
@@ -152,8 +153,8 @@ impl<L: FirstRow> Past<L> {
     }
 }
 
-/// Whether notes up to an earlier row are seen to be of the same cells as the first ones up to a later row, and to know a beginning
-/// of what those know.
+/// Whether notes up to an earlier entry block are seen to be of the same cells as the first ones up to a later block,
+/// and to know a prefix of what those know.
 fn begin_in_row_before<L: FirstRow>(
     place: &mut Place<L>,
     notes: &mut Vec<Note<Held>>,
@@ -181,7 +182,7 @@ fn begin_in_row_before<L: FirstRow>(
     true
 }
 
-/// Compares what is known of the last one of so many cells: it is one entry, with all entries before it.
+/// Compares what is known of the last one of `long` cells: it is one entry, with all entries before it.
 fn compare_last(mine: &mut Vec<Note<Held>>, theirs: &mut Vec<Note<Held>>, long: usize)
     requires known { AreKnown (map (λ n. n.known) mine.old.items) × AreKnown (map (λ n. n.known) theirs.old.items) }
     requires within { (long ≤ length mine.old.items) × (long ≤ length theirs.old.items) }

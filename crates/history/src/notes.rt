@@ -1,4 +1,5 @@
-// What is known of cells, a note for each. A note is read by `&mut` alone, so these functions say that notes stay as they were.
+// What is known of cells, a note for each. A note is read only by `&mut`, so these functions say that notes stay as
+// they were.
 ghost use Rattle.std.specs.Prelude.{◌≡◌, ◌<◌, ◌≤◌, ◌++◌, Some, IfSome, length, map, drop, slice_get, vec_capacity};
 
 use once_cell::race::Note;
@@ -23,7 +24,7 @@ pub(crate) fn compare_at<T>(notes: &mut Vec<Note<T>>, at: usize, note: Note<T>)
     notes[at].compare(note);
 }
 
-/// Copies the notes that others have more. It takes no memory.
+/// Copies the notes that the others have in addition. It takes no memory.
 pub(crate) fn copy_rest<T>(notes: &mut Vec<Note<T>>, others: &mut Vec<Note<T>>)
     requires { length others.old.items ≤ vec_capacity notes.old }
     ensures new { notes.new.items ≡ notes.old.items ++ drop (length notes.old.items) others.old.items }

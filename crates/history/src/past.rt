@@ -12,8 +12,8 @@ use std::alloc::{AllocError, Global};
 use std::marker::Model;
 use std::sync::Arc;
 
-/// A beginning of the history, up to a row that it keeps. Contracts see its entries, how many rows came before its row, where
-/// that row begins and the names of its cells, and how many of the row's entries were read.
+/// A prefix of the history, up to an entry block that it keeps. Contracts see its entries, how many blocks came before
+/// its block, where that block begins, the names of its cells, and how many of the block's entries were read.
 pub struct Past<L: FirstRow> {
     pub(crate) alloc: Global,
     pub(crate) place: Place<L>,
@@ -21,11 +21,11 @@ pub struct Past<L: FirstRow> {
     // A note for each entry. Notes take no memory.
     pub(crate) notes: Vec<Note<Held>>,
 
-    // What was read of the row.
+    // What was read of the entry block.
     pub(crate) seen: Vec<Held>,
 }
 
-// Written out, as proofs above then know one function, and not the parts.
+// Written out, so that proofs above know one function and not its parts.
 impl<L: FirstRow> Drop for Past<L> {
     fn drop(self) {
         let Past {
@@ -63,7 +63,7 @@ impl<L: FirstRow> Names<Past<L>> for AllBefore {
 }
 
 impl<L: FirstRow> Past<L> {
-    /// The beginning that has no entry, in the first row.
+    /// The prefix that has no entry, in the first entry block.
     pub fn new(alloc: Global, row: Arc<Row, Global>) -> Self
         requires { arc_value row ≡ L.first }
         ensures { result ≡ record { entries = []; rows = 0; start = 0; row = L.first; read = 0 } }
@@ -76,7 +76,7 @@ impl<L: FirstRow> Past<L> {
         }
     }
 
-    /// The same entries once more, of which none is read.
+    /// The same entries again, none of them read.
     pub fn again(&mut self) -> Result<Self, AllocError>
         ensures same { self.new ≡ self.old }
         ensures past { IfOk result (λ past. past ≡ record self.old { read = 0 }) }
@@ -100,14 +100,14 @@ impl<L: FirstRow> Past<L> {
         self.notes.len()
     }
 
-    /// How many rows came before its row.
+    /// How many entry blocks came before its block.
     pub fn rows(&self) -> usize
         ensures { result ≡ self.now.rows }
     {
         self.place.rows()
     }
 
-    /// How many entries came before its row.
+    /// How many entries came before its entry block.
     pub fn start(&self) -> usize
         ensures start { result ≡ self.now.start }
         ensures within { self.now.start ≤ length self.now.entries }
@@ -116,21 +116,22 @@ impl<L: FirstRow> Past<L> {
         self.place.start()
     }
 
-    /// How many entries its row has room for.
+    /// How many entries its block has room for.
     pub fn capacity(&self) -> usize
         ensures { result ≡ length self.now.row.cells }
     {
         self.place.row().capacity()
     }
 
-    /// Its row once more. Who keeps it lets the row go, and not the beginning that moves on, which may do so under a lock.
+    /// Another handle to its entry block. A caller that keeps it frees the block, instead of the prefix, which may move
+    /// on under a lock.
     pub fn row(&self) -> Result<Arc<Row, Global>, AllocError>
         ensures { IfOk result (λ row. arc_value row ≡ self.now.row) }
     {
         self.place.share_row()
     }
 
-    /// Adds an entry behind all that it has.
+    /// Adds an entry after all that it has.
     pub fn add(&mut self, entry: Entry) -> Result<(), AddFault>
         ensures ok { OnOk result (self.new ≡ record self.old { entries = self.old.entries ++ entry ∷ [] }) }
         ensures full { IsErrOf result AddFault.RowFull → self.old.start + length self.old.row.cells ≤ length self.old.entries }
@@ -158,9 +159,9 @@ impl<L: FirstRow> Past<L> {
         }
     }
 
-    /// Goes on in another row, whose entries come behind all that it has.
+    /// Goes on in another entry block, whose entries come after all that it has.
     ///
-    /// `NoMemory`: a growth was refused. `CellTaken`: another left this row before.
+    /// `NoMemory`: an allocation failed. `CellTaken`: another prefix moved on from this block before.
     pub fn begin_row(&mut self, row: Arc<Row, Global>) -> Result<(), AddFault>
         ensures ok { OnOk result (self.new ≡ record { entries = self.old.entries; rows = self.old.rows + 1; start = length self.old.entries; row = arc_value row; read = 0 }) }
         ensures full { IsErrOf result AddFault.RowFull → ⊥ }

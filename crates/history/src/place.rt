@@ -11,7 +11,7 @@ use std::alloc::{AllocError, Global};
 use std::marker::{Brand, Model, PhantomData};
 use std::sync::Arc;
 
-/// Which history it is, by the names of its first row's cells. A program picks it at a call.
+/// Which history it is, by the names of its first entry block's cells. A program picks it at a call.
 pub trait FirstRow {
     ghost use Rattle.history.specs.Rows.{RowNames};
 
@@ -22,7 +22,7 @@ impl FirstRow for Brand {
     ghost first = { record { link = 0; cells = [] } };
 }
 
-/// A row of the history, and the notes of the links that lead there from the first row.
+/// An entry block of the history, and the notes of the links that lead there from the first block.
 #[derive(Drop)]
 pub(crate) struct Place<L: FirstRow> {
     links: Vec<Note<Link>>,
@@ -54,7 +54,7 @@ impl<L: FirstRow> Names<Place<L>> for Here {
     ghost numbers = { λ place. numbers_of_names (names_after L.first place.links) };
 }
 
-/// The names of a row.
+/// The names of an entry block.
 struct Own;
 
 impl Names<Row> for Own {
@@ -64,7 +64,7 @@ impl Names<Row> for Own {
 }
 
 impl<L: FirstRow> Place<L> {
-    /// The first row.
+    /// The first entry block.
     pub(crate) fn new(alloc: Global, row: Arc<Row, Global>) -> Self
         requires { arc_value row ≡ L.first }
         ensures { result ≡ record { links = []; start = 0; row = L.first } }
@@ -77,7 +77,7 @@ impl<L: FirstRow> Place<L> {
         }
     }
 
-    /// Its row.
+    /// Its entry block.
     pub(crate) fn row(&self) -> &Row
         ensures row { result.now ≡ self.now.row }
         ensures here { IsRowAt L.first self.now.links self.now.start self.now.row }
@@ -85,28 +85,28 @@ impl<L: FirstRow> Place<L> {
         &self.row
     }
 
-    /// Its row once more.
+    /// Another handle to its entry block.
     pub(crate) fn share_row(&self) -> Result<Arc<Row, Global>, AllocError>
         ensures { IfOk result (λ row. arc_value row ≡ self.now.row) }
     {
         Arc::try_clone(&self.row)
     }
 
-    /// How many entries are before its row.
+    /// How many entries come before its block.
     pub(crate) fn start(&self) -> usize
         ensures { result ≡ self.now.start }
     {
         self.start
     }
 
-    /// How many rows are before its row.
+    /// How many blocks come before its block.
     pub(crate) fn rows(&self) -> usize
         ensures { result ≡ length self.now.links }
     {
         self.links.len()
     }
 
-    /// The same place once more.
+    /// The same place again.
     pub(crate) fn again(&mut self, alloc: Global) -> Result<Self, AllocError>
         ensures same { self.new ≡ self.old }
         ensures place { IfOk result (λ place. place ≡ self.old) }
@@ -123,7 +123,7 @@ impl<L: FirstRow> Place<L> {
         })
     }
 
-    /// Of two places of one history, the links that led to one begin those that led to the other.
+    /// Of two places of one history, the links that led to one are a prefix of those that led to the other.
     pub(crate) fn agree(&mut self, other: &mut Place<L>)
         ensures same { (self.new ≡ self.old) × (other.new ≡ other.old) }
         ensures begins { length self.old.links ≤ length other.old.links → take (length self.old.links) other.old.links ≡ self.old.links }
@@ -133,7 +133,7 @@ impl<L: FirstRow> Place<L> {
         agree_links::<L>(&mut self.links, &mut other.links, both);
     }
 
-    /// Moves on to another row, after so many entries.
+    /// Moves on to another entry block, after `start` entries.
     pub(crate) fn begin(
         &mut self,
         alloc: Global,
@@ -160,8 +160,8 @@ impl<L: FirstRow> Place<L> {
         }
     }
 
-    /// How many entries there were when this row was left, as the links of a place further on tell it too. None where the row
-    /// wasn't left yet.
+    /// How many entries there were when this entry block was left; the links of a place further on show the same.
+    /// `None` if the block wasn't left yet.
     pub(crate) fn left(&self, other: &mut Place<L>) -> Option<usize>
         requires more { length self.now.links < length other.old.links }
         requires begins { take (length self.now.links) other.old.links ≡ self.now.links }
@@ -174,7 +174,7 @@ impl<L: FirstRow> Place<L> {
     }
 }
 
-/// The first links that two places have are the same.
+/// The links that two places both have are the same.
 fn agree_links<L: FirstRow>(mine: &mut Vec<Note<Link>>, theirs: &mut Vec<Note<Link>>, both: usize)
     requires mine { AreLinks L.first (map (λ n. n.cell) mine.old.items) (map (λ n. n.known) mine.old.items) }
     requires theirs { AreLinks L.first (map (λ n. n.cell) theirs.old.items) (map (λ n. n.known) theirs.old.items) }

@@ -8,7 +8,7 @@ use once_cell::race::Note;
 use std::alloc::AllocError;
 
 impl<L: FirstRow> Past<L> {
-    /// How many entries of its row were read.
+    /// How many entries of its block were read.
     pub fn count_read(&self) -> usize
         ensures read { result ≡ self.now.read }
         ensures within { self.now.start + self.now.read ≤ length self.now.entries }
@@ -16,7 +16,7 @@ impl<L: FirstRow> Past<L> {
         self.seen.len()
     }
 
-    /// The record at a place of its row, if it was read. It takes no lock.
+    /// The record at a place of its block, if it was read. It takes no lock.
     pub fn record(&self, at: usize) -> Option<&Record>
         ensures { MatchOption result (self.now.read ≤ at) (λ r. (at < self.now.read) × (option_map (λ e. e.record) (slice_get self.now.entries (self.now.start + at)) ≡ Some r.now)) }
     {
@@ -27,8 +27,8 @@ impl<L: FirstRow> Past<L> {
         Some(&held.entry().record)
     }
 
-    /// Reads the entries of its row that it knows, from their cells. It takes no lock. Where a growth is refused, what was read
-    /// stays.
+    /// Reads the entries of its block that it knows, from their cells. It takes no lock. If an allocation fails, what
+    /// was read stays.
     pub fn read(&mut self) -> Result<(), AllocError>
         ensures ok { OnOk result (self.new ≡ record self.old { read = length self.old.entries - self.old.start }) }
         ensures err { OnErr result ((self.new ≡ record self.old { read = self.new.read }) × (self.old.read ≤ self.new.read)) }

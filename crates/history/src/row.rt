@@ -9,14 +9,14 @@ use once_cell::race::{Note, OnceBox};
 use std::alloc::{AllocError, Global};
 use std::marker::Model;
 
-/// A row of cells, each set at most once: one for each entry, and one that links it to the next row. Contracts see the cells'
-/// names.
+/// An entry block: cells that are each set at most once, one for each entry and one that links to the next block.
+/// Contracts see the cells' names.
 pub struct Row {
     link: OnceBox<Link>,
     cells: Vec<OnceBox<Held>>,
 }
 
-// Written out, as proofs above then know one function, and not the parts.
+// Written out, so that proofs above know one function and not its parts.
 impl Drop for Row {
     fn drop(self) {
         let Row { link, cells } = self;
@@ -38,7 +38,7 @@ impl Model for Row {
 }
 
 impl Row {
-    /// A row of so many empty cells.
+    /// A block of `capacity` empty cells.
     pub fn new(alloc: Global, capacity: usize) -> Result<Self, AllocError>
         ensures { IfOk result (λ row. length row.cells ≡ capacity) }
     {
@@ -57,7 +57,7 @@ impl Row {
         self.cells.len()
     }
 
-    /// Sets the cell at a place, and gives a note that knows what lies there now.
+    /// Sets the cell at a place, and returns a note that knows what lies there now.
     pub(crate) fn set(&self, alloc: Global, at: usize, held: Held) -> Result<Note<Held>, AddFault>
         ensures cell { IfOk result (λ note. slice_get self.now.cells at ≡ Some note.cell) }
         ensures known { IfOk result (λ note. note.known ≡ Some held) }
@@ -69,7 +69,7 @@ impl Row {
         }
     }
 
-    /// What lies in the cell at a place, of which a note knows it.
+    /// What lies in the cell at a place, which a note knows.
     pub(crate) fn look<'a>(&'a self, at: usize, note: &mut Note<Held>) -> Option<&'a Held>
         requires { slice_get self.now.cells at ≡ Some note.old.cell }
         ensures cell { note.new.cell ≡ note.old.cell }
@@ -81,7 +81,7 @@ impl Row {
         }
     }
 
-    /// Sets the link, and gives a note that knows it.
+    /// Sets the link, and returns a note that knows it.
     pub(crate) fn set_link(&self, alloc: Global, link: Link) -> Result<Note<Link>, AddFault>
         ensures cell { IfOk result (λ note. note.cell ≡ self.now.link) }
         ensures known { IfOk result (λ note. note.known ≡ Some link) }
@@ -90,7 +90,8 @@ impl Row {
         set_cell(alloc, &self.link, link)
     }
 
-    /// How many entries there were when it was left, with a note that knows the link. None where it wasn't left yet.
+    /// How many entries there were when this block was left, with a note that knows the link. `None` if it wasn't left
+    /// yet.
     pub(crate) fn left(&self) -> Option<(usize, Note<Link>)>
         ensures cell { IfSome result (λ r. r.1.cell ≡ self.now.link) }
         ensures start { IfSome result (λ r. option_map (λ l. l.start) r.1.known ≡ Some r.0) }

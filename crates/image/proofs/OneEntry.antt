@@ -1,4 +1,4 @@
--- What a byte in front tells of the entry whose text it begins, and an entry's text part by part.
+-- What the first byte of an entry's encoding says of the entry, and an entry's encoding part by part.
 use Rattle.std.proofs.Common.{◌≡◌, ℕ, ◌<◌, ◌^◌, ◌++◌, [], ◌∷◌, List, Option, Result, Ok, Err, OnOk, length, drop, refl, sym, ◌∙◌, ap, subst, arith, length-append}
 use Rattle.std.specs.declared.alloc.AllocError.{AllocError}
 use Rattle.image.specs.Parts.{added}

@@ -1,4 +1,4 @@
--- The snapshots that an image spells: their numbers fit their words, and their rows rise.
+-- The snapshots that an image can encode: their numbers fit their words, and their rows ascend.
 use Rattle.std.specs.Prelude.{◌≢◌, ◌^◌, ◌<◌, length, map, All}
 use Rattle.ipc_laws.specs.ImageLaws.{SpellableNamed, SpellableReplyRight, SpellableRight, SpellableSet, SpellableTarget}
 use Rattle.ipc_model.specs.declared.message.Message.{Message}
@@ -13,8 +13,8 @@ use Rattle.snapshot.specs.declared.rows.Snapshot.{Snapshot}
 use Rattle.snapshot.specs.declared.rows.Space.{Space}
 use Rattle.words.specs.Words.{AreBytes}
 
--- a queued message: sent by a send right or a send-once right, of a size that messages may have, its body bytes, its other
--- numbers within their words
+-- a queued message: sent by a send right or a send-once right, of a size that messages may have, with bytes for its
+-- body, and its other numbers within their words
 pub record FitsMessage (message : Message) : Type 0 where
   pub destination : message.destination ≢ kind.Receive
   pub reply : SpellableReplyRight message.reply
@@ -50,7 +50,7 @@ pub record FitsSpace (space : Space) : Type 0 where
 abbrev pub FitsLivePort : LivePort → Type 0
 FitsLivePort port = (port.serial < 2 ^ 64) × FitsPort port.state
 
--- A snapshot that an image spells.
+-- A snapshot that an image can encode.
 pub record FitsImage (snapshot : Snapshot) : Type 0 where
   pub next_serial : snapshot.next_serial < 2 ^ 64
   pub few_spaces : length snapshot.spaces < 2 ^ 32

@@ -1,4 +1,4 @@
--- An image spells the snapshot of every lawful state whose queues are short.
+-- An image can encode the snapshot of every lawful state whose queues are short.
 use Rattle.std.proofs.Common.{◌≡◌, ℕ, List, [], ◌∷◌, length, map, refl, sym, Some, subst, arith}
 use Rattle.std.specs.FinMap.{entries, get, len-entries}
 use Rattle.std.proofs.lemmas.List.Elements.{All-map}

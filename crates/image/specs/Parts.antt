@@ -1,4 +1,4 @@
--- The texts of an image in their parts, with what stands behind them.
+-- The encodings in an image by their parts, with what follows them.
 use Rattle.std.specs.Prelude.{◌≡◌, ℕ, ◌^◌, ◌<◌, List, [], ◌∷◌, ◌++◌, length, flat_map, Option, None, Some, IfSome, IsSomeAnd, ◌+◌}
 use Rattle.std.proofs.Common.{sym, ◌∙◌, ap, subst, arith, append_assoc}
 use Rattle.std.proofs.lemmas.List.{append-nil}
@@ -13,7 +13,7 @@ use Rattle.image.specs.Rows.{live_port_text, snapshot_text, space_text}
 use Rattle.snapshot.specs.declared.rows.Snapshot.{Snapshot}
 use Rattle.words.specs.Words.{word, long_word}
 
--- behind a message's head: its rights and its body
+-- after a message's head: its rights and its body
 abbrev pub behind_head : Message → List ℕ → List ℕ
 behind_head message rest = word (length message.rights) ++ (flat_map carried_text message.rights ++ (message.body ++ rest))
 
@@ -21,7 +21,7 @@ pub message_apart : (message : Message) (rest : List ℕ) → message_image mess
     ≡ number_of_kind message.destination ∷ (reply_right_text message.reply ++ (word message.id ++ (word (message_size message) ++ (number_of_bool message.complex ∷ behind_head message rest))))
 message_apart message rest = simp append_assoc
 
--- behind a port's numbers: the targets of its requests, and behind these its messages
+-- after a port's numbers: the targets of its requests, and then its messages
 abbrev pub behind_targets : PortState → List ℕ → List ℕ
 behind_targets port rest = word (length port.messages) ++ (flat_map message_image port.messages ++ rest)
 
@@ -32,7 +32,7 @@ pub port_apart : (port : PortState) (rest : List ℕ) → port_text port ++ rest
     ≡ word port.limit ++ (word port.sequence_number ++ (word port.make_send_count ++ (word (number_or_0 port.set) ++ behind_numbers port rest)))
 port_apart port rest = simp append_assoc
 
--- behind a snapshot's spaces: its ports
+-- after a snapshot's spaces: its ports
 abbrev pub behind_spaces : Snapshot → List ℕ
 behind_spaces snapshot = word (length snapshot.ports) ++ (flat_map live_port_text snapshot.ports ++ [])
 
@@ -45,7 +45,7 @@ snapshot_apart snapshot =
     ap (λ (l : List ℕ). long_word snapshot.next_serial ++ (word (length snapshot.spaces) ++ (flat_map space_text snapshot.spaces ++ (word (length snapshot.ports) ++ l))))
     (sym (append-nil (flat_map live_port_text snapshot.ports)))
 
--- the number that spells a target or a set fits its word
+-- the number that encodes a target or a set fits its word
 pub target_fits : (target : Option ℕ) → SpellableTarget target → number_or_0 target < 2 ^ 64
 target_fits None fits = omega arith
 target_fits (Some serial) fits = fits.1
@@ -90,7 +90,7 @@ snapshot_found bytes snapshot behind after rest is spaces_are ports_are ended =
     (ports_are ∙ ap (λ (l : List ℕ). word (length snapshot.ports) ++ (flat_map live_port_text snapshot.ports ++ l)) ended))
     ∙ sym (snapshot_apart snapshot)
 
--- what stands of a message behind each of its parts
+-- what follows each of a message's parts
 abbrev pub behind_complex : Message → List ℕ
 behind_complex message = word (length message.rights) ++ (flat_map carried_text message.rights ++ message.body)
 
@@ -106,7 +106,7 @@ behind_reply message = word message.id ++ behind_id message
 abbrev pub behind_destination : Message → List ℕ
 behind_destination message = reply_right_text message.reply ++ behind_reply message
 
--- what is added part by part to a port's text, and to a snapshot's
+-- what is added part by part to a port's encoding, and to a snapshot's
 pub port_added : (port : PortState) (o a b c d e f g end : List ℕ) → a ≡ o ++ word port.limit → b ≡ a ++ word port.sequence_number → c ≡ b ++ word port.make_send_count
     → d ≡ c ++ word (number_or_0 port.set) → e ≡ d ++ long_word (number_or_0 port.no_senders_target) → f ≡ e ++ long_word (number_or_0 port.port_destroyed_target)
     → g ≡ f ++ word (length port.messages) → end ≡ g ++ flat_map message_image port.messages → end ≡ o ++ port_text port

@@ -1,4 +1,4 @@
--- The text of a state's snapshot is the state's image.
+-- The encoding of a state's snapshot is the state's image.
 use Rattle.std.specs.Prelude.{◌≡◌, ℕ, suc, List, [], ◌∷◌, ◌++◌, length, map, flat_map, refl}
 use Rattle.std.proofs.Common.{sym, ◌∙◌, ap}
 use Rattle.std.specs.FinMap as finmap
@@ -19,7 +19,7 @@ module _ {A B : Type 0} where
   length-map f [] = refl
   length-map f (x ∷ xs) = ap suc (length-map f xs)
 
-  -- texts of rows that are made of entries are texts of the entries
+  -- encodings of rows that are made from entries are encodings of the entries
   texts_of : (f : A → B) (of_row : B → List ℕ) (of_entry : A → List ℕ) → ((x : A) → of_row (f x) ≡ of_entry x)
       → (xs : List A) → flat_map of_row (map f xs) ≡ flat_map of_entry xs
   texts_of f of_row of_entry same [] = refl

@@ -1,4 +1,4 @@
--- The text of a snapshot, row by row: of the snapshot of a state it is the state's image.
+-- The encoding of a snapshot, row by row. For the snapshot of a state it is the state's image.
 use Rattle.std.specs.Prelude.{ℕ, List, ◌++◌, length, flat_map}
 use Rattle.ipc_model.specs.texts.Images.{entry_text, port_text}
 use Rattle.snapshot.specs.declared.rows.LivePort.{LivePort}

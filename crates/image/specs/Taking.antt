@@ -6,22 +6,22 @@ use Rattle.std.proofs.lemmas.List.{append-nil}
 use Rattle.std.proofs.lemmas.List.Elements.{All-nil, All-cons, All-head, All-tail, All-append}
 
 module _ {A : Type 0} (text : A → List ℕ) (fits : A → Type 0) where
-  -- The bytes spell so many values, and what stands behind them.
+  -- The bytes encode this many values, followed by `end`.
   abbrev pub Spells : List ℕ → ℕ → List A → List ℕ → Type 0
   Spells bytes count rows end = All fits rows × (length rows ≡ count) × (bytes ≡ flat_map text rows ++ end)
 
-  -- Values were taken, and these bytes are left. Whatever so many values the whole spells, they begin with those that were taken,
-  -- and what is left spells the others.
+  -- Values were taken, and these bytes are left. However the whole encodes this many values, they begin with those that
+  -- were taken, and what is left encodes the others.
   pub record Taken (whole : List ℕ) (count : ℕ) (rows : List A) (left : List ℕ) : Type 0 where
     pub joined : whole ≡ flat_map text rows ++ left
     pub fit : All fits rows
     pub only : (all : List A) (end : List ℕ) → Spells whole count all end → (more : List A) × (all ≡ rows ++ more) × All fits more × (left ≡ flat_map text more ++ end)
 
-  -- What stands in front is this value, and nothing else.
+  -- The bytes begin with this value, and with no other.
   abbrev pub Leads : List ℕ → A → List ℕ → Type 0
   Leads bytes row behind = (bytes ≡ text row ++ behind) × fits row × ((value : A) (rest : List ℕ) → fits value → bytes ≡ text value ++ rest → (row ≡ value) × (behind ≡ rest))
 
-  -- No value stands in front.
+  -- The bytes begin with no value.
   abbrev pub LeadsNone : List ℕ → Type 0
   LeadsNone bytes = (value : A) (rest : List ℕ) → fits value → bytes ≡ text value ++ rest → ⊥
 
@@ -32,7 +32,7 @@ module _ {A : Type 0} (text : A → List ℕ) (fits : A → Type 0) where
     only = λ (all : List A) (end : List ℕ) (spells : _). (all, refl, spells.0, spells.2);
   }
 
-  -- some are left where fewer were taken than there are
+  -- some values are left where fewer were taken than there are
   some_left : (rows more all : List A) (count : ℕ) → all ≡ rows ++ more → length all ≡ count → length rows < count → more ≡ [] → ⊥
   some_left rows more all count joined long fewer none =
       omega (arith, fewer, long, ap length joined, length-append rows more, ap length none)
@@ -60,7 +60,7 @@ module _ {A : Type 0} (text : A → List ℕ) (fits : A → Type 0) where
         ] was.1 was.2 was.3;
   }
 
-  -- where no value is left, the whole spells no so many
+  -- where the bytes that are left begin with no value, the whole doesn't encode this many
   pub too_few : (whole : List ℕ) (count : ℕ) (rows : List A) (left : List ℕ) → length rows < count → Taken whole count rows left → LeadsNone left
       → (all : List A) (end : List ℕ) → Spells whole count all end → ⊥
   too_few whole count rows left fewer taken none all end spells =
@@ -71,7 +71,7 @@ module _ {A : Type 0} (text : A → List ℕ) (fits : A → Type 0) where
             none value (flat_map text others ++ end) (All-head fits value others fit) (is ∙ append_assoc (text value) (flat_map text others) end)
       ] was.1 was.2 was.3
 
-  -- all were taken: they are the ones that the whole spells
+  -- all were taken: they are the ones that the whole encodes
   pub all_taken : (whole : List ℕ) (count : ℕ) (rows : List A) (left : List ℕ) → length rows ≡ count → Taken whole count rows left
       → (all : List A) (end : List ℕ) → Spells whole count all end → (rows ≡ all) × (left ≡ end)
   all_taken whole count rows left long taken all end spells =
@@ -93,7 +93,7 @@ module _ {A : Type 0} (text : A → List ℕ) (fits : A → Type 0) where
   pub leads_none : (bytes : List ℕ) (found : Option (A × Bor (List ℕ))) → found ≡ None → Reads bytes found → LeadsNone bytes
   leads_none bytes found is reads = (subst (Reads bytes) is reads).1
 
-  -- What holds while values are taken: so many were.
+  -- What holds while values are taken: this many were.
   abbrev pub TakenSoFar : List ℕ → ℕ → List A → List ℕ → ℕ → Type 0
   TakenSoFar whole count rows left taken = Taken whole count rows left × (length rows ≡ taken)
 

@@ -16,7 +16,7 @@ use snapshot::NamedEntry;
 use std::alloc::{AllocError, Global};
 use words::{push_long_word, push_word, take_long_word, take_word};
 
-/// What a serial spells that is 0 for none.
+/// The serial that a number encodes; 0 is for none.
 pub(crate) fn target_of(number: u64) -> Option<u64>
     ensures spelled { number ≡ number_or_0 result }
     ensures fits { SpellableTarget result }
@@ -28,14 +28,14 @@ pub(crate) fn target_of(number: u64) -> Option<u64>
     }
 }
 
-/// Adds a serial, or 0 for none. Where memory is wanted nothing changed.
+/// Adds a serial, or 0 for none. If an allocation fails, nothing changed.
 pub(crate) fn push_target(out: &mut Vec<u8>, target: Option<u64>) -> Result<(), AllocError>
     ensures { OnOk result (out.new.items ≡ out.old.items ++ long_word (number_or_0 target)) }
 {
     push_long_word(out, target.unwrap_or(0))
 }
 
-/// Adds a byte. Where memory is wanted nothing changed.
+/// Adds a byte. If an allocation fails, nothing changed.
 pub(crate) fn push_byte(out: &mut Vec<u8>, byte: u8) -> Result<(), AllocError>
     ensures { OnOk result (out.new.items ≡ out.old.items ++ (byte ∷ [])) }
 {
@@ -43,7 +43,7 @@ pub(crate) fn push_byte(out: &mut Vec<u8>, byte: u8) -> Result<(), AllocError>
     Ok(())
 }
 
-/// The byte that stands in front, and the bytes behind it.
+/// The byte that stands in front, and the bytes after it.
 pub(crate) fn take_byte(bytes: &[u8]) -> Option<(u8, &[u8])>
     ensures found { IfSome result (λ r. bytes.now ≡ r.0 ∷ r.1.now) }
     ensures only { (byte : ℕ) (rest : List ℕ) → bytes.now ≡ byte ∷ rest → IsSomeAnd result (λ r. (r.0 ≡ byte) × (r.1.now ≡ rest)) }
@@ -52,7 +52,7 @@ pub(crate) fn take_byte(bytes: &[u8]) -> Option<(u8, &[u8])>
     Some((*byte, rest))
 }
 
-/// A flag, and the bytes behind it.
+/// A flag, and the bytes after it.
 pub(crate) fn take_flag(bytes: &[u8]) -> Option<(bool, &[u8])>
     ensures found { IfSome result (λ r. bytes.now ≡ number_of_bool r.0 ∷ r.1.now) }
     ensures only { (flag : Bool) (rest : List ℕ) → bytes.now ≡ number_of_bool flag ∷ rest
@@ -72,8 +72,8 @@ pub(crate) fn byte_of(flag: bool) -> u8
     u8::from(flag)
 }
 
-/// The port, whether its receive right is held, the references of its send right, and the request's target, and the bytes
-/// behind them.
+/// The port, whether its receive right is held, the references of its send right, and the request's target, and the
+/// bytes after them.
 fn take_held(bytes: &[u8]) -> Option<(u64, bool, u32, u64, &[u8])>
     ensures found { IfSome result (λ r. bytes.now ≡ long_word r.0 ++ (number_of_bool r.1 ∷ (word r.2 ++ (long_word r.3 ++ r.4.now)))) }
     ensures fits { IfSome result (λ r. (r.0 < 2 ^ 64) × (r.2 < 2 ^ 32) × (r.3 < 2 ^ 64)) }
@@ -88,7 +88,7 @@ fn take_held(bytes: &[u8]) -> Option<(u64, bool, u32, u64, &[u8])>
     Some((port, receive, send, target, rest))
 }
 
-/// The rights to a port, behind the byte that tells of them.
+/// The rights to a port, after the byte that announces them.
 fn take_rights(bytes: &[u8]) -> Option<(Entry, &[u8])>
     ensures found { IfSome result (λ r. (1 ∷ bytes.now ≡ entry_text r.0 ++ r.1.now) × SpellableEntry r.0) }
     ensures only { (rights : PortRights) (rest : List ℕ) → SpellableEntry (entry_variants.Port rights) → 1 ∷ bytes.now ≡ entry_text (entry_variants.Port rights) ++ rest
@@ -104,7 +104,7 @@ fn take_rights(bytes: &[u8]) -> Option<(Entry, &[u8])>
     Some((Entry::Port(rights), rest))
 }
 
-/// Two serials, and the bytes behind them.
+/// Two serials, and the bytes after them.
 pub(crate) fn take_serials(bytes: &[u8]) -> Option<(u64, u64, &[u8])>
     ensures found { IfSome result (λ r. bytes.now ≡ long_word r.0 ++ (long_word r.1 ++ r.2.now)) }
     ensures fits { IfSome result (λ r. (r.0 < 2 ^ 64) × (r.1 < 2 ^ 64)) }
@@ -116,7 +116,7 @@ pub(crate) fn take_serials(bytes: &[u8]) -> Option<(u64, u64, &[u8])>
     Some((first, second, rest))
 }
 
-/// A send-once right, behind the byte that tells of it.
+/// A send-once right, after the byte that announces it.
 fn take_send_once(bytes: &[u8]) -> Option<(Entry, &[u8])>
     ensures found { IfSome result (λ r. (2 ∷ bytes.now ≡ entry_text r.0 ++ r.1.now) × SpellableEntry r.0) }
     ensures only { (port : ℕ) (target : Option ℕ) (rest : List ℕ) → SpellableEntry (entry_variants.SendOnce port target)
@@ -131,7 +131,7 @@ fn take_send_once(bytes: &[u8]) -> Option<(Entry, &[u8])>
     Some((entry, rest))
 }
 
-/// What a name stands for, and the bytes behind it.
+/// What a name stands for, and the bytes after it.
 fn take_entry(bytes: &[u8]) -> Option<(Entry, &[u8])>
     ensures found { IfSome result (λ r. (bytes.now ≡ entry_text r.0 ++ r.1.now) × SpellableEntry r.0) }
     ensures only { (entry : Entry) (rest : List ℕ) → SpellableEntry entry → bytes.now ≡ entry_text entry ++ rest
@@ -150,7 +150,8 @@ fn take_entry(bytes: &[u8]) -> Option<(Entry, &[u8])>
     }
 }
 
-/// Adds a send-once right, and the byte that tells of it. Where memory is wanted some of its bytes may have been added.
+/// Adds a send-once right, with the byte that announces it. If an allocation fails, some of its bytes may have been
+/// added.
 fn push_send_once(out: &mut Vec<u8>, port: u64, target: Option<u64>) -> Result<(), AllocError>
     ensures { OnOk result (out.new.items ≡ out.old.items ++ entry_text (entry_variants.SendOnce port target)) }
 {
@@ -160,7 +161,7 @@ fn push_send_once(out: &mut Vec<u8>, port: u64, target: Option<u64>) -> Result<(
     Ok(())
 }
 
-/// Adds what a name stands for. Where memory is wanted some of its bytes may have been added.
+/// Adds what a name stands for. If an allocation fails, some of its bytes may have been added.
 fn push_entry(out: &mut Vec<u8>, entry: Entry) -> Result<(), AllocError>
     ensures { OnOk result (out.new.items ≡ out.old.items ++ entry_text entry) }
 {
@@ -184,7 +185,7 @@ fn push_entry(out: &mut Vec<u8>, entry: Entry) -> Result<(), AllocError>
     }
 }
 
-/// A name with what it stands for, and the bytes behind it.
+/// A name with what it stands for, and the bytes after it.
 fn take_named(bytes: &[u8]) -> Option<(NamedEntry, &[u8])>
     ensures found { IfSome result (λ r. (bytes.now ≡ named_text r.0 ++ r.1.now) × FitsNamed r.0) }
     ensures only { (row : NamedEntry) (rest : List ℕ) → FitsNamed row → bytes.now ≡ named_text row ++ rest

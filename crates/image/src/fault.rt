@@ -3,9 +3,9 @@ use std::alloc::AllocError;
 /// Why bytes weren't read as an image.
 #[derive(Clone, Copy, Debug, PartialEq, Eq)]
 pub enum ImageFault {
-    /// They are the text of no state's rows.
+    /// They encode no state.
     NotCanonical = 1,
-    /// A growth was refused.
+    /// An allocation failed.
     NoMemory = 2,
 }
 

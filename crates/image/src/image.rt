@@ -13,7 +13,7 @@ use snapshot::{LivePort, Snapshot, Space, rises};
 use std::alloc::{AllocError, Global};
 use words::{push_long_word, take_long_word, take_word};
 
-/// The spaces that stand in front behind their count, and the bytes behind them.
+/// The spaces in front, after their number, and the bytes after them.
 fn take_spaces(alloc: Global, bytes: &[u8]) -> Result<Option<(Sequence<Space>, &[u8])>, AllocError>
     ensures found { IfOk result (λ found. IfSome found (λ r. (bytes.now ≡ word (length r.0) ++ (flat_map space_text r.0 ++ r.1.now))
         × (length r.0 < 2 ^ 32) × All FitsSpace r.0 × RisesFrom 0 (map number_of r.0))) }
@@ -34,7 +34,7 @@ fn take_spaces(alloc: Global, bytes: &[u8]) -> Result<Option<(Sequence<Space>, &
     Ok(Some((spaces, rest)))
 }
 
-/// The live ports that stand in front behind their count, and the bytes behind them.
+/// The live ports in front, after their number, and the bytes after them.
 fn take_ports(
     alloc: Global,
     bytes: &[u8],
@@ -65,7 +65,7 @@ fn is_end(rest: &[u8]) -> bool
     rest.is_empty()
 }
 
-/// The snapshot whose text these bytes are.
+/// The snapshot that these bytes encode.
 fn read_snapshot(alloc: Global, bytes: &[u8]) -> Result<Option<Snapshot>, AllocError>
     ensures found { IfOk result (λ found. IfSome found (λ snapshot. (bytes.now ≡ snapshot_text snapshot) × FitsImage snapshot)) }
     ensures only { (snapshot : Snapshot) → FitsImage snapshot → bytes.now ≡ snapshot_text snapshot
@@ -90,9 +90,9 @@ fn read_snapshot(alloc: Global, bytes: &[u8]) -> Result<Option<Snapshot>, AllocE
     }))
 }
 
-/// The snapshot that bytes spell: its numbers fit their words, and its spaces, their names and its ports rise.
+/// The snapshot that bytes encode: its numbers fit their words, and its spaces, their names and its ports ascend.
 ///
-/// `NotCanonical`: they spell none. `NoMemory`: a growth was refused.
+/// `NotCanonical`: they encode none. `NoMemory`: an allocation failed.
 pub fn read(alloc: Global, bytes: &[u8]) -> Result<Snapshot, ImageFault>
     ensures found { IfOk result (λ snapshot. (bytes.now ≡ snapshot_text snapshot) × FitsImage snapshot) }
     ensures only { (snapshot : Snapshot) → FitsImage snapshot → bytes.now ≡ snapshot_text snapshot → IfOk result (λ read. read ≡ snapshot) }
@@ -104,7 +104,7 @@ pub fn read(alloc: Global, bytes: &[u8]) -> Result<Snapshot, ImageFault>
     }
 }
 
-/// Adds the text of a snapshot. Where memory is wanted some of its bytes may have been added.
+/// Adds the encoding of a snapshot. If an allocation fails, some of its bytes may have been added.
 pub fn write_into(snapshot: &Snapshot, out: &mut Vec<u8>) -> Result<(), AllocError>
     ensures { OnOk result (out.new.items ≡ out.old.items ++ snapshot_text snapshot.now) }
 {

@@ -5,12 +5,12 @@ ghost use Rattle.ipc_model.specs.state.State.{State};
 ghost use Rattle.ipc_model.specs.texts.Images.{image_text};
 ghost use Rattle.snapshot.specs.Snapshots.{snapshot_of};
 
-/// The text of a state's snapshot is the state's image.
+/// The encoding of a state's snapshot is the state's image.
 pub fn image_is_of_state()
     ensures { (state : State) → snapshot_text (snapshot_of state) ≡ image_text state }
 {}
 
-/// An image spells the snapshot of every lawful state whose queues are short enough to count.
+/// An image encodes the snapshot of every lawful state whose queues are short enough to count.
 pub fn lawful_snapshots_fit()
     ensures { LawfulSnapshotsFit }
 {}

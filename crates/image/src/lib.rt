@@ -1,4 +1,4 @@
-//! Images: states as bytes, one spelling each.
+//! Images: states as bytes, in a canonical encoding.
 #![tactic(auto)]
 
 mod entries;

@@ -16,7 +16,7 @@ use ipc_model::{CarriedRight, Message, PortInMessage, RightKind, Sequence, is_me
 use std::alloc::{AllocError, Global};
 use words::{push_long_word, push_word, take_long_word, take_word};
 
-/// The kind of right whose byte stands in front, and the bytes behind it.
+/// The kind of right whose byte stands in front, and the bytes after it.
 fn take_kind(bytes: &[u8]) -> Option<(RightKind, &[u8])>
     ensures found { IfSome result (λ r. bytes.now ≡ number_of_kind r.0 ∷ r.1.now) }
     ensures only { (kind : RightKind) (rest : List ℕ) → bytes.now ≡ number_of_kind kind ∷ rest
@@ -34,7 +34,7 @@ fn byte_of_kind(kind: RightKind) -> u8
     kind as u8
 }
 
-/// What stands in a port's place in a message, and the bytes behind it.
+/// What stands in a port's place in a message, and the bytes after it.
 fn take_place(bytes: &[u8]) -> Option<(PortInMessage, &[u8])>
     ensures found { IfSome result (λ r. (bytes.now ≡ place_text r.0 ++ r.1.now) × SpellablePlace r.0) }
     ensures only { (place : PortInMessage) (rest : List ℕ) → SpellablePlace place → bytes.now ≡ place_text place ++ rest
@@ -59,7 +59,7 @@ fn place_of(what: u8, serial: u64) -> Option<PortInMessage>
     }
 }
 
-/// Adds what stands in a port's place. Where memory is wanted some of its bytes may have been added.
+/// Adds what stands in a port's place. If an allocation fails, some of its bytes may have been added.
 fn push_place(out: &mut Vec<u8>, place: PortInMessage) -> Result<(), AllocError>
     ensures { OnOk result (out.new.items ≡ out.old.items ++ place_text place) }
 {
@@ -76,7 +76,7 @@ fn push_place(out: &mut Vec<u8>, place: PortInMessage) -> Result<(), AllocError>
     }
 }
 
-/// A right, and the bytes behind it.
+/// A right, and the bytes after it.
 fn take_right(bytes: &[u8]) -> Option<(CarriedRight, &[u8])>
     ensures found { IfSome result (λ r. (bytes.now ≡ carried_text r.0 ++ r.1.now) × SpellableRight r.0) }
     ensures only { (right : CarriedRight) (rest : List ℕ) → SpellableRight right → bytes.now ≡ carried_text right ++ rest
@@ -87,7 +87,7 @@ fn take_right(bytes: &[u8]) -> Option<(CarriedRight, &[u8])>
     Some((CarriedRight { kind, port }, rest))
 }
 
-/// Adds a right. Where memory is wanted some of its bytes may have been added.
+/// Adds a right. If an allocation fails, some of its bytes may have been added.
 fn push_right(out: &mut Vec<u8>, right: CarriedRight) -> Result<(), AllocError>
     ensures { OnOk result (out.new.items ≡ out.old.items ++ carried_text right) }
 {
@@ -112,7 +112,7 @@ impl Spelled for CarriedRight {
     }
 }
 
-/// What stands behind ten zeros, which spell that there is no right to reply by.
+/// What stands after ten zeros, which encode that there is no right for a reply.
 fn behind_no_reply(bytes: &[u8]) -> Option<&[u8]>
     ensures found { IfSome result (λ behind. bytes.now ≡ 0 ∷ (0 ∷ (long_word 0 ++ behind.now))) }
     ensures none { IfNone result ((behind : List ℕ) → bytes.now ≡ 0 ∷ (0 ∷ (long_word 0 ++ behind)) → ⊥) }
@@ -123,7 +123,7 @@ fn behind_no_reply(bytes: &[u8]) -> Option<&[u8]>
     }
 }
 
-/// The right to reply by, or that there is none, and the bytes behind it.
+/// The right for the reply, or that there is none, and the bytes after it.
 fn take_reply(bytes: &[u8]) -> Option<(Option<CarriedRight>, &[u8])>
     ensures found { IfSome result (λ r. (bytes.now ≡ reply_right_text r.0 ++ r.1.now) × SpellableReplyRight r.0) }
     ensures only { (reply : Option CarriedRight) (rest : List ℕ) → SpellableReplyRight reply → bytes.now ≡ reply_right_text reply ++ rest
@@ -136,7 +136,7 @@ fn take_reply(bytes: &[u8]) -> Option<(Option<CarriedRight>, &[u8])>
     Some((Some(right), rest))
 }
 
-/// Adds the right to reply by. Where memory is wanted some of its bytes may have been added.
+/// Adds the right for the reply. If an allocation fails, some of its bytes may have been added.
 fn push_reply(out: &mut Vec<u8>, reply: Option<CarriedRight>) -> Result<(), AllocError>
     ensures { OnOk result (out.new.items ≡ out.old.items ++ reply_right_text reply) }
 {
@@ -146,7 +146,7 @@ fn push_reply(out: &mut Vec<u8>, reply: Option<CarriedRight>) -> Result<(), Allo
     }
 }
 
-/// What stands of a message before its rights.
+/// What a message has before its rights.
 #[derive(Clone, Copy)]
 struct Head {
     destination: RightKind,
@@ -156,7 +156,7 @@ struct Head {
     complex: bool,
 }
 
-/// The size of a message, and the bytes behind it.
+/// The size of a message, and the bytes after it.
 fn take_size(bytes: &[u8]) -> Option<(u32, &[u8])>
     ensures found { IfSome result (λ r. bytes.now ≡ word r.0 ++ r.1.now) }
     ensures fits { IfSome result (λ r. IsMessageSize r.0) }
@@ -170,7 +170,7 @@ fn take_size(bytes: &[u8]) -> Option<(u32, &[u8])>
     Some((size, rest))
 }
 
-/// What stands of a message before its rights, and the bytes behind it.
+/// What a message has before its rights, and the bytes after it.
 fn take_head(bytes: &[u8]) -> Option<(Head, &[u8])>
     ensures found { IfSome result (λ r. bytes.now ≡ number_of_kind r.0.destination ∷ (reply_right_text r.0.reply
         ++ (word r.0.id ++ (word r.0.size ++ (number_of_bool r.0.complex ∷ r.1.now))))) }
@@ -198,7 +198,7 @@ fn take_head(bytes: &[u8]) -> Option<(Head, &[u8])>
     Some((head, rest))
 }
 
-/// The body of a message of this size, and the bytes behind it.
+/// The body of a message of this size, and the bytes after it.
 fn take_body(
     alloc: Global,
     size: u32,

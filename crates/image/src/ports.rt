@@ -13,7 +13,7 @@ use snapshot::LivePort;
 use std::alloc::{AllocError, Global};
 use words::{push_long_word, push_word, take_long_word, take_word};
 
-/// What a name's number spells that is 0 for none.
+/// The name that a number encodes; 0 is for none.
 fn set_of(number: u32) -> Option<u32>
     ensures spelled { number ≡ number_or_0 result }
     ensures fits { SpellableSet result }
@@ -25,14 +25,14 @@ fn set_of(number: u32) -> Option<u32>
     }
 }
 
-/// The number that spells a set's name, 0 for none.
+/// The number that encodes a set's name; 0 is for none.
 fn number_of(set: Option<u32>) -> u32
     ensures { result ≡ number_or_0 set }
 {
     set.unwrap_or(0)
 }
 
-/// The limit of a port's queue, its sequence number, its make-send count and the number of its set, and the bytes behind
+/// The limit of a port's queue, its sequence number, its make-send count and the number of its set, and the bytes after
 /// them.
 fn take_numbers(bytes: &[u8]) -> Option<(u32, u32, u32, u32, &[u8])>
     ensures found { IfSome result (λ r. bytes.now ≡ word r.0 ++ (word r.1 ++ (word r.2 ++ (word r.3 ++ r.4.now)))) }
@@ -49,7 +49,7 @@ fn take_numbers(bytes: &[u8]) -> Option<(u32, u32, u32, u32, &[u8])>
     Some((limit, sequence_number, make_send_count, set, rest))
 }
 
-/// The messages that stand in front behind their count, and the bytes behind them.
+/// The messages in front, after their number, and the bytes after them.
 fn take_messages(
     alloc: Global,
     bytes: &[u8],
@@ -66,7 +66,7 @@ fn take_messages(
     take_rows(alloc, count, rest)
 }
 
-/// What a port keeps, and the bytes behind it.
+/// What a port has, and the bytes after it.
 fn take_port(alloc: Global, bytes: &[u8]) -> Result<Option<(PortState, &[u8])>, AllocError>
     ensures found { IfOk result (λ found. IfSome found (λ r. (bytes.now ≡ port_text r.0 ++ r.1.now) × FitsPort r.0)) }
     ensures only { (port : PortState) (rest : List ℕ) → FitsPort port → bytes.now ≡ port_text port ++ rest
@@ -93,7 +93,7 @@ fn take_port(alloc: Global, bytes: &[u8]) -> Result<Option<(PortState, &[u8])>, 
     Ok(Some((port, rest)))
 }
 
-/// Adds what a port keeps. Where memory is wanted some of its bytes may have been added.
+/// Adds what a port has. If an allocation fails, some of its bytes may have been added.
 fn push_port(out: &mut Vec<u8>, port: &PortState) -> Result<(), AllocError>
     ensures { OnOk result (out.new.items ≡ out.old.items ++ port_text port.now) }
 {

@@ -5,26 +5,26 @@ use ipc_model::Sequence;
 use std::alloc::{AllocError, Global};
 use words::push_word;
 
-/// A value that an image spells by bytes of its own.
+/// A value that an image encodes by bytes of its own.
 pub(crate) trait Spelled: Drop {
     /// Its bytes.
     ghost text: { Self → List ℕ };
 
-    /// An image can spell it.
+    /// An image can encode it.
     ghost fits: { Self → Type 0 };
 
-    /// The value that stands in front, and the bytes behind it.
+    /// The value that stands in front, and the bytes after it.
     fn take(alloc: Global, bytes: &[u8]) -> Result<Option<(Self, &[u8])>, AllocError>
         ensures found { IfOk result (λ found. IfSome found (λ r. (bytes.now ≡ text r.0 ++ r.1.now) × fits r.0)) }
         ensures only { (value : Self) (rest : List ℕ) → fits value → bytes.now ≡ text value ++ rest
             → IfOk result (λ found. IsSomeAnd found (λ r. (r.0 ≡ value) × (r.1.now ≡ rest))) };
 
-    /// Adds its bytes. Where memory is wanted some of them may have been added.
+    /// Adds its bytes. If an allocation fails, some of them may have been added.
     fn push(&self, out: &mut Vec<u8>) -> Result<(), AllocError>
         ensures { OnOk result (out.new.items ≡ out.old.items ++ text self.now) };
 }
 
-/// So many values from the front, and the bytes behind them.
+/// `count` values from the front, and the bytes after them.
 pub(crate) fn take_rows<T: Spelled>(
     alloc: Global,
     count: u32,
@@ -47,8 +47,8 @@ pub(crate) fn take_rows<T: Spelled>(
     Ok(Some((Sequence::new(rows), rest)))
 }
 
-/// Adds a number of rows or bytes. One that doesn't fit its word is of more than any memory holds, and so is refused as for
-/// want of it; then nothing changed.
+/// Adds a number of rows or bytes. One that doesn't fit its word is of more than any memory holds, so it is refused as
+/// out of memory; then nothing changed.
 pub(crate) fn push_length(out: &mut Vec<u8>, length: usize) -> Result<(), AllocError>
     ensures { OnOk result (out.new.items ≡ out.old.items ++ word length) }
 {
@@ -58,7 +58,7 @@ pub(crate) fn push_length(out: &mut Vec<u8>, length: usize) -> Result<(), AllocE
     push_word(out, length)
 }
 
-/// Adds the bytes of values, one after another. Where memory is wanted some of them may have been added.
+/// Adds the bytes of values, one after another. If an allocation fails, some of them may have been added.
 pub(crate) fn push_rows<T: Spelled>(out: &mut Vec<u8>, rows: &[T]) -> Result<(), AllocError>
     ensures { OnOk result (out.new.items ≡ out.old.items ++ flat_map T.text rows.now) }
 {

@@ -23,7 +23,7 @@ use Rattle.snapshot.specs.Rows.{one_state}
 use Rattle.standing.specs.Spelled.{one_spells}
 use Rattle.standing.specs.Standing.{InOne, as_written}
 
--- what a copy of a fault that was told of the store tells
+-- the store's fault in a fault of copying
 abbrev store_in : CopyStoreFault → StoreFault
 store_in (copied.Store fault) = fault
 store_in copied.Busy = fault.Damaged

@@ -1,4 +1,4 @@
--- A store that was made of another one's state, and how a run that makes one ends.
+-- A store that was made from another one's state, and how a run that makes one ends.
 use Rattle.std.specs.Prelude.{◌≡◌, ◌≢◌, ◌⊎◌, ℕ, List, [], ◌++◌, Option, Some, codes}
 use Rattle.checkpoint.specs.Images.{ImageValue, open_image, unwritten}
 use Rattle.disk.specs.Moments.{View}
@@ -21,7 +21,7 @@ use Rattle.snapshot.specs.Snapshots.{snapshot_of}
 use Rattle.snapshot.specs.declared.rows.Snapshot.{Snapshot}
 use Rattle.standing.specs.Standing.{as_written}
 
--- An image of epoch 0, of the state that has these rows.
+-- An image of epoch 0, of the state with these rows.
 pub record IsImageOfRows (rows : Snapshot) (image : ImageValue) : Type 0 where
   pub state : State
   pub same : rows ≡ snapshot_of state
@@ -32,7 +32,7 @@ pub record IsImageOfRows (rows : Snapshot) (image : ImageValue) : Type 0 where
 abbrev pub store_of : ImageValue → Slots
 store_of image = record { image0 = open_image image.epoch image.text; image1 = []; segment0 = empty_segment 0; segment1 = [] }
 
--- A disk holds the state that these slots spell, and a crash leaves just what a read gives.
+-- A disk holds the state that these slots stand for, and a crash leaves just what a read gives.
 pub record IsCopyOf (slots : Slots) (copy : View) : Type 0 where
   pub state : State
   pub epoch : ℕ
@@ -46,18 +46,18 @@ of_list (list.Store fault) = Store fault
 of_list list.Busy = Busy
 of_list list.Write = Write
 
--- why a store can't be copied, where its copy's place is empty
+-- why a store can't be copied, where the place for the copy is empty
 abbrev pub IsOfCopy : CopyStoreFault → Type 0
 IsOfCopy fault = (fault ≡ Store store.Device) ⊎ ((fault ≡ Store store.Damaged) ⊎ ((fault ≡ Store store.NoMemory)
     ⊎ ((fault ≡ Store store.Version) ⊎ ((fault ≡ Busy) ⊎ (fault ≡ Write)))))
 
--- 0: the store was copied; 1: a fault; 2: the words are not two, or can't be read
+-- 0: the store was copied; 1: a fault; 2: the arguments are not exactly two, or can't be read
 abbrev pub copy_status_of : CopyEnd → ℕ
 copy_status_of Copied = 0
 copy_status_of CommandLine = 2
 copy_status_of (Fault fault) = 1
 
--- what stands on the line of errors behind the program's name; no line where the store was copied
+-- what follows the program's name on the line of errors; no line where the store was copied
 abbrev pub copy_words_of : CopyEnd → List ℕ
 copy_words_of Copied = []
 copy_words_of CommandLine = codes "command line\n"
@@ -71,7 +71,7 @@ copy_line_of Copied = []
 copy_line_of CommandLine = codes "machcp: " ++ copy_words_of CommandLine
 copy_line_of (Fault fault) = codes "machcp: " ++ copy_words_of (Fault fault)
 
--- how a run may end for so many words, or for words that can't be read
+-- how a run may end for this many arguments, or for arguments that can't be read
 abbrev pub EndsForWords : Option ℕ → CopyEnd → Type 0
 EndsForWords words CommandLine = words ≢ Some 2
 EndsForWords words Copied = words ≡ Some 2

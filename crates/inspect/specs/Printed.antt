@@ -9,7 +9,8 @@ use Rattle.listing.specs.Drawing.{drawing}
 use Rattle.listing.specs.Listing.{listing}
 use Rattle.recover.specs.Found.{Reads}
 
--- The lines of a state. On an honest disk it is the one that the slots spell, with the epoch of its image and so many records.
+-- The lines of a state. On an honest disk it is the one that the slots encode, with the epoch of its image and the
+-- number of records.
 pub record IsListing (honest : Type 0) (slots : Slots) (text : List ℕ) : Type 0 where
   pub state : State
   pub epoch : ℕ
@@ -25,6 +26,6 @@ pub record IsSketch (honest : Type 0) (slots : Slots) (text : List ℕ) : Type 0
   pub reads : honest → Reads slots epoch records state
   pub drawn : text ≡ drawing state
 
--- why a store can't be read, as a look at a copy of it tells
+-- why a store can't be read, as a look at a copy of it shows
 abbrev pub IsOfLook : ListFault → Type 0
 IsOfLook fault = (fault ≡ Store Device) ⊎ ((fault ≡ Store Damaged) ⊎ ((fault ≡ Store NoMemory) ⊎ ((fault ≡ Store Version) ⊎ (fault ≡ Busy))))

@@ -12,13 +12,13 @@ use Rattle.journal.specs.Fault as store
 use Rattle.wire.specs.Fault as wire
 use Rattle.wire.specs.declared.fault.WireFault.TheVariants.{Device}
 
--- 0: the store was printed; 1: a fault; 2: the words are not one, or can't be read
+-- 0: the store was printed; 1: a fault; 2: the arguments are not exactly one, or can't be read
 abbrev pub status_of : ShowEnd → ℕ
 status_of Shown = 0
 status_of CommandLine = 2
 status_of (Fault fault) = 1
 
--- what stands on the line of errors behind the program's name; no line where the store was printed
+-- what follows the program's name on the line of errors; no line where the store was printed
 abbrev pub words_of : ShowEnd → List ℕ
 words_of Shown = []
 words_of CommandLine = codes "command line\n"
@@ -26,7 +26,7 @@ words_of (Fault (Store fault)) = store.fault_line fault
 words_of (Fault Busy) = codes "store busy\n"
 words_of (Fault Write) = wire.fault_line Device
 
--- a line of errors, behind the name of a program
+-- a line of errors, which begins with the name of a program
 abbrev pub line_of : List ℕ → ShowEnd → List ℕ
 line_of name Shown = []
 line_of name CommandLine = name ++ words_of CommandLine
@@ -39,8 +39,8 @@ IsSomeListing text = (state : State) × (epoch records : ℕ) × (text ≡ listi
 abbrev pub IsSomeDrawing : List ℕ → Type 0
 IsSomeDrawing text = (state : State) × (text ≡ drawing state)
 
--- What was written by a run that ended so, for so many words, or for words that can't be read: the whole text, some first
--- bytes of it where the output can't be written, nothing else.
+-- What was written by a run with this end, for this many arguments, or for arguments that can't be read: the whole
+-- text, a prefix of it where the output can't be written, or nothing.
 abbrev pub Prints : (List ℕ → Type 0) → Option ℕ → Option (List ℕ) → Option (List ℕ) → ShowEnd → Type 0
 Prints IsText words old new CommandLine = (words ≢ Some 1) × Keeps old new
 Prints IsText words old new Shown = (words ≡ Some 1) × ((text : List ℕ) × IsText text × Appends old new text)

@@ -1,4 +1,4 @@
-// All of the program that copies a store.
+// The whole program that copies a store.
 ghost use Rattle.std.specs.Prelude.{◌≡◌, ◌++◌, codes, length, option_map, IfErr, OnErr, OnOk};
 ghost use Rattle.std.specs.Io.KnownBytes.{Appends};
 ghost use Rattle.inspect.specs.Copied.{EndsForWords, copy_line_of, copy_status_of, copy_words_of};
@@ -20,14 +20,15 @@ use wire::WireFault;
 pub enum CopyEnd {
     /// The store was copied.
     Copied,
-    /// The words are not two, or can't be read.
+    /// There aren't exactly two words, or the words can't be read.
     CommandLine,
     /// The store can't be copied.
     Fault(CopyStoreFault),
 }
 
 impl CopyEnd {
-    /// The status to end with: 0 without a fault, 1 after a fault, 2 where the words are not two or can't be read.
+    /// The status to end with: 0 without a fault, 1 after a fault, 2 if there aren't exactly two words or the words
+    /// can't be read.
     pub fn status(self) -> u8
         ensures { result ≡ copy_status_of self }
     {
@@ -38,7 +39,7 @@ impl CopyEnd {
         }
     }
 
-    /// What stands on the line of errors behind the program's name: nothing where the store was copied.
+    /// What follows the program's name on the line of errors: nothing if the store was copied.
     pub fn words(self) -> &'static str
         ensures { result.now ≡ copy_words_of self }
     {
@@ -52,8 +53,8 @@ impl CopyEnd {
         }
     }
 
-    /// Writes the line of errors, if there is one. `Device`: the writer failed, and some first bytes of the line may have been
-    /// written.
+    /// Writes the line of errors, if there is one. `Device`: the writer failed, and some first bytes of the line may
+    /// have been written.
     pub fn tell<E: Write>(self, errors: &mut E) -> Result<(), WireFault>
         ensures ok { OnOk result (Appends (E.contents errors.old) (E.contents errors.new) (copy_line_of self)) }
         ensures part { OnErr result (AppendsPart (E.contents errors.old) (E.contents errors.new) (copy_line_of self)) }
@@ -67,12 +68,12 @@ impl CopyEnd {
     }
 }
 
-/// All of `machcp`: the words of its command line, or none where they can't be read as text, and its errors. It gives the status
-/// to end with.
+/// The whole of `machcp`: the words of its command line, or none if they can't be read as text, and its errors. It
+/// returns the status to end with.
 ///
-/// The first word is the store's folder, whose files are opened for reading alone; the second one that of the copy, which must not
-/// be there. 0: the copy was made, and is on the disk. 1: after a fault, which is a line of errors. 2: the words are not two or
-/// can't be read, which is a line of errors too.
+/// The first word is the store's folder, whose files are opened only for reading; the second one is that of the copy,
+/// which must not exist. 0: the copy was made, and is on the disk. 1: after a fault, with a line of errors. 2: there
+/// aren't exactly two words or the words can't be read, with a line of errors too.
 pub fn copy_store<F: Files, E: Write>(
     alloc: Global,
     files: &F,
@@ -87,7 +88,7 @@ pub fn copy_store<F: Files, E: Write>(
     end.status()
 }
 
-/// What `copy_store` does but for its line of errors.
+/// What `copy_store` does except for its line of errors.
 pub fn run_copy<F: Files>(alloc: Global, files: &F, words: Option<&[String]>) -> CopyEnd
     ensures { EndsForWords (option_map (λ texts. length texts.now) words.entry) result }
 {
@@ -100,7 +101,8 @@ pub fn run_copy<F: Files>(alloc: Global, files: &F, words: Option<&[String]>) ->
     }
 }
 
-/// Copies the store in a folder into a new folder. It is made under another name, and gets its own once all of it is on the disk.
+/// Copies the store in a folder into a new folder. It is made under another name, and gets its own once all of it is on
+/// the disk.
 fn copy_folder<F: Files>(
     alloc: Global,
     files: &F,
@@ -121,7 +123,7 @@ fn copy_folder<F: Files>(
         return Err(CopyStoreFault::Write);
     }
     if let Err(fault) = copy_into(alloc, files, &mut from, part.as_str()) {
-        // It is empty where the store couldn't be read.
+        // It is empty if the store couldn't be read.
         let _ = fs::remove_dir(files, part.as_str());
         return Err(fault);
     }
@@ -131,7 +133,7 @@ fn copy_folder<F: Files>(
     }
 }
 
-/// Whether nothing has this name.
+/// Whether no file has this name.
 fn is_free<F: Files>(files: &F, path: &str) -> bool {
     match fs::symlink_metadata(files, path) {
         Ok(_) => false,

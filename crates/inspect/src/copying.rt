@@ -21,9 +21,9 @@ use std::alloc::Global;
 pub enum CopyStoreFault {
     /// The store can't be read.
     Store(StoreFault),
-    /// The store was changed at each try to read it.
+    /// The store was changed during each try to read it.
     Busy,
-    /// There is something at the copy's place already.
+    /// Something is at the copy's place already.
     Exists,
     /// The copy can't be written.
     Write,
@@ -58,7 +58,7 @@ impl From<DiskFault> for CopyStoreFault {
 /// The segment of epoch 0 without a record: an open gate, version 1, the epoch, and a closed gate.
 const EMPTY_SEGMENT: [u8; 17] = [0x5a, 1, 0, 0, 0, 0, 0, 0, 0, 0, 0, 0, 0, 0, 0, 0, 0];
 
-/// The image of the state that has these rows, of epoch 0.
+/// The image of the state with these rows, of epoch 0.
 ///
 /// `NoMemory`: an allocation failed.
 fn image_of(alloc: Global, rows: Snapshot) -> Result<Image, StoreFault>
@@ -102,11 +102,11 @@ fn write_store<E: Disk>(to: &mut E, image: &Image) -> Result<(), DiskFault>
     sync_all(to)
 }
 
-/// Copies a store to an empty disk: a store in epoch 0 that begins in the state of the first one, without a record. The first store may
-/// be in use, and isn't written to. All of the copy is on its disk then.
+/// Copies a store to an empty disk: a store in epoch 0 that begins in the state of the first one, without a record. The
+/// first store may be in use, and isn't written to. At `Ok` the whole copy is on its disk.
 ///
-/// `Store`: the store can't be read (`Device`, `Damaged`, `Version`), or an allocation failed (`NoMemory`). `Busy`: the store was
-/// changed at each try to read it. Nothing was written then. `Write`: the disk of the copy failed.
+/// `Store`: the store can't be read (`Device`, `Damaged`, `Version`), or an allocation failed (`NoMemory`). `Busy`: the
+/// store was changed during each try to read it. With these, nothing was written. `Write`: the disk of the copy failed.
 pub fn copy<D: Disk, E: Disk>(alloc: Global, from: &mut D, to: &mut E) -> Result<(), CopyStoreFault>
     ensures copied { D.honest → E.honest → (E.view to.old).seen ≡ empty_slots → OnOk result (IsCopyOf (D.view from.old).seen (E.view to.new)) }
     ensures seen { D.honest → (D.view from.new).seen ≡ (D.view from.old).seen }

@@ -8,7 +8,7 @@ use wire::WireFault;
 pub enum ListFault {
     /// The store can't be read.
     Store(StoreFault),
-    /// The store was made anew at each try to copy it.
+    /// During each try to copy the store, a slot's front changed.
     Busy,
     /// The writer failed, or takes no more bytes.
     Write,

@@ -15,7 +15,7 @@ use recover::{Looked, look};
 use std::alloc::Global;
 use still_disk::{StillDisk, still_copy};
 
-/// Why a look at a copy failed. The copy is in memory, so what fails of it is no device: it is memory.
+/// Why a look at a copy failed. The copy is in memory, so the fault isn't a device's: memory ran out.
 fn fault_of_copy(fault: StoreFault) -> ListFault
     ensures { result ≡ of_looking fault }
 {
@@ -25,7 +25,7 @@ fn fault_of_copy(fault: StoreFault) -> ListFault
     }
 }
 
-/// Looks at a copy, and lets it go.
+/// Looks at a copy, and drops it.
 fn look_at_copy(alloc: Global, copy: StillDisk) -> Result<Looked, StoreFault>
     ensures state { IfOk result (IsLook (Unit {0}) (still_slots copy)) }
     ensures version { IsErrOf result StoreFault.Version → IsOtherVersion (as_written (still_slots copy)) }

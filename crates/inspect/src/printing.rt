@@ -19,9 +19,9 @@ use wire::write_bytes;
 ///
 /// What is printed is a copy in memory, so a server may go on with the store meanwhile.
 ///
-/// `Store`: the store can't be read (`recover::look` tells why: `Device`, `Damaged`, `NoMemory` or `Version`), and nothing was
-/// written. `Busy`: no copy of it could be made (`still_disk::still_copy`), and nothing was written. `Write`: the writer failed,
-/// and some first bytes of the lines may have been written.
+/// `Store`: the store can't be read (`recover::look` says why: `Device`, `Damaged`, `NoMemory` or `Version`), and
+/// nothing was written. `Busy`: no copy of it could be made (`still_disk::still_copy`), and nothing was written.
+/// `Write`: the writer failed, and some first bytes of the lines may have been written.
 pub fn list<D: Disk, W: Write>(alloc: Global, disk: &mut D, writer: &mut W) -> Result<(), ListFault>
     ensures ok { OnOk result ((text : List ℕ) × IsListing D.honest (D.view disk.old).seen text × Appends (W.contents writer.old) (W.contents writer.new) text) }
     ensures part { IsErrOf result ListFault.Write → (text : List ℕ) × IsListing D.honest (D.view disk.old).seen text × AppendsPart (W.contents writer.old) (W.contents writer.new) text }
@@ -96,7 +96,7 @@ fn sketch_of<D: Disk>(alloc: Global, disk: &mut D) -> Result<Vec<u8>, ListFault>
     Ok(text)
 }
 
-/// Writes a text whole, and flushes it. Where the writer fails some first bytes may have been written.
+/// Writes a whole text, and flushes it. If the writer fails, some first bytes may have been written.
 fn send<W: Write>(writer: &mut W, text: &[u8]) -> Result<(), ListFault>
     ensures ok { OnOk result (Appends (W.contents writer.old) (W.contents writer.new) text.now) }
     ensures part { OnErr result (AppendsPart (W.contents writer.old) (W.contents writer.new) text.now) }

@@ -16,14 +16,15 @@ use wire::{WireFault, write_bytes};
 pub enum ShowEnd {
     /// The store was printed.
     Shown,
-    /// The words are not one, or can't be read.
+    /// There isn't exactly one word, or the words can't be read.
     CommandLine,
     /// The store can't be read, or the output can't be written.
     Fault(ListFault),
 }
 
 impl ShowEnd {
-    /// The status to end with: 0 without a fault, 1 after a fault, 2 where the words are not one or can't be read.
+    /// The status to end with: 0 without a fault, 1 after a fault, 2 if there isn't exactly one word or the words can't
+    /// be read.
     pub fn status(self) -> u8
         ensures { result ≡ status_of self }
     {
@@ -34,7 +35,7 @@ impl ShowEnd {
         }
     }
 
-    /// What stands on the line of errors behind the program's name: nothing where the store was printed.
+    /// What follows the program's name on the line of errors: nothing if the store was printed.
     pub fn words(self) -> &'static str
         ensures { result.now ≡ words_of self }
     {
@@ -47,8 +48,8 @@ impl ShowEnd {
         }
     }
 
-    /// Writes the line of errors behind this name of a program, if there is one. `Device`: the writer failed, and some
-    /// first bytes of the line may have been written.
+    /// Writes the line of errors after this program name, if there is one. `Device`: the writer failed, and some first
+    /// bytes of the line may have been written.
     pub fn tell<E: Write>(self, name: &str, errors: &mut E) -> Result<(), WireFault>
         ensures ok { OnOk result (Appends (E.contents errors.old) (E.contents errors.new) (line_of name.now self)) }
         ensures part { OnErr result (AppendsPart (E.contents errors.old) (E.contents errors.new) (line_of name.now self)) }
@@ -62,7 +63,7 @@ impl ShowEnd {
     }
 }
 
-/// Writes a name and words behind it.
+/// Writes a name, followed by words.
 pub(crate) fn write_line<E: Write>(errors: &mut E, name: &str, words: &str) -> Result<(), WireFault>
     ensures ok { OnOk result (Appends (E.contents errors.old) (E.contents errors.new) (name.now ++ words.now)) }
     ensures part { OnErr result (AppendsPart (E.contents errors.old) (E.contents errors.new) (name.now ++ words.now)) }
@@ -72,11 +73,11 @@ pub(crate) fn write_line<E: Write>(errors: &mut E, name: &str, words: &str) -> R
     write_bytes(errors, words.as_bytes())
 }
 
-/// All of `machls`: the words of its command line, or none where they can't be read as text, its output and errors. It
-/// gives the status to end with.
+/// The whole of `machls`: the words of its command line, or none if they can't be read as text, its output and errors.
+/// It returns the status to end with.
 ///
-/// The one word is the store's folder; its files are opened for reading alone. 0: its lines were written. 1: after a
-/// fault, which is a line of errors. 2: the words are not one or can't be read, which is a line of errors too.
+/// The one word is the store's folder; its files are opened only for reading. 0: its lines were written. 1: after a
+/// fault, with a line of errors. 2: there isn't exactly one word or the words can't be read, with a line of errors too.
 pub fn show<F: Files, W: Write, E: Write>(
     alloc: Global,
     files: &F,
@@ -92,7 +93,7 @@ pub fn show<F: Files, W: Write, E: Write>(
     end.status()
 }
 
-/// What `show` does but for its line of errors.
+/// What `show` does except for its line of errors.
 pub fn run_show<F: Files, W: Write>(
     alloc: Global,
     files: &F,
@@ -127,7 +128,7 @@ fn list_folder<F: Files, W: Write>(
     list(alloc, &mut disk, output)
 }
 
-/// All of `machmap`, which is `machls` with a drawing in place of the lines.
+/// The whole of `machmap`, which is `machls` with a drawing in place of the lines.
 pub fn show_drawing<F: Files, W: Write, E: Write>(
     alloc: Global,
     files: &F,
@@ -143,7 +144,7 @@ pub fn show_drawing<F: Files, W: Write, E: Write>(
     end.status()
 }
 
-/// What `show_drawing` does but for its line of errors.
+/// What `show_drawing` does except for its line of errors.
 pub fn run_drawing<F: Files, W: Write>(
     alloc: Global,
     files: &F,

@@ -1,4 +1,4 @@
--- mach_port_allocate and mach_port_allocate_name leave lawful and grounded states.
+-- mach_port_allocate and mach_port_allocate_name leave lawful and acyclic states.
 use Rattle.std.specs.Prelude.{◌≡◌, ◌≢◌, ◌⊎◌, ℕ, zero, suc, ◌+◌, ◌-◌, ◌^◌, ◌<◌, ◌≤◌, Bool, true, false, cond, nat_le, ◌&&◌, ◌||◌, ◌==◌, List, [], ◌∷◌, Option, None, Some, is_some, if◌then◌else◌, refl}
 use Rattle.std.proofs.Common.{sym, ◌∙◌, ap, subst, inl, inr, arith}
 use Rattle.std.proofs.lemmas.Bool.{eq-eqb, eqb-false, leb-false}
@@ -33,7 +33,7 @@ use Rattle.ipc_laws.specs.Others.{number_decided}
 use Rattle.ipc_model.specs.state.State.{State, Names, IsUnused, new_port, with_names, lives, port_held, ports_are_used_up, is_null_or_dead}
 use Rattle.ipc_laws.specs.Weights.{Weight, entry_weigh, target_weigh, port_weigh, state_weigh, receive_of, any_of, count-receive, count-any}
 
--- the state with one port more, which has no right yet but the one that waits
+-- the state with one more port, whose only right is the one that waits
 abbrev pub with_new_port : State → State
 with_new_port state = record state { ports = finmap.insert state.ports state.next new_port; next = state.next + 1 }
 
@@ -59,7 +59,7 @@ new_port_lawful = record { limit = omega arith; sequence_number = omega arith; m
 none_released : (serial : ℕ) → IsReleased [] serial → ⊥
 none_released serial (k, less, is) = absurd (omega (arith, less))
 
--- A port is there before its receive right has a name: the right waits.
+-- A port exists before its receive right has a name: the right waits.
 pub new_port_kept : (old : State) → LawfulAtRest old → Grounded old → finmap.len old.ports < MAX_PORTS → old.next < 2 ^ 64 - 1 → Kept (with_new_port old) (release kind.Receive old.next ∷ [])
 new_port_kept old lawful grounded few next =
     let fresh : finmap.get old.ports old.next ≡ None = new_serial old [] lawful in
@@ -112,7 +112,7 @@ new_port_kept old lawful grounded few next =
 
 -- The new name, by what it stands for.
 
--- a name more, which holds no port that has a name already
+-- one more name, which holds no port that has a name already
 pub unnamed_lawful : (names : Names) (name : ℕ) (entry : Entry) → LawfulNames names → IsUnused names name → finmap.len names < MAX_NAMES → LawfulEntry entry
     → ((other serial : ℕ) (e : Entry) → finmap.get names other ≡ Some e → port_held entry ≡ Some serial → port_held e ≡ Some serial → ⊥) → LawfulNames (finmap.insert names name entry)
 unnamed_lawful names name entry lawful unused few fits alone =

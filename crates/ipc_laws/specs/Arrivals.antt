@@ -1,4 +1,4 @@
--- Rights that arrive in a space go from a call's hand under names, and leave the state lawful.
+-- Rights that arrive in a space go from a call's hand to names, and leave the state lawful.
 use Rattle.std.specs.Prelude.{◌≡◌, ◌≢◌, ℕ, ◌+◌, ◌<◌, ◌≤◌, min, Bool, true, false, cond, not, ◌&&◌, ◌==◌, find, [], Option, None, Some, is_some, is_none, option_map, MatchOption, if◌then◌else◌, refl}
 use Rattle.std.proofs.Common.{sym, ◌∙◌, ap, subst, inl, inr, arith}
 use Rattle.std.proofs.lemmas.Bool.{eq-eqb}
@@ -90,7 +90,7 @@ merged_receive_mid state hand space name names rights mid there at =
       set = λ (e : _). absurd (not_set rights e);
     }) mid
 
--- a reference more weighs a right at most
+-- one more reference weighs at most one right
 reference_weighs : (w : Weight) (rights : PortRights) → entry_weigh w (Port (merged_rights kind.Send rights)) ≤ entry_weigh w (Port rights) + w kind.Send rights.port
 reference_weighs w rights =
     elim (min MAX_SEND_REFERENCES (rights.send + 1) == 0) as (λ (b : Bool).
@@ -151,7 +151,7 @@ not_unnamed names serial has none =
     let found = finds_one test (finmap.entries names) has.name has.entry (λ (q : ℕ) (_ : _). that_number (port_held has.entry) serial has.held) (sym (get-entries names has.name) ∙ has.at) in
     cc (sym none ∙ ap (option_map (λ (e : ℕ × Entry). e.0)) found.1)
 
--- a port keeps its name when another entry comes under an unused name, or one that holds the same port
+-- a port keeps its name when another entry is put under an unused name, or under one that holds the same port
 named_still : (names : Names) (name serial : ℕ) (entry : Entry) → ((e : Entry) → finmap.get names name ≡ Some e → port_held e ≡ Some serial → port_held entry ≡ Some serial) → HasName names serial → HasName (finmap.insert names name entry) serial
 named_still names name serial entry keeps has = elim (number_decided has.name name) as (λ _. HasName (finmap.insert names name entry) serial) [
   | inl apart ↦ record { name = has.name; entry = has.entry; at = get-there names name entry has.name apart ∙ has.at; held = has.held }
@@ -176,7 +176,8 @@ merged_mid state hand space name names kind.Receive rights apart mid there at = 
 merged_mid state hand space name names kind.Send rights apart mid there at = merged_send_mid state hand space name names rights mid there at
 merged_mid state hand space name names kind.SendOnce rights apart mid there at = absurd (apart refl)
 
--- what is shown of it: it has left the hand, ports keep their names, and its own port has one; a name more only where there was none
+-- what is shown of it: it has left the hand, ports keep their names, and its own port has one; there is one more name
+-- only where its port had none
 pub record MidArrived (state : State) (space : ℕ) (names after : Names) (hand : Hand) (what : RightKind) (port : PortInMessage) : Type 0 where
   pub mid : MidCall (with_names state space after) hand
   pub still : (serial : ℕ) → HasName names serial → HasName after serial
@@ -282,7 +283,7 @@ lighter : (state : State) (hand : Hand) (what : RightKind) (port : PortInMessage
 lighter state hand what port none mid =
     mid_hand state (with_right hand (record { kind = what; port = port })) hand mid (λ (q : ℕ). omega (arith, none (receive_of q))) (λ (q : ℕ) (dead : _). omega arith)
 
--- One right arrives in a space that has room for the name that it wants.
+-- One right arrives in a space that has room for the name that it needs.
 pub arrived_mid : (state : State) (space : ℕ) (names : Names) (hand : Hand) (what : RightKind) (port : PortInMessage) (name : ℕ) → MidCall state (with_right hand (record { kind = what; port = port })) → finmap.get state.spaces space ≡ Some names
     → MayArrive names what port name → (wants_name names [] what port ≡ true → finmap.len names < MAX_NAMES) → MidArrived state space names (names_after names what port name) hand what port
 arrived_mid state space names hand what in_message.Null name mid there may room =

@@ -1,4 +1,4 @@
--- Bytes spell the records of at most one list of batches.
+-- Bytes encode the records of at most one list of batches.
 use Rattle.std.specs.Prelude.{◌≡◌, ℕ, zero, suc, ◌+◌, ◌*◌, ◌^◌, ◌<◌, ◌≤◌, List, [], ◌∷◌, ◌++◌, length, drop, All}
 use Rattle.std.proofs.Common.{refl, sym, ap, ◌∙◌, subst, arith, append_assoc, length-append}
 use Rattle.codes.specs.declared.limits.TheConstants.{MAX_RECORDS}
@@ -11,14 +11,14 @@ use Rattle.ipc_model.specs.texts.Texts.{call_text, kept_call, reply_text, record
 use Rattle.words.specs.WordLaws.{length-word, length-long_word}
 use Rattle.words.specs.Words.{word, long_word, frame_text}
 
--- equal texts that begin with a count and a size
+-- equal bytes that begin with a count and a size
 pub same_heads : (m n s t : ℕ) (us vs : List ℕ) → m < 2 ^ 32 → n < 2 ^ 32 → s < 2 ^ 64 → t < 2 ^ 64 → word m ++ (long_word s ++ us) ≡ word n ++ (long_word t ++ vs) → (m ≡ n) × (s ≡ t) × (us ≡ vs)
 same_heads m n s t us vs m_fits n_fits s_fits t_fits is =
     let first = word_once m n (long_word s ++ us) (long_word t ++ vs) m_fits n_fits is in
     let second = long_word_once s t us vs s_fits t_fits first.1 in
     (first.0, second.0, second.1)
 
--- a batch's text in its parts, and what stands behind it
+-- a batch's encoding in its parts, and what follows it
 pub batch_apart : (n : ℕ) (records : List Record) (rest : List ℕ) → batch_text n records ++ rest ≡ word (length records) ++ (long_word (length (records_text n records)) ++ (records_text n records ++ rest))
 unfolding batch_text
 batch_apart n records rest =
@@ -61,12 +61,12 @@ each_is_record [] are k d less = absurd (omega (arith, less))
 each_is_record (first ∷ records) are zero d less = are.0
 each_is_record (first ∷ records) are (suc k) d less = each_is_record records are.1 k d (omega (arith, less))
 
--- equal texts that begin with as many records
+-- equal bytes that begin with as many records
 pub same_records : (n : ℕ) (more more_too : List Record) (x y : List ℕ) → AreRecords more → AreRecords more_too → length more ≡ length more_too → n + length more < 2 ^ 64
     → records_text n more ++ x ≡ records_text n more_too ++ y → (more ≡ more_too) × (x ≡ y)
 same_records n more more_too x y are are_too long room is = records_once n more more_too x y (each_is_record more are) (each_is_record more_too are_too) long room is
 
--- equal texts that begin with a batch
+-- equal bytes that begin with a batch
 pub same_batches : (n : ℕ) (a b : List Record) (x y : List ℕ) → AreRecords a → AreRecords b → n + length a ≤ MAX_RECORDS → n + length b ≤ MAX_RECORDS → batch_text n a ++ x ≡ batch_text n b ++ y → (a ≡ b) × (x ≡ y)
 same_batches n a b x y are are_too room room_too is =
     let heads = same_heads (length a) (length b) (length (records_text n a)) (length (records_text n b)) (records_text n a ++ x) (records_text n b ++ y)
@@ -82,7 +82,7 @@ pub are_records-back : (xs ys : List Record) → AreRecords (xs ++ ys) → AreRe
 are_records-back [] ys both = both
 are_records-back (first ∷ xs) ys both = are_records-back xs ys both.1
 
--- equal texts of batches up to a gate that isn't open
+-- equal encodings of batches up to a gate that isn't open
 same_spelling : (n : ℕ) (more more_too : List (List Record)) (x y : List ℕ) → IsClosed x → IsClosed y → AreRecords (all_records more) → AreRecords (all_records more_too)
     → n + length (all_records more) ≤ MAX_RECORDS → n + length (all_records more_too) ≤ MAX_RECORDS
     → batches_text n more ++ x ≡ batches_text n more_too ++ y → (all_records more ≡ all_records more_too) × (x ≡ y)
@@ -100,14 +100,14 @@ same_spelling n (a ∷ more) (b ∷ more_too) x y closed closed_too are are_too 
     let others = same_spelling (n + length a) more more_too x y closed closed_too (are_records-back a (all_records more) are) (are_records-back b (all_records more_too) are_too) (omega arith) (omega arith) behind in
     ((λ i. first.0 i ++ others.0 i), others.1)
 
--- Bytes behind a segment's header spell at most one list of records.
+-- Bytes after a segment's header encode at most one list of records.
 pub one_reading : (bytes : List ℕ) (r1 r2 : List Record) → SpellsBatches bytes r1 → SpellsBatches bytes r2 → r1 ≡ r2
 one_reading bytes r1 r2 is is_too =
     let same = same_spelling 0 is.batches is_too.batches is.rest is_too.rest is.closed is_too.closed (subst AreRecords is.flat is.canonical) (subst AreRecords is_too.flat is_too.canonical)
     (omega (arith, is.bounded, ap length is.flat)) (omega (arith, is_too.bounded, ap length is_too.flat)) (sym is.text ∙ is_too.text) in
     is.flat ∙ same.0 ∙ sym is_too.flat
 
--- A segment spells at most one list of records, under one epoch.
+-- A segment encodes at most one list of records, under one epoch.
 pub one_segment : (epoch : ℕ) (bytes : List ℕ) (r1 r2 : List Record) → SpellsSegment epoch bytes r1 → SpellsSegment epoch bytes r2 → r1 ≡ r2
 one_segment epoch bytes r1 r2 is is_too =
     let header = segment_header open_gate epoch in

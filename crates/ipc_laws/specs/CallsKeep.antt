@@ -1,5 +1,5 @@
--- Calls whose own action is shown to leave a state that is lawful with its effects, and grounded: every call that is
--- refused or changes nothing, and those that set what a port keeps.
+-- Calls whose own action is shown to leave an acyclic state that is lawful with its effects: every call that is refused
+-- or changes nothing, and those that set what a port keeps.
 use Rattle.std.specs.Prelude.{◌≡◌, ◌⊎◌, ℕ, ◌+◌, ◌^◌, ◌<◌, ◌≤◌, Bool, true, false, cond, not, nat_lt, ◌==◌, List, [], ◌∷◌, Option, None, Some, is_some, if◌then◌else◌, refl}
 use Rattle.std.proofs.Common.{sym, ◌∙◌, ap, subst, inl, arith}
 use Rattle.std.proofs.lemmas.Bool.{ltb-false, eq-eqb}
@@ -29,7 +29,7 @@ use Rattle.ipc_model.specs.calls.Tests.{Tests, first_failing}
 use Rattle.ipc_model.specs.texts.Texts.{FitsCall}
 use Rattle.ipc_laws.specs.Weights.{Weight, target_weigh, entry_weigh, any_of}
 
--- what is shown: the state that a call's own action leaves is lawful with the effects, and grounded
+-- what is shown: the state that a call's own action leaves is lawful with the effects, and acyclic
 pub record Kept (new : State) (effects : List Effect) : Type 0 where
   pub lawful : LawfulBut new effects
   pub grounded : Grounded new
@@ -150,7 +150,7 @@ not_not : (b : Bool) → not b ≡ false → b ≡ true
 not_not true e = refl
 not_not false e = absurd (cc e)
 
--- The calls that change nothing, or what a port keeps beside its rights.
+-- The calls that change nothing, or only what a port keeps besides its rights.
 abbrev pub is_simple : Call → Bool
 is_simple (call.Attach space) = true
 is_simple call.Names = true
@@ -196,7 +196,7 @@ after_is_set old names member after passes named =
     let second = (first_passes (is_no_name names after, InvalidName) ((not (name_is is_set names after), InvalidRight) ∷ []) named_tests).1 in
     is_set_entry (finmap.get names after) (not_not (name_is is_set names after) (first_passes (not (name_is is_set names after), InvalidRight) [] second).0)
 
--- Such a call's own action leaves a state that is lawful with its effects, and grounded.
+-- Such a call's own action leaves a state that is lawful with its effects, and acyclic.
 pub simple_kept : (old : State) (space : ℕ) (names : Names) (c : Call) (answer : Reply) (new : State) (effects : List Effect) → is_simple c ≡ true → FitsCall c → LawfulAtRest old → Grounded old → finmap.get old.spaces space ≡ Some names
     → first_failing (tests_of old space names c) ≡ None → Done old space names c answer new effects → Kept new effects
 unfolding Done tests_of tests_of_after

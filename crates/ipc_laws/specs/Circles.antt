@@ -10,7 +10,7 @@ use Rattle.ipc_laws.specs.LawfulLaws.{lawful_is_at_rest}
 use Rattle.ipc_laws.specs.Others.{number_same}
 use Rattle.ipc_laws.specs.Ranks.{carrier_carries, few_above, meets_itself, met_more, one_carrier, TravelsOnce}
 
--- So many hops, each from a port to one whose queue holds its receive right, lead up from one port to another.
+-- This many hops, each from a port to one whose queue holds its receive right, lead up from one port to another.
 abbrev pub LeadsUp : State → ℕ → ℕ → ℕ → Type 0
 LeadsUp state zero top serial = serial ≡ top
 LeadsUp state (suc hops) top serial = (carrier : ℕ) × Carries state carrier serial × LeadsUp state hops top carrier
@@ -34,15 +34,15 @@ leads state (suc hops) top serial met =
     ] refl met
 
 module _ (rank : ℕ → ℕ) (state : State) (once : TravelsOnce state) (grows : (outer inner : ℕ) → Carries state outer inner → rank inner < rank outer) where
-  -- what hops lead to from a port that is met, is met
+  -- if a port is met, so is what hops from it lead to
   climbed : (from hops top serial : ℕ) → meets state (finmap.len state.ports) serial from ≡ true → LeadsUp state hops top serial → meets state (finmap.len state.ports) top from ≡ true
   climbed from zero top serial met here = subst (λ (n : ℕ). meets state (finmap.len state.ports) n from ≡ true) here met
   climbed from (suc hops) top serial met (carrier, carries, up) =
       climbed from hops top carrier
       (met_more rank state grows (finmap.len state.ports) from serial carrier (few_above rank (rank from) state) met (one_carrier state once serial carrier carries)) up
 
--- In a lawful state without circles, a receive right can't be put into a queue from which hops lead up to its port, and into
--- each other one it can.
+-- In a lawful and acyclic state, a receive right can't be put into a queue from which hops lead up to its port, and it
+-- can be put into any other.
 abbrev pub CirclesLeadUp : Type 0
 CirclesLeadUp = (state : State) (serial queue : ℕ) → Lawful state → Grounded state → (is_circular state serial queue ≡ true) ↔ IsBelow state serial queue
 

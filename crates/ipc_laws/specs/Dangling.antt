@@ -37,7 +37,7 @@ NoneDangles state = (q : ℕ) → lives state q ≡ false → state_weigh (any_o
 pub not_equal : (m n : ℕ) → m ≢ n → (m == n) ≡ false
 not_equal m n apart = elim (m == n) as (λ (b : Bool). (m == n) ≡ b → b ≡ false) [ true ↦ λ (e : _). absurd (apart (number_same m n e)) | false ↦ λ (e : _). refl ] refl
 
--- a live port isn't one that is dead
+-- a live port isn't a dead one
 pub live_apart : (state : State) (live dead : ℕ) → lives state live ≡ true → lives state dead ≡ false → live ≢ dead
 live_apart state live dead alive gone same = absurd (cc (sym alive ∙ ap (lives state) same ∙ gone))
 
@@ -96,7 +96,7 @@ told_leaves state serial port (Some target) there none =
     notified_leaves (with_port state serial (λ (p : PortState). record p { no_senders_target = None })) target (notice.NoSenders port.make_send_count) tt
     (changed_leaves state serial (λ (p : PortState). record p { no_senders_target = None }) port there (λ (w : Weight). omega arith) none)
 
--- a receive right in a notice: its port is live
+-- a receive right in a notice is to a live port
 sent_leaves : (state : State) (serial target : ℕ) (port : PortState) → finmap.get state.ports serial ≡ Some port → NoneDangles state → NoneDangles (sent_to_target state serial target)
 sent_leaves state serial target port there none q dead =
     let moved : State = with_port state serial moved_out in
@@ -236,7 +236,7 @@ gone_after_death state serial =
       total-zero (λ k x. port_weigh w k (port_after_death serial x)) left (λ (k : ℕ) (x : PortState) (there : _). port_gone serial k x (left_apart state.ports serial k x there)),
     )
 
--- of another port it leaves no more rights than there were
+-- it leaves no more rights to another port than there were
 
 fewer_targets : (w : Weight) (serial : ℕ) (target : Option ℕ) → target_weigh w (without_target serial target) ≤ target_weigh w target
 fewer_targets w serial None = omega arith

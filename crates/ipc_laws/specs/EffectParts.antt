@@ -33,7 +33,7 @@ use Rattle.ipc_model.specs.state.Placed.{send_count}
 use Rattle.ipc_model.specs.state.State.{State, Names, with_port, lives, port_held}
 use Rattle.words.specs.Words.{AreBytes, word}
 
--- what is lawful of a state, counts of rights and sets apart
+-- the parts of being lawful that don't concern counts of rights or sets
 pub record Parts (state : State) : Type 0 where
   pub first_space : (names : Names) × (finmap.get state.spaces 1 ≡ Some names)
   pub spaces : (space : ℕ) (names : Names) → finmap.get state.spaces space ≡ Some names → (0 < space) × (space ≤ MAX_SPACES) × LawfulNames names
@@ -324,7 +324,7 @@ release_parts state serial port kind.Send none parts =
 release_parts state serial port kind.SendOnce none parts = notified_parts state serial notice.SendOnce parts
 release_parts state serial port kind.Receive none parts = receive_parts state serial port port.port_destroyed_target (none refl) parts
 
--- An effect keeps these parts lawful, where a receive right that is released stands under no name.
+-- An effect keeps these parts lawful, if a receive right that is released stands under no name.
 pub effect_parts : (state : State) (first : Effect) → ((serial : ℕ) (port : PortState) → first ≡ release kind.Receive serial → finmap.get state.ports serial ≡ Some port → NotReceived state serial) → Parts state → Parts (effect state first).0
 unfolding effect
 effect_parts state (release what serial) none parts =

@@ -1,4 +1,4 @@
--- Effects keep a lawful state grounded.
+-- Effects keep a lawful state acyclic.
 use Rattle.std.specs.Prelude.{◌≡◌, ◌⊎◌, ℕ, ◌+◌, ◌<◌, ◌≤◌, Bool, true, false, cond, ◌==◌, ◌&&◌, ◌||◌, not, List, [], ◌∷◌, ◌++◌, map, Option, None, Some, if◌then◌else◌, refl}
 use Rattle.std.proofs.Common.{sym, ◌∙◌, ap, inl, inr, arith}
 use Rattle.std.specs.List.{list_any}
@@ -34,7 +34,7 @@ use Rattle.ipc_laws.specs.Ranks.{met_more, one_carrier, few_above, meets_itself,
 use Rattle.ipc_model.specs.state.State.{State, Names, with_port, lives}
 use Rattle.ipc_laws.specs.Weights.{Weight, target_weigh, place_weigh, carried_weigh, reply_weigh, message_weigh, port_weigh, state_weigh, effect_weigh, receive_of, any_of, count-receive, entry_weigh, names_weigh}
 
--- fewer edges keep their ranks
+-- with fewer edges the ranks still fit
 
 pub fewer_edges : (old new : State) → ((outer inner : ℕ) → Carries new outer inner → Carries old outer inner) → Grounded old → Grounded new
 fewer_edges old new less (rank, grows) = (rank, λ (outer inner : ℕ) (carries : Carries new outer inner). grows outer inner (less outer inner carries))
@@ -105,7 +105,7 @@ told_grounded state serial port (Some target) grounded =
     notified_grounded (with_port state serial change) target (notice.NoSenders port.make_send_count) tt
     (fewer_edges state (with_port state serial change) (changed_edges state serial change (λ (inner : ℕ) (p : PortState) (e : _). e)) grounded)
 
--- a death takes edges alone
+-- a death only removes edges
 
 right_edge : (serial inner : ℕ) (right : CarriedRight) → is_receive_right inner (right_after_death serial right) ≡ true → is_receive_right inner right ≡ true
 right_edge serial inner right is =
@@ -139,7 +139,7 @@ death_edges state serial outer inner (port, at, is) =
     let was = mapped_some (port_after_death serial) (finmap.get (finmap.remove state.ports serial) outer) port (sym (get-map_values (port_after_death serial) (finmap.remove state.ports serial) outer) ∙ at) in
     (was.0, sym (get-left state.ports serial outer (left_apart state.ports serial outer was.0 was.1)) ∙ was.1, port_edge serial inner was.0 (ap (carries inner) was.2 ∙ is))
 
--- a receive right goes to the target of its request, where it makes no circle: the ports above the target are raised
+-- a receive right goes to the target of its request if it makes no circle: the ports above the target are raised
 
 raise : State → (ℕ → ℕ) → ℕ → ℕ → ℕ → ℕ
 raise state rank serial target x = rank x + cond (meets state (finmap.len state.ports) x target) (rank serial + 1) 0
@@ -288,14 +288,14 @@ effect_grounded state (release what serial) waits once grounded =
     elim (finmap.get state.ports serial) as (λ (o : Option PortState). Grounded (released_if_live state serial what o).0) [ None ↦ grounded | Some port ↦ released_grounded state serial port what once grounded ]
 effect_grounded state (notify target what) waits once grounded = notified_grounded state target what waits grounded
 
--- Each effect keeps a lawful state grounded.
+-- Each effect keeps a lawful state acyclic.
 abbrev pub EffectsKeepGrounded : Type 0
 EffectsKeepGrounded = (state : State) (first : Effect) (rest : List Effect) → LawfulBut state (first ∷ rest) → Grounded state → Grounded (effect state first).0
 
 pub effects_keep_grounded : EffectsKeepGrounded
 effects_keep_grounded state first rest lawful grounded = effect_grounded state first lawful.waits.0 (travels_once state (first ∷ rest) lawful) grounded
 
--- So what effects settle in is lawful and grounded.
+-- So what effects settle in is lawful and acyclic.
 abbrev pub SettledIsLawful : Type 0
 SettledIsLawful = (state : State) (effects : List Effect) (end : State) → LawfulBut state effects → Grounded state → Settles state effects end → Lawful end × Grounded end
 

@@ -1,4 +1,4 @@
--- What one effect does to counts of rights: receive rights are neither made nor lost, and no right names a dead port.
+-- How one effect changes counts of rights: receive rights are neither made nor lost, and no right names a dead port.
 use Rattle.std.specs.Prelude.{◌≡◌, ℕ, ◌+◌, Bool, true, false, cond, ◌==◌, ◌&&◌, not, List, [], ◌∷◌, ◌++◌, flat_map, Option, None, Some, is_some, option_map, if◌then◌else◌, refl}
 use Rattle.std.proofs.Common.{sym, ◌∙◌, ap, subst, inl, inr, arith}
 use Rattle.std.specs.Ordering.{nat_cmp}
@@ -293,7 +293,7 @@ released_receive q state serial port kind.Send there live =
 released_receive q state serial port kind.SendOnce there live = omega (arith, queued_receive q state serial (notice_message notice.SendOnce) refl)
 released_receive q state serial port kind.Receive there live = receive_released q state serial port port.port_destroyed_target there live
 
--- a release of a port that is dead does nothing, and weighs nothing for a live one
+-- the release of a right to a dead port does nothing, and weighs nothing for a live port
 dead_release : (q : ℕ) (state : State) (serial : ℕ) (kind : RightKind) → finmap.get state.ports serial ≡ None → lives state q ≡ true → receive_of q kind serial ≡ 0
 dead_release q state serial kind none live = apart_weighs_nothing q serial kind (apart_by_life state serial q (ap is_some none) live)
 

@@ -1,4 +1,4 @@
--- Effects keep a state lawful, where the rights that wait among them count as placed; so what settles is lawful.
+-- Effects keep a state lawful, if the rights that wait among them count as placed; so what they settle in is lawful.
 use Rattle.std.specs.Prelude.{◌≡◌, ◌≢◌, ◌⊎◌, ℕ, zero, suc, ◌+◌, ◌≤◌, Bool, true, false, cond, ◌==◌, ◌&&◌, not, Contains, List, [], ◌∷◌, ◌++◌, flat_map, Option, None, Some, is_some, option_map, if◌then◌else◌, refl}
 use Rattle.std.proofs.Common.{sym, ◌∙◌, ap, subst, inl, inr, arith}
 use Rattle.std.proofs.lemmas.Bool.{eq-eqb}
@@ -111,7 +111,7 @@ not_received state serial none space name names rights there at is =
       | false ↦ λ (none : _). refl
     ] refl
 
--- sets: a member is held beside its set, or its receive right waits
+-- sets: a member is held in its set's space, or its receive right waits
 
 abbrev pub Members : State → List Effect → Type 0
 Members state effects = (serial set : ℕ) (port : PortState) → finmap.get state.ports serial ≡ Some port → port.set ≡ Some set → IsHeldBesideSet state serial set ⊎ IsReleased effects serial
@@ -131,7 +131,7 @@ more_effects state rest added members serial set port there is = elim (members s
   | inr waits ↦ inr (still_contains (release kind.Receive serial) rest added waits)
 ]
 
--- an effect that is no release of a receive right is done
+-- an effect that isn't the release of a receive right is done
 without_first : (state : State) (first : Effect) (rest : List Effect) → ((serial : ℕ) → first ≡ release kind.Receive serial → ⊥) → Members state (first ∷ rest) → Members state rest
 without_first state first rest other members serial set port there is = elim (members serial set port there is) as (λ _. IsHeldBesideSet state serial set ⊎ IsReleased rest serial) [
   | inl held ↦ inl held
@@ -141,7 +141,7 @@ without_first state first rest other members serial set port there is = elim (me
   ]
 ]
 
--- what a port keeps changes, but for its set
+-- what a port keeps changes, except its set
 port_members : (state : State) (serial : ℕ) (change : PortState → PortState) (effects : List Effect) → ((p : PortState) → (change p).set ≡ p.set) → Members state effects → Members (with_port state serial change) effects
 port_members state serial change effects keeps members =
     elim (finmap.get state.ports serial) as (λ (o : Option PortState). finmap.get state.ports serial ≡ o
@@ -209,7 +209,7 @@ moved_members state serial port rest there members =
           absurd (cc (ap (λ (q : PortState). q.set) changed ∙ is))
     ])
 
--- after a death, other members are still held beside their sets
+-- after a death, other members are still held in the spaces of their sets
 pub held_port : (rights : PortRights) (other : ℕ) → (if rights.receive then Some rights.port else None) ≡ Some other → rights.port ≡ other
 held_port rights other is = elim rights.receive as (λ (b : Bool). (if b then Some rights.port else None) ≡ Some other → rights.port ≡ other) [
   | true ↦ λ (e : _). some_same rights.port other e
@@ -261,7 +261,7 @@ receive_members state serial port (Some target) rest there members =
       | false ↦ died_members state serial rest members
     ]
 
--- a receive right of a dead port waits for nothing
+-- the release of a dead port's receive right changes nothing
 dead_members : (state : State) (what : RightKind) (serial : ℕ) (rest : List Effect) → finmap.get state.ports serial ≡ None → Members state (release what serial ∷ rest) → Members state rest
 unfolding serial_of
 dead_members state what serial rest none members other set port there is = elim (members other set port there is) as (λ _. IsHeldBesideSet state other set ⊎ IsReleased rest other) [
@@ -322,7 +322,7 @@ receives_after state first rest lawful q live =
     count-receive (effect state first).0 (rest ++ (effect state first).1) q
     ∙ omega (arith, before, effect_receive q state first lawful.waits.0 live, weigh-append (effect_weigh w) rest (effect state first).1)
 
--- Each effect keeps a state lawful, where the rights that wait count as placed.
+-- Each effect keeps a state lawful, if the rights that wait count as placed.
 abbrev pub EffectsKeepLawful : Type 0
 EffectsKeepLawful = (state : State) (first : Effect) (rest : List Effect) → LawfulBut state (first ∷ rest) → LawfulBut (effect state first).0 (rest ++ (effect state first).1)
 

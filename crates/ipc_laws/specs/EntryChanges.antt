@@ -15,7 +15,7 @@ use Rattle.ipc_laws.specs.Others.{number_decided}
 use Rattle.ipc_model.specs.state.State.{State, Names, with_names, lives, received_port}
 use Rattle.ipc_laws.specs.Weights.{Weight, entry_weigh, names_weigh, effect_weigh, receive_of, any_of}
 
--- what stands under a name weighs
+-- the weight of what stands under a name
 abbrev pub under : Weight → Option Entry → ℕ
 under w None = 0
 under w (Some entry) = entry_weigh w entry
@@ -25,8 +25,8 @@ abbrev pub received_under : Option Entry → Option ℕ
 received_under None = None
 received_under (Some entry) = received_port entry
 
--- What has to be shown of another entry under a name: rights only move between it and effects, no right is new to a
--- port that isn't live, its receive right stays or waits, and a set stays a set.
+-- What has to be shown of another entry under a name: rights only move between the entry and effects, no right is new
+-- to a port that isn't live, its receive right stays or waits, and a set stays a set.
 pub record EntryMove (state : State) (space name : ℕ) (names : Names) (before after : Option Entry) (effects later : List Effect) : Type 0 where
   pub there : finmap.get state.spaces space ≡ Some names
   pub at : finmap.get names name ≡ before
@@ -70,7 +70,7 @@ pub entry_of : (o : Option Entry) (serial : ℕ) → received_under o ≡ Some s
 entry_of None serial is = absurd (cc is)
 entry_of (Some entry) serial is = (entry, refl, is)
 
--- a member is still held beside its set, or its receive right waits
+-- a member is still held in its set's space, or its receive right waits
 still_beside : (state : State) (space name : ℕ) (names : Names) (before after : Option Entry) (effects later : List Effect) → EntryMove state space name names before after effects later
     → (serial set : ℕ) → IsHeldBesideSet state serial set → IsHeldBesideSet (with_names state space (changed names name after)) serial set ⊎ IsReleased later serial
 still_beside state space name names before after effects later move serial set (other, held_names, held_name, entry, there, at, is, beside) =

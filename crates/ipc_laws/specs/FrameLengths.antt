@@ -1,4 +1,5 @@
--- The lengths of frames: a call on names, ports and spaces fits in one, and so does what it answers from a lawful state, which has the call's number.
+-- The lengths of frames: a call on names, ports and spaces fits in one, and so does its reply from a lawful state,
+-- which has the call's number.
 use Rattle.std.specs.Prelude.{◌≡◌, ◌≢◌, ℕ, ◌+◌, ◌*◌, ◌≤◌, suc, Bool, true, false, List, [], ◌∷◌, ◌++◌, length, map, filter, flat_map, Option, None, Some}
 use Rattle.std.proofs.Common.{refl, sym, ap, subst, ◌∙◌, arith, length-append}
 use Rattle.std.proofs.lemmas.List.Sums.{length-filter, count_by-le-length}
@@ -29,14 +30,14 @@ use Rattle.ipc_laws.specs.PortCallLaws.{as_called, answers_done, is_port_call, i
 use Rattle.words.specs.WordLaws.{length-word}
 use Rattle.words.specs.Words.{word}
 
--- a reply of at most so many bytes
+-- a reply of at most this many bytes
 pub record IsWithin (most : ℕ) (answer : Reply) : Type 0 where
   pub bytes : length (reply_text answer) ≤ most
 
 pub within : (most : ℕ) (given answer : Reply) → answer ≡ given → IsWithin most given → IsWithin most answer
 within most given answer is holds = subst (IsWithin most) (sym is) holds
 
--- The length of a reply with so many bytes of results.
+-- The length of a reply, from the number of bytes of its results.
 done_length : (number : ℕ) (results : List ℕ) → length (done_text number results) ≡ 8 + length results
 done_length number results = omega (arith, length-append (word number) (word 0 ++ results), length-append (word 0) results, length-word number, length-word 0)
 
@@ -214,7 +215,7 @@ arguments_within (call.Receive limit large name waited) port = absurd (cc port)
 arguments_within (call.SpaceCreate name disposition) port = omega (arith, three_words 20 name disposition)
 arguments_within call.SpaceDestroy port = omega (arith, one_word 21)
 
--- A send's frame, and those of a receipt and of what it brings.
+-- A send's frame, and those of a receive and of what it brings.
 pub send_length : (message : List ℕ) → length (call_text (call.Send message)) ≡ 20 + length message
 unfolding call_text
 send_length message =

@@ -1,4 +1,4 @@
--- A state in the midst of a call: some rights are in the call's hands, and stand in no place.
+-- A state in the middle of a call: some rights are in the call's hand, and stand in no place.
 use Rattle.std.specs.Prelude.{◌≡◌, ℕ, ◌+◌, ◌<◌, ◌≤◌, Bool, true, false, List, [], Option, Some, is_some, refl}
 use Rattle.std.proofs.Common.{sym, ◌∙◌, ap, subst, inl, inr, arith}
 use Rattle.std.specs.FinMap as finmap
@@ -27,14 +27,14 @@ use Rattle.ipc_laws.specs.ReferencesKeep.{none_released}
 use Rattle.ipc_model.specs.state.State.{State, Names, with_names, with_port, lives}
 use Rattle.ipc_laws.specs.Weights.{Weight, names_weigh, port_weigh, state_weigh, effect_weigh, receive_of, any_of, count-receive, count-any}
 
--- what the rights in hand weigh; their order is of no account
+-- what the rights in hand weigh; their order doesn't matter
 abbrev pub Hand : Type 0
 Hand = Weight → ℕ
 
 abbrev pub empty_hand : Hand
 empty_hand w = 0
 
--- The state is lawful, where the rights in hand count as placed: each live port has one receive right, and no right
+-- The state is lawful, if the rights in hand count as placed: each live port has one receive right, and no right
 -- that is placed or in hand names a port that isn't live.
 pub record MidCall (state : State) (hand : Hand) : Type 0 where
   pub parts : Parts state

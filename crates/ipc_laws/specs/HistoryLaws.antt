@@ -1,5 +1,5 @@
--- What a legal session knows of its history: its places rise and hold its own calls, and it stays legal as others add to
--- the history.
+-- What a legal session knows of its history: its places ascend and hold its own calls, and it stays legal as others add
+-- to the history.
 use Rattle.std.specs.Prelude.{◌≡◌, ℕ, zero, suc, ◌+◌, ◌<◌, ◌≤◌, max, Bool, List, [], ◌∷◌, ◌++◌, length, map, Option, Some, option_map, slice_get, if◌then◌else◌, refl}
 use Rattle.std.proofs.Common.{inl, inr, sym, ◌∙◌, ap, subst, arith, length-append}
 use Rattle.std.proofs.lemmas.List.{append-nil, append_assoc, map-append, take-append-le}
@@ -10,7 +10,7 @@ use Rattle.ipc_model.specs.calls.Step.{Run, has_record}
 use Rattle.ipc_model.specs.state.State.{State}
 use Rattle.ipc_model.specs.history.History.{Session, Operation, called, redeemed, redeemed_for_another, looked, IsAnswered, IsTold, Leads, After, AfterAll, IsNew, Legal, Meet}
 
--- places rise, from a least one on, and lie below a number
+-- places ascend, from a least one on, and lie below a number
 abbrev pub RiseWithin : ℕ → ℕ → List ℕ → Type 0
 RiseWithin least end [] = least ≤ end
 RiseWithin least end (place ∷ places) = (least ≤ place) × RiseWithin (place + 1) end places
@@ -23,8 +23,8 @@ rise_more : (least end further place : ℕ) (places : List ℕ) → end ≤ plac
 rise_more least end further place [] le below rise = (omega (arith, le, rise), omega (arith, below))
 rise_more least end further place (first ∷ places) le below rise = (rise.0, rise_more (first + 1) end further place places le below rise.1)
 
--- What holds of every legal session: it has seen a beginning of the history, was told within what it saw, and its places
--- rise among the records that it saw.
+-- What holds of every legal session: it has seen a prefix of the history, no more was acknowledged to it than
+-- it saw, and its places ascend among the records that it saw.
 pub record IsInOrder (history : List Record) (session : Session) : Type 0 where
   pub seen : session.seen ≤ length history
   pub told : session.told ≤ session.seen
@@ -57,15 +57,15 @@ new_order : (history : List Record) (session : Session) → IsNew history sessio
 new_order history session new =
     record { seen = new.within; told = omega (arith, new.told); places = subst (RiseWithin 0 session.seen) (sym new.places) (omega arith) }
 
--- A legal session has seen a beginning of the history, was told within what it saw, and its places rise.
+-- A legal session has seen a prefix of the history, no more was acknowledged to it than it saw, and its places ascend.
 abbrev pub LegalIsInOrder : Type 0
 LegalIsInOrder = (base : State) (history : List Record) (operations : List Operation) (session : Session) → Legal base history operations session → IsInOrder history session
 
 pub legal_is_in_order : LegalIsInOrder
 legal_is_in_order base history operations session legal = lived_order base history legal.start operations session legal.after (new_order history legal.start legal.new)
 
--- A session reads its own writes: each answer without a record is from a state behind all records of its session, and behind
--- all that its session was told of.
+-- A session reads its own writes: each answer without a record is from a state after all records of its session, and
+-- after all that was acknowledged to its session.
 abbrev pub ReadsOwnWrites : Type 0
 ReadsOwnWrites = (base : State) (history : List Record) (operations : List Operation) (old : Session) (c : Call) (answer : Reply) (new : Session) → Legal base history operations old
     → (answered : IsAnswered base history old c answer new) → RiseWithin 0 answered.beginning old.places × (old.told ≤ answered.beginning)
@@ -124,7 +124,7 @@ pub places_hold_calls : PlacesHoldCalls
 places_hold_calls base history operations session legal =
     lived_calls base history legal.start operations session legal.after ∙ ap (λ (places : List ℕ). map (call_at history) places ++ some_calls (recorded_calls operations)) legal.new.places
 
--- what stands in a list stands there still once it is longer
+-- what stands in a list still stands there once the list is longer
 there_still : (history more : List Record) (place : ℕ) (entry : Record) → slice_get history place ≡ Some entry → slice_get (history ++ more) place ≡ Some entry
 there_still [] more place entry is = absurd (cc is)
 there_still (first ∷ history) more zero entry is = is
@@ -163,7 +163,7 @@ legal_stays_legal base history more operations session legal = record {
   after = lived_further base history more legal.start operations session legal.after;
 }
 
--- one operation more
+-- one more operation
 pub after_more : (base : State) (history : List Record) (old : Session) (operations : List Operation) (mid : Session) (operation : Operation) (new : Session) → AfterAll base history old operations mid → After base history mid operation new
     → AfterAll base history old (operations ++ operation ∷ []) new
 after_more base history old [] mid operation new all next = (new, subst (λ (s : Session). After base history s operation new) all next, refl)
@@ -175,7 +175,7 @@ seen_more base history operations session after seen legal is more within =
     let looks : After base history session looked (record session { seen = seen }) = record { leads = refl; more = more; within = within } in
     record { start = legal.start; new = legal.new; after = after_more base history legal.start operations session looked after legal.after (subst (After base history session looked) (sym is) looks) }
 
--- Two legal sessions of one history are legal where they have met.
+-- Two legal sessions of one history are legal after they have met.
 abbrev pub MeetingIsLegal : Type 0
 MeetingIsLegal = (base : State) (history : List Record) (first second : List Operation) (one other one_after other_after : Session)
     → Legal base history first one → Legal base history second other → Meet one other one_after other_after

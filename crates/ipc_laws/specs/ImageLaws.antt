@@ -1,4 +1,4 @@
--- An image has one text: bytes that begin with a state's image begin with no other state's.
+-- An image has one encoding: bytes that begin with a state's image begin with no other state's.
 use Rattle.std.specs.Prelude.{◌≡◌, ℕ, zero, suc, ◌+◌, ◌^◌, ◌<◌, Bool, true, false, ◌==◌, List, [], ◌∷◌, ◌++◌, length, flat_map, All, Option, None, Some, if◌then◌else◌, refl}
 use Rattle.std.proofs.Common.{sym, ◌∙◌, ap, arith, append_assoc}
 use Rattle.std.specs.Ordering.{nat_cmp}
@@ -24,7 +24,7 @@ use Rattle.ipc_laws.specs.TextReading.{all_head, all_tail}
 use Rattle.ipc_model.specs.texts.Texts.{number_of_bool}
 use Rattle.words.specs.Words.{word, long_word}
 
--- What the text of a state needs: each number fits in its word, and where 0 means none, what there is isn't 0.
+-- What the encoding of a state needs: each number fits in its word, and where 0 means none, an actual value isn't 0.
 
 -- the port of a request's target
 abbrev pub SpellableTarget : Option ℕ → Type 0
@@ -91,7 +91,7 @@ SpellableSpace e = (e.0 < 2 ^ 32) × SpellableNames e.1
 abbrev pub SpellableLivePort : ℕ × PortState → Type 0
 SpellableLivePort e = (e.0 < 2 ^ 64) × SpellablePort e.1
 
--- A state whose text tells it.
+-- A state whose encoding determines it.
 pub record Spellable (state : State) : Type 0 where
   pub next : state.next < 2 ^ 64
   pub few_spaces : finmap.len state.spaces < 2 ^ 32
@@ -99,12 +99,12 @@ pub record Spellable (state : State) : Type 0 where
   pub few_ports : finmap.len state.ports < 2 ^ 32
   pub ports : All SpellableLivePort (finmap.entries state.ports)
 
--- Equal bytes that begin with texts of this form begin with the text of one thing, where things are as P says.
+-- Equal bytes that begin with encodings of this form begin with the encoding of one thing, if the things satisfy P.
 abbrev pub HasOneText : {A : Type 0} → (A → List ℕ) → (A → Type 0) → Type 0
 HasOneText {A} text P = (a b : A) (x y : List ℕ) → P a → P b → text a ++ x ≡ text b ++ y → (a ≡ b) × (x ≡ y)
 
 module _ {A : Type 0} where
-  -- equal bytes that begin with the texts of as many things
+  -- equal bytes that begin with the encodings of equally many things
   pub list_once : (text : A → List ℕ) (P : A → Type 0) → HasOneText text P → (some others : List A) (x y : List ℕ)
       → All P some → All P others → length some ≡ length others
       → flat_map text some ++ x ≡ flat_map text others ++ y → (some ≡ others) × (x ≡ y)
@@ -117,7 +117,7 @@ module _ {A : Type 0} where
       let others = list_once text P once more more_too x y (all_tail P a more are) (all_tail P b more_too are_too) (omega (arith, long)) first.1 in
       ((λ i. first.0 i ∷ others.0 i), others.1)
 
-  -- equal bytes that begin with a count and the texts of so many things
+  -- equal bytes that begin with a count and the encodings of that many things
   pub counted_once : (text : A → List ℕ) (P : A → Type 0) → HasOneText text P → (some others : List A) (x y : List ℕ)
       → length some < 2 ^ 32 → length others < 2 ^ 32 → All P some → All P others
       → word (length some) ++ (flat_map text some ++ x) ≡ word (length others) ++ (flat_map text others ++ y) → (some ≡ others) × (x ≡ y)
@@ -255,7 +255,7 @@ reply_right_once (Some a) (Some b) x y fits fits_too e =
     let rights = carried_once a b x y fits fits_too e in
     ((λ i. Some (rights.0 i)), rights.1)
 
--- a message's image in its parts, and what stands behind it
+-- a message's image in its parts, and what follows it
 abbrev behind_rights : Message → List ℕ → List ℕ
 behind_rights message rest = word (length message.rights) ++ (flat_map carried_text message.rights ++ (message.body ++ rest))
 
@@ -284,7 +284,7 @@ message_once a b x y fits fits_too e =
     let body = same_front a.body b.body x y long rights.1 in
     ((λ i. record { destination = destination.0 i; reply = reply.0 i; id = id.0 i; complex = complex.0 i; rights = rights.0 i; body = body i }), same_back a.body b.body x y long rights.1)
 
--- a port's text in its parts, and what stands behind it
+-- a port's encoding in its parts, and what follows it
 abbrev behind_targets : PortState → List ℕ → List ℕ
 behind_targets port rest = word (length port.messages) ++ (flat_map message_image port.messages ++ rest)
 
@@ -323,7 +323,7 @@ port_once a b x y fits fits_too e =
     } in
     (same, messages.1)
 
--- what a name stands for: first a byte, which tells the kinds of entry apart
+-- what a name stands for: first a byte, which distinguishes the kinds of entry
 abbrev entry_tag : Entry → ℕ
 entry_tag (Port rights) = 1
 entry_tag (SendOnce port target) = 2
@@ -406,7 +406,7 @@ live_port_once a b x y fits fits_too e =
     let port = port_once a.1 b.1 x y fits.1 fits_too.1 serial.1 in
     ((λ i. (serial.0 i, port.0 i)), port.1)
 
--- a state's text in its parts, and what stands behind it
+-- a state's encoding in its parts, and what follows it
 abbrev behind_spaces : State → List ℕ → List ℕ
 behind_spaces state rest = word (finmap.len state.ports) ++ (flat_map live_port_text (finmap.entries state.ports) ++ rest)
 
@@ -417,7 +417,7 @@ image_apart : (state : State) (rest : List ℕ) → image_text state ++ rest ≡
 unfolding image_text
 image_apart state rest = simp append_assoc
 
--- Equal bytes that begin with the image of a state begin with the image of that state alone, and the same stands behind it.
+-- Equal bytes that begin with the image of a state begin with the image of only that state, followed by the same bytes.
 abbrev pub ImagesHaveOneText : Type 0
 ImagesHaveOneText = (a b : State) (x y : List ℕ) → Spellable a → Spellable b → image_text a ++ x ≡ image_text b ++ y → (a ≡ b) × (x ≡ y)
 

@@ -1,5 +1,5 @@
--- Items that are read from a body tile it: they fit their descriptors, and their texts joined are the body. They are read
--- back from these.
+-- Items that are read from a body tile it: they fit their descriptors, and their encodings joined are the body. They
+-- are read back from these.
 use Rattle.std.specs.Prelude.{◌≡◌, ◌↔◌, ◌⊎◌, ℕ, zero, suc, ◌+◌, ◌*◌, ◌/◌, ◌%◌, ◌^◌, ◌<◌, ◌≤◌, Bool, true, false, ◌==◌, ◌&&◌, ◌||◌, not, nat_lt, List, [], ◌∷◌, ◌++◌, length, take, drop, None, Some, Result, Ok, Err, if◌then◌else◌, refl}
 use Rattle.std.proofs.Common.{inl, inr, sym, ◌∙◌, ap, subst, arith, append_assoc, length-append, length-take, length-drop, take_at, drop_at, take-add, drop-drop, take-append-drop}
 use Rattle.std.proofs.lemmas.Bool.{ltb-false, ltb-true as ltb-is, eqb-true, eqb-false, eq-eqb}
@@ -12,7 +12,7 @@ use Rattle.ipc_model.specs.calls.Tests.{Tests, first_failing, and_then, unless_f
 use Rattle.words.specs.WordLaws.{little_number-word, length-word, word-little_number}
 use Rattle.words.specs.Words.{AreBytes, word}
 
--- bytes of a front and of a back
+-- bytes of a list's front and of its back
 
 front_bytes : (n : ℕ) (bytes : List ℕ) → AreBytes bytes → AreBytes (take n bytes)
 front_bytes zero bytes fits i = omega arith
@@ -55,7 +55,7 @@ tests_with w long bytes =
     ∷ (nat_lt (length bytes) (descriptor_length long + data_length bytes long), SendMsgTooSmall)
     ∷ []
 
--- What a reader finds in front of bytes: a word, its form, an item, and what follows.
+-- What a reader finds at the front of bytes: a word, its form, an item, and what follows.
 record Finds (w : ℕ) (bytes : List ℕ) (item : Item) (rest : List ℕ) : Type 0 where
   reads : little_number 4 bytes ≡ w
   form : is_long_form w ≡ item.is_long
@@ -365,7 +365,7 @@ pub items_read : (body : List ℕ) (items : List Item) → AreBytes body → ite
 unfolding items_of
 items_read body items fits is = within_read (length body) body items (omega arith) fits is
 
--- The items that are found in a body of bytes are all of it, in order: their texts joined are the body.
+-- The items that are found in a body of bytes are all of it, in order: their encodings joined are the body.
 abbrev pub ItemsTileBodies : Type 0
 ItemsTileBodies = (body : List ℕ) (items : List Item) → AreBytes body → items_of body ≡ Ok items → items_text items ≡ body
 
@@ -379,8 +379,8 @@ code_or_items body =
       | Err code ↦ λ is. inr (code, is)
     ] refl
 
--- The converse: items that tile a body are those that are found in it. So a body of bytes is answered by a code exactly where
--- no items tile it.
+-- The converse: items that tile a body are those that are found in it. So a body of bytes is answered by a code exactly
+-- where no items tile it.
 pub record IsItemized (body : List ℕ) : Type 0 where
   pub found : (items : List Item) → Tile items body ↔ (items_of body ≡ Ok items)
   pub refused : ((items : List Item) → Tile items body → ⊥) ↔ ((code : KernReturn) × (items_of body ≡ Err code))

@@ -1,4 +1,4 @@
--- A message and its kept form are sent alike, and so are a call and what is kept of it made.
+-- A message and its kept form are sent alike, and a call and what is kept of it are made alike.
 use Rattle.std.specs.Prelude.{◌≡◌, ◌↔◌, ℕ, zero, suc, ◌+◌, ◌*◌, ◌/◌, ◌%◌, ◌^◌, ◌<◌, ◌≤◌, ◌==◌, List, [], ◌∷◌, length, drop, slice_index, bit_and, Option, None, Some, MatchResult, refl}
 use Rattle.std.specs.Int.Bits.{and_self}
 use Rattle.std.specs.FinMap as finmap
@@ -49,7 +49,7 @@ masked_bytes (m ∷ masks) [] are i = are i
 masked_bytes (m ∷ masks) (b ∷ bytes) are zero = let few = and_le_l b m in let first = are 0 in omega (arith, few, first)
 masked_bytes (m ∷ masks) (b ∷ bytes) are (suc i) = masked_bytes masks bytes (λ k. are (suc k)) i
 
--- a byte under its mask, also behind the message's end
+-- a byte under its mask, also past the message's end
 at_masked : (masks bytes : List ℕ) (i : ℕ) → i < length masks → slice_index (masked masks bytes) i ≡ bit_and (slice_index bytes i) (slice_index masks i)
 at_masked [] bytes i less = absurd (omega arith)
 at_masked (m ∷ masks) [] i less = let few = and_le_l 0 (slice_index (m ∷ masks) i) in omega (arith, few)
@@ -64,7 +64,7 @@ at_drop (suc k) (b ∷ bytes) i = let same : suc (k + i) ≡ suc k + i = omega a
 all_bits : (n : ℕ) → n < 256 → bit_and n 255 ≡ n
 all_bits n byte = let same = and_mask n 8 in omega (arith, same)
 
--- what is kept of a message has its length, is bytes where it is, and is kept as it is
+-- what is kept of a message is as long, is bytes if the message is, and is kept unchanged
 pub kept_long : (message : List ℕ) → length (kept_message message) ≡ length message
 unfolding kept_message
 kept_long message = length-masked used_bits message
@@ -155,7 +155,7 @@ pub sent_as_kept : MessagesAreSentAsKept
 sent_as_kept old space message answer new are =
     (sent_alike (kept_message message) message old space answer new (kept_parts message are), sent_alike message (kept_message message) old space answer new (sym (kept_parts message are)))
 
--- What is kept of a call: the call itself, save of a send.
+-- What is kept of a call: the call itself, unless it is a send.
 
 pub kept_call_again : (c : Call) → kept_call (kept_call c) ≡ kept_call c
 kept_call_again (call.Send message) = ap (λ (m : List ℕ). call.Send m) (kept_again message)
@@ -165,13 +165,13 @@ pub kept_fits : (c : Call) → FitsCall c → FitsCall (kept_call c)
 kept_fits (call.Send message) fits = kept_bytes message fits
 kept_fits c fits = fits
 
--- its text is as long
+-- its encoding is as long
 pub kept_call_long : (c : Call) → length (call_text (kept_call c)) ≡ length (call_text c)
 unfolding call_text
 kept_call_long (call.Send message) = let same = kept_long message in omega (arith, same)
 kept_call_long c = refl
 
--- so what is kept of a call is one that stands in a record
+-- so what is kept of a call is a call that a record can hold
 pub kept_is_kept : (c : Call) → FitsCall c → IsWholeCall c → IsKeptCall (kept_call c)
 kept_is_kept c fits whole = record { fits = kept_fits c fits; whole = whole_kept c whole; kept = kept_call_again c }
   where
@@ -185,7 +185,7 @@ kept_replied (call.Send message) (reply.Done number) is = record { fits = is.fit
 kept_replied (call.Send message) r is = record { fits = is.fits; of_one_call = is.of_one_call; results = is.results; recorded = is.recorded }
 kept_replied c r is = is
 
--- What is kept of a record is one that a segment may hold, where its call is whole and its frames aren't too long.
+-- What is kept of a record is one that a segment may hold, if its call is whole and its frames aren't too long.
 pub kept_is_record : (entry : Record) → entry.space < 2 ^ 32 → FitsCall entry.call → IsWholeCall entry.call → IsRecordedReply entry.call entry.reply
     → length (call_text entry.call) ≤ MAX_FRAME_CONTENT → length (reply_text entry.reply) ≤ MAX_FRAME_CONTENT → IsRecord (kept_record entry)
 kept_is_record entry space fits whole answered calls replies = record {

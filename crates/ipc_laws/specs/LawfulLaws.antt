@@ -1,4 +1,4 @@
--- A state is lawful exactly where it is so with no effects left.
+-- A state is lawful exactly where it is lawful with no effects left.
 use Rattle.std.specs.Prelude.{◌≡◌, ℕ, ◌==◌, ◌&&◌, [], count_by}
 use Rattle.std.proofs.Common.{sym, ◌∙◌, ap, inl, inr, arith}
 use Rattle.std.proofs.lemmas.List.{append-nil}

@@ -8,7 +8,7 @@ module _ {A : Type 0} where
   drop-append_seam [] ys = refl
   drop-append_seam (x ∷ xs) ys = drop-append_seam xs ys
 
-  -- lists that begin with parts of one length are joined of the same parts
+  -- equal lists that begin with parts of one length have the same parts
   pub same_front : (xs ys us vs : List A) → length xs ≡ length ys → xs ++ us ≡ ys ++ vs → xs ≡ ys
   same_front xs ys us vs long e = sym (take-append_seam xs us) ∙ (λ i. take (long i) (e i)) ∙ take-append_seam ys vs
 

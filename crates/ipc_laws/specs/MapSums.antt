@@ -1,4 +1,4 @@
--- Sums over the entries of a finite map: what a change of one entry, or of all, does to them.
+-- Sums over the entries of a finite map: how they change with one entry, or with all.
 use Rattle.std.specs.Prelude.{◌≡◌, ℕ, ◌+◌, ◌≤◌, Bool, true, false, cond, ◌&&◌, T, List, [], ◌∷◌, ◌++◌, map, length, flat_map, Option, None, Some, is_some, refl}
 use Rattle.std.proofs.Common.{sym, ◌∙◌, ap, subst, arith, length-append}
 use Rattle.std.specs.Ordering.{nat_cmp, eq_by_cmp, is_eq, is_lt}
@@ -20,7 +20,7 @@ weigh f (x ∷ xs) = f x + weigh f xs
 abbrev pub total : {X : Type 0} → (ℕ → X → ℕ) → FinMap nat_cmp X → ℕ
 total f m = weigh (λ e. f e.0 e.1) (finmap.entries m)
 
--- what stands under a key weighs
+-- the weight of what stands under a key
 abbrev pub weight : {X : Type 0} → (ℕ → X → ℕ) → ℕ → Option X → ℕ
 weight f k None = 0
 weight f k (Some x) = f k x
@@ -97,7 +97,7 @@ two_of true c true d f g p = g p
 two_of true c false d f g p = absurd (f tt)
 two_of false c b' d f g p = absurd p
 
--- keys that tie are one key
+-- keys that compare as equal are one key
 pub key_is : (q k : ℕ) → eq_by_cmp nat_cmp q k ≡ true → q ≡ k
 key_is q k e = nat_cmp-IsAntisymmetric q k (tied_equal (nat_cmp q k) e)
 
@@ -132,7 +132,7 @@ module _ {X : Type 0} where
         | false ↦ λ (e : _). refl
       ] refl)
 
-  -- without an entry, the total is less by its weight
+  -- without an entry, the total is smaller by its weight
   pub total-remove : (f : ℕ → X → ℕ) (m : FinMap nat_cmp X) (k : ℕ) → total f (finmap.remove m k) + weight f k (finmap.get m k) ≡ total f m
   total-remove f m k =
       elim (finmap.get m k) as (λ (o : Option X). finmap.get m k ≡ o → total f (finmap.remove m k) + weight f k o ≡ total f m) [

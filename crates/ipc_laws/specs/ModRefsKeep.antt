@@ -1,4 +1,4 @@
--- mach_port_mod_refs leaves lawful and grounded states.
+-- mach_port_mod_refs leaves lawful and acyclic states.
 use Rattle.std.specs.Prelude.{◌≡◌, ℕ, zero, suc, ◌+◌, ◌≤◌, Bool, true, false, not, nat_lt, ◌||◌, ◌==◌, List, [], ◌∷◌, None, Some, is_some, if◌then◌else◌, refl}
 use Rattle.std.proofs.Common.{sym, ◌∙◌, ap, subst, inr, arith}
 use Rattle.std.proofs.lemmas.Bool.{ltb-false}
@@ -64,7 +64,7 @@ receive_gone_kept old space name names rights lawful grounded there at holds =
     let lawful_names : LawfulNames (changed names name (left_of entry)) = left_lawful names name rights entry own.2 at refl (λ (some_left : _). (not_empty false rights.send some_left, bounds.1)) in
     subst (λ (s : State). Kept s later) (sym (left_state old space name names entry there)) (entry_kept old space name names (Some (Port rights)) (left_of entry) later lawful grounded move lawful_names)
 
--- what the tests of a delta have told
+-- what the tests of a delta have shown
 
 delta_bound : (which references delta : ℕ) → (is_right which right.Send || is_right which right.DeadName) ≡ true → first_failing (tests_of_delta which references delta) ≡ None → sum_of references delta ≤ bound_of which
 delta_bound which references delta counted passes =

@@ -1,4 +1,5 @@
--- A change of the names of one space keeps a state lawful with its effects, where rights only move between names and effects.
+-- A change of the names of one space keeps a state lawful with its effects, if rights only move between names and
+-- effects.
 use Rattle.std.specs.Prelude.{◌≡◌, ◌≢◌, ◌⊎◌, ℕ, ◌+◌, ◌<◌, ◌≤◌, false, cond, List, Option, None, Some, is_some, refl}
 use Rattle.std.proofs.Common.{sym, ◌∙◌, ap, subst, inl, inr, arith}
 use Rattle.std.specs.Cmp.{nat_cmp_total}
@@ -20,7 +21,7 @@ use Rattle.ipc_laws.specs.Others.{number_decided}
 use Rattle.ipc_model.specs.state.State.{State, Names, with_names, lives, port_held}
 use Rattle.ipc_laws.specs.Weights.{Weight, names_weigh, state_weigh, effect_weigh, receive_of, any_of, count-receive, count-any}
 
--- other names in a space that is there
+-- other names in an existing space
 pub names_change : (w : Weight) (state : State) (space : ℕ) (names after : Names) → finmap.get state.spaces space ≡ Some names
     → state_weigh w (with_names state space after) + names_weigh w names ≡ state_weigh w state + names_weigh w after
 unfolding state_weigh
@@ -31,7 +32,7 @@ names_change w state space names after there =
     omega (arith, inserted)
 
 -- What has to be shown of such a change: the names are lawful; receive rights only move between names and effects; no
--- right is new to a port that isn't live; members stay beside their sets, or their receive rights wait.
+-- right is new to a port that isn't live; members stay in the spaces of their sets, or their receive rights wait.
 pub record NamesMove (state : State) (space : ℕ) (names after : Names) (effects later : List Effect) : Type 0 where
   pub there : finmap.get state.spaces space ≡ Some names
   pub lawful : LawfulNames after
@@ -48,7 +49,7 @@ one_space state space other after names at = elim (number_decided other space) a
   | inr same ↦ inl (same, some_same after names (sym (get-here state.spaces space after) ∙ ap (finmap.get (finmap.insert state.spaces space after)) (sym same) ∙ at))
 ]
 
--- the first space is still there
+-- the first space still exists
 pub first_there : (state : State) (space : ℕ) (after names : Names) → finmap.get state.spaces 1 ≡ Some names → (n : Names) × (finmap.get (finmap.insert state.spaces space after) 1 ≡ Some n)
 first_there state space after names first = elim (number_decided 1 space) as (λ _. (n : Names) × (finmap.get (finmap.insert state.spaces space after) 1 ≡ Some n)) [
   | inl apart ↦ (names, get-there state.spaces space after 1 apart ∙ first)
@@ -80,7 +81,7 @@ names_move_lawfully state space names after effects later move lawful = record {
   sets = λ (serial set : ℕ) (port : PortState) (at : _) (is : _). move.members serial set port at is (lawful.sets serial set port at is);
 }
 
--- one name more, or another entry under it
+-- one more name, or another entry under it
 
 room_for : (names : Names) (name : ℕ) → finmap.len names ≤ MAX_NAMES → (finmap.get names name ≡ None → finmap.len names < MAX_NAMES) → cond (finmap.contains_key names name) (finmap.len names) (finmap.len names + 1) ≤ MAX_NAMES
 room_for names name few room = elim (finmap.get names name) as (λ (o : Option Entry). finmap.get names name ≡ o → cond (is_some o) (finmap.len names) (finmap.len names + 1) ≤ MAX_NAMES) [
@@ -117,7 +118,7 @@ insert_lawful names name entry lawful least below fits room alone = record {
       ];
 }
 
--- a name less
+-- one name less
 
 still_there : (names : Names) (name other : ℕ) (e : Entry) → finmap.get (finmap.remove names name) other ≡ Some e → finmap.get names other ≡ Some e
 still_there names name other e at = sym (get-left names name other (left_apart names name other e at)) ∙ at

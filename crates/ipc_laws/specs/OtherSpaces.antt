@@ -42,8 +42,8 @@ acts_from_there old space (Some names) c answer new effects acts = acts_there ol
 stays : (old new : State) (space other : ℕ) → Untouched old new space → other ≢ space → SpaceFades old new other
 stays old new space other untouched apart before there = (before, untouched.others other apart before there, λ (name : ℕ). same_at (lives new) (finmap.get before name))
 
--- A step changes no name of another space, save that names of ports that die become dead names, and requests whose
--- target's port dies go. (No space that was there is changed by the making of one.)
+-- A step changes no name of another space, except that names of ports that die become dead names, and requests whose
+-- target's port dies go. (Making a space changes no space that was there.)
 abbrev pub OthersFade : Type 0
 OthersFade = (old : State) (space : ℕ) (c : Call) (answer : Reply) (new : State) → Step old space c answer new → (other : ℕ) → other ≢ space → SpaceFades old new other
 
@@ -54,14 +54,14 @@ others_fade old space c answer new step other apart =
     let passed = settling_passes step.0 step.1 new step.3 in
     space_fades_on old step.0 new other passed.fewer (stays old step.0 space other acted apart) (passed.fades other)
 
--- A space comes by number 20 alone, and its reply names the one.
+-- A new space comes only from call number 20, and the reply names it.
 
--- no call but the one that makes a space brings another
+-- no call except the one that makes a space adds a space
 called_confined : (refusal : Option KernReturn) (old : State) (space : ℕ) (names : Names) (c : Call) (answer : Reply) (new : State) (effects : List Effect) → makes_space c ≡ false → Called refusal old space names c answer new effects → Confined old new space
 called_confined None old space names c answer new effects other called = done_confined old space names c answer new effects other called
 called_confined (Some code) old space names c answer new effects other called = subst (λ (s : State). Confined old s space) (sym called.1) (nothing old space)
 
--- what is new is the space that the reply names
+-- the new space is the one that the reply names
 abbrev pub IsMade : Reply → ℕ → Type 0
 IsMade answer made = (name : ℕ) × (answer ≡ reply.SpaceCreated made name)
 

@@ -33,7 +33,8 @@ without_request (SendOnce port target) = SendOnce port None
 without_request Set = Set
 without_request (Dead references) = Dead references
 
--- An entry is as it was; or its port is dead and it has become a dead name; or the target of its request is dead and the request has gone.
+-- An entry is as it was; or its port is dead and it has become a dead name; or the target of its request is dead and
+-- the request has gone.
 abbrev pub Fades : (ℕ → Bool) → Entry → Entry → Type 0
 Fades live before after =
     (after ≡ before)
@@ -48,7 +49,7 @@ FadesAt live (Some before) after = (entry : Entry) × (after ≡ Some entry) × 
 abbrev pub NamesFade : (ℕ → Bool) → Names → Names → Type 0
 NamesFade live before after = (name : ℕ) → FadesAt live (finmap.get before name) (finmap.get after name)
 
--- a space that was there is there, and its names are as they were or have faded
+-- a space that existed still exists, and its names are as they were or have faded
 abbrev pub SpaceFades : State → State → ℕ → Type 0
 SpaceFades old new space = (before : Names) → finmap.get old.spaces space ≡ Some before → (after : Names) × (finmap.get new.spaces space ≡ Some after) × NamesFade (lives new) before after
 
@@ -123,7 +124,7 @@ left_dead ports serial other dead = elim (number_decided other serial) as (λ _.
   | inr same ↦ ap (λ (k : ℕ). is_some (finmap.get (finmap.remove ports serial) k)) same ∙ ap is_some (get-gone ports serial)
 ]
 
--- a port that is dead stays so when another one changes
+-- a dead port stays dead when another one changes
 lives_insert : (ports : finmap.FinMap nat_cmp PortState) (serial other : ℕ) (port changed : PortState) → finmap.get ports serial ≡ Some port → is_some (finmap.get ports other) ≡ false → is_some (finmap.get (finmap.insert ports serial changed) other) ≡ false
 lives_insert ports serial other port changed there dead =
     ap is_some (get-there ports serial changed other (λ (e : _). not_live (ap is_some (sym there) ∙ ap (λ (k : ℕ). is_some (finmap.get ports k)) (sym e) ∙ dead))) ∙ dead

@@ -1,4 +1,4 @@
--- Where all sessions are there, each record of a legal history is one of theirs.
+-- If these are all sessions, each record of a legal history is one of theirs.
 use Rattle.std.specs.Prelude.{◌≡◌, ◌≢◌, ℕ, zero, suc, ◌+◌, ◌<◌, ◌≤◌, Bool, true, false, ◌||◌, List, [], ◌∷◌, ◌++◌, length, map, Contains, AllPairs, eqb, slice_index_or, refl}
 use Rattle.std.specs.List.{IsDistinct, list_any}
 use Rattle.std.specs.Cmp.{nat_eq_equiv}
@@ -43,7 +43,7 @@ places_in base history (first ∷ sessions) legal =
     in_both 0 (length history) first.1.places (places_of (map (λ session. session.1) sessions)) (in_wider 0 0 first.1.seen (length history) first.1.places (omega arith) order.seen (rise_in 0 first.1.seen first.1.places order.places))
     (places_in base history sessions legal.1)
 
--- what is among numbers of a range is in it
+-- a member of numbers in a range is in the range
 member_in : (low high q : ℕ) (places : List ℕ) → AllIn low high places → list_any (eqb q) places ≡ true → (low ≤ q) × (q < high)
 member_in low high q [] all is = absurd (cc is)
 member_in low high q (place ∷ places) all is = elim (eqb q place) as (λ (b : Bool). eqb q place ≡ b → (b || list_any (eqb q) places) ≡ true → (low ≤ q) × (q < high)) [
@@ -67,7 +67,7 @@ in_range low (suc n) q least below = elim (eqb q low) as (λ (b : Bool). eqb q l
   | false ↦ λ (not_here : _). (let other : q ≢ low = eqb-false q low not_here in in_range (low + 1) n q (omega (arith, other, least)) (omega (arith, below)))
 ] refl
 
--- one number more that isn't among different ones is different from them
+-- one more number that isn't among different ones is different from them
 differ_more : (place : ℕ) (places : List ℕ) → list_any (eqb place) places ≡ false → AllPairs (λ one other. one ≢ other) places
     → (i j : ℕ) (d : ℕ) → i < j → j < length (place ∷ places) → eqb (slice_index_or (place ∷ places) i d) (slice_index_or (place ∷ places) j d) ≡ false
 differ_more place places absent apart zero zero d before within = absurd (omega (arith, before))
@@ -78,7 +78,7 @@ differ_more place places absent apart (suc i) zero d before within = absurd (ome
 differ_more place places absent apart (suc i) (suc j) d before within =
     ne_eqb (slice_index_or places i d) (slice_index_or places j d) (apart i j d (omega (arith, before)) (omega (arith, within)))
 
--- As many different numbers of a range as it has are all that it has.
+-- If there are as many different numbers of a range as the range has, they are all of it.
 owned : (low most place : ℕ) (places : List ℕ) → AllIn low most places → AllPairs (λ one other. one ≢ other) places → low + length places ≡ most → low ≤ place → place < most → list_any (eqb place) places ≡ true
 owned low most place places all apart many least below = elim (list_any (eqb place) places) as (λ (b : Bool). list_any (eqb place) places ≡ b → b ≡ true) [
   | true ↦ λ (_ : _). refl
@@ -90,7 +90,7 @@ owned low most place places all apart many least below = elim (list_any (eqb pla
       absurd (omega (arith, few, length-range low (length places))))
 ] refl
 
--- Where the sessions are all that there were, each record of a legal history stands at a place of one of them.
+-- If these are all the sessions that there were, each record of a legal history stands at a place of one of them.
 abbrev pub RecordsAreOwned : Type 0
 RecordsAreOwned = (base : State) (history : List Record) (sessions : Sessions) → IsLegalHistory base history sessions → AreAll history (map (λ session. session.1) sessions)
     → (place : ℕ) → place < length history → Contains (places_of (map (λ session. session.1) sessions)) place

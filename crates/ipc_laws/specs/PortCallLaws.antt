@@ -1,4 +1,5 @@
--- What holds of every call on names, ports and spaces: one that is done answers no refusal but its results, and a call without a record changes nothing.
+-- What holds of every call on names, ports and spaces: one that is done answers with its results and no refusal, and a
+-- call without a record changes nothing.
 use Rattle.std.specs.Prelude.{◌≡◌, ◌≢◌, ℕ, Bool, true, false, not, ◌||◌, ◌==◌, List, [], Option, None, Some, if◌then◌else◌}
 use Rattle.std.proofs.Common.{refl, sym, ap, subst, ◌∙◌}
 use Rattle.std.specs.FinMap as finmap
@@ -22,7 +23,7 @@ use Rattle.ipc_laws.specs.StepLaws.{Called}
 use Rattle.ipc_model.specs.calls.Tests.{first_failing}
 use Rattle.ipc_model.specs.texts.Texts.{has_no_results, number_of_reply, HasItsResults}
 
--- every call but sends and receipts
+-- every call except sends and receives
 abbrev pub is_port_call : Call → Bool
 is_port_call (call.Send message) = false
 is_port_call (call.Receive limit large name waited) = false
@@ -50,7 +51,8 @@ none_by_number : (c : Call) → has_no_results c ≡ number_has_none (number_of_
 none_by_number (call.Allocate kind) = refl
 none_by_number c = refl
 
--- What is done answers a reply of the call's number and with its results, and no refusal. Only lists of names and members, calls 1 and 14, are long.
+-- A call that is done answers with a reply of its number and with its results, and no refusal. Only the lists of names
+-- and members, of calls 1 and 14, are long.
 pub record Answered (number : ℕ) (answer : Reply) : Type 0 where
   pub success : (c : Call) → succeeded c answer ≡ true
   pub number_is : number_of_reply answer ≡ number
@@ -60,7 +62,7 @@ pub record Answered (number : ℕ) (answer : Reply) : Type 0 where
 done_answers : (number : ℕ) → number_has_none number ≡ true → Answered number (reply.Done number)
 done_answers number none = record { success = λ c. refl; number_is = refl; results = λ c same. none_by_number c ∙ ap number_has_none same ∙ none; short = λ _ _. refl }
 
--- an action whose answer is so
+-- an action with this answer
 by_answer : (number : ℕ) (action answer : Reply) → answer ≡ action → Answered number action → Answered number answer
 by_answer number action answer is answered = subst (Answered number) (sym is) answered
 
@@ -128,7 +130,7 @@ answers_done old space names (call.Receive limit large name waited) answer new e
 answers_done old space names (call.SpaceCreate name disposition) answer new effects acts = created_answers _ answer new effects acts
 answers_done old space names call.SpaceDestroy answer new effects acts = by_answer 21 _ answer acts.0 (done_answers 21 refl)
 
--- a reply to a call that is no send and no receipt has the call's number
+-- a reply to a call that is no send and no receive has the call's number
 called_number : (refusal : Option KernReturn) (old : State) (space : ℕ) (names : Names) (c : Call) (answer : Reply) (new : State) (effects : List Effect) → Called refusal old space names c answer new effects → number_of_reply answer ≡ number_of_call c
 called_number None old space names c answer new effects acts = (answers_done old space names c answer new effects acts).number_is
 called_number (Some code) old space names c answer new effects acts = ap number_of_reply acts.0
@@ -136,7 +138,7 @@ called_number (Some code) old space names c answer new effects acts = ap number_
 pub answer_number : (old : State) (space : ℕ) (names : Names) (c : Call) (answer : Reply) (new : State) (effects : List Effect) → is_port_call c ≡ true → ActsIn old space names c answer new effects → number_of_reply answer ≡ number_of_call c
 answer_number old space names c answer new effects port acts = called_number (first_failing (tests_of old space names c)) old space names c answer new effects (as_called c old space names answer new effects port acts)
 
--- and one to a call with a record has its results
+-- and a reply to a call with a record has the call's results
 called_results : (refusal : Option KernReturn) (old : State) (space : ℕ) (names : Names) (c : Call) (answer : Reply) (new : State) (effects : List Effect) → Called refusal old space names c answer new effects → HasItsResults c answer
 called_results None old space names c answer new effects acts = (answers_done old space names c answer new effects acts).results c refl
 called_results (Some code) old space names c answer new effects acts = subst (HasItsResults c) (sym acts.0) tt
@@ -172,7 +174,7 @@ done_unrecorded old space names (call.GetReceiveStatus name) answer new effects 
 done_unrecorded old space names (call.GetSetStatus name) answer new effects unrecorded acts = (acts.1, acts.2)
 done_unrecorded old space names c answer new effects unrecorded acts = absurd (cc unrecorded)
 
--- what is done and has no record is a call that only reads
+-- a call that is done and has no record only reads
 by_record : (c : Call) (answer : Reply) (recorded success : Bool) → is_recorded c ≡ recorded → succeeded c answer ≡ true → has_record c answer ≡ false → is_recorded c ≡ false
 by_record c answer false success is successful none = is
 by_record c answer true success is successful none = absurd (cc (is, successful, none))

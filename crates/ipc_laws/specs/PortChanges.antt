@@ -1,4 +1,4 @@
--- A change of what a live port keeps beside its rights keeps a state lawful with its effects, and grounded.
+-- A change of what a live port keeps besides its rights keeps a state lawful with its effects, and acyclic.
 use Rattle.std.specs.Prelude.{◌≡◌, ◌⊎◌, ℕ, Bool, true, false, List, Option, None, Some, refl}
 use Rattle.std.proofs.Common.{sym, ◌∙◌, ap, subst, inl, inr, arith}
 use Rattle.std.specs.Ordering.{nat_cmp}
@@ -18,8 +18,8 @@ use Rattle.ipc_laws.specs.Others.{number_decided, with_port_lives, with_port_spa
 use Rattle.ipc_model.specs.state.State.{State, Names, with_port, lives}
 use Rattle.ipc_laws.specs.Weights.{Weight, port_weigh, state_weigh, receive_of, any_of, count-receive, count-any}
 
--- What has to be shown of such a change: the port keeps its rights and its messages, stays lawful, and if it is in a set
--- it is held beside it, or its receive right waits.
+-- What has to be shown of such a change: the port keeps its rights and its messages, stays lawful, and if it is in a
+-- set it is held in the set's space, or its receive right waits.
 pub record PortMove (state : State) (effects : List Effect) (serial : ℕ) (change : PortState → PortState) : Type 0 where
   pub port : PortState
   pub there : finmap.get state.ports serial ≡ Some port
@@ -58,7 +58,7 @@ changed_members state effects serial change move lawful other set port at is =
       | inr waits ↦ inr waits
     ]
 
--- Such a change keeps the state lawful, and grounded.
+-- Such a change keeps the state lawful, and acyclic.
 abbrev pub PortMovesLawfully : Type 0
 PortMovesLawfully = (state : State) (effects : List Effect) (serial : ℕ) (change : PortState → PortState) → PortMove state effects serial change → LawfulBut state effects → Grounded state
     → LawfulBut (with_port state serial change) effects × Grounded (with_port state serial change)

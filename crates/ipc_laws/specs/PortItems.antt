@@ -1,4 +1,5 @@
--- Port items as messages keep them: they fit their descriptors, are as long as before, and tell the kinds of their rights.
+-- Port items as messages keep them: they fit their descriptors, are as long as before, and show the kinds of their
+-- rights.
 use Rattle.std.specs.Prelude.{◌≡◌, ℕ, zero, suc, ◌*◌, ◌<◌, ◌≤◌, Bool, true, false, ◌==◌, ◌&&◌, nat_le, All, List, [], ◌∷◌, length, map, replicate, None, Some, MatchBool, if◌then◌else◌, refl}
 use Rattle.std.proofs.Common.{sym, ◌∙◌, ap, subst, arith, length-append}
 use Rattle.std.proofs.lemmas.Bool.{leb-true, eqb-true, eqb-false}
@@ -149,7 +150,7 @@ kinds_of_type = by_type KindsOf (known_kind 16 MoveReceive refl refl refl) (know
     (known_kind 20 MakeSend refl refl refl) (known_kind 21 MakeSendOnce refl refl refl)
     (λ (n : ℕ) (none : _) (data_type : _). record { some = λ (by : Disposition) (e : _). absurd (cc (sym none ∙ e)); none = λ (_ : _). data_type })
 
--- the kinds that a stored item tells
+-- the kinds that a stored item shows
 pub stored_kinds : (item : Item) (by : Disposition) → disposition_of item.type_name ≡ Some by → kinds_of_item (as_stored item) ≡ replicate item.number (received_kind by)
 stored_kinds item by known =
     let kinds = (kinds_of_type item.type_name).some by known in

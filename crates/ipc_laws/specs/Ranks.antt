@@ -60,7 +60,7 @@ carrier_carries state inner outer is =
           subst (λ (k : ℕ). Carries state k inner) (some_same entry.0 outer e) (entry.1, get-entries state.ports entry.0 ∙ at.0, at.1)
     ] refl is
 
--- a port that carries a receive right weighs by it
+-- a port that carries a receive right has weight from it
 
 pub no_and : (b : Bool) → (b && false) ≡ true → ⊥
 no_and true e = cc e
@@ -90,7 +90,7 @@ port_weighs q queue port is =
           omega (arith, any_weighs (is_receive_right q) (carried_weigh (receive_of q)) (right_weighs q) m.rights e)) port.messages is,
     )
 
--- two ports have room in a total for both of their parts
+-- a total is at least the parts of two of its ports
 two_parts : (f : ℕ → PortState → ℕ) (ports : FinMap nat_cmp PortState) (one other : ℕ) (first second : PortState) → one ≢ other → finmap.get ports one ≡ Some first → finmap.get ports other ≡ Some second
     → f one first + f other second ≤ total f ports
 two_parts f ports one other first second apart here there =

@@ -54,7 +54,7 @@ items_bytes : (items : List Item) → AreItems items → AreBytes (items_text it
 items_bytes [] fits = no_bytes
 items_bytes (item ∷ items) fits = both_bytes (item_text item) (items_text items) (item_bytes item fits.0) (items_bytes items fits.1)
 
--- what is known of the items of a body: they were read from it, or it isn't looked at
+-- what is known of the items of a body: they were read from it, or the body isn't looked at
 pub record BodyItems (bytes : List ℕ) (items : List Item) : Type 0 where
   pub fit : AreItems items
   pub complex : is_complex (bits_of bytes) ≡ true → length (items_text items) ≡ length (body_of bytes)
@@ -159,7 +159,7 @@ size_fits bytes passes =
     let second = first_passes (nat_lt MAX_MESSAGE_SIZE (length bytes), SendNoBuffer) [] first.1 in
     record { whole = ltb-false (length bytes) header_length both.0; words = eqb-true (length bytes % 4) 0 (not_false (length bytes % 4 == 0) both.1); small = ltb-false MAX_MESSAGE_SIZE (length bytes) second.0 }
 
--- a test that passes is known further on
+-- a test that has passed is known later
 pub pass_if : {X : Type 0} (P : X → Type 0) (tests : Tests) (r : Result X KernReturn) → (first_failing tests ≡ None → IfOk r P) → IfOk (unless_failing tests r) P
 pass_if P [] r here = here refl
 pass_if {X} P (test ∷ tests) r here = elim test.0 as (λ (b : Bool). ((if b then Some test.1 else first_failing tests) ≡ None → IfOk r P) → IfOk (if b then Err test.1 else unless_failing tests r) P) [
@@ -167,7 +167,7 @@ pass_if {X} P (test ∷ tests) r here = elim test.0 as (λ (b : Bool). ((if b th
   | false ↦ λ (h : _). pass_if P tests r h
 ] here
 
--- a body with ports was looked at
+-- a body with ports was read
 looked_at : (bytes : List ℕ) (items : List Item) → BodyItems bytes items → list_any is_port_item items ≡ true → kept_body bytes items ≡ items_text (map as_stored items)
 looked_at bytes items body any = elim (is_complex (bits_of bytes)) as (λ (b : Bool). is_complex (bits_of bytes) ≡ b → (if b then items_text (map as_stored items) else body_of bytes) ≡ items_text (map as_stored items)) [
   | true ↦ λ (_ : _). refl

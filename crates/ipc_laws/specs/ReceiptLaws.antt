@@ -1,4 +1,4 @@
--- A receipt's reply shows which message was taken, and under which names its rights arrived.
+-- A receive's reply shows which message was taken, and under which names its rights arrived.
 use Rattle.std.specs.Prelude.{◌≡◌, ℕ, ◌+◌, ◌*◌, ◌≤◌, Bool, true, false, List, [], ◌∷◌, ◌++◌, length, take, drop, flat_map, replicate, Option, None, Some, Result, MatchBool, MatchOption, if◌then◌else◌, refl}
 use Rattle.std.proofs.Common.{sym, ◌∙◌, ap, subst, arith, append_assoc, length-append, length-drop, take-append-drop}
 use Rattle.std.proofs.lemmas.List.{append_cancel_left, length-take-le, length-map, length-replicate}
@@ -39,7 +39,7 @@ as_many_names names (right ∷ rights) given after arrives =
     let others : length arrives.1 ≡ length rights = as_many_names (names_after names right.kind right.port arrives.0) rights arrives.1 after arrives.4 in
     omega (arith, ap length arrives.2)
 
--- a name that may be chosen is a number of four bytes; any other is told by the space
+-- a name that may be chosen is a number of four bytes; any other is determined by the space
 unused_same : (names : Names) (one other : ℕ) → IsUnused names one → IsUnused names other → word one ≡ word other → one ≡ other
 unused_same names one other here there e = same_word one other [] [] (omega (arith, here.below_dead)) (omega (arith, there.below_dead)) (ap (λ l. l ++ []) e)
 
@@ -88,7 +88,7 @@ words-take-drop n names = ap (flat_map word) (sym (take-append-drop n names)) �
 pub length-words-take : (n : ℕ) (names : List ℕ) → n ≤ length names → length (flat_map word (take n names)) ≡ 4 * n
 length-words-take n names fits = length-words (take n names) ∙ ap (λ k. 4 * k) (length-take-le n names fits)
 
--- Items with names filled in tell the names.
+-- Items with names filled in determine the names.
 names_told : (items : List Item) (one other : List ℕ) → length one ≡ port_count items → length other ≡ port_count items → items_text (filled items one) ≡ items_text (filled items other)
     → flat_map word one ≡ flat_map word other
 unfolding port_count
@@ -113,7 +113,7 @@ names_told (item ∷ items) one other many as_many e =
           words-take-drop n one ∙ (λ i. first i ++ rest i) ∙ sym (words-take-drop n other)
     ] many as_many e
 
--- the rights of a body are as many as its ports
+-- a body has as many rights as ports
 pub length-kinds : (items : List Item) → length (flat_map kinds_of_item items) ≡ port_count items
 unfolding port_count
 length-kinds [] = refl
@@ -124,7 +124,7 @@ length-kinds (item ∷ items) =
       | true ↦ omega (arith, length-kinds items, length-append (replicate item.number (kind_of_number item.type_name)) (flat_map kinds_of_item items), length-replicate item.number (kind_of_number item.type_name))
     ]
 
--- the names of a lawful message's body, as many as its ports, are told by the body as received
+-- the names of a lawful message's body, as many as its ports, are determined by the body as received
 body_told : (message : Message) (one other : List ℕ) → HoldsPorts message.body message.rights → length one ≡ length message.rights → length other ≡ length message.rights
     → body_filled (items_of message.body) message.body one ≡ body_filled (items_of message.body) message.body other → flat_map word one ≡ flat_map word other
 body_told message one other holds many as_many e =
@@ -143,7 +143,7 @@ bodies_told message one other lawful many as_many e =
       | false ↦ λ (ports : _) (is : _). ap (flat_map word) (no_names one (many ∙ ap length ports) ∙ sym (no_names other (as_many ∙ ap length ports)))
     ] lawful.ports e
 
--- what a header's words and the body behind them are told by
+-- what determines a header's words and the body after them
 after_word : (one other : ℕ) (xs ys : List ℕ) → word one ++ xs ≡ word other ++ ys → xs ≡ ys
 after_word one other xs ys e = same_back (word one) (word other) xs ys (same_lengths one other) e
 
@@ -173,7 +173,7 @@ with_reply message right (first ∷ one) (second ∷ other) lawful long as_long 
     let behind : flat_map word one ≡ flat_map word other = bodies_told message one other lawful (omega (arith, long)) (omega (arith, as_long)) body in
     λ i. name i ++ behind i
 
--- The received bytes of a lawful message tell the words of all names that its rights got.
+-- The received bytes of a lawful message determine the words of all names that its rights got.
 pub text_told : (message : Message) (member seqno : ℕ) (one other : List ℕ) → LawfulMessage message → length one ≡ length (arriving message) → length other ≡ length (arriving message)
     → received_text message member seqno one ≡ received_text message member seqno other → flat_map word one ≡ flat_map word other
 text_told message member seqno one other lawful many as_many e =

@@ -1,4 +1,5 @@
--- A receipt leaves a state that is lawful with the effects: the message's rights go through the call's hand to names, or are released.
+-- A receive leaves a state that is lawful with the effects: the message's rights go through the call's hand to names,
+-- or are released.
 use Rattle.std.specs.Prelude.{◌≡◌, ◌≢◌, ℕ, ◌+◌, ◌≤◌, Bool, true, false, not, ◌&&◌, ◌||◌, ◌==◌, nat_lt, All, drop, List, [], ◌∷◌, ◌++◌, Option, None, Some, is_none, MatchOption, MatchBool, if◌then◌else◌, refl}
 use Rattle.std.proofs.Common.{sym, ◌∙◌, ap, subst, arith}
 use Rattle.std.proofs.lemmas.Bool.{ltb-false}
@@ -105,7 +106,7 @@ destroyed_kept state serial message mid lawful =
 
 -- Rights arrive one after another.
 
--- room for the names that they want, where every port that wants none has a name
+-- room for the names that they need, if every port that needs none has a name
 record Fits (start now : Names) (named : List ℕ) (rights : List CarriedRight) : Type 0 where
   room : finmap.len now + names_wanted start named rights ≤ MAX_NAMES
   known : (serial : ℕ) → (is_none (name_of_port start serial) && not (list_any (λ port. port == serial) named)) ≡ false → HasName now serial
@@ -118,7 +119,7 @@ front_true : (b c : Bool) → (b && c) ≡ true → b ≡ true
 front_true true c e = refl
 front_true false c e = absurd (cc e)
 
--- a port that wants no name by the count has one
+-- a port that needs no name by the count has one
 has_one : (start now : Names) (named : List ℕ) (rights : List CarriedRight) (what : RightKind) (port : PortInMessage) → Fits start now named rights → wants_name start named what port ≡ false → (serial : ℕ) → port ≡ in_message.Live serial → (what ≢ kind.SendOnce) × HasName now serial
 has_one start now named rights what in_message.Null fits unwanted serial is = absurd (cc is)
 has_one start now named rights what in_message.Dead fits unwanted serial is = absurd (cc is)
@@ -133,7 +134,7 @@ wants_none now kind.SendOnce (in_message.Live n) wants has = (has n refl).0 refl
 wants_none now kind.Send (in_message.Live n) wants has = not_unnamed now n (has n refl).1 (none_is (name_of_port now n) (front_true (is_none (name_of_port now n)) (not false) wants))
 wants_none now kind.Receive (in_message.Live n) wants has = not_unnamed now n (has n refl).1 (none_is (name_of_port now n) (front_true (is_none (name_of_port now n)) (not false) wants))
 
--- so a right that wants a name now was counted
+-- so a right that needs a name now was counted
 counted : (start now : Names) (named : List ℕ) (rights : List CarriedRight) (what : RightKind) (port : PortInMessage) → Fits start now named rights → wants_name now [] what port ≡ true → wants_name start named what port ≡ true
 counted start now named rights what port fits wants =
     elim (wants_name start named what port) as (λ (b : Bool). wants_name start named what port ≡ b → b ≡ true) [
@@ -141,7 +142,7 @@ counted start now named rights what port fits wants =
       | false ↦ λ (unwanted : _). absurd (wants_none now what port wants (has_one start now named rights what port fits unwanted))
     ] refl
 
--- (one port more has a name)
+-- (one more port has a name)
 one_named : (start now after : Names) (named : List ℕ) (rights : List CarriedRight) (what : RightKind) (n : ℕ) → Fits start now named rights → ((serial : ℕ) → HasName now serial → HasName after serial) → what ≢ kind.SendOnce
     → ((serial : ℕ) → in_message.Live n ≡ in_message.Live serial → what ≢ kind.SendOnce → HasName after serial)
     → (serial : ℕ) → (is_none (name_of_port start serial) && not (n == serial || list_any (λ port. port == serial) named)) ≡ false → HasName after serial
@@ -151,7 +152,7 @@ one_named start now after named rights what n fits still apart own serial unwant
       | false ↦ λ (_ : _) (e : _). still serial (fits.known serial e)
     ] refl unwanted
 
--- the ports that have names, once one right more has arrived
+-- the ports that have names, once one more right has arrived
 known_later : (start now after : Names) (named : List ℕ) (rights : List CarriedRight) (what : RightKind) (port : PortInMessage) → Fits start now named rights → ((serial : ℕ) → HasName now serial → HasName after serial)
     → ((serial : ℕ) → port ≡ in_message.Live serial → what ≢ kind.SendOnce → HasName after serial)
     → (serial : ℕ) → (is_none (name_of_port start serial) && not (list_any (λ port. port == serial) (named_with named what port))) ≡ false → HasName after serial
@@ -223,7 +224,7 @@ too_large_kept old member serial port message later false answer new effects law
     subst (λ (s : State). Kept s effects) (sym same) (subst (λ (l : List Effect). Kept (without_oldest old serial) l) (sym are)
     (destroyed_kept (without_oldest old serial) serial message taken (oldest_lawful port message later (lawful.ports serial port at).2 is)))
 
--- A receipt.
+-- A receive.
 
 taken_out_kept : (old : State) (space member serial : ℕ) (names : Names) (receipt : Receipt) (port : PortState) (message : Message) (later : List Message) (answer : Reply) (new : State) (effects : List Effect) → LawfulAtRest old → Grounded old → finmap.get old.spaces space ≡ Some names
     → finmap.get old.ports serial ≡ Some port → port.messages ≡ message ∷ later → TakesOut old space names receipt member serial port message answer new effects → Kept new effects

@@ -1,4 +1,4 @@
--- A receipt's reply tells what it left.
+-- A receive's reply determines what it left.
 use Rattle.std.specs.Prelude.{◌≡◌, ℕ, ◌<◌, Bool, true, false, nat_lt, All, Contains, List, [], ◌∷◌, length, Option, None, Some, MatchBool, MatchOption}
 use Rattle.std.proofs.Common.{sym, ◌∙◌, ap, subst, arith}
 use Rattle.std.specs.FinMap as finmap
@@ -31,7 +31,7 @@ message_shown : Reply → List ℕ
 message_shown (reply.Message code size member message) = message
 message_shown _ = []
 
--- one receipt: the message that was taken or looked at, and what came of it
+-- one receive: the message that was taken or looked at, and what became of it
 pub record Taking (old : State) (space : ℕ) (names : Names) (receipt : Receipt) (answer : Reply) (new : State) (effects : List Effect) : Type 0 where
   pub member : ℕ
   pub serial : ℕ
@@ -48,7 +48,7 @@ one_serial names member serial other here there =
     let entry : here.0 ≡ there.0 = some_same here.0 there.0 (sym here.1 ∙ there.1) in
     some_same serial other (sym here.2 ∙ ap received_port entry ∙ there.2)
 
--- the code of a receipt tells whether the message was too large, or lacked names, or was received
+-- the code of a receive says whether the message was too large, or lacked names, or was received
 pub data Outcomes (old : State) (space : ℕ) (names : Names) (receipt : Receipt) (member serial : ℕ) (port : PortState) (message : Message) (answer : Reply) (new : State) (effects : List Effect) : Type 0 where
   was_large : TooLarge old member serial message receipt.large answer new effects → Outcomes old space names receipt member serial port message answer new effects
   was_lacking : answer ≡ without_message RcvHeaderErrorSpace 0 0 → new ≡ old → effects ≡ [] → Outcomes old space names receipt member serial port message answer new effects
@@ -69,7 +69,7 @@ outcome_of old space names receipt member serial port message answer new effects
           ] here
     ] takes
 
--- what two receipts with one reply left
+-- what two receives with one reply left
 pub record SameLeft (one other : State) (effects others : List Effect) : Type 0 where
   pub state : one ≡ other
   pub effects_are : effects ≡ others
@@ -88,7 +88,7 @@ same_received old space names member serial port message answer one other effect
     let after : here.1 ≡ there.1 = one_arrival names (arriving message) here.0 here.1 there.1 here.2 (subst (λ (g : List ℕ). Arrives names (arriving message) g there.1) (sym given) there.2) in
     record { state = here.4 ∙ ap (λ (n : Names). with_names (without_oldest old serial) space n) after ∙ sym there.4; effects_are = here.5 ∙ sym there.5 }
 
--- which message two receipts of one name took
+-- which message two receives from one name took
 record SameMessage (old : State) (serial other_serial : ℕ) (port other_port : PortState) (message other_message : Message) : Type 0 where
   same_serial : serial ≡ other_serial
   same_port : port ≡ other_port
@@ -177,7 +177,7 @@ outcomes_same old space names receipt answer one other effects others here there
 outcomes_same old space names receipt answer one other effects others here there lawful (was_received first) (was_received second) =
     same_received_of old space names receipt answer one other effects others here there lawful first second
 
--- a receipt as its definition has it, whatever the test of its sources said
+-- a receive as its definition has it, whatever the test of its sources said
 abbrev pub Takes : State → ℕ → Names → Receipt → Reply → State → List Effect → Type 0
 Takes old space names receipt answer new effects =
     (member : ℕ) × (serial : ℕ) × (port : PortState) × (message : Message) × (later : List Message)
@@ -194,7 +194,7 @@ pub taking_of : (old : State) (space : ℕ) (names : Names) (receipt : Receipt) 
 taking_of old space names receipt answer new effects takes =
     record { member = takes.0; serial = takes.1; port = takes.2; message = takes.3; later = takes.4; holds = takes.6; live = takes.7; first = takes.8; takes = takes.9 }
 
--- two receipts with one reply leave one state and one list of effects
+-- two receives with one reply leave one state and one list of effects
 zero_less : (first : Message) (later : List Message) → 0 < length (first ∷ later)
 zero_less first later = omega arith
 

@@ -1,4 +1,4 @@
--- What sends and receipts that have records answer.
+-- What sends and receives that have records answer.
 use Rattle.std.specs.Prelude.{◌≡◌, ℕ, zero, suc, Bool, true, false, ◌==◌, ◌&&◌, ◌||◌, nat_lt, List, [], ◌∷◌, length, Option, None, Some, Result, Ok, Err, IfErr, MatchResult, if◌then◌else◌, refl}
 use Rattle.std.proofs.Common.{subst}
 use Rattle.codes.specs.declared.kern_return.KernReturn.{KernReturn}

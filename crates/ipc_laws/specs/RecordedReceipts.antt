@@ -1,4 +1,4 @@
--- What receipts that have records answer.
+-- What receives that have records answer.
 use Rattle.std.specs.Prelude.{◌≡◌, ℕ, ◌+◌, ◌*◌, ◌≤◌, ◌<◌, Bool, true, false, nat_lt, List, [], ◌∷◌, ◌++◌, length, take, drop, flat_map, Option, None, Some, IfSome, Result, MatchOption, MatchBool, if◌then◌else◌, refl}
 use Rattle.std.proofs.Common.{◌∙◌, ap, sym, subst, arith, length-append}
 use Rattle.std.proofs.lemmas.Bool.{ltb-false, ltb-true}
@@ -104,7 +104,7 @@ received_long message member seqno given lawful many =
     text_long (received_bits message) (reply_name message.reply given) member seqno message.id (received_body message (body_names message.reply given))
     ∙ ap (λ (n : ℕ). header_length + n) (body_long message (body_names message.reply given) lawful (names_left message.reply message.rights given many))
 
--- A receipt that has a record brings a message of its size, or destroyed one and brings none.
+-- A receive that has a record brings a message of its size, or destroyed one and brings none.
 pub record ReceiptDone (receipt : Receipt) (answer : Reply) : Type 0 where
   pub code : KernReturn
   pub size : ℕ
@@ -117,7 +117,7 @@ pub record ReceiptDone (receipt : Receipt) (answer : Reply) : Type 0 where
 abbrev pub call_of : Receipt → Call
 call_of receipt = call.Receive receipt.limit receipt.large receipt.name receipt.waited
 
--- a receipt that is refused by another code has no record
+-- a receive that is refused with another code has no record
 abbrev HasNone : KernReturn → Type 0
 HasNone code = (limit name : ℕ) (large waited : Bool) → has_record (call.Receive limit large name waited) (without_message code 0 MACH_PORT_NULL) ≡ true → ⊥
 
@@ -158,7 +158,7 @@ refusals_none old names receipt = elim (sources old names receipt.name (finmap.g
   ]
 ]
 
--- the message of a receipt, and the name of its port, may be told
+-- the message of a receive is lawful, and the name of its port is one that may be reported
 record Told (message : Message) (member : ℕ) : Type 0 where
   lawful : LawfulMessage message
   named : (MACH_PORT_NULL < member) × (member < MACH_PORT_DEAD)
@@ -219,7 +219,7 @@ receipt_done old space names receipt answer new effects lawful there receives re
       | Some code ↦ λ (none : _) (refused : _). absurd (none receipt.limit receipt.name receipt.large receipt.waited (subst (λ (a : Reply). has_record (call_of receipt) a ≡ true) refused.0 recorded))
     ] (refusals_none old names receipt) receives
 
--- Receipts that have records, from lawful states.
+-- Receives that have records, from lawful states.
 abbrev pub RecordedReceiptsAreDone : Type 0
 RecordedReceiptsAreDone = (old : State) (space : ℕ) (names : Names) (receipt : Receipt) (answer : Reply) (new : State) (effects : List Effect)
     → LawfulAtRest old → finmap.get old.spaces space ≡ Some names → Receives old space names receipt answer new effects → has_record (call_of receipt) answer ≡ true → ReceiptDone receipt answer

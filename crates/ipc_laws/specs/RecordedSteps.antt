@@ -20,7 +20,7 @@ use Rattle.ipc_laws.specs.PortCallLaws.{answer_number, answer_results}
 use Rattle.ipc_laws.specs.RecordedMessages.{send_done}
 use Rattle.ipc_laws.specs.RecordedReceipts.{receipt_done}
 
--- What a record needs of its call and reply, beside numbers in range.
+-- What a record needs of its call and reply, besides numbers in range.
 pub record IsAnsweredWhole (c : Call) (answer : Reply) : Type 0 where
   pub whole : IsWholeCall c
   pub number_is : number_of_reply answer ≡ number_of_call c
@@ -78,7 +78,8 @@ pub answered_whole : (old : State) (space : ℕ) (c : Call) (answer : Reply) (ne
 unfolding Step
 answered_whole old space c answer new lawful step recorded = from_whole (finmap.get old.spaces space) old space c answer step.0 step.1 refl lawful step.2 recorded
 
--- What is kept of a step with a record, from a lawful state, is a record that a segment may hold, where its numbers are in range.
+-- What is kept of a step with a record, from a lawful state, is a record that a segment may hold, if its numbers are in
+-- range.
 abbrev pub RecordedStepsAreRecords : Type 0
 RecordedStepsAreRecords = (old : State) (space : ℕ) (c : Call) (answer : Reply) (new : State) → Lawful old → space < 2 ^ 32 → FitsCall c → FitsReply answer → Step old space c answer new → IsTrue (has_record c answer)
     → IsRecord (kept_record (record { space = space; call = c; reply = answer }))

@@ -1,4 +1,4 @@
--- A disk spells one thing, and what is recovered from it is one lawful and grounded state.
+-- A disk encodes one thing, and what is recovered from it is one lawful and acyclic state.
 use Rattle.std.specs.Prelude.{◌≡◌, ℕ, ◌+◌, ◌%◌, ◌^◌, ◌<◌, ◌∷◌, [], ◌++◌, List, length, drop, slice_index, refl}
 use Rattle.std.proofs.Common.{sym, ◌∙◌, ap, subst, inl, inr, arith}
 use Rattle.ipc_model.specs.declared.record.Record.{Record}
@@ -17,7 +17,7 @@ use Rattle.ipc_model.specs.store.Store.{SpellsSegment, AreRecords, open_gate, se
 use Rattle.words.specs.WordLaws.{same_long_word}
 use Rattle.words.specs.Words.{long_word}
 
--- a header tells one epoch
+-- a header has one epoch
 pub one_epoch : (one other : ℕ) (xs ys : List ℕ) → one < 2 ^ 64 → other < 2 ^ 64 → segment_header open_gate one ++ xs ≡ segment_header open_gate other ++ ys → one ≡ other
 one_epoch one other xs ys fits fits_too is = same_long_word one other xs ys fits fits_too (ap (λ (l : List ℕ). drop 8 l) is)
 
@@ -36,7 +36,7 @@ image_is_open epoch slot state image = subst (IsOpen image_header) (sym image.te
 parity_small : (n : ℕ) → n % 2 < 2
 parity_small n = omega arith
 
--- the greatest epoch is one
+-- there is one greatest epoch
 same_epoch : (slots : Slots) (base other : State) (records more : List Record) (one : IsStored slots base records) (two : IsStored slots other more) → one.epoch ≡ two.epoch
 same_epoch slots base other records more one two =
     omega (
@@ -75,7 +75,7 @@ one_next epoch slot one other (inr (inr spelled)) (inl closed) = absurd (closed.
 one_next epoch slot one other (inr (inr spelled)) (inr (inl before)) = absurd (omega (arith, before.1, segment_epoch (before.0 % 2) (epoch + 1) before.0 slot one spelled.1 spelled.0 before.2))
 one_next epoch slot one other (inr (inr spelled)) (inr (inr spelled_too)) = one_segment (epoch + 1) slot one other spelled.1 spelled_too.1
 
--- the parts of a store in use, told of one epoch
+-- the parts of a store in use, for one epoch
 record Parts (slots : Slots) (epoch : ℕ) (base : State) (records : List Record) : Type 0 where
   image : HoldsImage epoch (slots.image (epoch % 2)) base
   first : List Record
@@ -93,7 +93,7 @@ one_of_parts slots epoch base other records more one two = (
   one.joined ∙ (λ i. one_segment epoch (slots.segment (epoch % 2)) one.first two.first one.segment two.segment i ++ one_next epoch (slots.segment ((epoch + 1) % 2)) one.next two.next one.other two.other i) ∙ sym two.joined,
 )
 
--- A disk spells at most one base with one list of records.
+-- A disk encodes at most one base with one list of records.
 abbrev pub SpellsOnce : Type 0
 SpellsOnce = (slots : Slots) (base other : State) (records more : List Record) → Spells slots base records → Spells slots other more → (base ≡ other) × (records ≡ more)
 
@@ -128,7 +128,7 @@ next_fit epoch slot next (inl closed) = subst FitCalls (sym closed.1) tt
 next_fit epoch slot next (inr (inl before)) = subst FitCalls (sym before.3) tt
 next_fit epoch slot next (inr (inr spelled)) = records_fit next spelled.1.spelled.canonical
 
--- what a run begins from, and its records, where a disk spells them
+-- what a run begins from, and its records, if a disk encodes them
 record Beginning (base : State) (records : List Record) : Type 0 where
   lawful : Lawful base
   grounded : Grounded base
@@ -144,7 +144,7 @@ beginning slots base records spelled = elim spelled.reading as (λ _. Beginning 
   }
 ]
 
--- One state at most is recovered from a disk, and it is lawful and grounded.
+-- At most one state is recovered from a disk, and it is lawful and acyclic.
 abbrev pub RecoversOnce : Type 0
 RecoversOnce = (slots : Slots) (one other : State) → Recovered slots one → Recovered slots other → one ≡ other
 

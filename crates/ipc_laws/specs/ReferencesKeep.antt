@@ -1,4 +1,5 @@
--- mach_port_deallocate and mach_port_mod_refs of a name that is no set: references that go leave a state that is lawful with the effects.
+-- mach_port_deallocate, and mach_port_mod_refs of a name that is no set: references that go leave a state that is
+-- lawful with the effects.
 use Rattle.std.specs.Prelude.{◌≡◌, ◌⊎◌, ℕ, zero, suc, ◌+◌, ◌<◌, ◌≤◌, Bool, true, false, not, ◌&&◌, ◌==◌, List, [], ◌∷◌, ◌++◌, Option, None, Some, if◌then◌else◌, refl}
 use Rattle.std.proofs.Common.{sym, ◌∙◌, ap, subst, inl, inr, arith}
 use Rattle.std.specs.FinMap as finmap
@@ -70,12 +71,12 @@ send_weighs : (q : ℕ) (b : Bool) (serial : ℕ) (rest : List Effect) → weigh
 send_weighs q true serial rest = omega arith
 send_weighs q false serial rest = refl
 
--- an entry that is left weighs as itself by receive rights, also where it is empty
+-- an entry that is left weighs the same by receive rights, even if it is empty
 pub no_target : (q : ℕ) (target : Option ℕ) → target_weigh (receive_of q) target ≡ 0
 no_target q None = refl
 no_target q (Some serial) = refl
 
--- (the entry with its receive right and its references as they may be)
+-- (the entry with any receive right and any references)
 pub left_weighs : (q port send : ℕ) (receive : Bool) (target : Option ℕ)
     → under (receive_of q) (left_of (Port (record { port = port; receive = receive; send = send; dead_name_target = target }))) ≡ (if receive then receive_of q kind.Receive port else 0)
 left_weighs q port send true target = elim (send == 0) as (λ (b : Bool). receive_of q kind.Receive port + ((if b then 0 else receive_of q kind.Send port) + target_weigh (receive_of q) target) ≡ receive_of q kind.Receive port) [
@@ -93,7 +94,7 @@ port_weighs q port send receive target = elim (send == 0) as (λ (b : Bool). (if
   | false ↦ omega (arith, no_target q target)
 ]
 
--- fewer references are no more rights
+-- fewer references don't make more rights
 pub fewer_weigh : (w : Weight) (port send left : ℕ) (receive : Bool) (target : Option ℕ) → (send == 0) ≡ false
     → under w (left_of (Port (record { port = port; receive = receive; send = left; dead_name_target = target }))) ≤ entry_weigh w (Port (record { port = port; receive = receive; send = send; dead_name_target = target }))
 fewer_weigh w port send left receive target some =
@@ -211,7 +212,7 @@ zero_either : (b : Bool) → ◌≡◌ {A = ℕ} (if b then 0 else 0) 0
 zero_either true = refl
 zero_either false = refl
 
--- what goes weighs as much as its effects, by receive rights
+-- by receive rights, what goes weighs as much as its effects
 pub name_weighs : (q name : ℕ) (entry : Entry) → weigh (effect_weigh (receive_of q)) (actions.effects_of_name name entry) ≡ entry_weigh (receive_of q) entry
 name_weighs q name (Port rights) =
     omega (

@@ -1,4 +1,5 @@
--- mach_port_rename leaves lawful and grounded states: an entry goes under another name, and a set takes its members along.
+-- mach_port_rename leaves lawful and acyclic states: an entry goes under another name, and a set takes its members
+-- along.
 use Rattle.std.specs.Prelude.{◌≡◌, ◌≢◌, ◌⊎◌, ℕ, ◌-◌, ◌^◌, ◌<◌, Bool, true, false, cond, T, List, [], ◌∷◌, Option, None, Some, is_some, filter, filter_map, refl}
 use Rattle.std.proofs.Common.{sym, ◌∙◌, ap, subst, inl, inr, arith}
 use Rattle.std.specs.Cmp.{nat_cmp_total}
@@ -67,7 +68,7 @@ others_stand names from to name entry e free at apart =
     let not_to : name ≢ to = λ (same : _). cc (sym free ∙ ap (finmap.get names) (sym same) ∙ at) in
     get-there (finmap.remove names from) to entry name not_to ∙ get-left names from name apart ∙ at
 
--- a member is held beside its set, whatever its name, where the set itself keeps its name
+-- a member is held in its set's space, whatever its name, if the set itself keeps its name
 beside_moved : (state : State) (space from to serial set : ℕ) (names : Names) (entry : Entry) → finmap.get state.spaces space ≡ Some names → finmap.get names from ≡ Some entry → finmap.get names to ≡ None
     → (finmap.get names set ≡ Some Set → set ≢ from) → IsHeldBesideSet state serial set → IsHeldBesideSet (with_names state space (moved_names names from to entry)) serial set
 beside_moved state space from to serial set names entry there at free set_apart (other, held_names, name, e, at_space, at_name, is, beside) =
@@ -218,7 +219,7 @@ moved_beside state space from to serial set names there at free held is_to =
       ap (finmap.get after) is_to ∙ get-here (finmap.remove names from) to Set,
     )
 
--- and another stays where it was
+-- and any other stays where it was
 not_moved_beside : (state : State) (space from to serial set : ℕ) (names : Names) → finmap.get state.spaces space ≡ Some names → finmap.get names from ≡ Some Set → finmap.get names to ≡ None
     → ((name : ℕ) (entry : Entry) → finmap.get names name ≡ Some entry → received_port entry ≡ Some serial → set ≢ from) → IsHeldBesideSet state serial set → IsHeldBesideSet (with_names state space (moved_names names from to Set)) serial set
 not_moved_beside state space from to serial set names there at free apart (other, held_names, name, e, at_space, at_name, is, beside) =

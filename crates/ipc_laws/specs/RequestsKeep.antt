@@ -47,7 +47,8 @@ use Rattle.ipc_laws.specs.Weights.{Weight, target_weigh, entry_weigh, receive_of
 abbrev target_hand : Option ℕ → Hand
 target_hand target w = target_weigh w target
 
--- What is shown where a request is set: the former target is in hand, the effects hold no receive right, and the space has as many names.
+-- What is shown where a request is set: the former target is in hand, the effects hold no receive right, and the space
+-- has as many names.
 record MidRequest (space : ℕ) (names : Names) (after : State × List Effect) (former : Option ℕ) : Type 0 where
   mid : MidCall after.0 (target_hand former)
   quiet : Quiet after.1
@@ -211,7 +212,7 @@ given_back space names after (Some former) given new notices effects request qui
     subst (λ (s : State). Kept s effects) (sym as_said) (subst (λ (l : List Effect). Kept (with_names after.0 space (finmap.insert request.later given (SendOnce former None))) l) (sym are)
     (kept_of_mid _ empty_hand (notices ++ after.1) named (quiet_both notices after.1 quiet request.quiet).waits (λ (q : ℕ). (quiet_both notices after.1 quiet request.quiet).receives q)))
 
--- what the tests of a request show
+-- what passing the tests of a request shows
 
 both_pass : (xs ys : Tests) → first_failing (xs ++ ys) ≡ None → (first_failing xs ≡ None) × (first_failing ys ≡ None)
 both_pass [] ys passes = (refl, passes)

@@ -1,4 +1,5 @@
--- mach_port_insert_right, mach_port_extract_right and the making of a space leave states that are lawful with the effects.
+-- mach_port_insert_right, mach_port_extract_right and the making of a space leave states that are lawful with the
+-- effects.
 use Rattle.std.specs.Prelude.{◌≡◌, ◌≢◌, ℕ, ◌+◌, ◌^◌, ◌<◌, ◌≤◌, Bool, true, false, cond, not, ◌&&◌, ◌||◌, ◌==◌, nat_le, nat_lt, List, [], ◌∷◌, Option, None, Some, is_some, is_none, option_and_then, if◌then◌else◌, refl}
 use Rattle.std.proofs.Common.{sym, ◌∙◌, ap, subst, inl, inr, arith}
 use Rattle.std.proofs.lemmas.Bool.{ltb-false, leb-false, eq-eqb}
@@ -44,7 +45,7 @@ use Rattle.ipc_laws.specs.Takes.{MidTaken, taken_mid, with_right}
 use Rattle.ipc_model.specs.calls.Tests.{Tests, first_failing}
 use Rattle.ipc_laws.specs.Weights.{Weight, names_weigh, entry_weigh, state_weigh, receive_of, any_of}
 
--- what the tests of a right that is copied in show where they pass: it was taken, and names a port
+-- what passing the tests of a right that is copied in shows: it was taken, and names a port
 pub record CopiedIn (old : State) (space name : ℕ) (disposition : Option Disposition) (later : Taken → ℕ → Tests) : Type 0 where
   pub by : Disposition
   pub taken : Taken
@@ -124,7 +125,7 @@ any_found test (e ∷ es) k entry there passes = elim (test e) as (λ (b : Bool)
   ] refl there
 ] refl
 
--- a port that stands nowhere else, and not under this name, has no name
+-- a port that stands under no other name, and not under this one, has no name
 no_name_else : (names : Names) (name serial : ℕ) → finmap.get names name ≡ None → stands_elsewhere names name serial ≡ false → HasName names serial → ⊥
 no_name_else names name serial free nowhere has =
     let apart : has.name ≢ name = λ (same : _). cc (sym free ∙ ap (finmap.get names) (sym same) ∙ has.at) in

@@ -8,7 +8,7 @@ use Rattle.ipc_model.specs.texts.Texts.{kept_record}
 use Rattle.ipc_laws.specs.KeptLaws.{made_as_kept}
 use Rattle.ipc_laws.specs.StepsKeep.{FitCalls}
 
--- one step more
+-- one more step
 pub run-push : (old mid new : State) (records : List Record) (next : Record) → Run old records mid → Step mid next.space next.call next.reply new → Run old (records ++ next ∷ []) new
 run-push old mid new [] next so_far step = (new, subst (λ (s : State). Step s next.space next.call next.reply new) so_far step, refl)
 run-push old mid new (first ∷ records) next so_far step = (so_far.0, so_far.1, run-push so_far.0 mid new records next so_far.2 step)

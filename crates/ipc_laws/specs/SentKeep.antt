@@ -1,4 +1,5 @@
--- A message that is queued, or destroyed because it would travel in a circle, leaves a state that is lawful with the effects, and grounded.
+-- A message that is queued, or destroyed because it would travel in a circle, leaves a state that is lawful with the
+-- effects, and acyclic.
 use Rattle.std.specs.Prelude.{◌≡◌, ℕ, ◌+◌, ◌<◌, Bool, true, false, cond, ◌&&◌, ◌||◌, ◌==◌, List, [], ◌∷◌, ◌++◌, None, Some, Result, Ok, Err, IfOk, MatchResult, if◌then◌else◌, refl}
 use Rattle.std.proofs.Common.{sym, ◌∙◌, ap, subst, inl, inr, arith}
 use Rattle.std.proofs.lemmas.List.Elements.{All-push}
@@ -37,8 +38,8 @@ use Rattle.ipc_laws.specs.Takes.{own_weight}
 use Rattle.ipc_laws.specs.Weights.{Weight, message_weigh, port_weigh, effect_weigh, receive_of, any_of}
 use Rattle.words.specs.Words.{AreBytes}
 
--- Ports stay ranked when a message is queued whose receive rights make no circle: the ports above the queue are raised by
--- more than the ranks of what it carries.
+-- Ports stay ranked when a message is queued whose receive rights make no circle: the ports above the queue are raised
+-- by more than the ranks of what the message carries.
 
 port_heavy : (ℕ → ℕ) → PortInMessage → ℕ
 port_heavy rank in_message.Null = 0
@@ -64,7 +65,7 @@ receive_is inner right is =
       ] e
     ] is
 
--- it is no heavier than all, and makes no circle where none does
+-- such a right weighs no more than all together, and makes no circle if none does
 record Carried (state : State) (queue : ℕ) (rank : ℕ → ℕ) (rights : List CarriedRight) (inner : ℕ) : Type 0 where
   lighter : rank inner < heavy rank rights
   free : is_circular state inner queue ≡ false

@@ -1,4 +1,4 @@
--- A set that goes takes its members out first: then no port is in it, and its name can go.
+-- When a set goes, its members are taken out first: then no port is in it, and its name can go.
 use Rattle.std.specs.Prelude.{◌≡◌, ◌≢◌, ◌⊎◌, ℕ, Bool, true, false, cond, filter, filter_map, List, [], ◌∷◌, Option, None, Some, option_and_then, refl}
 use Rattle.std.proofs.Common.{sym, ◌∙◌, ap, subst, inl, inr, arith}
 use Rattle.std.proofs.lemmas.Bool.{eq-eqb}
@@ -123,7 +123,7 @@ none_in_set old names set other name entry port at held there is =
 
 -- A set goes: its members are taken out, and its name ceases to be.
 
--- a member that is held beside another set is still held
+-- a member that is held in another set's space is still held there
 beside_left : (state : State) (space name : ℕ) (names : Names) (serial set : ℕ) (port : PortState) → finmap.get state.spaces space ≡ Some names → finmap.get names name ≡ Some Set
     → ((member : ℕ) (entry : Entry) (p : PortState) → finmap.get names member ≡ Some entry → received_port entry ≡ Some serial → finmap.get state.ports serial ≡ Some p → p.set ≡ Some name → ⊥)
     → finmap.get state.ports serial ≡ Some port → port.set ≡ Some set → IsHeldBesideSet state serial set → IsHeldBesideSet (with_names state space (finmap.remove names name)) serial set

@@ -1,4 +1,4 @@
--- Settling ends: each effect lowers a number, and so the list is worked off, to one end.
+-- Settling ends: each effect lowers a number, so the list drains.
 use Rattle.std.specs.Prelude.{◌≡◌, ℕ, zero, suc, ◌+◌, ◌<◌, ◌≤◌, Bool, true, false, ◌==◌, ◌&&◌, not, List, [], ◌∷◌, ◌++◌, length, map, flat_map, Option, None, Some, option_map, if◌then◌else◌, refl}
 use Rattle.std.proofs.Common.{ap, subst, arith, length-append}
 use Rattle.std.specs.FinMap as finmap
@@ -33,7 +33,7 @@ entry_weight name entry = one_if_some (request_of entry)
 abbrev pub message_weight : Message → ℕ
 message_weight message = length (releases_of message)
 
--- a live port: itself, its requests, and what its messages carry
+-- the weight of a live port: itself, its requests, and what its messages carry
 abbrev pub port_weight : ℕ → PortState → ℕ
 port_weight serial port = 1 + weigh message_weight port.messages + one_if_some port.no_senders_target + one_if_some port.port_destroyed_target
 
@@ -69,7 +69,7 @@ absent_port : (state : State) (serial : ℕ) (change : PortState → PortState) 
 absent_port state serial change none =
     ap (λ (o : Option PortState). elim o as (λ _. State) [ None ↦ state | Some p ↦ record state { ports = finmap.insert state.ports serial (change p) } ]) none
 
--- a message that is queued adds what it carries at most
+-- a message that is queued adds at most what it carries
 queued_weight : (state : State) (serial : ℕ) (message : Message) → state_weight (queued state serial message) ≤ state_weight state + message_weight message
 queued_weight state serial message =
     elim (finmap.get state.ports serial) as (λ (o : Option PortState). finmap.get state.ports serial ≡ o → state_weight (queued state serial message) ≤ state_weight state + message_weight message) [
@@ -275,7 +275,7 @@ EffectsLower = (state : State) (first : Effect) (rest : List Effect) → measure
 pub effects_lower : EffectsLower
 effects_lower state first rest = omega (arith, effect_lowers state first, weigh-append effect_weight rest (effect state first).1)
 
--- so the list is worked off
+-- so the list drains
 settles_within : (n : ℕ) (state : State) (effects : List Effect) → measure state effects < n → (end : State) × Settles state effects end
 settles_within zero state effects less = absurd (omega (arith, less))
 settles_within (suc n) state [] less = (state, settled)

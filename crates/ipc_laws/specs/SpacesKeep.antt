@@ -51,7 +51,7 @@ without_weighs w state space names there =
 space_still : (state : State) (space other : ℕ) (names : Names) → finmap.get (finmap.remove state.spaces space) other ≡ Some names → finmap.get state.spaces other ≡ Some names
 space_still state space other names at = sym (get-left state.spaces space other (left_apart state.spaces space other names at)) ∙ at
 
--- members of other spaces stay beside their sets
+-- members in other spaces stay in the spaces of their sets
 beside_left : (state : State) (space : ℕ) (names : Names) (serial set : ℕ) → finmap.get state.spaces space ≡ Some names → ((name : ℕ) (entry : Entry) → finmap.get names name ≡ Some entry → received_port entry ≡ Some serial → ⊥)
     → IsHeldBesideSet state serial set → IsHeldBesideSet (record state { spaces = finmap.remove state.spaces space }) serial set
 beside_left state space names serial set there none_in (other, held_names, name, entry, at_space, at, is, beside) = elim (number_decided other space) as (λ _. IsHeldBesideSet (record state { spaces = finmap.remove state.spaces space }) serial set) [

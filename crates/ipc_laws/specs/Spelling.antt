@@ -1,4 +1,4 @@
--- An image can spell every lawful state whose queues are short enough to count.
+-- An image can encode every lawful state whose queues are short enough to count.
 use Rattle.std.specs.Prelude.{◌≡◌, ℕ, zero, suc, ◌+◌, ◌-◌, ◌^◌, ◌<◌, ◌≤◌, Bool, true, false, cond, T, All, List, [], ◌∷◌, length, Option, None, Some, MatchBool, refl}
 use Rattle.std.proofs.Common.{sym, ◌∙◌, ap, inl, inr, arith}
 use Rattle.std.proofs.lemmas.Bool.{eqb-false}
@@ -49,7 +49,7 @@ one_at_most : (b : Bool) (n : ℕ) → n ≤ cond b (n - 1) n + 1
 one_at_most true n = omega arith
 one_at_most false n = omega arith
 
--- a map has as many entries as its keys have room for
+-- a map whose keys are below n has at most n entries
 few_keys : {X : Type 0} (n : ℕ) (m : FinMap nat_cmp X) → ((k : ℕ) (x : X) → finmap.get m k ≡ Some x → k < n) → finmap.len m ≤ n
 few_keys {X} zero m below =
     elim (finmap.entries m) as (λ (es : List (ℕ × X)). finmap.entries m ≡ es → finmap.len m ≤ 0) [

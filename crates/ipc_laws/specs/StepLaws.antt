@@ -96,7 +96,7 @@ same_created (Some taken) answer one other effects others here there =
     there.5 ∙ (λ i. with_names taken.state (sym same_space i) (names_after finmap.empty taken.right.kind taken.right.port (sym same_name i))) in
     record { state = here.5 ∙ sym moved; effects_are = here.6 ∙ sym there.6 }
 
--- What a call on names and ports does is told by its answer.
+-- The answer of a call on names and ports determines what it does.
 pub same_done : (old : State) (space : ℕ) (names : Names) (c : Call) (answer : Reply) (one other : State) (effects others : List Effect)
     → Done old space names c answer one effects → Done old space names c answer other others → SameOutcome one other effects others
 unfolding Done name_shown
@@ -164,7 +164,7 @@ same_acts_from : (old : State) (space : ℕ) (names : Option Names) (c : Call) (
 same_acts_from old space None c answer one other effects others lawful here there = record { state = here.1 ∙ sym there.1; effects_are = here.2 ∙ sym there.2 }
 same_acts_from old space (Some names) c answer one other effects others lawful here there = same_acts_in old space names c answer one other effects others lawful here there
 
--- From a lawful state, a call that is answered so leaves one state.
+-- From a lawful state, a call with a given answer leaves one state.
 abbrev pub OneNewState : Type 0
 OneNewState = (old : State) (space : ℕ) (c : Call) (answer : Reply) (one other : State) → Lawful old → Step old space c answer one → Step old space c answer other → one ≡ other
 

@@ -1,4 +1,4 @@
--- The calls whose steps are shown to leave lawful and grounded states.
+-- The calls whose steps are shown to leave lawful and acyclic states.
 use Rattle.std.specs.Prelude.{◌^◌, not, ◌≡◌, ◌⊎◌, ℕ, zero, suc, ◌-◌, ◌<◌, Bool, true, false, ◌&&◌, ◌||◌, ◌==◌, List, [], ◌∷◌, Option, None, Some, is_some, if◌then◌else◌, refl}
 use Rattle.std.proofs.Common.{◌∙◌, sym, subst, inl, inr, arith}
 use Rattle.std.specs.FinMap as finmap
@@ -40,7 +40,7 @@ use Rattle.ipc_model.specs.texts.Texts.{FitsCall}
 
 -- mach_port_deallocate
 
--- no receive right alone
+-- the name holds more than a receive right
 some_left : (receive : Bool) (port send : ℕ) → (receive ≡ true) ⊎ (0 < send) → (is_some (if receive then Some port else None) && send == 0) ≡ false → (send == 0) ≡ false
 some_left true port send either passes = passes
 some_left false port send (inl receive) passes = absurd (cc receive)
@@ -185,7 +185,7 @@ from_kept : (old : State) (space : ℕ) (o : Option Names) (c : Call) (answer : 
 from_kept old space None c answer new effects there fits lawful grounded acts = kept_as old new effects lawful grounded acts.1 acts.2
 from_kept old space (Some names) c answer new effects there fits lawful grounded acts = acts_kept old space names c answer new effects fits lawful grounded there acts
 
--- Every step keeps a state lawful and grounded, where the call's arguments are in range.
+-- Every step keeps a state lawful and acyclic, if the call's arguments are in range.
 abbrev pub StepsKeepLawful : Type 0
 StepsKeepLawful = (old : State) (space : ℕ) (c : Call) (answer : Reply) (new : State) → FitsCall c → Lawful old → Grounded old → Step old space c answer new → Lawful new × Grounded new
 
@@ -195,7 +195,7 @@ steps_keep_lawful old space c answer new fits lawful grounded step =
     let acted = from_kept old space (finmap.get old.spaces space) c answer step.0 step.1 refl fits (at_rest old lawful) grounded step.2 in
     settled_is_lawful step.0 step.1 new acted.lawful acted.grounded step.3
 
--- So every run of records from a lawful and grounded state ends in one.
+-- So every run of records from a lawful and acyclic state ends in one.
 abbrev pub FitCalls : List Record → Type 0
 FitCalls [] = Unit {0}
 FitCalls (first ∷ records) = FitsCall first.call × FitCalls records
@@ -209,7 +209,7 @@ runs_keep_lawful old (first ∷ records) new fits lawful grounded (mid, step, re
     let kept = steps_keep_lawful old first.space first.call first.reply mid fits.0 lawful grounded step in
     runs_keep_lawful mid records new fits.1 kept.0 kept.1 rest
 
--- and in one state alone: what recovery replays from the opening state is determined by the records.
+-- and in only one state: the records determine what recovery reaches when it replays them.
 abbrev pub OneRun : Type 0
 OneRun = (old : State) (records : List Record) (one other : State) → FitCalls records → Lawful old → Grounded old → Run old records one → Run old records other → one ≡ other
 

@@ -1,4 +1,4 @@
--- What a segment spells as batches are appended to it, at every moment of that.
+-- What a segment encodes as batches are appended to it, at every moment of that.
 use Rattle.std.specs.Prelude.{◌≡◌, ℕ, ◌+◌, ◌<◌, List, [], ◌∷◌, ◌++◌, length}
 use Rattle.std.proofs.Common.{refl, sym, ap, ◌∙◌, arith, append_assoc, length-append}
 use Rattle.std.proofs.lemmas.List.{append-nil}
@@ -23,7 +23,7 @@ pub are_records-join : (xs ys : List Record) → AreRecords xs → AreRecords ys
 are_records-join [] ys front back = back
 are_records-join (first ∷ xs) ys front back = (front.0, are_records-join xs ys front.1 back)
 
--- the same batches, with something else behind them that is closed
+-- the same batches, followed by something else that is closed
 pub other_end : (content : List ℕ) (records : List Record) (s : SpellsBatches content records) (rest : List ℕ) → IsClosed rest → SpellsBatches (batches_text 0 s.batches ++ rest) records
 other_end content records s rest closed = record {
   batches = s.batches;
@@ -36,6 +36,6 @@ other_end content records s rest closed = record {
   bounded = s.bounded;
 }
 
--- a segment in use spells its records
+-- a segment in use encodes its records
 pub in_use_spells : (epoch : ℕ) (bytes : List ℕ) (records : List Record) → IsInUse epoch bytes records → SpellsSegment epoch bytes records
 in_use_spells epoch bytes records used = record { content = used.content; text = used.text; spelled = used.spelled }

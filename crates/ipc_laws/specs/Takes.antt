@@ -53,18 +53,18 @@ quiet_deleted name target = record { waits = deleted_waits name target; receives
 pub quiet_left : (name : ℕ) (entry : Entry) → Quiet (notices_of_left name entry)
 quiet_left name entry = record { waits = left_waits name entry; receives = λ (q : ℕ). left_receive q name entry }
 
--- a right more in hand
+-- one more right in hand
 abbrev pub with_right : Hand → CarriedRight → Hand
 with_right hand right w = hand w + carried_weigh w right
 
--- what is shown of a right that is taken: it is in hand, the notices hold no receive right, and the space is still there
+-- what is shown of a right that is taken: it is in hand, the notices hold no receive right, and the space still exists
 pub record MidTaken (space : ℕ) (hand : Hand) (taken : Taken) : Type 0 where
   pub mid : MidCall taken.state (with_right hand taken.right)
   pub quiet : Quiet taken.notices
   pub names : Names
   pub there : finmap.get taken.state.spaces space ≡ Some names
 
--- a right of which an entry holds one names a live port
+-- a right that an entry holds names a live port
 pub weighs_live : (state : State) (hand : Hand) (space name serial : ℕ) (names : Names) (entry : Entry) → MidCall state hand → finmap.get state.spaces space ≡ Some names → finmap.get names name ≡ Some entry
     → 1 ≤ entry_weigh (any_of serial) entry → lives state serial ≡ true
 weighs_live state hand space name serial names entry mid there at weighs = elim (lives state serial) as (λ (b : Bool). lives state serial ≡ b → b ≡ true) [
@@ -83,7 +83,7 @@ once_live : (state : State) (hand : Hand) (space name port : ℕ) (target : Opti
 once_live state hand space name port target names mid there at =
     weighs_live state hand space name port names (SendOnce port target) mid there at (omega (arith, own_weight port kind.SendOnce))
 
--- a right of a live port weighs nothing for one that is dead
+-- a right to a live port weighs nothing for a dead one
 pub live_zero : (state : State) (serial q : ℕ) (what : RightKind) → lives state serial ≡ true → lives state q ≡ false → any_of q what serial ≡ 0
 live_zero state serial q what live dead = apart_zero q serial what (live_apart state serial q live dead)
 
@@ -106,7 +106,7 @@ keeping_taken state space names hand right there mid = record { mid = mid; quiet
 left_less : (w : Weight) (entry : Entry) → under w (left_of entry) ≤ entry_weigh w entry
 left_less w entry = elim (is_empty_entry entry) as (λ (b : Bool). under w (if b then None else Some entry) ≤ entry_weigh w entry) [ true ↦ omega arith | false ↦ omega arith ]
 
--- a copied or made right: one more in hand of a live port
+-- a copied or made right: one more right in hand, to a live port
 more_in_hand : (state : State) (hand : Hand) (what : RightKind) (serial : ℕ) → ((q : ℕ) → receive_of q what serial ≡ 0) → lives state serial ≡ true → MidCall state hand
     → MidCall state (with_right hand (record { kind = what; port = Live serial }))
 more_in_hand state hand what serial none live mid =

@@ -1,4 +1,4 @@
--- Bytes spell at most one call, one reply and one record.
+-- Bytes encode at most one call, one reply and one record.
 use Rattle.std.specs.Prelude.{◌≡◌, ℕ, ◌+◌, ◌^◌, ◌<◌, true, List, [], ◌∷◌, ◌++◌, length, All, refl}
 use Rattle.std.proofs.Common.{sym, ◌∙◌, ap, arith, append_assoc}
 use Rattle.ipc_model.specs.declared.call.Call.{Call}
@@ -11,58 +11,58 @@ use Rattle.ipc_model.specs.texts.Texts.{arguments_text, call_text, reply_text, k
 use Rattle.words.specs.WordLaws.{same_word, same_long_word, length-word, length-long_word}
 use Rattle.words.specs.Words.{word, long_word, frame_text}
 
--- equal texts that begin with a number
+-- equal bytes that begin with a number
 pub word_once : (m n : ℕ) (x y : List ℕ) → m < 2 ^ 32 → n < 2 ^ 32 → word m ++ x ≡ word n ++ y → (m ≡ n) × (x ≡ y)
 word_once m n x y fits fits_too e = (same_word m n x y fits fits_too e, same_back (word m) (word n) x y (length-word m ∙ sym (length-word n)) e)
 
 pub long_word_once : (m n : ℕ) (x y : List ℕ) → m < 2 ^ 64 → n < 2 ^ 64 → long_word m ++ x ≡ long_word n ++ y → (m ≡ n) × (x ≡ y)
 long_word_once m n x y fits fits_too e = (same_long_word m n x y fits fits_too e, same_back (long_word m) (long_word n) x y (length-long_word m ∙ sym (length-long_word n)) e)
 
--- equal texts that begin with a frame
+-- equal bytes that begin with a frame
 pub frame_once : (a b x y : List ℕ) → length a < 2 ^ 32 → length b < 2 ^ 32 → frame_text a ++ x ≡ frame_text b ++ y → (a ≡ b) × (x ≡ y)
 frame_once a b x y fits fits_too e =
     let whole = sym (append_assoc (word (length a)) a x) ∙ e ∙ append_assoc (word (length b)) b y in
     let sizes = word_once (length a) (length b) (a ++ x) (b ++ y) fits fits_too whole in
     (same_front a b x y sizes.0 sizes.1, same_back a b x y sizes.0 sizes.1)
 
--- one call has this text
+-- one call has this encoding
 pub call_text_once : (a b : Call) → FitsCall a → FitsCall b → call_text a ≡ call_text b → a ≡ b
 unfolding call_text
 call_text_once a b fits fits_too e =
     let parts = word_once (number_of_call a) (number_of_call b) (arguments_text a) (arguments_text b) (number-fits a) (number-fits b) e in
     sym (call_back a fits) ∙ (λ i. read_call (parts.0 i) (parts.1 i)) ∙ call_back b fits_too
 
--- equal texts that begin with a call's frame
+-- equal bytes that begin with a call's frame
 pub call_once : (a b : Call) (x y : List ℕ) → FitsCall a → FitsCall b → length (call_text a) < 2 ^ 32 → length (call_text b) < 2 ^ 32
     → frame_text (call_text a) ++ x ≡ frame_text (call_text b) ++ y → (a ≡ b) × (x ≡ y)
 call_once a b x y fits fits_too long long_too e =
     let parts = frame_once (call_text a) (call_text b) x y long long_too e in
     (call_text_once a b fits fits_too parts.0, parts.1)
 
--- one reply to a call that has a record has this text
+-- one reply to a call that has a record has this encoding
 pub reply_text_once : (c d : Call) (a b : Reply) → FitsReply a → FitsReply b → has_record c a ≡ true → has_record d b ≡ true → reply_text a ≡ reply_text b → a ≡ b
 reply_text_once c d a b fits fits_too recorded recorded_too e = sym (reply_back c a fits recorded) ∙ ap read_reply e ∙ reply_back d b fits_too recorded_too
 
--- equal texts that begin with the frame of a reply to a call that has a record
+-- equal bytes that begin with the frame of a reply to a call that has a record
 pub reply_once : (c d : Call) (a b : Reply) (x y : List ℕ) → FitsReply a → FitsReply b → has_record c a ≡ true → has_record d b ≡ true → length (reply_text a) < 2 ^ 32 → length (reply_text b) < 2 ^ 32
     → frame_text (reply_text a) ++ x ≡ frame_text (reply_text b) ++ y → (a ≡ b) × (x ≡ y)
 reply_once c d a b x y fits fits_too recorded recorded_too long long_too e =
     let parts = frame_once (reply_text a) (reply_text b) x y long long_too e in
     (reply_text_once c d a b fits fits_too recorded recorded_too parts.0, parts.1)
 
--- a record's text in its parts, and what stands behind it
+-- a record's encoding in its parts, and what follows it
 pub record_apart : (n : ℕ) (entry : Record) (rest : List ℕ)
     → record_text n entry ++ rest ≡ long_word n ++ (word entry.space ++ (frame_text (call_text (kept_call entry.call)) ++ (frame_text (reply_text entry.reply) ++ rest)))
 unfolding record_text
 record_apart n entry rest = simp append_assoc
 
--- of a call that is kept
+-- the same for a call that is kept
 pub kept_apart : (n : ℕ) (entry : Record) (rest : List ℕ) → kept_call entry.call ≡ entry.call
     → record_text n entry ++ rest ≡ long_word n ++ (word entry.space ++ (frame_text (call_text entry.call) ++ (frame_text (reply_text entry.reply) ++ rest)))
 kept_apart n entry rest kept =
     record_apart n entry rest ∙ ap (λ (c : Call). long_word n ++ (word entry.space ++ (frame_text (call_text c) ++ (frame_text (reply_text entry.reply) ++ rest)))) kept
 
--- equal texts that begin with a record
+-- equal bytes that begin with a record
 abbrev pub RecordsHaveOneText : Type 0
 RecordsHaveOneText = (m n : ℕ) (a b : Record) (x y : List ℕ) → IsRecord a → IsRecord b → m < 2 ^ 64 → n < 2 ^ 64
     → record_text m a ++ x ≡ record_text n b ++ y → (m ≡ n) × (a ≡ b) × (x ≡ y)
@@ -80,7 +80,7 @@ record_once m n a b x y is is_too fits fits_too e =
     let replies = reply_once a.call b.call a.reply b.reply x y is.reply.fits is_too.reply.fits is.reply.recorded is_too.reply.recorded (omega (arith, is.frames.1)) (omega (arith, is_too.frames.1)) calls.1 in
     (number.0, λ i. record { space = space.0 i; call = calls.0 i; reply = replies.0 i }, replies.1)
 
--- equal texts that begin with as many records, numbered from one number
+-- equal bytes that begin with equally many records, numbered from the same number
 pub records_once : (n : ℕ) (a b : List Record) (x y : List ℕ) → All IsRecord a → All IsRecord b → length a ≡ length b → n + length a < 2 ^ 64
     → records_text n a ++ x ≡ records_text n b ++ y → (a ≡ b) × (x ≡ y)
 records_once n [] [] x y are are_too long room e = (refl, e)

@@ -19,16 +19,16 @@ use Rattle.ipc_model.specs.texts.Texts.{arguments_text, reply_text, status_text,
 use Rattle.words.specs.WordLaws.{little_number-word}
 use Rattle.words.specs.Words.{word}
 
--- the word of this place
+-- the word at this place
 abbrev word_at : ℕ → List ℕ → ℕ
 word_at i bytes = little_number 4 (drop (4 * i) bytes)
 
--- a send has option 1, and its message behind four words; else it is a receipt
+-- a send has option 1, and its message after four words; otherwise it is a receive
 abbrev mach_msg_spelled : List ℕ → Call
 mach_msg_spelled bytes =
     if word_at 0 bytes == 1 then call.Send (drop 16 bytes) else call.Receive (word_at 1 bytes) (word_at 0 bytes == 0x802) (word_at 2 bytes) (word_at 3 bytes == 1)
 
--- the calls that these arguments may spell, by their numbers
+-- the calls that these arguments may encode, by their numbers
 abbrev calls_spelled : List ℕ → List Call
 calls_spelled bytes =
     call.Attach (word_at 0 bytes)
@@ -199,7 +199,7 @@ code-fits code.RcvInSet = omega arith
 code-fits code.RcvHeaderErrorKernel = omega arith
 code-fits code.RcvHeaderErrorSpace = omega arith
 
--- the names and types that so many pairs of words spell
+-- the names and types that this many pairs of words encode
 abbrev pairs_of : ℕ → List ℕ → List NamedType
 pairs_of zero bytes = []
 pairs_of (suc n) bytes = record { name = little_number 4 bytes; bits = little_number 4 (drop 4 bytes) } ∷ pairs_of n (drop 8 bytes)
@@ -284,7 +284,7 @@ status_back status fits =
       has_no_senders_request = no_senders i;
     }
 
--- the replies that these bytes may spell, by the numbers of their calls, where there are results
+-- the replies that these bytes may encode, by the numbers of their calls, if there are results
 abbrev replies_spelled : List ℕ → List Reply
 replies_spelled bytes =
     reply.Done 0

@@ -1,4 +1,4 @@
--- A call's own action changes the names of its caller's space alone, and number 20 makes a space.
+-- A call's own action changes only the names of its caller's space, and number 20 makes a space.
 use Rattle.std.specs.Prelude.{◌≡◌, ◌≢◌, ℕ, ◌+◌, ◌-◌, Bool, true, false, ◌==◌, List, [], ◌∷◌, Option, None, Some, option_and_then, if◌then◌else◌, IfSome, refl}
 use Rattle.std.proofs.Common.{sym, ◌∙◌, ap, subst}
 use Rattle.std.specs.Ordering.{nat_cmp}
@@ -28,11 +28,11 @@ use Rattle.ipc_model.specs.state.State.{new_port, State, Names, with_names, with
 some_none : {X : Type 0} {x : X} → Some x ≡ None → ⊥
 some_none e = cc e
 
--- other spaces that are there stay as they are
+-- other existing spaces stay as they are
 pub record Untouched (old new : State) (space : ℕ) : Type 0 where
   pub others : (other : ℕ) → other ≢ space → (names : Names) → finmap.get old.spaces other ≡ Some names → finmap.get new.spaces other ≡ Some names
 
--- and no other space comes
+-- and no new space comes
 pub record Confined (old new : State) (space : ℕ) : Type 0 where
   pub others : (other : ℕ) → other ≢ space → (names : Names) → finmap.get old.spaces other ≡ Some names → finmap.get new.spaces other ≡ Some names
   pub absent : (other : ℕ) → other ≢ space → finmap.get old.spaces other ≡ None → finmap.get new.spaces other ≡ None

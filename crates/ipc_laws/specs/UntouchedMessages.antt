@@ -1,4 +1,4 @@
--- A send and a receipt change the names of their caller's space alone.
+-- A send and a receive change only the names of their caller's space.
 use Rattle.std.specs.Prelude.{ℕ, Bool, true, false, nat_lt, List, [], ◌∷◌, ◌++◌, drop, Option, None, Some, option_map, if◌then◌else◌, Result, Ok, Err, IfOk, IfSome}
 use Rattle.std.proofs.Common.{sym, subst}
 use Rattle.std.specs.List.{list_any}
@@ -21,7 +21,7 @@ use Rattle.ipc_model.specs.state.State.{State, Names, is_null_or_dead, next_coun
 use Rattle.ipc_model.specs.calls.Tests.{Tests, and_then, or_refused, unless_failing}
 use Rattle.ipc_laws.specs.Untouched.{Confined, nothing, follow, own_names, port_change, TakenConfined, copied_in}
 
--- what holds of a value holds of what comes of it
+-- what holds of a value holds of what is made from it
 pub and_then_if : {X Y : Type 0} (P : X → Type 0) (Q : Y → Type 0) (r : Result X KernReturn) (next : X → Result Y KernReturn) → IfOk r P → ((x : X) → P x → IfOk (next x) Q) → IfOk (and_then r next) Q
 and_then_if P Q (Ok x) next here there = there x here
 and_then_if P Q (Err code) next here there = tt
@@ -111,7 +111,7 @@ header_there old space remote destination local reply =
 abbrev pub ReadyConfined : State → ℕ → Ready → Type 0
 ReadyConfined old space ready = Confined old ready.state space
 
--- the parts of the way from items to a message that is ready
+-- the steps from items to a message that is ready
 abbrev ready_of_taken : UsedParts → List Item → TakenHeader → TakenRights → Result Ready KernReturn
 ready_of_taken parts items header taken = unless_failing (sending.tests_of_queue (sending.ready_message parts items header taken)) (Ok (sending.ready_message parts items header taken))
 
@@ -167,7 +167,7 @@ sent_there old space ready first =
       | false ↦ follow old ready.state _ space first (port_change ready.state space ready.port (λ (port : PortState). record port { messages = port.messages ++ ready.message ∷ [] }))
     ]
 
--- a receipt
+-- a receive
 
 taken_out : (old : State) (space serial : ℕ) → Confined old (without_oldest old serial) space
 taken_out old space serial = port_change old space serial (λ (port : PortState). record port { messages = drop 1 port.messages; sequence_number = next_count port.sequence_number })

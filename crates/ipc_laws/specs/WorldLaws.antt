@@ -1,4 +1,5 @@
--- Whatever events come: what is told is stored, what is stored was applied, and what was applied is a run of the machine.
+-- Whatever events come: what is acknowledged is stored, what is stored was applied, and what was applied is a run of
+-- the machine.
 use Rattle.std.specs.Prelude.{◌≡◌, ℕ, zero, suc, ◌+◌, ◌-◌, ◌≤◌, max, Bool, true, false, List, [], ◌∷◌, ◌++◌, length, Option, None, Some, slice_get, if◌then◌else◌, refl, ◌↔◌}
 use Rattle.std.proofs.Common.{sym, ◌∙◌, ap, subst, arith, length-append}
 use Rattle.std.proofs.lemmas.Bool.{ltb-true}
@@ -62,7 +63,7 @@ pub record InOrder (world : World) : Type 0 where
   pub taken : world.taken ≤ length world.applied
   pub stored : world.stored + waiting world.batch ≡ world.taken
   pub seen : SeenWithin (length world.applied) world.tickets
-  -- one append's receipt is out at most, while its batch is
+  -- at most one append's receipt is out, while its batch is
   pub receipts : appends world.receipts ≡ is_out world.batch
   pub handed : world.handed + unhanded world.receipts ≡ world.stored
   pub answered : AnsweredWithin world.handed world.tickets
@@ -156,7 +157,7 @@ appended world (Some batch) is possible order =
       answered = order.answered;
     }
 
--- a batch whose append's receipt is out waits no more
+-- a batch whose append's receipt is out no longer waits
 none_waiting : (batch : Option Batch) → is_out batch ≡ 1 → waiting batch ≡ 0
 none_waiting None out = absurd (omega (arith, out))
 none_waiting (Some batch) out = elim batch.appended as (λ (b : Bool). one_if b ≡ 1 → (if b then 0 else batch.size) ≡ 0) [ true ↦ λ (_ : _). refl | false ↦ λ (e : _). absurd (omega (arith, e)) ] out
@@ -182,7 +183,7 @@ handed_in world (of_append size ∷ rest) is order =
 handed_in world (of_finish ∷ rest) is order =
     record { earlier = order.earlier; taken = order.taken; stored = order.stored; seen = order.seen; receipts = sym (ap appends is) ∙ order.receipts; handed = omega (arith, order.handed, ap unhanded is); answered = order.answered }
 
--- what a checkpoint's steps change is of no account here
+-- what a checkpoint's steps change doesn't matter here
 stepped : (world : World) (change : Checkpoint → Checkpoint) (checkpoint : Option Checkpoint) → InOrder world → InOrder (with_checkpoint world change checkpoint)
 stepped world change None order = order
 stepped world change (Some checkpoint) order =
@@ -249,11 +250,11 @@ worlds_order : (base : State) (world : World) (events : List (Event × Outcome))
 worlds_order base world [] new worlds order = subst InOrder (sym worlds) order
 worlds_order base world (first ∷ events) new (mid, after, rest) order = worlds_order base mid events new rest (after_order base world first.0 first.1 mid after order)
 
--- Whatever events come after the opening: no more is told than was applied, and no more is stored.
+-- Whatever events come after the opening: no more is acknowledged than was applied, and no more is stored.
 abbrev pub ToldWithinApplied : Type 0
 ToldWithinApplied = (base : State) (epoch opened : ℕ) (events : List (Event × Outcome)) (world : World) → Worlds base (first_world epoch opened) events world → (told world ≤ length world.applied) × (world.stored ≤ length world.applied)
 
--- And what is told is stored: each reply that was given saw stored records alone.
+-- And what is acknowledged is stored: each reply that was given saw only stored records.
 abbrev pub ToldIsStored : Type 0
 ToldIsStored = (base : State) (epoch opened : ℕ) (events : List (Event × Outcome)) (world : World) → Worlds base (first_world epoch opened) events world → told world ≡ world.stored
 

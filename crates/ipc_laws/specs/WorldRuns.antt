@@ -1,5 +1,5 @@
--- Whatever events come: what was applied is a run of the machine, tickets keep the replies of its steps, rows hold no more
--- than they may, and behind a fault of the device nothing is stored or told any more.
+-- Whatever events come: what was applied is a run of the machine, tickets keep the replies of its steps, epoch logs
+-- hold no more than they may, and after a fault of the device nothing more is stored or acknowledged.
 use Rattle.std.specs.Prelude.{◌≡◌, ◌⊎◌, ℕ, zero, suc, ◌+◌, ◌-◌, ◌<◌, ◌≤◌, Bool, true, false, ◌&&◌, List, [], ◌∷◌, ◌++◌, length, take, Option, None, Some, slice_get, if◌then◌else◌, refl}
 use Rattle.std.proofs.Common.{inl, inr, sym, ◌∙◌, ap, subst, arith, length-append}
 use Rattle.std.proofs.lemmas.List.{append-nil, take_all, take_at, take-append-le}
@@ -14,8 +14,8 @@ use Rattle.ipc_model.specs.world.World.{Event, Outcome, Ticket, Batch, Receipt, 
 use Rattle.ipc_laws.specs.RunLaws.{run-push}
 use Rattle.ipc_laws.specs.WorldLaws.{told_is_stored}
 
--- An event that gives no ticket changes no record that was applied, makes the row no longer, and at most notes that a
--- ticket's reply was given.
+-- An event that gives no ticket changes no record that was applied, makes the epoch log no longer, and at most marks
+-- that a ticket's reply was given.
 pub record Unchanged (old new : World) : Type 0 where
   pub applied : new.applied ≡ old.applied
   pub tickets : (new.tickets ≡ old.tickets) ⊎ ((n : ℕ) × (new.tickets ≡ with_answered old.tickets n))
@@ -78,7 +78,7 @@ changes base world event (store fault.failed) new after = inr (subst (Unchanged 
 changes base world event not_now new after = inr (subst (Unchanged world) (sym after.2) (same world))
 changes base world event outcome new after = changes_possible base world event outcome new after.2
 
--- What is kept by each event is kept by all.
+-- What each event keeps, all events keep.
 abbrev IsKept : State → (World → Type 0) → Type 0
 IsKept base P = (world new : World) → IsGiven base world new ⊎ Unchanged world new → P world → P new
 
@@ -99,8 +99,8 @@ keeps_run : (base : State) → IsKept base (HasRun base)
 keeps_run base world new (inl gives) holds = subst (HasRun base) (sym gives.after) (run_given base world.applied gives.space gives.call gives.answer (has_record gives.call gives.answer) gives.may.0)
 keeps_run base world new (inr is) holds = (holds.0, subst (λ (l : List Record). Run base l holds.0) (sym is.applied) holds.1)
 
--- A ticket's reply is that of a step from the state after a beginning of the records; what it saw is this beginning, and
--- behind it the call's own record, where it has one.
+-- A ticket's reply is that of a step from the state after a prefix of the records. What it saw is this prefix, and then
+-- the call's own record, if it has one.
 pub record IsOfStep (base : State) (applied : List Record) (ticket : Ticket) : Type 0 where
   pub space : ℕ
   pub call : Call
@@ -167,7 +167,7 @@ keeps_tickets base world new (inr is) holds =
       | inr (n, answered) ↦ subst (EachOfStep base world.applied) (sym answered) (each_answered base world.applied world.tickets n holds)
     ])
 
--- a row holds no more than it may
+-- an epoch log holds no more than it may
 abbrev RowFits : World → Type 0
 RowFits world = row_length world ≤ MAX_RECORDS
 
@@ -189,7 +189,7 @@ AppliedIsRun = (base : State) (epoch opened : ℕ) (events : List (Event × Outc
 pub applied_is_run : AppliedIsRun
 applied_is_run base epoch opened events world worlds = always base (HasRun base) (keeps_run base) (first_world epoch opened) events world worlds (base, refl)
 
--- Each ticket keeps the reply of a step, and saw that step's beginning of the records.
+-- Each ticket keeps the reply of a step, and saw the records up to that step.
 abbrev pub TicketsAreSteps : Type 0
 TicketsAreSteps = (base : State) (epoch opened : ℕ) (events : List (Event × Outcome)) (world : World) → Worlds base (first_world epoch opened) events world
     → (n : ℕ) (ticket : Ticket) → slice_get world.tickets n ≡ Some ticket → IsOfStep base world.applied ticket
@@ -198,14 +198,14 @@ pub tickets_are_steps : TicketsAreSteps
 tickets_are_steps base epoch opened events world worlds n ticket is =
     each_at base world.applied world.tickets n ticket is (always base (λ w. EachOfStep base w.applied w.tickets) (keeps_tickets base) (first_world epoch opened) events world worlds tt)
 
--- No row outgrows its segment.
+-- No epoch log outgrows its segment.
 abbrev pub RowsFit : Type 0
 RowsFit = (base : State) (epoch opened : ℕ) (events : List (Event × Outcome)) (world : World) → opened ≤ MAX_RECORDS → Worlds base (first_world epoch opened) events world → row_length world ≤ MAX_RECORDS
 
 pub rows_fit : RowsFit
 rows_fit base epoch opened events world few worlds = always base RowFits (keeps_row base) (first_world epoch opened) events world worlds (omega (arith, few))
 
--- Behind a fault of the device: the store has failed, and so many records are stored.
+-- After a fault of the device: the store has failed, and this many records are stored.
 pub record IsStuck (n : ℕ) (world : World) : Type 0 where
   pub failed : world.failed ≡ true
   pub stored : world.stored ≡ n
@@ -249,7 +249,7 @@ worlds_joined : (base : State) (world mid new : World) (events more : List (Even
 worlds_joined base world mid new [] more worlds later = subst (λ (w : World). Worlds base w more new) worlds later
 worlds_joined base world mid new (first ∷ events) more worlds later = (worlds.0, worlds.1, worlds_joined base worlds.0 mid new events more worlds.2 later)
 
--- Once the device failed, nothing more is stored, and nothing newer is told.
+-- Once the device failed, nothing more is stored, and nothing newer is acknowledged.
 abbrev pub NothingNewIsTold : Type 0
 NothingNewIsTold = (base : State) (epoch opened : ℕ) (events more : List (Event × Outcome)) (world new : World) → Worlds base (first_world epoch opened) events world → world.failed ≡ true → Worlds base world more new
     → (told new ≡ told world) × (new.stored ≡ world.stored)

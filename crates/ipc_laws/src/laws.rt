@@ -25,8 +25,8 @@ ghost use Rattle.ipc_laws.specs.StepLaws.{OneEnd, OneNewState};
 ghost use Rattle.ipc_laws.specs.WorldLaws.{NotNowExactly, ToldIsStored, ToldWithinApplied};
 ghost use Rattle.ipc_laws.specs.WorldRuns.{AppliedIsRun, NothingNewIsTold, RowsFit, TicketsAreSteps};
 
-/// A reply shows each choice that the machine made: from a lawful state, a call of a task that is answered so
-/// leaves one state, sends and receipts too.
+/// A reply shows each choice that the machine made: from a lawful state, a task's call with a given reply leaves one
+/// state. That includes sends and receives.
 pub fn one_new_state()
     ensures { OneNewState }
 {}
@@ -46,66 +46,65 @@ pub fn one_end()
     ensures { OneEnd }
 {}
 
-/// A step changes no name of a space that its caller isn't in, save that names of ports that die become dead
-/// names, and requests whose target's port dies go.
+/// A step changes no name of a space that its caller isn't in, except that names of ports that die become dead names,
+/// and requests whose target's port dies are removed.
 pub fn others_fade()
     ensures { OthersFade }
 {}
 
-/// A space comes by number 20 alone, and its reply names the one.
+/// Only number 20 makes a space, and its reply names that space.
 pub fn spaces_are_made()
     ensures { SpacesAreMade }
 {}
 
-/// A state is lawful exactly where it is lawful with no effects left.
+/// A state is lawful exactly if it is lawful with no effects left.
 pub fn lawful_is_at_rest()
     ensures { LawfulIsAtRest }
 {}
 
-/// The opening state is lawful and grounded.
+/// The opening state is lawful and acyclic.
 pub fn opening_is_lawful()
     ensures { OpeningIsLawful }
 {}
 
-/// Each effect keeps a state lawful, where the rights that wait among the effects count as placed: each live port
-/// keeps its one receive right, and no right is left to a dead one.
+/// Each effect keeps a state lawful, if the rights that wait among the effects count as placed: each live port keeps
+/// its one receive right, and no right to a dead port is left.
 pub fn effects_keep_lawful()
     ensures { EffectsKeepLawful }
 {}
 
-/// A receive right can't be put into a queue from which hops, each to the port whose queue holds the receive right of the one
-/// before, lead up to its port; into each other queue it can.
+/// A receive right can't be put into a queue from which hops, each to the port whose queue holds the receive right of
+/// the one before, lead up to its port; into any other queue it can.
 pub fn circles_lead_up()
     ensures { CirclesLeadUp }
 {}
 
-/// Each effect keeps a lawful state grounded: no ports come to carry one another in a circle.
+/// Each effect keeps a lawful state acyclic: no ports come to carry one another in a cycle.
 pub fn effects_keep_grounded()
     ensures { EffectsKeepGrounded }
 {}
 
-/// So what effects settle in is lawful and grounded.
+/// So the state in which effects settle is lawful and acyclic.
 pub fn settled_is_lawful()
     ensures { SettledIsLawful }
 {}
 
-/// A change of a space's names keeps a state lawful with its effects, where rights only move between names and
-/// effects.
+/// A change of a space's names keeps a state lawful with its effects, if rights only move between names and effects.
 pub fn names_move_lawfully()
     ensures { NamesMoveLawfully }
 {}
 
-/// A change of what a live port keeps beside its rights keeps a state lawful with its effects, and grounded.
+/// A change of what a live port has besides its rights keeps a state lawful with its effects, and acyclic.
 pub fn port_moves_lawfully()
     ensures { PortMovesLawfully }
 {}
 
-/// Every step keeps a state lawful and grounded, sends and receipts too.
+/// Every step keeps a state lawful and acyclic, including sends and receives.
 pub fn steps_keep_lawful()
     ensures { StepsKeepLawful }
 {}
 
-/// So every run of records from a lawful and grounded state ends in one.
+/// So every run of records from a lawful and acyclic state ends in one.
 pub fn runs_keep_lawful()
     ensures { RunsKeepLawful }
 {}
@@ -115,12 +114,12 @@ pub fn one_run()
     ensures { OneRun }
 {}
 
-/// The items that are found in a body of bytes tile it: their texts joined are the body.
+/// The items that are found in a body of bytes tile it: their encodings joined are the body.
 pub fn items_tile_bodies()
     ensures { ItemsTileBodies }
 {}
 
-/// Items that tile a body of bytes are those that are found in it: it is answered by a code exactly where none tile it.
+/// Items that tile a body of bytes are those that are found in it: the answer is a code exactly if none tile it.
 pub fn tiled_bodies_have_items()
     ensures { TiledBodiesHaveItems }
 {}
@@ -146,45 +145,45 @@ pub fn recorded_sends_are_done()
     ensures { RecordedSendsAreDone }
 {}
 
-/// A receipt that has a record, from a lawful state, tells a name of its space and a size that messages have: it brings a
-/// message of this size within its limit, or destroyed one above it and brings nothing.
+/// A receive that has a record, from a lawful state, shows a name of its space and a size that messages have: it
+/// returns a message of this size within its limit, or it destroyed one above the limit and returns nothing.
 pub fn recorded_receipts_are_done()
     ensures { RecordedReceiptsAreDone }
 {}
 
-/// What is kept of a step that has a record, from a lawful state, is a record that a segment may hold: no other text is
-/// that of a step.
+/// What is kept of a step that has a record, from a lawful state, is a record that a segment may hold: no other
+/// encoding is that of a step.
 pub fn recorded_steps_are_records()
     ensures { RecordedStepsAreRecords }
 {}
 
-/// A record has one text: what begins with the texts of two records begins with one record, of one number.
+/// A record has one encoding: if the encodings of two records begin the same bytes, it is one record, with one number.
 pub fn record_once()
     ensures { RecordsHaveOneText }
 {}
 
-/// An image has one text, of states whose numbers fit it: what begins with the texts of two states begins with one
-/// state.
+/// An image has one encoding, of states whose numbers fit it: if the encodings of two states begin the same bytes, it
+/// is one state.
 pub fn image_once()
     ensures { ImagesHaveOneText }
 {}
 
-/// An image can spell every lawful state whose queues hold fewer than 2^32 messages.
+/// An image can encode every lawful state whose queues hold fewer than 2^32 messages.
 pub fn lawful_is_spellable()
     ensures { LawfulIsSpellable }
 {}
 
-/// The slots of a store spell at most one base with one list of records.
+/// The slots of a store encode at most one base with one list of records.
 pub fn spells_once()
     ensures { SpellsOnce }
 {}
 
-/// One state at most is recovered from the slots of a store.
+/// At most one state is recovered from the slots of a store.
 pub fn recovers_once()
     ensures { RecoversOnce }
 {}
 
-/// A state that is recovered is lawful and grounded.
+/// A state that is recovered is lawful and acyclic.
 pub fn recovers_lawful()
     ensures { RecoversLawful }
 {}
@@ -194,49 +193,50 @@ pub fn recovers_version_one()
     ensures { RecoversVersionOne }
 {}
 
-/// Whatever events come after an opening, no more is told than was applied, and no more is stored.
+/// Whatever events come after an opening, no more is acknowledged than was applied, and no more is stored.
 pub fn told_within_applied()
     ensures { ToldWithinApplied }
 {}
 
-/// And what is told is stored: each reply that was given saw stored records alone.
+/// And what is acknowledged is stored: each reply that was given saw only stored records.
 pub fn told_is_stored()
     ensures { ToldIsStored }
 {}
 
-/// Where the device hasn't failed, an event answers "not now" exactly where it isn't possible.
+/// If the device hasn't failed, an event answers "not now" exactly if it isn't possible.
 pub fn not_now_exactly()
     ensures { NotNowExactly }
 {}
 
-/// What was applied is a run of the machine from the state that the opening gave.
+/// What was applied is a run of the machine from the state that the opening returned.
 pub fn applied_is_run()
     ensures { AppliedIsRun }
 {}
 
-/// Each ticket keeps the reply of a step from the state after a beginning of what was applied; it saw this beginning, and
-/// the call's own record behind it.
+/// Each ticket keeps the reply of a step from the state after a prefix of what was applied; it saw this prefix, and the
+/// call's own record after it.
 pub fn tickets_are_steps()
     ensures { TicketsAreSteps }
 {}
 
-/// No epoch's row outgrows its segment, where the row that was opened didn't.
+/// No epoch log outgrows its segment, if the log that was opened didn't.
 pub fn rows_fit()
     ensures { RowsFit }
 {}
 
-/// Once the device failed, nothing more is stored, and nothing newer is told.
+/// Once the device has failed, nothing more is stored, and nothing newer is acknowledged.
 pub fn nothing_new_is_told()
     ensures { NothingNewIsTold }
 {}
 
-/// A legal session has seen a beginning of its history, was told within what it saw, and its places rise among the records
-/// that it saw.
+/// A legal session has seen a prefix of its history, no more was acknowledged to it than it saw, and its places ascend
+/// among the records that it saw.
 pub fn legal_is_in_order()
     ensures { LegalIsInOrder }
 {}
 
-/// A session reads its own writes: each answer is from a state behind all its records and all that it was told of.
+/// A session reads its own writes: each answer is from a state after all its records and all that was acknowledged to
+/// it.
 pub fn reads_own_writes()
     ensures { ReadsOwnWrites }
 {}
@@ -251,12 +251,12 @@ pub fn legal_stays_legal()
     ensures { LegalStaysLegal }
 {}
 
-/// Two legal sessions of one history are legal where they have met.
+/// Two legal sessions of one history are legal after they have met.
 pub fn meeting_is_legal()
     ensures { MeetingIsLegal }
 {}
 
-/// Where the sessions are all that there were, each record of a legal history stands at a place of one of them.
+/// If the sessions are all that there were, each record of a legal history stands at a place of one of them.
 pub fn records_are_owned()
     ensures { RecordsAreOwned }
 {}

@@ -1,4 +1,4 @@
-//! What follows from the written definition of the machine.
+//! What follows from the abstract specification.
 #![tactic(auto)]
 
 mod laws;

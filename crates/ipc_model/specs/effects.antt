@@ -1,2 +1,2 @@
--- What rights that go set off.
+-- What is set off when rights go.
 pub mod Effects

@@ -1,4 +1,4 @@
--- Messages and their items in bytes, notices, sends and receipts.
+-- Messages and their items in bytes, notices, sends and receives.
 pub mod Items
 pub mod Kept
 pub mod Messages

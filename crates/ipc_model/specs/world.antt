@@ -1,2 +1,2 @@
--- Lists of events, and what was told, stored and applied.
+-- Lists of events, and what was acknowledged, stored and applied.
 pub mod World

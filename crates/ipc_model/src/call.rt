@@ -12,7 +12,7 @@ use std::alloc::Global;
 /// A call of a task. Arguments are kept as they were sent, whether they are allowed or not.
 #[derive(Drop)]
 pub enum Call {
-    /// Number 0: the task goes on in this space.
+    /// Number 0: the task moves to this space.
     Attach {
         space: u32,
     },
@@ -108,13 +108,13 @@ pub enum Call {
     },
     /// `mach_msg` with the option to receive, number 19.
     Receive {
-        /// The greatest size that is taken.
+        /// The greatest size that is accepted.
         limit: u32,
         /// Whether a message that is too large stays queued (`MACH_RCV_LARGE`).
         large: bool,
         /// The name of a receive right or of a port set.
         name: u32,
-        /// Whether this attempt followed a wait.
+        /// Whether this attempt came after a wait.
         waited: bool,
     },
     /// Number 20: makes a space whose one name holds a right copied in from the caller's.
@@ -161,7 +161,7 @@ impl Call {
         }
     }
 
-    /// The space that a task of this space is attached to once the call is done.
+    /// The space that a task of this space is attached to after the call.
     pub fn attached_by(&self, space: u32) -> u32
         ensures { result ≡ attached_by space self.now }
     {
@@ -171,14 +171,14 @@ impl Call {
         }
     }
 
-    /// Whether the call, answered so, has a record: it may have changed the state.
+    /// Whether the call has a record if it is answered by this reply: it may have changed the state.
     pub fn has_record(&self, reply: &Reply) -> bool
         ensures { result ≡ has_record self.now reply.now }
     {
         self.is_recorded() && (self.succeeded(reply) || self.destroyed_message(reply))
     }
 
-    /// Whether a call of this number can have a record.
+    /// Whether a call with this number can have a record.
     pub fn is_recorded(&self) -> bool
         ensures { result ≡ is_recorded self.now }
     {
@@ -218,7 +218,7 @@ pub struct NamedType {
     pub bits: u32,
 }
 
-/// What number 13 tells of a port (`mach_port_status_t`).
+/// What number 13 reports of a port (`mach_port_status_t`).
 #[derive(Clone, Copy, PartialEq, Eq)]
 pub struct ReceiveStatus {
     /// The name of the set that it is a member of, 0 for none.
@@ -236,19 +236,19 @@ pub struct ReceiveStatus {
     pub has_no_senders_request: bool,
 }
 
-/// What a call answered. It shows each choice that the machine made.
+/// The answer to a call. It shows each choice that the machine made.
 #[derive(Drop)]
 pub enum Reply {
-    /// The call of this number was refused, and changed nothing.
+    /// The call with this number was refused, and changed nothing.
     Refused {
         number: u32,
         code: KernReturn,
     },
-    /// The call of this number was done, and has no results.
+    /// The call with this number was done, and has no results.
     Done {
         number: u32,
     },
-    /// The names of a space, rising, with their type bits.
+    /// The names of a space in ascending order, with their type bits.
     Names {
         names: Sequence<NamedType>,
     },
@@ -260,7 +260,7 @@ pub enum Reply {
     Allocate {
         name: u32,
     },
-    /// User references of the right.
+    /// The user references of the right.
     References {
         count: u32,
     },
@@ -268,7 +268,7 @@ pub enum Reply {
     ReceiveStatus {
         status: ReceiveStatus,
     },
-    /// The names of a set's members, rising.
+    /// The names of a set's members, in ascending order.
     SetStatus {
         members: Sequence<u32>,
     },
@@ -281,8 +281,8 @@ pub enum Reply {
         name: u32,
         kind: RightKind,
     },
-    /// What `mach_msg` answered: the size and the port's name of a message that was received or is too large,
-    /// else 0, and the received message.
+    /// The answer of `mach_msg`: for a message that was received or is too large, its size and the name of its port,
+    /// else 0 for both; and the received message.
     Message {
         code: KernReturn,
         size: u32,
@@ -303,7 +303,7 @@ impl Reply {
     ghost use Rattle.ipc_model.specs.calls.Refusals.{refused_of};
     ghost use Rattle.ipc_model.specs.calls.Step.{succeeded};
 
-    /// What `mach_msg` answers that received no message. It takes no memory.
+    /// The answer of a `mach_msg` that received no message. It takes no memory.
     pub fn without_message(alloc: Global, code: KernReturn, size: u32, member: u32) -> Self
         ensures { result ≡ without_message code size member }
     {
@@ -315,7 +315,7 @@ impl Reply {
         }
     }
 
-    /// The reply that refuses the call of a number. It takes no memory.
+    /// The reply that refuses the call with this number. It takes no memory.
     pub fn refused(alloc: Global, number: u32, code: KernReturn) -> Self
         ensures { result ≡ refused_of number code }
     {
@@ -326,7 +326,7 @@ impl Reply {
         }
     }
 
-    /// Whether the call was done: its code is 0.
+    /// Whether the call was done, which is code 0.
     pub fn is_success(&self) -> bool
         ensures { (call : Call) → result ≡ succeeded call self.now }
     {

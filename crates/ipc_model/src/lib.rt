@@ -1,4 +1,4 @@
-//! The written definition of the machine: its states, its calls, and what each call may answer.
+//! The abstract specification of the machine: its states, its calls, and what each call may answer.
 #![tactic(auto)]
 
 mod call;

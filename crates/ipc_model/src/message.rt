@@ -23,7 +23,7 @@ impl RightKind {
         self as u32
     }
 
-    /// The kind of a number, if it is one.
+    /// The kind with this number, if there is one.
     pub fn from_number(number: u32) -> Option<Self>
         ensures found { IfSome result (λ kind. number_of_kind kind ≡ number) }
         ensures only { (kind : RightKind) → number_of_kind kind ≡ number → result ≡ Some kind }
@@ -58,16 +58,16 @@ pub struct CarriedRight {
 /// A message in a port's queue.
 #[derive(Drop)]
 pub struct Message {
-    /// The right that it was sent by: a send right or a send-once right of the port whose queue it is in.
+    /// The right by which it was sent: a send or send-once right of the port whose queue it is in.
     pub destination: RightKind,
-    /// The right to reply by, if the header names one.
+    /// The right for the reply, if the header names one.
     pub reply: Option<CarriedRight>,
     /// The message id.
     pub id: u32,
-    /// Whether the body has an item of ports (`MACH_MSGH_BITS_COMPLEX`).
+    /// Whether the body has an item with ports (`MACH_MSGH_BITS_COMPLEX`).
     pub complex: bool,
     /// The rights of the body's ports, in their order.
     pub rights: Sequence<CarriedRight>,
-    /// The body's bytes. Descriptors of ports have the types as received, and 0 stands in a port's place.
+    /// The body's bytes. Descriptors of ports have the types as received, and 0 stands in place of each port.
     pub body: Sequence<u8>,
 }

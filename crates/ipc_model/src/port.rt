@@ -1,9 +1,9 @@
 use crate::{Message, Sequence};
 
-/// What a live port keeps beside its rights.
+/// What a live port has besides its rights.
 #[derive(Drop)]
 pub struct PortState {
-    /// How many messages its queue holds at most, for sends that the limit stops.
+    /// How many messages its queue holds at most, for sends that the limit applies to.
     pub limit: u32,
     /// The sequence number that the next message received from it gets.
     pub sequence_number: u32,

@@ -70,7 +70,7 @@ pub fn reply_in_range(call: &Call, reply: &Reply)
 {
     let _ = call;
     match reply {
-        // Calls that answer so have no records.
+        // Calls with these answers have no records.
         Reply::Refused { .. }
         | Reply::Names { .. }
         | Reply::Type { .. }

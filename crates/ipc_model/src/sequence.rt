@@ -1,6 +1,6 @@
 use std::marker::Model;
 
-/// A row of items. Contracts see it as the list of them. It is made of a `Vec` and gives it back, and neither
+/// A sequence of items, which contracts see as a list. It is made from a `Vec` and can be turned back into one; neither
 /// takes memory.
 #[derive(Drop)]
 pub struct Sequence<T> {
@@ -21,7 +21,7 @@ impl<T> Model for Sequence<T> {
 impl<T> Sequence<T> {
     ghost use Rattle.std.specs.Prelude.{◌≡◌};
 
-    /// A row of a vector's items.
+    /// A sequence of a vector's items.
     pub fn new(items: Vec<T>) -> Self
         ensures { result ≡ items.items }
     {

@@ -1,4 +1,4 @@
--- How worked examples are computed: what the maps of a written state hold.
+-- How worked examples are computed: what the maps of a state hold that is written out.
 use Rattle.std.specs.Prelude.{◌≡◌, ℕ, Bool, false, if◌then◌else◌, List, [], ◌∷◌, ◌++◌, Option, None, Some, option_map, option_and_then, refl}
 use Rattle.std.proofs.Common.{sym, ◌∙◌, ap, subst}
 use Rattle.std.specs.FinMap as finmap
@@ -35,11 +35,11 @@ take_one space name d names start taken named copied =
     let add : Option Taken → Option TakenRights = option_map (λ (next : Taken). record { rights = start.rights ++ next.right ∷ []; state = next.state; notices = start.notices ++ next.notices }) in
     ap (λ (b : Bool). later (if b then passed_on else add (copy_in start.state space name d))) named ∙ ap (λ (o : Option Taken). later (add o)) copied
 
--- an effect adds these to the list, which is then worked off
+-- an effect adds these to the list, which is then drained
 pub settles_adding : {state end : State} {first : Effect} {rest : List Effect} (added : List Effect) → (effect state first).1 ≡ added → Settles (effect state first).0 (rest ++ added) end → Settles state (first ∷ rest) end
 settles_adding {state} {end} {first} {rest} added is later = next_effect (subst (λ (l : List Effect). Settles (effect state first).0 (rest ++ l) end) (sym is) later)
 
--- and what is asked of such a state, or changed in it
+-- and what examples ask of such a state, or change in it
 pub ruleset state_rules = (entry_at, with_names, with_changed, with_entry, without_name, with_port, lives, ports_are_used_up, name_of_port, is_member, members_of)
 
 pub ruleset call_rules = (names_in, is_in_some_set, name_is, is_in_use, is_no_name, references_under, stands_elsewhere, port_calls.names_are_used_up, with_left, moved_port, taken_leaving, request_set_under, lacks_senders, make_send_count_of, port_request_set)

@@ -1,4 +1,4 @@
--- The parts of which the states of worked examples are written.
+-- The parts from which the states of worked examples are made.
 use Rattle.std.specs.Prelude.{ℕ, Bool, true, false, List, [], ◌∷◌, length, Option, None, Some, option_map}
 use Rattle.std.specs.FinMap as finmap
 use Rattle.ipc_model.specs.declared.entry.Entry.{Entry}
@@ -19,7 +19,7 @@ rights_to serial receive send = Port (record { port = serial; receive = receive;
 abbrev pub names_of : List (ℕ × Entry) → Names
 names_of entries = finmap.from_entries entries
 
--- a state of space 1 alone, in which the next port gets serial 10
+-- a state with only space 1, in which the next port gets serial 10
 abbrev pub in_space_1 : List (ℕ × Entry) → List (ℕ × PortState) → State
 in_space_1 entries ports = record { spaces = finmap.insert finmap.empty 1 (names_of entries); ports = finmap.from_entries ports; next = 10 }
 

@@ -31,7 +31,7 @@ pub extract-once : Step alone 1 (call.ExtractRight 0x100 21) (reply.Extracted 0x
 unfolding Step Done tests_of copy_in
 extract-once = (once_made, [], simp rows (0x101, refl, (record { least = omega arith; below_dead = omega arith; free = simp map_rules }, refl, refl)), settled)
 
--- A copied send right comes out under the name of its port, as a reference more.
+-- A copied send right comes out under the name of its port, as one more reference.
 abbrev pub three_references : List (ℕ × Entry)
 three_references = (0x300, rights_to 1 true 3) ∷ []
 
@@ -45,7 +45,7 @@ pub extract-send : Step with_three 1 (call.ExtractRight 0x300 19) (reply.Extract
 unfolding Step Done tests_of copy_in
 extract-send = (with_four, [], simp rows (0x300, refl, (refl, refl, refl)), settled)
 
--- The receive right goes: the name is left with the references, and dead.
+-- The receive right goes: the name is left with the references, as a dead name.
 abbrev pub four_references : List (ℕ × Entry)
 four_references = (0x300, rights_to 1 true 4) ∷ []
 
@@ -67,7 +67,7 @@ gone-died = simp rows
 pub gone-dead : entry_at (effect receive_gone (release kind.Receive 1)).0 1 0x300 ≡ Some (Dead 4)
 gone-dead = ap (λ (s : State). entry_at s 1 0x300) gone-died ∙ entry-after_death receive_gone 1 1 0x300 ∙ simp rows
 
--- A port becomes a set's member.
+-- A port becomes a member of a set.
 abbrev pub port_and_set : State
 port_and_set = in_space_1 ((0x100, rights_to 1 true 0) ∷ (0x101, Set) ∷ []) ((1, new_port) ∷ [])
 

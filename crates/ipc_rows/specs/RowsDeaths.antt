@@ -38,7 +38,7 @@ pub own_way-not_queued : message_count (sent (record { message = carrying 1; por
 unfolding sent is_circular
 own_way-not_queued = simp rows
 
--- the name holds a send right yet, and so nothing follows the destination's release
+-- the name still holds a send right, so nothing follows the destination's release
 pub own_way-first : effect own_way (release kind.Send 1) ≡ (own_way, [])
 unfolding effect placed
 own_way-first = simp rows
@@ -98,7 +98,8 @@ pub two_ways-third_port : finmap.get (effect one_way (release kind.Receive 1)).0
 unfolding effect
 two_ways-third_port = simp rows
 
--- Port 2 is to be told of at port 3 when it would be destroyed. Its receive right waits in the queue of port 1, which dies.
+-- Port 2 has a port-destroyed request, whose target is port 3. Its receive right waits in the queue of port 1, which
+-- dies.
 abbrev pub told_of : PortState
 told_of = record new_port { port_destroyed_target = Some 3 }
 
@@ -133,14 +134,14 @@ pub itself-dead : finmap.get (effect tells_itself (release kind.Receive 1)).0.po
 unfolding effect is_circular
 itself-dead = simp rows
 
--- A name with a send reference and a dead-name request, which tells port 2.
+-- A name with a send reference and a dead-name request, whose target is port 2.
 abbrev pub watched : Entry
 watched = Port (record { port = 1; receive = false; send = 1; dead_name_target = Some 2 })
 
 abbrev pub watching : State
 watching = in_space_1 ((0x100, watched) ∷ []) ((1, new_port) ∷ (2, new_port) ∷ [])
 
--- its port dies: a notice, and a reference more
+-- its port dies: a notice, and one more reference
 pub watched-notice : (effect watching (release kind.Receive 1)).1 ≡ notify 2 (notice.DeadName 0x100) ∷ []
 unfolding effect
 watched-notice = simp rows
@@ -160,7 +161,7 @@ pub watched-queued : queue_of (effect watching (notify 2 (notice.DeadName 0x100)
 unfolding effect
 watched-queued = simp rows
 
--- the name is deallocated before: another notice, and the name is in use no more
+-- the name is deallocated before: another notice, and the name is no longer in use
 abbrev pub watched_deallocated : Action
 watched_deallocated = deallocated watching 1 (names_of ((0x100, watched) ∷ [])) 0x100 watched
 
@@ -173,7 +174,7 @@ watched-unused = simp rows
 pub watched-deleted_received : received_text (notice_message (notice.PortDeleted 0x100)) 0x101 0 [] ≡ 0 ∷ 18 ∷ 0 ∷ 0 ∷ 32 ∷ 0 ∷ 0 ∷ 0 ∷ 0 ∷ 0 ∷ 0 ∷ 0 ∷ 1 ∷ 1 ∷ 0 ∷ 0 ∷ 0 ∷ 0 ∷ 0 ∷ 0 ∷ 65 ∷ 0 ∷ 0 ∷ 0 ∷ 15 ∷ 32 ∷ 1 ∷ 16 ∷ 0 ∷ 1 ∷ 0 ∷ 0 ∷ []
 watched-deleted_received = refl
 
--- The target may be the port that dies: a reference more all the same, and the notice is dropped.
+-- The target may be the port that dies: there is one more reference all the same, and the notice is dropped.
 abbrev pub watched_by_itself : Entry
 watched_by_itself = Port (record { port = 1; receive = false; send = 1; dead_name_target = Some 1 })
 
@@ -203,7 +204,8 @@ watching_2-died = simp rows
 pub target-gone : entry_at (effect watching (release kind.Receive 2)).0 1 0x100 ≡ Some (rights_to 1 false 1)
 target-gone = ap (λ s. entry_at s 1 0x100) watching_2-died ∙ entry-after_death watching 2 1 0x100 ∙ simp rows
 
--- A new port from which no send right was made yet: a no-senders request of one that was is kept, and of any is answered at once.
+-- A new port from which no send right was made yet: a no-senders request with sync 1 is kept, and one with sync 0 is
+-- answered at once.
 abbrev pub new_one : State
 new_one = in_space_1 ((0x100, rights_to 1 true 0) ∷ []) ((1, new_port) ∷ [])
 
@@ -219,7 +221,7 @@ pub no_senders-at_once : (port_request_set new_one 70 0 1 (Some 1)).1 ≡ notify
 unfolding placed
 no_senders-at_once = simp rows
 
--- and then none is kept, also where one was
+-- and then none is kept, even where there was one
 abbrev pub asked : PortState
 asked = record new_port { no_senders_target = Some 2 }
 
@@ -291,7 +293,7 @@ pub once-counted_after : send_once_count (without_oldest once_waits 1) 1 ≡ 0
 unfolding placed
 once-counted_after = simp rows
 
--- the receive right goes while a send-once right stands: a dead name of one reference, and no notice
+-- the receive right goes while there is a send-once right: a dead name with one reference, and no notice
 pub once-port_gone : (modified unused 1 (names_of ((0x100, rights_to 1 true 0) ∷ (0x101, SendOnce 1 None) ∷ [])) 0x100 (rights_to 1 true 0) 1 minus_one).effects ≡ release kind.Receive 1 ∷ []
 once-port_gone = refl
 

@@ -30,14 +30,14 @@ two_records = allocated_name 0x100 ∷ allocated_name 0x101 ∷ []
 abbrev pub new_session : Session
 new_session = record { space = 1; seen = 0; told = 0; tickets = []; places = [] }
 
--- The first session allocates, asks for the type of the other's name, and is told.
+-- The first session allocates, asks for the type of the other's name, and gets the reply.
 abbrev pub first_operations : List Operation
 first_operations = called allocation (reply.Allocate 0x100) ∷ called (call.Type 0x101) (reply.Type 0x20000) ∷ redeemed 2 ∷ []
 
 abbrev pub first_session : Session
 first_session = record { space = 1; seen = 2; told = 2; tickets = 1 ∷ 2 ∷ []; places = 0 ∷ [] }
 
--- The other allocates, and isn't told.
+-- The other allocates, and gets no reply.
 abbrev pub other_operations : List Operation
 other_operations = called allocation (reply.Allocate 0x101) ∷ []
 
@@ -87,7 +87,7 @@ other-legal = record {
 abbrev pub both : Sessions
 both = (first_operations, first_session) ∷ (other_operations, other_session) ∷ []
 
--- two different places are apart
+-- two different places are different numbers
 apart-two : (i j : ℕ) (d : ℕ) → i < j → j < 2 → slice_index_or (0 ∷ 1 ∷ []) i d ≢ slice_index_or (0 ∷ 1 ∷ []) j d
 apart-two zero zero d below end = absurd (omega (arith, below))
 apart-two zero (suc zero) d below end = λ (e : 0 ≡ 1). absurd (omega (arith, e))
@@ -101,7 +101,7 @@ both-legal = record { end = two_allocated; run = two_records-run; legal = (first
 pub both-all : AreAll two_records (first_session ∷ other_session ∷ [])
 both-all = refl
 
--- where one has seen less, the two have seen the same once they met
+-- if one has seen less, the two have seen the same once they have met
 abbrev pub sees_one : Session
 sees_one = record { space = 1; seen = 1; told = 0; tickets = 1 ∷ []; places = 0 ∷ [] }
 
@@ -111,7 +111,7 @@ both-meet = record { one_sees = refl; other_sees = refl; apart = apart-two }
 pub same_place-no_meeting : (one other : Session) → Meet first_session sees_one one other → ⊥
 same_place-no_meeting one other meet = meet.apart 0 1 0 (omega arith) (omega arith) refl
 
--- a task that attaches itself is in that space from then on, where it is done
+-- a task that attaches itself is in that space from then on, if the call is done
 pub attach-moves : (space_after 1 (call.Attach 2) (reply.Done 0) ≡ 2) × (space_after 1 (call.Attach 2) (reply.Refused 0 InvalidTask) ≡ 1)
 attach-moves = (refl, refl)
 
@@ -121,14 +121,14 @@ attach-moves = (refl, refl)
 pub one_place-twice : (operations others : List Operation) → IsLegalHistory opening_state two_records ((operations, first_session) ∷ (others, first_session) ∷ []) → ⊥
 one_place-twice operations others legal = legal.apart 0 1 0 (omega arith) (omega arith) refl
 
--- a place before what was seen: the session was told another's reply that saw the record before it made the call
+-- a place before what was seen: before its call, the session was given another's reply that saw the record
 pub place-before : (session : Session) → Legal opening_state (allocated_name 0x100 ∷ []) (redeemed_for_another 1 ∷ called allocation (reply.Allocate 0x100) ∷ []) session → ⊥
 place-before session legal = elim legal.after.2.1.leads as (λ _. ⊥) [
   | inl at ↦ absurd (omega (arith, legal.after.1.leads.0, at.unseen, at.seen, legal.after.2.1.within))
   | inr is ↦ absurd (cc is.unrecorded)
 ]
 
--- a call with a record that stands nowhere
+-- a call whose record stands nowhere
 pub place-nowhere : (session : Session) → Legal opening_state [] (called allocation (reply.Allocate 0x100) ∷ []) session → ⊥
 place-nowhere session legal = elim legal.after.1.leads as (λ _. ⊥) [
   | inl at ↦ absurd (omega (arith, at.seen, legal.after.1.within))
@@ -147,7 +147,7 @@ no_answer session legal = elim legal.after.1.leads as (λ _. ⊥) [
       absurd (cc (unknown-refused (reply.Type 0x20000) is.state answered))
 ]
 
--- an answer from an older beginning: the session allocated the name itself, and is told that there is none
+-- an answer from an older prefix: the session allocated the name itself, and gets the reply that there is none
 known-acts : (answer : Reply) (acted : State) (effects : List Effect) → ActsFrom one_allocated 1 (finmap.get one_allocated.spaces 1) (call.Type 0x100) answer acted effects → answer ≡ reply.Type 0x20000
 unfolding Done tests_of
 known-acts answer acted effects = simp rows (λ (acts : _). acts.0)
@@ -192,7 +192,7 @@ older-was_legal = record {
   );
 }
 
--- told of more than there is
+-- more is acknowledged than there is
 pub told-too_much : (session : Session) → Legal opening_state [] (redeemed_for_another 1 ∷ []) session → ⊥
 told-too_much session legal = absurd (omega (arith, legal.after.1.leads.0, legal.after.1.within))
 
@@ -200,7 +200,8 @@ told-too_much session legal = absurd (omega (arith, legal.after.1.leads.0, legal
 pub redeemed-ungiven : (session : Session) → Legal opening_state (allocated_name 0x100 ∷ []) (redeemed 1 ∷ []) session → ⊥
 redeemed-ungiven session legal = absurd (cc (sym (ap (λ (tickets : List ℕ). list_any (eqb 1) tickets) legal.new.tickets) ∙ legal.after.1.leads.0))
 
--- a ticket that saw so many records is the session's own where a call of it was given one, and else another's
+-- a ticket that saw this many records is the session's own if one of its calls was given such a ticket, and else
+-- another's
 pub redeemed-own : (redemption first_session 2 ≡ redeemed 2) × (redemption first_session 0 ≡ redeemed_for_another 0)
 redeemed-own = (refl, refl)
 

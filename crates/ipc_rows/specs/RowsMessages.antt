@@ -39,7 +39,7 @@ pub hello-counted : send_count (one_port (hello ∷ [])) 1 ≡ 2
 unfolding placed
 hello-counted = simp rows
 
--- and holds it no more once it is taken out
+-- and no longer holds it once it is taken out
 pub hello-taken_out : send_count (without_oldest (one_port (hello ∷ [])) 1) 1 ≡ 1
 unfolding placed
 hello-taken_out = simp rows
@@ -71,7 +71,7 @@ pub size-uneven : ready_to_send (one_port []) 1 (19 ∷ 0 ∷ 0 ∷ 0 ∷ 26 ∷
 unfolding ready_to_send
 size-uneven = refl
 
--- a header alone is a message
+-- a header with no body is a message
 pub header-alone : ready_to_send (one_port []) 1 (19 ∷ 0 ∷ 0 ∷ 0 ∷ 24 ∷ 0 ∷ 0 ∷ 0 ∷ 0 ∷ 1 ∷ 0 ∷ 0 ∷ 0 ∷ 0 ∷ 0 ∷ 0 ∷ 0 ∷ 0 ∷ 0 ∷ 0 ∷ 7 ∷ 0 ∷ 0 ∷ 0 ∷ []) ≡ ready_at_1 (one_port []) (plain kind.Send 7 [])
 unfolding ready_to_send copy_in
 header-alone = simp rows
@@ -81,7 +81,7 @@ pub size-ignored : ready_to_send (one_port []) 1 (19 ∷ 0 ∷ 0 ∷ 0 ∷ 255 �
 unfolding ready_to_send copy_in
 size-ignored = simp rows
 
--- five characters want eight bytes with the padding, and there are four
+-- five characters need eight bytes with the padding, and there are four
 pub item-cut : ready_to_send (one_port []) 1 (19 ∷ 0 ∷ 0 ∷ 128 ∷ 32 ∷ 0 ∷ 0 ∷ 0 ∷ 0 ∷ 1 ∷ 0 ∷ 0 ∷ 0 ∷ 0 ∷ 0 ∷ 0 ∷ 0 ∷ 0 ∷ 0 ∷ 0 ∷ 7 ∷ 0 ∷ 0 ∷ 0 ∷ 8 ∷ 8 ∷ 5 ∷ 16 ∷ 0 ∷ 0 ∷ 0 ∷ 0 ∷ []) ≡ Err SendMsgTooSmall
 unfolding ready_to_send items_of
 item-cut = refl
@@ -91,7 +91,7 @@ pub item-padded : items_of (8 ∷ 8 ∷ 5 ∷ 16 ∷ 104 ∷ 101 ∷ 108 ∷ 108
 unfolding items_of
 item-padded = refl
 
--- a descriptor that wants more than there is; a long descriptor without its words; a long one whose word has fields
+-- a descriptor that asks for more than there is; a long descriptor without its words; a long one whose word has fields
 pub item-too_many : ready_to_send (one_port []) 1 (19 ∷ 0 ∷ 0 ∷ 128 ∷ 36 ∷ 0 ∷ 0 ∷ 0 ∷ 0 ∷ 1 ∷ 0 ∷ 0 ∷ 0 ∷ 0 ∷ 0 ∷ 0 ∷ 0 ∷ 0 ∷ 0 ∷ 0 ∷ 7 ∷ 0 ∷ 0 ∷ 0 ∷ 0 ∷ 0 ∷ 0 ∷ 48 ∷ 8 ∷ 0 ∷ 255 ∷ 255 ∷ 255 ∷ 255 ∷ 255 ∷ 255 ∷ []) ≡ Err SendMsgTooSmall
 unfolding ready_to_send items_of
 item-too_many = refl
@@ -104,12 +104,12 @@ pub item-long_fields : ready_to_send (one_port []) 1 (19 ∷ 0 ∷ 0 ∷ 128 ∷
 unfolding ready_to_send items_of
 item-long_fields = refl
 
--- a body that isn't said to be complex isn't looked at
+-- a body without the complex bit isn't looked at
 pub body-not_looked_at : ready_to_send (one_port []) 1 (19 ∷ 0 ∷ 0 ∷ 0 ∷ 28 ∷ 0 ∷ 0 ∷ 0 ∷ 0 ∷ 1 ∷ 0 ∷ 0 ∷ 0 ∷ 0 ∷ 0 ∷ 0 ∷ 0 ∷ 0 ∷ 0 ∷ 0 ∷ 7 ∷ 0 ∷ 0 ∷ 0 ∷ 0 ∷ 0 ∷ 0 ∷ 48 ∷ []) ≡ ready_at_1 (one_port []) (plain kind.Send 7 (0 ∷ 0 ∷ 0 ∷ 48 ∷ []))
 unfolding ready_to_send copy_in
 body-not_looked_at = simp rows
 
--- Three send rights to the port of 0x100, made in one message that goes to 0x101.
+-- Three send rights to the port of 0x100, made by one message that goes to 0x101.
 abbrev pub two_ports : State
 two_ports = in_space_1 ((0x100, rights_to 1 true 0) ∷ (0x101, rights_to 2 true 0) ∷ []) ((1, new_port) ∷ (2, new_port) ∷ [])
 
@@ -131,7 +131,7 @@ pub three-items : items_of (body_of three_as_sent) ≡ Ok ((record { type_name =
 unfolding items_of
 three-items = refl
 
--- each right is made of the receive right, which stays
+-- each right is made from the receive right, which stays
 pub three-one_made : copy_in two_ports 1 0x100 MakeSend ≡ Some (taken_keeping (with_port two_ports 1 (λ port. record port { make_send_count = 1 })) (live kind.Send 1))
 unfolding copy_in
 three-one_made = simp rows
@@ -210,7 +210,7 @@ once-name_gone = simp rows
 pub once-received : received_text (plain kind.SendOnce 9 []) 0x100 0 [] ≡ 0 ∷ 18 ∷ 0 ∷ 0 ∷ 24 ∷ 0 ∷ 0 ∷ 0 ∷ 0 ∷ 0 ∷ 0 ∷ 0 ∷ 0 ∷ 1 ∷ 0 ∷ 0 ∷ 0 ∷ 0 ∷ 0 ∷ 0 ∷ 9 ∷ 0 ∷ 0 ∷ 0 ∷ []
 once-received = refl
 
--- One name is the destination and names the reply. What only copies a right goes before what moves it.
+-- One name is the destination and names the reply. A use that only copies a right comes before one that moves it.
 abbrev pub one_sender : State
 one_sender = in_space_1 ((0x100, rights_to 1 false 1) ∷ []) ((1, new_port) ∷ [])
 
@@ -224,7 +224,7 @@ pub reply-nothing_left : ready_to_send one_sender 1 (17 ∷ 17 ∷ 0 ∷ 0 ∷ 2
 unfolding ready_to_send copy_in
 reply-nothing_left = simp rows
 
--- a receive right is no destination, and MACH_PORT_NULL no place to send to
+-- a receive right is no destination, and neither is MACH_PORT_NULL
 pub destination-receive : ready_to_send one_sender 1 (16 ∷ 0 ∷ 0 ∷ 0 ∷ 24 ∷ 0 ∷ 0 ∷ 0 ∷ 0 ∷ 1 ∷ 0 ∷ 0 ∷ 0 ∷ 0 ∷ 0 ∷ 0 ∷ 0 ∷ 0 ∷ 0 ∷ 0 ∷ 9 ∷ 0 ∷ 0 ∷ 0 ∷ []) ≡ Err SendInvalidHeader
 unfolding ready_to_send
 destination-receive = refl

@@ -21,7 +21,7 @@ use Rattle.ipc_rows.specs.RowStates.{rights_to, names_of, in_space_1, live}
 use Rattle.ipc_model.specs.state.State.{State, new_port, type_of, entry_at, with_port, members_of}
 use Rattle.ipc_model.specs.calls.Tests.{first_failing}
 
--- the code by which a call from space 1 is refused, where these are its names and ports
+-- the code with which a call from space 1 is refused, if these are its names and ports
 abbrev pub refusal : List (ℕ × Entry) → List (ℕ × PortState) → Call → Option KernReturn
 refusal entries ports c = first_failing (tests_of (in_space_1 entries ports) 1 (names_of entries) c)
 
@@ -58,7 +58,7 @@ type-dead = refl
 pub type-once : type_of (SendOnce 1 None) ≡ 0x40000
 type-once = refl
 
--- a new name with a send right alone can't be had
+-- a new name with only a send right can't be allocated
 pub allocate-other : refusal [] [] (call.Allocate 2) ≡ Some InvalidValue
 unfolding tests_of
 allocate-other = refl
@@ -94,7 +94,7 @@ rename-old = simp rows
 pub rename-new : entry_at renamed_state 1 0x300 ≡ Some (rights_to 1 true 0)
 rename-new = simp rows
 
--- A send right that is made of the receive right stands under the same name.
+-- A send right that is made from the receive right stands under the same name.
 pub insert-passes : refusal a_port its_port (call.InsertRight 0x100 0x100 20) ≡ None
 unfolding tests_of copy_in
 insert-passes = simp rows
@@ -150,7 +150,7 @@ pub extract-once_counted : send_once_count (in_space_1 ((0x100, rights_to 1 true
 unfolding placed
 extract-once_counted = simp rows
 
--- Of a dead name, the references of the dead name are told, and no others.
+-- A dead name has only references as a dead name.
 pub dead-references : references_of 4 (Dead 4) ≡ 4
 dead-references = refl
 
@@ -161,7 +161,7 @@ pub dead-get_refs : refusal ((0x300, Dead 4) ∷ []) [] (call.GetRefs 0x300 0) �
 unfolding tests_of
 dead-get_refs = simp rows
 
--- one send reference and 65,533 are the most that there may be
+-- one send reference plus 65,533 is the most that there may be
 pub references-most : refusal ((0x100, rights_to 1 true 1) ∷ []) its_port (call.ModRefs 0x100 0 65533) ≡ None
 unfolding tests_of
 references-most = simp rows

@@ -1,4 +1,4 @@
--- Worked examples of receipts: from where, what is refused, and what stays of the port.
+-- Worked examples of receives: from where, what is refused, and what stays of the port.
 use Rattle.std.specs.Prelude.{◌≡◌, ℕ, Bool, true, false, nat_lt, List, [], ◌∷◌, None, Some, option_map, refl}
 use Rattle.std.specs.FinMap as finmap
 use Rattle.codes.specs.declared.kern_return.KernReturn.TheVariants.{RcvTooLarge, RcvTimedOut, RcvInSet, RcvInvalidName, RcvPortDied, RcvPortChanged}
@@ -27,7 +27,7 @@ two_members = in_space_1 in_set
 abbrev pub attempt : ℕ → Bool → Receipt
 attempt name waited = record { limit = 100; large = false; name = name; waited = waited }
 
--- a receipt from the set may take the message of either
+-- a receive from the set may take the message of either
 pub set-sources : sources two_members (names_of in_set) 0x102 (Some Set) ≡ Some (0x100 ∷ 0x101 ∷ [])
 set-sources = simp rows
 
@@ -47,7 +47,7 @@ set-other = simp rows
 pub set-other_numbered : option_map (λ (port : PortState). port.sequence_number) (finmap.get (without_oldest two_members 1).ports 2) ≡ Some 0
 set-other_numbered = simp rows
 
--- a member gives its messages through the set alone; after a wait the code tells that this has changed
+-- a member gives its messages only through the set; after a wait the code says that this has changed
 pub member-refused : receive_refusal two_members (names_of in_set) (attempt 0x100 false) ≡ Some RcvInSet
 member-refused = simp rows
 
@@ -68,7 +68,8 @@ alone = (0x100, rights_to 1 true 1) ∷ []
 pub empty-refused : receive_refusal (in_space_1 alone ((1, new_port) ∷ [])) (names_of alone) (attempt 0x100 false) ≡ Some RcvTimedOut
 empty-refused = simp rows
 
--- A message of 28 bytes with limit 24 is too large. Kept, it has no record; destroyed, it has.
+-- A message of 28 bytes with limit 24 is too large. The receive has no record if the message stays, and has one if it
+-- is destroyed.
 pub large-size : nat_lt 24 (message_size hello) ≡ true
 large-size = refl
 
@@ -95,7 +96,7 @@ consumed-send = refl
 pub consumed-once : destination_consumed kind.SendOnce 1 ≡ []
 consumed-once = refl
 
--- How many names arriving rights want: one for each send-once right, one for each port that has none yet.
+-- How many names arriving rights need: one for each send-once right, one for each port that has none yet.
 abbrev pub of_port : List (ℕ × Entry)
 of_port = (0x100, rights_to 1 true 0) ∷ []
 

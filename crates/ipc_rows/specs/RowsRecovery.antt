@@ -1,4 +1,4 @@
--- Worked examples of what the four slots of a store spell, and of slots that spell nothing.
+-- Worked examples of what the four slots of a store encode, and of slots that encode nothing.
 use Rattle.std.specs.Prelude.{◌≡◌, ◌⊎◌, ℕ, zero, suc, ◌+◌, ◌%◌, ◌^◌, ◌<◌, ◌≤◌, ◌==◌, List, [], ◌∷◌, ◌++◌, length, take, drop, slice_index, flat_map, None, if◌then◌else◌, refl}
 use Rattle.std.proofs.Common.{sym, ◌∙◌, ap, subst, inl, inr, arith, append_assoc, length-append, drop_at}
 use Rattle.std.proofs.lemmas.List.{append-nil}
@@ -60,7 +60,7 @@ opening_slot-holds epoch = record {
 image_epoch : (number epoch : ℕ) → epoch < 2 ^ 64 → epoch % 2 ≡ number → IsOfEpoch number epoch (opening_slot epoch)
 image_epoch number epoch fits is = record { rest = long_word (length (image_text opening_state)) ++ image_text opening_state; text = refl; fits = fits; of_number = is }
 
--- the record of the first allocation, and the segment that spells it
+-- the record of the first allocation, and the segment that encodes it
 
 pub first_allocation-is : IsRecord first_allocation
 unfolding call_text reply_text
@@ -87,7 +87,7 @@ first_segment-spells = record {
   };
 }
 
--- The store of a first allocation: image 0 of the opening state, and segment 0 with one batch. It spells that record.
+-- The store of a first allocation: image 0 of the opening state, and segment 0 with one batch. It encodes that record.
 abbrev pub first_store : Slots
 first_store = four (opening_slot 0) [] first_segment []
 
@@ -113,7 +113,7 @@ first_store-spells = record {
   });
 }
 
--- The image of epoch 5 beside that of epoch 4, and segments 4 and 5 without batches: what stands is image 5 alone.
+-- The image of epoch 5 alongside that of epoch 4, and segments 4 and 5 without batches: only image 5 counts.
 abbrev pub empty_segment : ℕ → List ℕ
 empty_segment epoch = segment_header open_gate epoch ++ (closed_gate ∷ [])
 
@@ -150,7 +150,7 @@ two_images-spell = record {
   });
 }
 
--- The store of the first allocation, with one byte changed or one slot cut.
+-- The store of the first allocation, with one byte changed or one slot truncated.
 
 abbrev pub with_segment : List ℕ → Slots
 with_segment segment = four (opening_slot 0) [] segment []
@@ -158,7 +158,7 @@ with_segment segment = four (opening_slot 0) [] segment []
 abbrev pub with_image : List ℕ → Slots
 with_image image = four image [] first_segment []
 
--- where image 0 of epoch 0 stands and the segment spells records, these are what the store spells
+-- if image 0 is of epoch 0 and the segment encodes records, these are what the store encodes
 spells_by_segment : (rest : List ℕ) (records : List Record) → SpellsSegment 0 (segment_header open_gate 0 ++ rest) records → Spells (with_segment (segment_header open_gate 0 ++ rest)) opening_state records
 spells_by_segment rest records spelled =
     let slots : Slots = with_segment (segment_header open_gate 0 ++ rest) in
@@ -188,7 +188,7 @@ closed_batch-spells = spells_by_segment (0 ∷ drop 17 first_segment) [] (record
   spelled = record { batches = []; rest = 0 ∷ drop 17 first_segment; text = refl; closed = λ (e : _). absurd (omega (arith, e)); none_empty = tt; flat = refl; canonical = tt; bounded = omega arith };
 })
 
--- cut behind the header: no record
+-- truncated after the header: no record
 pub cut_to_16-spells : Spells (with_segment (take 16 first_segment)) opening_state []
 cut_to_16-spells = spells_by_segment [] [] (record {
   content = [];
@@ -196,7 +196,7 @@ cut_to_16-spells = spells_by_segment [] [] (record {
   spelled = record { batches = []; rest = []; text = refl; closed = tt; none_empty = tt; flat = refl; canonical = tt; bounded = omega arith };
 })
 
--- cut behind the batch, so that its closed gate is missing: the record all the same
+-- truncated after the batch, so that the closed gate is missing: the record all the same
 pub cut_to_69-spells : Spells (with_segment (take 69 first_segment)) opening_state (first_allocation ∷ [])
 unfolding batch_text record_text call_text reply_text
 cut_to_69-spells = spells_by_segment (take 53 (drop 16 first_segment)) (first_allocation ∷ []) (record {
@@ -214,9 +214,9 @@ cut_to_69-spells = spells_by_segment (take 53 (drop 16 first_segment)) (first_al
   };
 })
 
--- What spells nothing.
+-- Slots that encode nothing.
 
--- no image is open: then the segment may have no open batch
+-- no image is open: then the segment can't have an open batch
 no_image_damaged : (image : List ℕ) → (IsOpen image_header image → ⊥) → (base : State) (records : List Record) → Spells (with_image image) base records → ⊥
 no_image_damaged image closed base records spelled = elim spelled.reading as (λ _. ⊥) [
   | inl new ↦ ((new.0.unused 0 0 (omega arith) (omega arith, refl) (segment_of_0 (drop 16 first_segment))).1) refl
@@ -255,7 +255,7 @@ later_image-damaged base records spelled = elim spelled.reading as (λ _. ⊥) [
       at_zero (stored.epoch % 2) (omega arith) stored.segment
 ]
 
--- a segment that spells no records leaves nothing, where an image is open
+-- a segment that encodes no records leaves nothing, if an image is open
 no_segment_damaged : (segment : List ℕ) → ((epoch : ℕ) (records : List Record) → epoch < 2 ^ 64 → SpellsSegment epoch segment records → ⊥) → (base : State) (records : List Record) → Spells (with_segment segment) base records → ⊥
 no_segment_damaged segment none base records spelled = elim spelled.reading as (λ _. ⊥) [
   | inl new ↦ new.0.no_image 0 (omega arith) (omega arith, refl)
@@ -266,9 +266,9 @@ no_segment_damaged segment none base records spelled = elim spelled.reading as (
 pub cut_to_15-damaged : (base : State) (records : List Record) → Spells (with_segment (take 15 first_segment)) base records → ⊥
 cut_to_15-damaged = no_segment_damaged (take 15 first_segment) (λ (epoch : ℕ) (records : List Record) (_ : _) (s : _). absurd (omega (arith, (segment_is_open epoch (take 15 first_segment) records s).0)))
 
--- An open gate has a whole batch behind it.
+-- A whole batch comes after an open gate.
 
--- how many records a batch's text says, how many bytes they have, and that these bytes are there
+-- how many records a batch's bytes say it has, how many bytes these have, and that these bytes are there
 record Batch (bytes : List ℕ) : Type 0 where
   batch : List Record
   rest : List ℕ
@@ -301,7 +301,7 @@ first_batch bytes records spelled = of_batches bytes spelled.batches spelled.res
 batch_long : (bytes : List ℕ) (b : Batch bytes) → 12 + length (records_text 0 b.batch) ≤ length bytes
 batch_long bytes b = omega (arith, ap length b.text, length-batch 0 b.batch b.rest)
 
--- the text's count and size
+-- the count and size at the front of the bytes
 batch_counts : (bytes tail : List ℕ) (b : Batch bytes) (count size : ℕ) → bytes ≡ word count ++ (long_word size ++ tail) → count < 2 ^ 32 → size < 2 ^ 64 → (length b.batch ≡ count) × (length (records_text 0 b.batch) ≡ size)
 batch_counts bytes tail b count size is fits fits_too =
     let heads = same_heads (length b.batch) count (length (records_text 0 b.batch)) size (records_text 0 b.batch ++ b.rest) tail (omega (arith, b.few)) fits (records_are_short 0 b.batch b.canonical b.few) fits_too
@@ -311,13 +311,13 @@ batch_counts bytes tail b count size is fits fits_too =
 header_16 : (epoch : ℕ) (records : List Record) (rest : List ℕ) → epoch < 2 ^ 64 → (s : SpellsSegment epoch (segment_header open_gate 0 ++ rest) records) → s.content ≡ rest
 header_16 epoch records rest fits s = sym (ap (λ (l : List ℕ). drop 16 l) s.text)
 
--- an open gate alone is no beginning of batches
+-- an open gate with nothing after it doesn't begin batches
 lone_gate : (n : ℕ) (batches : List (List Record)) (rest : List ℕ) → IsClosed rest → open_gate ∷ [] ≡ batches_text n batches ++ rest → ⊥
 lone_gate n [] rest closed is = absurd (subst IsClosed (sym is) closed refl)
 lone_gate n (batch ∷ batches) rest closed is =
     absurd (omega (arith, ap length is, length-append (batch_text n batch) (batches_text (n + length batch) batches), length-append (batch_text n batch ++ batches_text (n + length batch) batches) rest, length-batch n batch [], length-append (batch_text n batch) []))
 
--- a segment behind whose open gate there is no whole batch spells nothing
+-- a segment without a whole batch after its open gate encodes nothing
 no_batch_damaged : (bytes : List ℕ) → (Batch bytes → ⊥) → (base : State) (records : List Record) → Spells (with_segment (segment_header open_gate 0 ++ (open_gate ∷ bytes))) base records → ⊥
 no_batch_damaged bytes none = no_segment_damaged (segment_header open_gate 0 ++ (open_gate ∷ bytes)) (λ (epoch : ℕ) (records : List Record) (fits : _) (s : _).
     none (first_batch bytes records (subst (λ (l : List ℕ). SpellsBatches l records) (header_16 epoch records (open_gate ∷ bytes) fits s) s.spelled)))
@@ -340,7 +340,7 @@ reply_long (reply.Refused number code) = omega (arith, length-append (word numbe
 reply_long (reply.Done number) = omega (arith, length-append (word number) (word 0 ++ []), length-word number)
 reply_long r = omega arith
 
--- a batch that says of its one record that they are two
+-- a batch that says that it has two records, and has one
 two_are_longer : (batch : List Record) → length batch ≡ 2 → 56 ≤ length (records_text 0 batch)
 two_are_longer [] is = absurd (omega (arith, is))
 two_are_longer (a ∷ []) is = absurd (omega (arith, is))
@@ -363,7 +363,7 @@ count_of_batch-damaged = no_batch_damaged (2 ∷ drop 18 first_segment) (λ (b :
     let counts = batch_counts (2 ∷ drop 18 first_segment) (drop 29 first_segment) b 2 40 refl (omega arith) (omega arith) in
     absurd (omega (arith, two_are_longer b.batch counts.0, counts.1)))
 
--- an open gate behind the batch, and nothing behind that
+-- an open gate after the batch, and nothing after that
 pub open_end-damaged : (base : State) (records : List Record) → Spells (with_segment (take 69 first_segment ++ (open_gate ∷ []))) base records → ⊥
 open_end-damaged = no_batch_damaged (take 52 (drop 17 first_segment) ++ (open_gate ∷ [])) (λ (b : _).
     let bytes : List ℕ = take 52 (drop 17 first_segment) ++ (open_gate ∷ []) in
@@ -375,7 +375,7 @@ open_end-damaged = no_batch_damaged (take 52 (drop 17 first_segment) ++ (open_ga
 abbrev pub old_segment : Slots
 old_segment = four (opening_slot 4) (opening_slot 5) (empty_segment 4) (empty_segment 3)
 
--- an image of epoch 5 stands, so that the store's epoch is 5
+-- an image of epoch 5 is open, so the store's epoch is 5
 epoch_5 : (slots : Slots) (base : State) (records : List Record) (stored : IsStored slots base records) → slots.image 1 ≡ opening_slot 5 → ((other : ℕ) → other < 2 ^ 64 → IsOfEpoch 0 other (slots.image 0) → other ≤ 4) → stored.epoch ≡ 5
 epoch_5 slots base records stored is_five no_later =
     let later : 5 ≤ stored.epoch = stored.latest 1 5 (omega arith) (subst (IsOpen image_header) (sym is_five) (omega arith, refl)) (subst (IsOfEpoch 1 5) (sym is_five) (image_epoch 1 5 (omega arith) refl)) in
@@ -397,7 +397,7 @@ old_segment-damaged base records spelled = elim spelled.reading as (λ _. ⊥) [
       absurd (omega (arith, is_five, segment_epoch 1 stored.epoch 3 (empty_segment 3) stored.first spells_five stored.fits (segment_of 1 3 (omega arith) refl)))
 ]
 
--- Image 5 is the latest, and its text is bent: it says that it has 20 bytes, which no image has.
+-- Image 5 is the latest, and it is corrupted: it says that it has 20 bytes, which no image has.
 abbrev pub bent_slot : List ℕ
 bent_slot = open_gate ∷ (epoch_text 5 ++ (long_word 20 ++ take 20 (image_text opening_state)))
 

@@ -1,4 +1,4 @@
--- Worked examples of rules that are easily read otherwise.
+-- Worked examples of rules that are easily misread.
 use Rattle.std.specs.Prelude.{◌≡◌, ℕ, true, false, List, [], ◌∷◌, None, Some, refl}
 use Rattle.codes.specs.declared.kern_return.KernReturn.TheVariants.{InvalidName, InvalidTask, UrefsOverflow, RcvTooLarge}
 use Rattle.ipc_model.specs.declared.call.Call.TheVariants as call
@@ -33,7 +33,8 @@ gone-attach = refl
 pub null-counts : ports_in ((record { type_name = 19; bits = 32; number = 2; is_long = false; content = 0 ∷ 0 ∷ 0 ∷ 0 ∷ 255 ∷ 255 ∷ 255 ∷ 255 ∷ [] }) ∷ []) ≡ 2
 null-counts = refl
 
--- what a space has that goes: names rising, and of one name the send right before the receive right, and then its notice
+-- a space that goes: names in ascending order, and for one name the send right before the receive right, and then its
+-- notice
 abbrev pub two_names : List (ℕ × Entry)
 two_names = (0x100, Port (record { port = 1; receive = true; send = 2; dead_name_target = Some 3 })) ∷ (0x101, SendOnce 2 None) ∷ []
 
@@ -41,7 +42,8 @@ pub destroyed-effects : (space_destroyed (in_space_1 two_names []) 2 (names_of t
     ≡ release kind.Send 1 ∷ release kind.Receive 1 ∷ notify 3 (notice.PortDeleted 0x100) ∷ release kind.SendOnce 2 ∷ []
 destroyed-effects = simp rows refl
 
--- a name that copy in has emptied isn't in use any more: request_notification finds no name, insert_right may use it again
+-- a name that copy in has emptied isn't in use any more: request_notification finds no name, insert_right may use it
+-- again
 abbrev pub one_send_once : State
 one_send_once = in_space_1 ((0x100, SendOnce 1 None) ∷ []) ((1, new_port) ∷ [])
 
@@ -53,7 +55,7 @@ pub emptied-insert : first_failing (tests_of one_send_once 1 (names_of ((0x100, 
 unfolding tests_of copy_in
 emptied-insert = simp rows refl
 
--- a dead name with 65,535 references takes no notification at once
+-- a dead name with 65,535 references takes no notification that is sent at once
 abbrev pub crowded_dead : State
 crowded_dead = in_space_1 ((0x100, rights_to 1 true 0) ∷ (0x101, Dead 65535) ∷ []) ((1, new_port) ∷ [])
 
@@ -61,8 +63,8 @@ pub crowded-request : first_failing (tests_of crowded_dead 1 (names_of ((0x100, 
 unfolding tests_of copy_in
 crowded-request = simp rows refl
 
--- which answered calls have a record: mod_refs by 0 and set_qlimit to the same limit do, reads don't, and of receipts that
--- are told of a message that is too large those alone that destroyed it
+-- which answered calls have a record: mod_refs by 0 and set_qlimit to the same limit do, reads don't; of receives that
+-- report a message that is too large, only those that destroyed it
 pub kept-records : (has_record (call.ModRefs 0x100 0 0) (reply.Done 9) ≡ true) × (has_record (call.SetQlimit 0x100 5) (reply.Done 10) ≡ true)
     × (has_record (call.GetRefs 0x100 0) (reply.References 1) ≡ false) × (has_record (call.Type 0x100) (reply.Type 0x20000) ≡ false) × (has_record (call.Names) (reply.Names []) ≡ false)
     × (has_record (call.Allocate 1) (reply.Refused 5 InvalidName) ≡ false)
@@ -74,7 +76,8 @@ kept-records = (refl, refl, refl, refl, refl, refl, refl, refl)
 pub out-of-set : set_named 0 ≡ None
 out-of-set = refl
 
--- a name whose port dies gets the further reference for its dead-name request, though the notice would go to that port itself
+-- a name whose port dies gets the further reference for its dead-name request, even if the notice would go to that port
+-- itself
 pub own_target-dead : entry_after_death 1 (Port (record { port = 1; receive = false; send = 1; dead_name_target = Some 1 })) ≡ Dead 2
 own_target-dead = refl
 
@@ -103,7 +106,7 @@ pub first-release : queue_of (effect requesting (release kind.Send 1)).0 2 ≡ S
 unfolding effect placed
 first-release = simp rows
 
--- a message is queued, and only then do the notices of its copy in go out
+-- a message is queued, and only then the notices of its copy in go out
 abbrev pub with_notice : Ready
 with_notice = record { message = plain kind.Send 7 []; port = 1; state = sendless; notices = notify 2 (notice.PortDeleted 0x102) ∷ [] }
 
@@ -111,7 +114,7 @@ pub queued-first : (message_count (sent with_notice).0 1 ≡ Some 1) × ((sent w
 unfolding sent is_circular
 queued-first = (simp rows, refl)
 
--- a receipt from a set may take the oldest message of any member: every member is a source
+-- a receive from a set may take the oldest message of any member: every member is a source
 abbrev pub two_members : State
 two_members = in_space_1 ((0x100, rights_to 1 true 0) ∷ (0x101, rights_to 2 true 0) ∷ (0x102, Set) ∷ []) ((1, record new_port { set = Some 0x102 }) ∷ (2, record new_port { set = Some 0x102 }) ∷ [])
 

@@ -58,7 +58,7 @@ pub allocate-step : Step opening_state 1 (call.Allocate 1) (reply.Allocate 0x100
 unfolding Step
 allocate-step = (allocated opening_state 1 finmap.empty 1 0x100, [], allocate-acts, settled)
 
--- A send right made under the same name.
+-- A send right is made under the same name.
 abbrev pub alone : State
 alone = in_space_1 ((0x100, rights_to 1 true 0) ∷ []) ((1, new_port) ∷ [])
 
@@ -73,7 +73,7 @@ pub insert-step : Step alone 1 (call.InsertRight 0x100 0x100 20) (reply.Done 17)
 unfolding Step
 insert-step = (with_sender, [], insert-acts, settled)
 
--- A receipt brings the message, and releases the send right by which it came.
+-- A receive brings the message, and releases the send right by which it came.
 abbrev pub received_state : State
 received_state = with_names (without_oldest (one_port (hello ∷ [])) 1) 1 (names_of ((0x100, rights_to 1 true 1) ∷ []))
 
@@ -155,7 +155,7 @@ pub circle-step : Step owner 1 circle (reply.Message Success 0 0 []) circle_end
 unfolding Step
 circle-step = (moved, release kind.Send 1 ∷ release kind.Receive 1 ∷ [], circle-acts, settles_adding [] circle-first (settles_adding [] circle-second settled))
 
--- and its name is left as a dead name with its references
+-- and its name is left as a dead name, with its references
 pub circle-left : (effect moved (release kind.Send 1)).0 ≡ moved
 unfolding effect placed
 circle-left = simp rows

@@ -10,7 +10,7 @@ use Rattle.ipc_model.specs.texts.Texts.{call_text, reply_text, record_text}
 abbrev pub first_allocation : Record
 first_allocation = record { space = 1; call = call.Allocate 1; reply = reply.Allocate 0x100 }
 
--- the segment of epoch 0 with one batch of this record, and a closed gate behind it, in 70 bytes
+-- the segment of epoch 0 with one batch of this record, and a closed gate after it, in 70 bytes
 abbrev pub first_segment : List ℕ
 first_segment =
     0x5a ∷ 1 ∷ 0 ∷ 0 ∷ 0 ∷ 0 ∷ 0 ∷ 0 ∷ 0 ∷ 0 ∷ 0 ∷ 0 ∷ 0 ∷ 0 ∷ 0 ∷ 0

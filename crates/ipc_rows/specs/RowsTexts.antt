@@ -59,7 +59,7 @@ pub sent-frame : frame_text (reply_text (reply.Message Success 0 0 [])) ≡ 16 �
 unfolding reply_text
 sent-frame = refl
 
--- a receipt with limit 28, and the message that it brings
+-- a receive with limit 28, and the message that it brings
 pub receive-frame : frame_text (call_text (call.Receive 28 false 0x100 false)) ≡ 20 ∷ 0 ∷ 0 ∷ 0 ∷ 19 ∷ 0 ∷ 0 ∷ 0 ∷ 2 ∷ 0 ∷ 0 ∷ 0 ∷ 28 ∷ 0 ∷ 0 ∷ 0 ∷ 0 ∷ 1 ∷ 0 ∷ 0 ∷ 0 ∷ 0 ∷ 0 ∷ 0 ∷ []
 unfolding call_text
 receive-frame = refl
@@ -104,7 +104,7 @@ pub raw_send-kept : kept_message raw_send ≡ kept_send
 unfolding kept_message
 raw_send-kept = refl
 
--- they differ in what a send ignores alone
+-- they differ only in what a send ignores
 pub raw_send-parts : used_parts raw_send ≡ used_parts kept_send
 raw_send-parts = refl
 
@@ -121,8 +121,8 @@ kept_send-is_record = record {
   frames = (omega arith, omega arith);
 }
 
--- What is no record: a send that isn't kept, one of a size that no message has, results that a call of its number
--- hasn't, and a receipt of another size, above its limit or destroyed within it, of an odd size, or of no name.
+-- What is no record: a send that isn't as it is kept, one of a size that no message has, results that no call of its
+-- number has, and a receive of another size, above its limit or destroyed within it, of an odd size, or of no name.
 
 pub raw_send-no_record : (answer : Reply) → IsRecord (of_send raw_send answer) → ⊥
 unfolding kept_message
@@ -131,11 +131,11 @@ raw_send-no_record answer is = absurd (omega (arith, ap (λ (c : Call). slice_in
 pub short_send-no_record : (answer : Reply) → IsRecord (of_send (19 ∷ 0 ∷ 0 ∷ 0 ∷ []) answer) → ⊥
 short_send-no_record answer is = absurd (omega (arith, is.call.whole.0))
 
--- a header with one byte behind it
+-- a header followed by one byte
 pub odd_send-no_record : (answer : Reply) → IsRecord (of_send (replicate 25 0) answer) → ⊥
 odd_send-no_record answer is = absurd (omega (arith, is.call.whole.2))
 
--- the sizes next above the greatest, and the greatest of which a frame has room
+-- the size next above the greatest, and the greatest for which a frame has room
 pub large_send-no_record : (message : List ℕ) (answer : Reply) → (length message ≡ 8196) ⊎ (length message ≡ 65512) → IsRecord (of_send message answer) → ⊥
 large_send-no_record message answer (inl long) is = absurd (omega (arith, long, is.call.whole.1))
 large_send-no_record message answer (inr long) is = absurd (omega (arith, long, is.call.whole.1))

@@ -1,4 +1,5 @@
--- Worked examples of lists of events: two calls in one batch, a full row, a fault of the device, and lists that are none.
+-- Worked examples of lists of events: two calls in one batch, a full epoch log, a fault of the device, and lists that
+-- can't happen.
 use Rattle.std.specs.Prelude.{◌≡◌, ℕ, ◌<◌, Bool, true, false, List, [], ◌∷◌, ◌++◌, Option, None, Some, refl}
 use Rattle.std.specs.FinMap as finmap
 use Rattle.std.proofs.Common.{inl, inr, sym, ◌∙◌, ap, subst, arith}
@@ -73,11 +74,11 @@ two_calls-leave = (
   (two_submitted, (refl, tt, (may-second, refl)), (two_taken, (refl, (omega arith, refl), refl), (two_appended, (refl, (refl, tt), refl), (two_durable, (refl, omega arith, refl), refl)))),
 )
 
--- both are stored at once, and so told: one batch has both
+-- both are stored at once, and so acknowledged: one batch has both
 pub two_calls-told : (told two_submitted ≡ 0) × (told two_taken ≡ 0) × (told two_appended ≡ 2) × (told two_durable ≡ 2)
 two_calls-told = (refl, refl, refl, refl)
 
--- then the replies may be asked for in any order
+-- then the replies may be requested in any order
 pub replies-possible : IsPossible two_durable (ask_reply 1) × IsPossible two_durable (ask_reply 0)
 replies-possible = ((refl, omega arith), (refl, omega arith))
 
@@ -106,8 +107,8 @@ refused_call = after_submit two_submitted 1 (call.Type 0x200) (reply.Refused 2 I
 pub read-waits : (IsPossible refused_call (ask_reply 2) → ⊥) × (refused_call.applied ≡ two_submitted.applied)
 read-waits = ((λ (possible : _). absurd (omega (arith, possible.1))), refl)
 
--- after a cut no other is possible before its checkpoint is over, and the next segment is not opened while a record of the
--- old epoch isn't appended
+-- after a snapshot no other is possible before its checkpoint is over, and the next segment is not opened while a
+-- record of the old epoch isn't appended
 abbrev pub cut_early : World
 cut_early = record (after_cut two_submitted opening_state) { checkpoint = Some (record { rolled = 2; imaged = 1; pieces = 1; finished = false }) }
 
@@ -124,7 +125,8 @@ early-finish possible = absurd (omega (arith, possible.0))
 pub last-piece : IsPossible cut_early piece
 last-piece = (omega arith, omega arith)
 
--- no image is closed twice, no step of rolling made twice, and no batch of the new epoch appended before its segment is open
+-- no image is closed twice, no step of rotating made twice, and no batch of the new epoch appended before its segment
+-- is open
 pub twice-closed : IsPossible cut_early image_close → ⊥
 twice-closed possible = absurd (omega (arith, possible))
 
@@ -138,8 +140,8 @@ segment-closed possible = elim possible.1 as (λ _. ⊥) [ inl older ↦ absurd 
 pub last-epoch : IsPossible (first_world 0xffffffffffffffff 0) cut → ⊥
 last-epoch possible = absurd (omega (arith, possible.0))
 
--- A whole checkpoint of a new store: the steps of rolling and of the image in their order, and the receipt of its finish. It
--- leaves an empty row in the next epoch.
+-- A whole checkpoint of a new store: the steps of rotating and of the image in their order, and the receipt of its
+-- finish. It leaves an empty epoch log in the next epoch.
 abbrev pub checkpoint_events : List (Event × Outcome)
 checkpoint_events = (cut, done) ∷ (roll_close, done) ∷ (roll_head, done) ∷ (roll_open, done) ∷ (image_close, done) ∷ (piece, done) ∷ (finish, done) ∷ (durable, done) ∷ []
 
@@ -173,7 +175,7 @@ checkpoint-leaves = (
   ),
 )
 
--- What an event that isn't possible answers: not now, and nothing else; not even want of memory.
+-- What an event that isn't possible answers: not now, and nothing else; not even that memory ran out.
 pub no_batch-now : After opening_state (first_world 0 0) take_batch not_now (first_world 0 0)
 no_batch-now = (refl, (λ (possible : _). absurd (omega (arith, possible.0))), refl)
 
@@ -183,8 +185,8 @@ no_batch-done new after = absurd (omega (arith, after.1.0))
 pub no_batch-no_memory : (new : World) → After opening_state (first_world 0 0) take_batch no_memory new → ⊥
 no_batch-no_memory new after = absurd (omega (arith, after.1.0))
 
--- A full row, of records that the opening read: a call that would have a record is answered that the epoch is full, and a
--- read is answered as ever. A cut begins an empty row.
+-- A full epoch log, of records that the opening read: a call that would have a record is answered that the epoch is
+-- full, and a read is answered as ever. A snapshot begins an empty log.
 abbrev pub full_world : World
 full_world = first_world 0 65536
 
@@ -197,7 +199,7 @@ full-no_ticket new after = let below : 65536 < 65536 = after.2.0.1 refl in absur
 pub full-emptied : row_length (after_cut full_world opening_state) ≡ 0
 full-emptied = refl
 
--- in a new store a name has no type, and this is all that can be answered
+-- in a new store a name has no type, and this is the only possible answer
 unknown-acts : (answer : Reply) (acted : State) (effects : List Effect) → ActsFrom opening_state 1 (finmap.get opening_state.spaces 1) (call.Type 0x200) answer acted effects → answer ≡ reply.Refused 2 InvalidName
 unfolding Done tests_of
 unknown-acts answer acted effects = simp rows (λ (acts : _). acts.0)
@@ -213,7 +215,7 @@ unknown-answer = (opening_state, [], simp rows (refl, refl, refl), settled)
 pub full-read : After opening_state full_world (submit 1 (call.Type 0x200)) (given (reply.Refused 2 InvalidName)) (after_submit full_world 1 (call.Type 0x200) (reply.Refused 2 InvalidName))
 full-read = (refl, tt, (((opening_state, opening_state, refl, unknown-answer), (λ (has : _). absurd (cc has))), refl))
 
--- the epoch isn't full where the row has room, nor for a call without a record
+-- the epoch isn't full while its log has room, nor for a call without a record
 pub room-not_full : (new : World) → After opening_state (first_world 0 65535) (submit 1 allocation) epoch_full new → ⊥
 room-not_full new after = absurd (omega (arith, after.2.0.0))
 
@@ -243,7 +245,7 @@ failed-not_now new after = absurd (cc after.0)
 pub failed-done : (new : World) → After opening_state failed_world append done new → ⊥
 failed-done new after = absurd (cc after.0)
 
--- then no receipt is out, and no reply is given
+-- then no receipt is out, and no reply can be given
 pub fault-goes_on : Worlds opening_state two_taken ((append, store fault.device) ∷ (append, store fault.failed) ∷ (durable, not_now) ∷ (ask_reply 0, not_now) ∷ []) failed_world
 fault-goes_on = (
   failed_world,
@@ -255,11 +257,11 @@ fault-goes_on = (
 pub failed-submit : After opening_state (record (first_world 0 0) { failed = true }) (submit 1 allocation) (given (reply.Allocate 0x100)) (record one_submitted { failed = true })
 failed-submit = (refl, tt, (((opening_state, one_allocated, refl, allocate-step), (λ (_ : _). omega arith)), refl))
 
--- what isn't an event of the store goes on, and doesn't fail
+-- an event that isn't of the store goes on, and doesn't fail
 pub failed-take : (new : World) → After opening_state failed_world take_batch (store fault.failed) new → ⊥
 failed-take new after = absurd (cc after.0)
 
--- no event fails without a fault, none finds its segment full, and the steps of rolling take no memory
+-- no event fails without a fault, none finds its segment full, and the steps of rotating allocate nothing
 pub no_fault-failed : (new : World) → After opening_state two_taken append (store fault.failed) new → ⊥
 no_fault-failed new after = absurd (cc after.0)
 
@@ -270,7 +272,7 @@ never-full world new event after = after.2
 pub roll-takes_none : (world new : World) → After opening_state world roll_close (store fault.no_memory) new → ⊥
 roll-takes_none world new after = absurd (cc after.2.0)
 
--- Lists of events that are none.
+-- Lists of events that can't happen.
 
 -- the reply before the append
 pub reply_before_append : (answer : Reply) (new : World) → Worlds opening_state (first_world 0 0) ((submit 1 allocation, given (reply.Allocate 0x100)) ∷ (take_batch, done) ∷ (ask_reply 0, replied answer) ∷ []) new → ⊥
@@ -279,7 +281,7 @@ reply_before_append answer new (one, submitted, (two, taken, (three, asked, end)
     let early : IsPossible (after_take one_submitted) (ask_reply 0) = subst (λ (w : World). IsPossible w (ask_reply 0)) world asked.1 in
     absurd (omega (arith, early.1))
 
--- what comes behind the two calls begins where both are durable
+-- what comes after the two calls begins where both are durable
 behind_two : (events : List (Event × Outcome)) (new : World) → Worlds opening_state (first_world 0 0) (two_calls ++ events) new → Worlds opening_state two_durable events new
 behind_two events new (one, first, (two, second, (three, taken, (four, appended, (five, handed, rest))))) =
     let submitted : two ≡ two_submitted = second.2.1 ∙ ap (λ (w : World). after_submit w 1 allocation (reply.Allocate 0x101)) first.2.1 in
@@ -293,7 +295,7 @@ answered_twice answer again new worlds =
     let kept : IsPossible (record two_durable { tickets = with_answered two_durable.tickets 0 }) (ask_reply 0) = subst (λ (w : World). IsPossible w (ask_reply 0)) first.2.3 second.1 in
     absurd (cc kept.0)
 
--- another reply than the ticket's
+-- a reply other than the ticket's
 abbrev name_given : Reply → ℕ
 name_given (reply.Allocate name) = name
 name_given answer = 0

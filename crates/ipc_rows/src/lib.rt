@@ -1,2 +1,3 @@
-//! Worked examples of the written machine, computed on its definitions: `specs` has them, and nothing stands on them.
+//! Worked examples of the abstract specification, computed on its definitions. `specs` has them, and nothing depends on
+//! them.
 #![tactic(auto)]

@@ -22,7 +22,7 @@ use Rattle.tracked_map.specs.Touched.{is_touched, touched_append}
 use Rattle.waiting.specs.Places.{IsMore, Named, all_named, names, place_of_name, place_of_port}
 use Rattle.waiting.specs.Waiting.{Covers, IsQuiet, Occupancy, occupancy, occupancy_at}
 
--- more is named
+-- more places are named
 
 pub more_set : (old new : Named) (spaces : SpaceMap) (ports : Ports) (number : ℕ) → IsMore old new → IsSetListed (names old) spaces ports number → IsSetListed (names new) spaces ports number
 more_set old new spaces ports number more is = record { itself = more number is.itself; set = λ other at. more other (is.set other at) }
@@ -44,7 +44,7 @@ more_for old new set has number more is = record { alone = more_or old new numbe
 pub more_more : (one two three : Named) → IsMore one two → IsMore two three → IsMore one three
 more_more one two three first second place is = second place (first place is)
 
--- the last of a list is worked off
+-- the last of a list is done
 
 or_cases : (a b : Bool) → (a || (b || false)) ≡ true → (a ≡ true) ⊎ (b ≡ true)
 or_cases true b is = inl refl
@@ -71,7 +71,7 @@ all_off P all rest none each n there = elim (each n there) as (λ _. P n) [
   | inr holds ↦ holds
 ]
 
--- what is still to come stays so
+-- what is still to be done stays so
 pub later_or : (P Q : ℕ → Type 0) (all rest : List ℕ) → ((n : ℕ) → P n → Q n) → ((n : ℕ) → is_touched n all ≡ true → (is_touched n rest ≡ true) ⊎ P n) → (n : ℕ) → is_touched n all ≡ true → (is_touched n rest ≡ true) ⊎ Q n
 later_or P Q all rest more each n there = elim (each n there) as (λ _. (is_touched n rest ≡ true) ⊎ Q n) [
   | inl in_rest ↦ inl in_rest

@@ -1,4 +1,4 @@
--- The members are found where their places say, after each change.
+-- After each change the members are found where their places say.
 use Rattle.std.proofs.Common.{◌≡◌, ℕ, ◌+◌, ◌^◌, ◌≤◌, nat_lt, arith, ◌<◌, ◌/◌, ◌%◌, ◌==◌, Bool, true, false, cond, Option, None, Some, is_some, option_map, option_and_then, refl, sym, ◌∙◌, ap, subst}
 use Rattle.std.proofs.lemmas.Bool.{eqb-true, eq-eqb, ltb-false, ltb-true}
 use Rattle.std.specs.Cmp.{nat_cmp_total}
@@ -155,7 +155,7 @@ port_buried spaces after old new members serial outside names ports are =
           ∙ ap (option_map (place (q / 2 ^ 32))) (set_dead old.current.ports serial outside (entry_in spaces.current (q / 2 ^ 32) (q % 2 ^ 32))))) are.1,
     ))
 
--- one place more is worked off as a port goes to another set
+-- one more place is done as a port goes to another set
 abbrev pub MovesTo : SpaceMap → ℕ → Option ℕ → Option ℕ → Numbers → ℕ → Numbers → Type 0
 MovesTo spaces serial former set start at now = (before after : Ports) → DifferAt serial before after → set_in before serial ≡ former → set_in after serial ≡ set → AreMembers spaces before start → AreMoving spaces before after at now
 
@@ -184,7 +184,7 @@ numbers_replaced spaces ports serial former numbers start now there moves are =
 abbrev in_no_set : State → ℕ → State
 in_no_set state serial = with_port state serial (λ port. record port { set = None })
 
--- a port that has left its set is in none
+-- a port that has left its set is in no set
 pub set_left_none : (state : State) (serial : ℕ) → set_in (in_no_set state serial).ports serial ≡ None
 set_left_none state serial = go (get state.ports serial) refl
   where
@@ -272,7 +272,7 @@ module _ (old new : TrackedSpaces) (ports : TrackedPorts) (members : Tracked (Un
       (subst (λ (m : Tracked (Unit {0})). Members (record old { current = names_changed old.current space (λ (names : Names). under_other_name names from to) }) ports m) (sym changed)
       (are.0, subst (λ (s : SpaceMap). AreMembers s ports.current.ports (moved (moved members.current (place space from) (set_place_of ports.current.ports space (Some entry)) None) (place space to) None (set_place_of ports.current.ports space (Some entry)))) renamed_is two))
 
--- the same where nothing may stand under the name
+-- the same, if nothing may stand under the name
 pub renamed_members : (old new : TrackedSpaces) (ports : TrackedPorts) (members after : Tracked (Unit {0})) → Members old ports members → (space from to : ℕ) → entry_in old.current space to ≡ None → from < 2 ^ 32 → to < 2 ^ 32 → space < 2 ^ 32
     → new ≡ record old { current = names_changed old.current space (λ (names : Names). under_other_name names from to) } → ArePlacesRenamed ports.current.ports members after space from to (entry_in old.current space from) → Members new ports after
 renamed_members old new ports members after are space from to unused small other few is changed = go (entry_in old.current space from) refl changed
@@ -283,7 +283,7 @@ renamed_members old new ports members after are space from to unused small other
         (subst (Members old ports) (sym same) are)
     go (Some entry) named moves = name_renamed old new ports members are space from to entry named unused after small other few is moves
 
--- a name less, and nothing else of the others
+-- a space that is changed and then removed is just removed
 removed_again : (spaces : SpaceMap) (space : ℕ) (names : Names) → remove (insert spaces space names) space ≡ remove spaces space
 removed_again spaces space names = same_map nat_cmp_total nat_cmp-IsAntisymmetric _ _ (λ q.
     get-remove nat_cmp_total (insert spaces space names) space q ∙ go q (eq_by_cmp nat_cmp q space) refl ∙ sym (get-remove nat_cmp_total spaces space q))

@@ -1,4 +1,4 @@
--- A space that isn't there has no names.
+-- A space that doesn't exist has no names.
 use Rattle.std.proofs.Common.{◌≡◌, ℕ, None, ap, ◌∙◌}
 use Rattle.std.specs.Prelude.{[]}
 use Rattle.std.specs.FinMap as finmap

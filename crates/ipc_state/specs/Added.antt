@@ -1,4 +1,4 @@
--- A space that was added, and gets other names at once.
+-- A space that was added, and at once gets other names.
 use Rattle.std.specs.Prelude.{◌≡◌, ℕ, cond, Bool, Some}
 use Rattle.std.proofs.Common.{◌∙◌, ap}
 use Rattle.std.specs.Cmp.{nat_cmp_total}

@@ -28,7 +28,7 @@ set_place spaces ports q = option_map (place (q / 2 ^ 32)) (option_and_then (set
 abbrev pub set_place_of : Ports → ℕ → Option Entry → Option ℕ
 set_place_of ports space o = option_map (place space) (option_and_then (set_in ports) (option_and_then received_port o))
 
--- what stood under one name of a space, if anything did, stands under another
+-- what stood under one name of a space, if anything, stands under another
 abbrev pub ArePlacesRenamed : Ports → Tracked (Unit {0}) → Tracked (Unit {0}) → ℕ → ℕ → ℕ → Option Entry → Type 0
 ArePlacesRenamed ports old new space from to None = new ≡ old
 ArePlacesRenamed ports old new space from to (Some entry) = new ≡ record old {
@@ -39,7 +39,7 @@ ArePlacesRenamed ports old new space from to (Some entry) = new ≡ record old {
 abbrev pub AreMembers : SpaceMap → Ports → Numbers → Type 0
 AreMembers spaces ports members = IsIndexed (set_place spaces ports) members
 
--- one name of a space that is there has changed
+-- one name of an existing space has changed
 pub changed_members : (spaces : SpaceMap) (ports : Ports) (members after : Numbers) (space name : ℕ) (change : Names → Names) (o : Option Entry) → name < 2 ^ 32 → space < 2 ^ 32 → is_some (get spaces space) ≡ true
     → ((names : Names) (n : ℕ) → get (change names) n ≡ cond (eq_by_cmp nat_cmp n name) o (get names n))
     → after ≡ moved members (place space name) (set_place_of ports space (entry_in spaces space name)) (set_place_of ports space o) → AreMembers spaces ports members → AreMembers (names_changed spaces space change) ports after
@@ -85,19 +85,19 @@ same_members spaces other ports others members alike sets are =
     in_sets q None = refl
     in_sets q (Some serial) = ap (option_map (place (q / 2 ^ 32))) (sets serial)
 
--- nothing is there
+-- there are no spaces and no members
 pub no_members : (spaces : SpaceMap) (ports : Ports) (members : Numbers) → spaces ≡ empty → members ≡ empty → AreMembers spaces ports members
 no_members spaces ports members none nothing = nothing_indexed (set_place spaces ports) members (λ q.
     ap (λ (s : SpaceMap). set_place s ports q) none ∙ ap (λ (n : Option Names). option_map (place (q / 2 ^ 32)) (option_and_then (set_in ports) (option_and_then received_port (option_and_then (λ names. get names (q % 2 ^ 32)) n)))) (get-empty nat_cmp (q / 2 ^ 32))) nothing
 
--- one port goes to another set: the places below one are worked off, the others not yet
+-- one port goes to another set: the places below `at` are done, the others not yet
 abbrev pub moving : SpaceMap → Ports → Ports → ℕ → ℕ → Option ℕ
 moving spaces before after at q = cond (nat_lt q at) (set_place spaces after q) (set_place spaces before q)
 
 abbrev pub AreMoving : SpaceMap → Ports → Ports → ℕ → Numbers → Type 0
 AreMoving spaces before after at members = IsIndexed (moving spaces before after at) members
 
--- the ports differ in the set of one alone
+-- the ports differ only in the set of one
 abbrev pub DifferAt : ℕ → Ports → Ports → Type 0
 DifferAt serial before after = (other : ℕ) → (other == serial) ≡ false → set_in before other ≡ set_in after other
 
@@ -135,7 +135,7 @@ module _ (spaces : SpaceMap) (before after : Ports) (serial : ℕ) (differ : Dif
       (λ also below. ap (λ (b : Bool). cond b (set_place spaces after q) (set_place spaces before q)) high ∙ apart_alike q (apart q from below) ∙ sym (ap (λ (b : Bool). cond b (set_place spaces after q) (set_place spaces before q)) also))
       (λ also _. ap (λ (b : Bool). cond b (set_place spaces after q) (set_place spaces before q)) (high ∙ sym also)))) are
 
-  -- the next place at which the port is received is worked off
+  -- the next place at which the port is received is done
   pub one_moved : (at next : ℕ) (members then : Numbers) → at ≤ next → next < 2 ^ 64 → is_number (at_place received_port spaces next) serial ≡ true → ((q : ℕ) → at ≤ q → q < next → is_number (at_place received_port spaces q) serial ≡ false)
       → then ≡ moved members next (option_map (place (next / 2 ^ 32)) (set_in before serial)) (option_map (place (next / 2 ^ 32)) (set_in after serial)) → AreMoving spaces before after at members → AreMoving spaces before after (next + 1) then
   one_moved at next members then more fits here apart is are =
@@ -169,7 +169,7 @@ module _ (spaces : SpaceMap) (before after : Ports) (serial : ℕ) (differ : Dif
       (λ low _. ap (λ (b : Bool). cond b (set_place spaces after q) (set_place spaces before q)) low)
       (λ high from. ap (λ (b : Bool). cond b (set_place spaces after q) (set_place spaces before q)) high ∙ apart_alike q (apart q from fits))) are
 
-  -- nothing has to be worked off where the port stays in its set
+  -- nothing has to be done where the port stays in its set
   pub all_stay : (members : Numbers) → set_in before serial ≡ set_in after serial → AreMembers spaces before members → AreMembers spaces after members
   all_stay members same are = same_members spaces spaces before after members (λ s n. refl) (λ other. stays other (other == serial) refl) are
     where

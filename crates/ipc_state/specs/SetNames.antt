@@ -21,14 +21,14 @@ abbrev pub member_port : State → ℕ → Option Entry → Option ℕ
 member_port state set None = None
 member_port state set (Some entry) = cond (is_member state set entry) (received_port entry) None
 
--- a name, with the port, where it is a member
+-- a name with its port, if the port is a member
 abbrev pub member_at : State → ℕ → ℕ → Option Entry → List (ℕ × ℕ)
 member_at state set name o = elim (member_port state set o) as (λ _. List (ℕ × ℕ)) [ None ↦ [] | Some port ↦ (name, port) ∷ [] ]
 
 abbrev pub member_under : State → ℕ → ℕ × Entry → List (ℕ × ℕ)
 member_under state set e = member_at state set e.0 (Some e.1)
 
--- the first name from one on that may be a member's: those before it are none
+-- the first name, from a given one on, that may be a member's; those before it are none
 abbrev pub IsNextPlace : State → ℕ → ℕ → ℕ → Option ℕ → Type 0
 IsNextPlace state space set from found = MatchOption found ((q : ℕ) (e : Entry) → from ≤ q → finmap.get (names_in state space) q ≡ Some e → member_under state set (q, e) ≡ [])
     (λ name. (from ≤ name) × ((q : ℕ) (e : Entry) → from ≤ q → q < name → finmap.get (names_in state space) q ≡ Some e → member_under state set (q, e) ≡ []))
@@ -61,7 +61,7 @@ pub member_serials : (state : State) (set : ℕ) (es : List (ℕ × Entry)) → 
 member_serials state set [] = refl
 member_serials state set (e ∷ es) = one_serial e (flat_map (member_under state set) es) (filter (λ e. is_member state set e.1) es) (member_serials state set es) (is_member state set e.1) (received_port e.1) refl
 
--- the members whose names aren't below one
+-- the members whose names aren't below a given one
 abbrev pub members_from : State → ℕ → Names → ℕ → List (ℕ × ℕ)
 members_from state set names at = flat_map (λ e. from_on at e.0 (member_under state set e)) (finmap.entries names)
 
@@ -101,7 +101,7 @@ module _ (state : State) (set : ℕ) (names : Names) (at name : ℕ) (order : at
       go (Some v) there = entries_split f g (member_under state set (name, v)) names name v there
           (above_all at name (member_under state set (name, v)) order ∙ sym (ap (λ (l : List (ℕ × ℕ)). member_under state set (name, v) ++ l) (below_none (name + 1) name (member_under state set (name, v)) (omega arith)) ∙ append-nil (member_under state set (name, v)))) before (λ q w more _. behind q w more)
 
--- A name whose place isn't found at the set's is no member's.
+-- A name whose place isn't listed at the set's place is no member's.
 module _ (spaces : SpaceMap) (table : PortTable) (space set q : ℕ) (e : Entry) where
   abbrev now : State
   now = state_of spaces table
@@ -132,7 +132,7 @@ module _ (spaces : SpaceMap) (table : PortTable) (space set q : ℕ) (e : Entry)
       ap (λ (b : Bool). elim (cond b (received_port e) None) as (λ _. List (ℕ × ℕ)) [ None ↦ [] | Some port ↦ (q, port) ∷ [] ])
       (by_port (received_port e) (sym (ap (λ (o : Option ℕ). is_number o (place space set)) (stood small there)) ∙ apart))
 
--- the names from one on whose places aren't the set's are no members'
+-- between two names, if no place is listed at the set's place, no name is a member's
 pub none_between : (spaces : SpaceMap) (table : PortTable) (members : Numbers) (space set from until : ℕ) → space < 2 ^ 32 → AreMembers spaces table.ports members → AreSmall spaces
     → ((p : ℕ) → place space from ≤ p → p < until → p < 2 ^ 64 → stands_at members (place space set) p ≡ false)
     → (q : ℕ) (e : Entry) → from ≤ q → place space q < until → finmap.get (names_in (state_of spaces table) space) q ≡ Some e → member_under (state_of spaces table) set (q, e) ≡ []
@@ -141,7 +141,7 @@ none_between spaces table members space set from until few are small none q e mo
     let fits : place space q < 2 ^ 64 = omega (arith, word, few) in
     no_member spaces table space set q e word there (sym (are (place space set) (place space q) fits) ∙ none (place space q) (omega (arith, more)) less fits)
 
--- What the indexes give is the first such name.
+-- The name that the indexes give is the first such name.
 module _ (spaces : SpaceMap) (table : PortTable) (members : Numbers) (space set from : ℕ) (few : space < 2 ^ 32) (are : AreMembers spaces table.ports members) (small : AreSmall spaces) where
   abbrev state : State
   state = state_of spaces table

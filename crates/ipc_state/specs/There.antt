@@ -1,4 +1,4 @@
--- A space that is there has its names changed.
+-- The names of an existing space are changed.
 use Rattle.std.specs.Prelude.{◌≡◌, ℕ, Option, None, Some, IsSome, option_and_then}
 use Rattle.std.proofs.Common.{refl, sym}
 use Rattle.std.specs.Ordering.{nat_cmp}
@@ -31,7 +31,7 @@ module _ (state : State) (space : ℕ) (there : IsSome (finmap.get state.spaces 
   pub name_gone : (name : ℕ) → without_name state space name ≡ with_names state space (finmap.remove (names_in state space) name)
   name_gone name = changed_there (λ (names : Names). finmap.remove names name)
 
--- what stands under a name, there or not
+-- what stands under a name, whether its space exists or not
 pub entry_named : (state : State) (space name : ℕ) → entry_at state space name ≡ finmap.get (names_in state space) name
 entry_named state space name = go (finmap.get state.spaces space)
   where

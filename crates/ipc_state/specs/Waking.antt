@@ -1,4 +1,4 @@
--- What is named of changes, so that a call that waits is woken.
+-- Which places changes name, so that a waiting call is woken.
 use Rattle.std.specs.Prelude.{◌≡◌, ◌⊎◌, ℕ, ◌<◌, ◌/◌, ◌^◌, Bool, true, false, [], Option, None, Some, option_map}
 use Rattle.std.specs.FinMap as finmap
 use Rattle.ipc_model.specs.declared.port.PortState.{PortState}
@@ -11,7 +11,7 @@ use Rattle.spaces.specs.Slots.{SpaceMap}
 use Rattle.waiting.specs.Places.{place_of_port}
 use Rattle.waiting.specs.Waiting.{IsQuiet, occupancy}
 
--- a port lives if it lived, and is as full, and in the same set
+-- a port lives if it lived, holds as many messages as before, with the same limit, and is in the same set
 abbrev pub same_occupancy : Ports → Ports → ℕ → Type 0
 same_occupancy before current serial = option_map occupancy (finmap.get current serial) ≡ option_map occupancy (finmap.get before serial)
 
@@ -29,7 +29,7 @@ pub record IsListedFor (named : ℕ → Bool) (set : Option ℕ) (has_messages :
 abbrev pub is_full_in : Ports → ℕ → Bool
 is_full_in ports serial = is_full (record { spaces = finmap.empty; ports = ports; next = 0 }) serial
 
--- a port is named where a send may find room there, and so are the places of its receives where one may find something
+-- a port is named if a send may find room there, and so are the places of its receives if one may find something
 pub record IsPortListed (named : ℕ → Bool) (spaces : SpaceMap) (ports : Ports) (serial : ℕ) : Type 0 where
   pub room : (is_full_in ports serial ≡ true) ⊎ (named (place_of_port serial) ≡ true)
   pub alone : (number : ℕ) (port : PortState) → number < 2 ^ 64 → at_place received_port spaces number ≡ Some serial → finmap.get ports serial ≡ Some port → IsQuiet port ⊎ (named number ≡ true)

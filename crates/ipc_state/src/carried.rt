@@ -1,4 +1,4 @@
-//! What is asked of the messages in queues, and done to them.
+//! The messages in queues: queries and changes.
 ghost use Rattle.std.specs.Prelude.{◌≡◌, ◌++◌, true, length, flat_map, option_map, take, OnOk, OnErr};
 ghost use Rattle.ipc_model.specs.effects.Effects.{queued, releases_of, release_of, release_of_reply};
 ghost use Rattle.ipc_model.specs.messages.Receiving.{without_oldest};
@@ -16,15 +16,15 @@ use ports::{PortNumbers, Ports};
 use std::alloc::AllocError;
 
 impl IpcState {
-    /// How many messages a port has, none where it is dead.
+    /// How many messages a port has, none if it is dead.
     pub fn message_count(&self, serial: u64) -> u32
         ensures { result ≡ length (messages_at self.now.current.ports serial) }
     {
         self.ports.message_count(serial)
     }
 
-    /// Puts a message at the end of a port's queue, whatever the limit; where the port is dead it is dropped. Its rights
-    /// are to live ports. Where memory is wanted the changes are given up.
+    /// Puts a message at the end of a port's queue, whatever the limit; if the port is dead, the message is dropped.
+    /// Its rights are to live ports. If an allocation fails, the changes are rolled back.
     pub fn queue_message(&mut self, serial: u64, message: Message) -> Result<(), AllocError>
         requires live { carries_live self.old.current message ≡ true }
         ensures ok { OnOk result (self.new ≡ record self.old { current = queued self.old.current serial message }) }
@@ -59,29 +59,30 @@ impl IpcState {
         Ok(())
     }
 
-    /// The oldest message of a port as it was sent, if it has one: what has become of its rights `seen` tells.
+    /// The oldest message of a port as it was sent, if it has one. `seen` says what its rights are now.
     pub fn oldest(&self, serial: u64) -> Option<&Message>
         ensures { IsOldest (lives_in self.now.current.ports) (messages_at self.now.current.ports serial) result }
     {
         oldest_in(&self.ports, serial)
     }
 
-    /// What a right of a message as it was sent is now: where its port has died, `MACH_PORT_DEAD`.
+    /// What a right of a message as it was sent is now: `MACH_PORT_DEAD` if its port has died.
     pub fn seen(&self, carried: CarriedRight) -> CarriedRight
         ensures { result ≡ seen_right (lives_in self.now.current.ports) carried }
     {
         self.ports.seen(carried)
     }
 
-    /// Adds the releases of the reply right and the body rights of a port's oldest message, if it has one, in this order.
+    /// Adds the releases of the reply right and the body rights of a port's oldest message, if it has one, in this
+    /// order.
     pub fn release_oldest(&self, serial: u64, effects: &mut Effects) -> Result<(), AllocError>
         ensures { OnOk result (effects.new ≡ effects.old ++ flat_map releases_of (take 1 (messages_at self.now.current.ports serial))) }
     {
         release_oldest_in(&self.ports, serial, effects)
     }
 
-    /// Takes the oldest message of a port out of its queue, if the port lives, and counts its sequence number on. Where
-    /// memory is wanted the changes are given up.
+    /// Takes the oldest message of a port out of its queue, if the port lives, and increments its sequence number. If
+    /// an allocation fails, the changes are rolled back.
     pub fn take_message(&mut self, serial: u64) -> Result<(), AllocError>
         ensures ok { OnOk result (self.new ≡ record self.old { current = without_oldest self.old.current serial }) }
         ensures err { OnErr result (self.new ≡ at_rest self.old.before) }
@@ -116,7 +117,7 @@ fn release_oldest_in(ports: &Ports, serial: u64, effects: &mut Effects) -> Resul
     Ok(())
 }
 
-/// The oldest message of a live port goes, and its sequence number is counted on.
+/// Takes the oldest message of a live port, and increments its sequence number.
 fn take_and_count(ports: &mut Ports, serial: u64) -> Result<(), AllocError>
     ensures ok { OnOk result (ports.new ≡ record ports.old { current = record ports.old.current { ports = changed ports.old.current.ports serial oldest_gone } }) }
     ensures before { ports.new.before ≡ ports.old.before }
@@ -139,14 +140,14 @@ fn count_on(numbers: PortNumbers) -> PortNumbers
     }
 }
 
-/// The number behind a sequence number. After the last one comes 0.
+/// The number after a sequence number. The last one is followed by 0.
 fn next_number(number: u32) -> u32
     ensures { result ≡ next_count number }
 {
     number.wrapping_add(1)
 }
 
-/// Adds the releases of a message's reply right and body rights, where their ports live still.
+/// Adds the releases of a message's reply right and body rights whose ports still live.
 #[tactic(auto, using(crate::proofs::Releasing::released_all))]
 fn release(ports: &Ports, message: &Message, effects: &mut Effects) -> Result<(), AllocError>
     ensures { OnOk result (effects.new ≡ effects.old ++ releases_of (seen_message (lives_in ports.now.current.ports) message.now)) }

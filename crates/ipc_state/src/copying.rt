@@ -1,5 +1,5 @@
-//! The state gone through and copied: spaces and live ports by their numbers, names in their order, and a port with all
-//! that it keeps.
+//! Walks over the state, and copies of it: spaces and live ports by their numbers, names in their order, and a port
+//! with all that it has.
 ghost use Rattle.std.specs.Prelude.{◌≡◌, ◌<◌, ◌-◌, ◌^◌, IfOk, IfSome, map as mapped, option_map};
 ghost use Rattle.std.specs.FinMap as map;
 ghost use Rattle.ipc_model.specs.calls.PortCalls.{names_in};
@@ -13,14 +13,14 @@ use ports::Ports;
 use std::alloc::{AllocError, Global};
 
 impl IpcState {
-    /// The least number from one on that a space has.
+    /// The least number from `from` on that a space has.
     pub fn next_space(&self, from: u64) -> Option<u32>
         ensures { IsNextSpace self.now.current.spaces from result }
     {
         self.spaces.next_space(from)
     }
 
-    /// The least name of a space from one on, with what it stands for.
+    /// The least name of a space from `from` on, with what it stands for.
     pub fn next_entry(&self, space: u32, from: u64) -> Option<(u32, Entry)>
         ensures next { IsNextEntry (names_in self.now.current space) from result }
         ensures fits { IfSome result (λ e. e.0 < 2 ^ 32) }
@@ -28,7 +28,7 @@ impl IpcState {
         self.spaces.next_entry(space, from)
     }
 
-    /// The least serial from one on under which a port lives.
+    /// The least serial from `from` on under which a port lives.
     pub fn next_port(&self, from: u64) -> Option<u64>
         ensures next { IsNextPort self.now.current.ports from result }
         ensures fits { IfSome result (λ serial. serial < 2 ^ 64 - 1) }
@@ -36,7 +36,7 @@ impl IpcState {
         self.ports.next_port(from)
     }
 
-    /// A copy of all that a port keeps, if it lives, with the messages in its queue as they are seen.
+    /// A copy of all that a port has, if it lives, with the messages in its queue as they are seen.
     pub fn port(&self, alloc: Global, serial: u64) -> Result<Option<PortState>, AllocError>
         ensures { IfOk result (λ port. port ≡ map.get self.now.current.ports serial) }
     {
@@ -44,7 +44,7 @@ impl IpcState {
     }
 }
 
-/// A copy of all that a port keeps, if it lives.
+/// A copy of all that a port has, if it lives.
 fn copy_of_port(alloc: Global, ports: &Ports, serial: u64) -> Result<Option<PortState>, AllocError>
     ensures { IfOk result (λ port. port ≡ map.get ports.now.current.ports serial) }
 {

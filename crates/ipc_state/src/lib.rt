@@ -1,5 +1,5 @@
-//! The state as it runs: the spaces with their names, the live ports, and the serial that the next port gets. Its
-//! changes are kept or given up.
+//! The running state: the spaces with their names, the live ports, and the serial that the next port gets. Its changes
+//! are committed or rolled back.
 #![tactic(auto)]
 
 mod carried;

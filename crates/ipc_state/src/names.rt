@@ -16,9 +16,9 @@ use ports::Ports;
 use spaces::{PlaceIndex, Spaces};
 use std::alloc::{AllocError, Global};
 
-/// What is asked of the names of a space. A space that isn't there has none.
+/// Queries on the names of a space. A space that doesn't exist has none.
 impl IpcState {
-    /// Whether a space is there.
+    /// Whether a space exists.
     pub fn has_space(&self, space: u32) -> bool
         ensures { result ≡ is_some (map.get self.now.current.spaces space) }
     {
@@ -32,7 +32,7 @@ impl IpcState {
         self.spaces.name_count(space)
     }
 
-    /// The names that a space has in use, rising, each with what it stands for.
+    /// The names that a space has in use, in ascending order, each with what it stands for.
     pub fn entries(&self, alloc: Global, space: u32) -> Result<Vec<(u32, Entry)>, AllocError>
         ensures { IfOk result (λ entries. entries.items ≡ map.entries (names_in self.now.current space)) }
     {
@@ -62,8 +62,8 @@ impl IpcState {
         self.spaces.stands_elsewhere(space, name, serial)
     }
 
-    /// Whether a name may be handed out in a space: it is neither `MACH_PORT_NULL` nor `MACH_PORT_DEAD`, and not
-    /// in use.
+    /// Whether a name may be given out in a space: it is neither `MACH_PORT_NULL` nor `MACH_PORT_DEAD`, and isn't in
+    /// use.
     pub fn is_unused(&self, space: u32, name: u32) -> bool
         ensures { IsTrue result ↔ IsUnused (names_in self.now.current space) name }
     {
@@ -80,9 +80,10 @@ impl IpcState {
     }
 }
 
-/// What is done to the names of a space.
+/// Changes of the names of a space.
 impl IpcState {
-    /// Has a name of a space stand for this, where the space is there. Where memory is wanted the changes are given up.
+    /// Makes a name of a space stand for this, if the space exists. If an allocation fails, the changes are rolled
+    /// back.
     pub fn put_name(&mut self, space: u32, name: u32, entry: Entry) -> Result<(), AllocError>
         requires room { entry_at self.old.current space name ≡ None → map.len (names_in self.old.current space) < MAX_NAMES }
         requires few { AreFewReferences entry }
@@ -110,7 +111,7 @@ impl IpcState {
         }
     }
 
-    /// Takes a name of a space out of use. Where memory is wanted the changes are given up.
+    /// Takes a name of a space out of use. If an allocation fails, the changes are rolled back.
     pub fn remove_name(&mut self, space: u32, name: u32) -> Result<(), AllocError>
         ensures ok { OnOk result (self.new ≡ record self.old { current = without_name self.old.current space name }) }
         ensures err { OnErr result (self.new ≡ at_rest self.old.before) }
@@ -135,8 +136,8 @@ impl IpcState {
         }
     }
 
-    /// Has what stands under one name of a space, if anything does, stand under another. Where memory is wanted
-    /// the changes are given up.
+    /// Makes what stands under one name of a space, if anything does, stand under another. If an allocation fails, the
+    /// changes are rolled back.
     pub fn rename(&mut self, space: u32, from: u32, to: u32) -> Result<(), AllocError>
         requires unused { entry_at self.old.current space to ≡ None }
         ensures ok { OnOk result (self.new ≡ record self.old { current = with_changed self.old.current space (λ names. under_other_name names from to) }) }

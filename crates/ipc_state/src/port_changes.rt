@@ -1,4 +1,4 @@
-//! What is asked of the live ports, and done to what they keep beside their queues.
+//! The live ports: queries, and changes of what they have besides their queues.
 ghost use Rattle.std.specs.Prelude.{◌≡◌, ◌+◌, ◌<◌, ◌≤◌, ◌/◌, ◌^◌, false, None, Some, OnOk, OnErr, option_map};
 ghost use Rattle.std.specs.FinMap as map;
 ghost use Rattle.ipc_model.specs.state.State.{lives, new_port, ports_are_used_up, with_port};
@@ -29,7 +29,7 @@ impl IpcState {
         self.ports.contains(serial)
     }
 
-    /// What a port keeps beside its queue, if it lives.
+    /// What a port has besides its queue, if it lives.
     pub fn numbers(&self, serial: u64) -> Option<PortNumbers>
         ensures { result ≡ option_map numbers_of (map.get self.now.current.ports serial) }
     {
@@ -50,7 +50,7 @@ impl IpcState {
         self.ports.is_full() || self.ports.next_serial() == u64::MAX
     }
 
-    /// Adds a new port, which gets the next serial. Where memory is wanted the changes are given up.
+    /// Adds a new port, which gets the next serial. If an allocation fails, the changes are rolled back.
     pub fn add_port(&mut self) -> Result<(), AllocError>
         requires left { ports_are_used_up self.old.current ≡ false }
         requires fresh { map.get self.old.current.ports self.old.current.next ≡ None }
@@ -73,7 +73,7 @@ impl IpcState {
         }
     }
 
-    /// The next port gets this serial, which is none that was given before. It takes no memory.
+    /// Sets the serial that the next port gets, one that was never given before. It takes no memory.
     pub fn set_next_serial(&mut self, serial: u64)
         requires { self.old.current.next ≤ serial }
         ensures { self.new ≡ record self.old { current = record self.old.current { next = serial } } }
@@ -81,7 +81,7 @@ impl IpcState {
         self.ports.set_next_serial(serial);
     }
 
-    /// Changes what a live port keeps beside its queue. Where memory is wanted the changes are given up.
+    /// Changes what a live port has besides its queue. If an allocation fails, the changes are rolled back.
     pub fn set_numbers(&mut self, serial: u64, numbers: PortNumbers) -> Result<(), AllocError>
         ensures ok { OnOk result (self.new ≡ record self.old { current = with_port self.old.current serial (with_numbers numbers) }) }
         ensures err { OnErr result (self.new ≡ at_rest self.old.before) }
@@ -108,7 +108,7 @@ impl IpcState {
     }
 }
 
-/// A live port's numbers are replaced, and its place among the members goes along.
+/// Replaces a live port's numbers, and its place among the members with them.
 fn replace_numbers(
     spaces: &Spaces,
     ports: &mut Ports,
@@ -128,7 +128,7 @@ fn replace_numbers(
     Ok(())
 }
 
-/// A port goes from one set to another: its place among the members' goes along.
+/// Moves a port from one set to another, and its place among the members with it.
 fn move_places(
     spaces: &Spaces,
     members: &mut PlaceIndex,
@@ -154,7 +154,7 @@ fn move_places(
     Ok(())
 }
 
-/// At the place of a name stands the place of another set in its space.
+/// Puts the place of another set of its space at the place of a name.
 fn move_place(
     members: &mut PlaceIndex,
     name: u64,

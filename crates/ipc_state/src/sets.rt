@@ -13,7 +13,8 @@ use ports::Ports;
 use std::alloc::{AllocError, Global};
 
 impl IpcState {
-    /// The members of a set of a space, rising by name: the names, each with the port whose receive right it holds.
+    /// The members of a set of a space, in ascending order of names: each name with the port whose receive right it
+    /// holds.
     pub fn members(
         &self,
         alloc: Global,
@@ -31,7 +32,7 @@ impl IpcState {
         Ok(members)
     }
 
-    /// The first name from one on where a member of a set is found by the set's place.
+    /// The first name from `from` on that the index lists as a member of the set.
     fn next_place(&self, space: u32, set: u32, from: u64) -> Option<u32>
         ensures { IsNextPlace self.now.current space set from result }
     {
@@ -49,7 +50,7 @@ impl IpcState {
         Some((found % (1 << 32)) as u32)
     }
 
-    /// Adds a name, with the port whose receive right it holds, if this is a member of the set.
+    /// Adds a name, with the port whose receive right it holds, if the port is a member of the set.
     fn add_member(
         &self,
         space: u32,
@@ -65,7 +66,7 @@ impl IpcState {
         }
     }
 
-    /// The port whose receive right a name holds that stands for this, if it is a member of the set.
+    /// The port whose receive right a name with this entry holds, if the port is a member of the set.
     fn member_port(&self, set: u32, entry: Option<Entry>) -> Option<u64>
         ensures { result ≡ member_port self.now.current set entry }
     {
@@ -85,7 +86,8 @@ pub(crate) fn place(space: u32, name: u32) -> u64
     u64::from(space) * (1 << 32) + u64::from(name)
 }
 
-/// The place of the set that the port is a member of whose receive right a name of a space holds, if it stands for this.
+/// The place of the set of the port whose receive right a name with this entry holds, if there is such a port and it is
+/// in a set.
 pub(crate) fn set_place(ports: &Ports, space: u32, entry: Option<Entry>) -> Option<u64>
     ensures { result ≡ set_place_of ports.now.current.ports space entry }
 {
@@ -93,7 +95,7 @@ pub(crate) fn set_place(ports: &Ports, space: u32, entry: Option<Entry>) -> Opti
     place_in(space, set_of(ports, serial))
 }
 
-/// The port whose receive right a name holds, if it stands for this.
+/// The port whose receive right a name with this entry holds.
 fn received(entry: Option<Entry>) -> Option<u64>
     ensures { result ≡ option_and_then received_port entry }
 {

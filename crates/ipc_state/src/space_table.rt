@@ -8,7 +8,7 @@ use crate::IpcState;
 use codes::MAX_SPACES;
 use std::alloc::AllocError;
 
-/// What is asked of the spaces, and done to them.
+/// The spaces: queries and changes.
 impl IpcState {
     /// How many spaces there are.
     pub fn space_count(&self) -> usize
@@ -24,7 +24,7 @@ impl IpcState {
         0 < number && number as usize <= MAX_SPACES && !self.spaces.contains(number)
     }
 
-    /// The least number that no space has. There is one while there are fewer spaces than may be.
+    /// The least number that no space has. There is one while there are fewer spaces than allowed.
     pub fn free_space(&self) -> u32
         requires room { map.len self.now.current.spaces < MAX_SPACES }
         ensures unused { IsUnusedSpace self.now.current result }
@@ -33,7 +33,8 @@ impl IpcState {
         self.spaces.free_number()
     }
 
-    /// Makes a space without names under a number that no space has. Where memory is wanted the changes are given up.
+    /// Makes a space without names under a number that no space has. If an allocation fails, the changes are rolled
+    /// back.
     pub fn add_space(&mut self, number: u32) -> Result<(), AllocError>
         requires unused { map.get self.old.current.spaces number ≡ None }
         requires room { map.len self.old.current.spaces < MAX_SPACES }
@@ -50,12 +51,12 @@ impl IpcState {
         }
     }
 
-    /// Takes a space out with all its names, if it is there. Where memory is wanted the changes are given up.
+    /// Removes a space with all its names, if it exists. If an allocation fails, the changes are rolled back.
     pub fn remove_space(&mut self, number: u32) -> Result<(), AllocError>
         ensures ok { OnOk result (self.new ≡ record self.old { current = record self.old.current { spaces = map.remove self.old.current.spaces number } }) }
         ensures err { OnErr result (self.new ≡ at_rest self.old.before) }
     {
-        // Upward: a name that is gone leaves a mark, which a walk from the first name would pass over again.
+        // Upward: a name that is gone leaves a mark, and a walk from the first name would pass over it again.
         let mut at: u64 = 0;
         while let Some((name, _)) = self.spaces.next_entry(number, at) {
             self.remove_name(number, name)?;
@@ -64,7 +65,7 @@ impl IpcState {
         self.close_space(number)
     }
 
-    /// A space without names goes, if it is there. Where memory is wanted the changes are given up.
+    /// Removes a space without names, if it exists. If an allocation fails, the changes are rolled back.
     fn close_space(&mut self, number: u32) -> Result<(), AllocError>
         requires empty { (names : Names) → map.get self.old.current.spaces number ≡ Some names → names ≡ map.empty }
         ensures ok { OnOk result (self.new ≡ record self.old { current = record self.old.current { spaces = map.remove self.old.current.spaces number } }) }

@@ -10,18 +10,18 @@ use spaces::{PlaceIndex, Spaces};
 use std::alloc::{AllocError, Global};
 use std::marker::Model;
 
-/// The spaces, the live ports, and the serial that the next port gets, whose changes are kept or given up. Contracts see
-/// the state of the written definition as it was when they last were, and as it is.
+/// The spaces, the live ports, and the serial that the next port gets, whose changes are committed or rolled back.
+/// Contracts see the state of the abstract specification as it was at the last commit or rollback, and as it is.
 ///
-/// A change for which memory is wanted gives all changes up.
+/// A change whose allocation fails rolls all changes back.
 pub struct IpcState {
     pub(crate) spaces: Spaces,
     pub(crate) ports: Ports,
-    /// The place of a set at the place of each name that holds the receive right of a member.
+    /// At the place of each name that holds a member's receive right, the place of the set.
     pub(crate) members: PlaceIndex,
 }
 
-// Written out, as proofs above then know one function, and not the parts.
+// Written out, so that proofs above know one function and not its parts.
 impl Drop for IpcState {
     fn drop(self) {
         let IpcState {
@@ -79,7 +79,7 @@ impl IpcState {
         }
     }
 
-    /// Keeps the changes. It takes no memory.
+    /// Commits the changes. It takes no memory.
     pub fn keep(&mut self)
         ensures { self.new ≡ at_rest self.old.current }
     {
@@ -88,7 +88,7 @@ impl IpcState {
         self.members.keep();
     }
 
-    /// Gives the changes up. It takes no memory.
+    /// Rolls the changes back. It takes no memory.
     pub fn give_up(&mut self)
         ensures { self.new ≡ at_rest self.old.before }
     {
@@ -97,7 +97,7 @@ impl IpcState {
         self.members.give_up();
     }
 
-    /// No queue holds more messages than a word counts. It does nothing but show it.
+    /// Shows that no queue holds more messages than a word counts. It does nothing else.
     pub fn queues_are_short(&self)
         ensures { ShortQueues self.now.current }
     {

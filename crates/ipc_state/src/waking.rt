@@ -1,4 +1,4 @@
-//! The places at which calls that wait may find something to do, once a step has changed the state.
+//! The places at which waiting calls may find something to do, once a step has changed the state.
 ghost use Rattle.std.specs.Prelude.{◌≡◌, ◌⊎◌, ℕ, ◌<◌, ◌^◌, true, false, Some, is_some, option_map};
 ghost use Rattle.std.specs.FinMap as map;
 ghost use Rattle.ipc_model.specs.declared.port.PortState.{PortState};
@@ -19,8 +19,8 @@ use spaces::Spaces;
 use waiting::{Places, place_of_port};
 
 impl IpcState {
-    /// Names the places at which a call that found nothing to do may find something, by what has changed since changes were last kept
-    /// or given up. Where all places are named before, they stay so, and nothing is looked at.
+    /// Names the places at which a call that found nothing to do may find something, by what has changed since the last
+    /// commit or rollback. If all places are named already, they stay so, and nothing is looked at.
     pub fn name_places(&self, places: &mut Places)
         ensures { Covers self.now.before self.now.current (names places.new) }
     {
@@ -46,7 +46,7 @@ fn name_names(spaces: &Spaces, ports: &Ports, places: &mut Places)
     }
 }
 
-/// Names a name that changed, and where it holds the receive right of a set's member the set.
+/// Names a name that changed, and the set as well if the name holds a member's receive right.
 fn name_name(spaces: &Spaces, ports: &Ports, place: u64, places: &mut Places)
     ensures kept { IsMore places.old places.new }
     ensures listed { IsSetListed (names places.new) spaces.now.current ports.now.current.ports place }
@@ -76,7 +76,7 @@ fn name_ports(spaces: &Spaces, ports: &Ports, places: &mut Places)
     }
 }
 
-/// Names a port where its queue has room, or it is gone, and the places of its receives where it has a message or is in a set.
+/// Names a port if its queue has room or it is gone, and the places of its receives if it has a message or is in a set.
 fn name_port(spaces: &Spaces, ports: &Ports, serial: u64, places: &mut Places)
     ensures kept { IsMore places.old places.new }
     ensures listed { IsPortListed (names places.new) spaces.now.current ports.now.current.ports serial }
@@ -114,7 +114,7 @@ fn name_receivers(
     }
 }
 
-/// Names the name that holds a port's receive right, and the port's set, as far as a receive there may find something.
+/// Names the name that holds a port's receive right, and the port's set, so far as a receive there may find something.
 fn name_receiver(place: u64, set: Option<u32>, has_messages: bool, places: &mut Places)
     ensures kept { IsMore places.old places.new }
     ensures listed { IsListedFor (names places.new) set has_messages place }

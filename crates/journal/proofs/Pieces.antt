@@ -1,15 +1,15 @@
--- What a front of bytes tells of all of them.
+-- What the front of some bytes shows of all of them.
 use Rattle.std.proofs.Common.{◌≡◌, ◌⊎◌, inl, inr, ℕ, ◌+◌, ◌-◌, ◌≤◌, List, ◌++◌, length, take, drop, refl, sym, ap, ◌∙◌, subst, arith, append_assoc, take-append-drop, length-append, length-drop, length-take}
 use Rattle.std.proofs.lemmas.List.{take_all, take_at, take-take, drop_at, drop-drop, drop-take}
 use Rattle.journal.specs.declared.window.TheConstants.{LONGEST_STEP}
 use Rattle.journal.specs.Windows.{WindowValue, IsOver, IsFull}
 
--- the front of some bytes: so many of them at least, or all
+-- the front of some bytes: at least this many of them, or all
 pub record IsFrontOf (most : ℕ) (front whole : List ℕ) : Type 0 where
   pub shown : front ≡ take (length front) whole
   pub enough : (most ≤ length front) ⊎ (front ≡ whole)
 
--- what the front begins with, the whole does
+-- what the front begins with, the whole begins with
 pub whole_begins : (most : ℕ) (front whole text content : List ℕ) → IsFrontOf most front whole → front ≡ text ++ content → whole ≡ text ++ drop (length text) whole
 whole_begins most front whole text content is begins =
     let rest : List ℕ = drop (length front) whole in
@@ -17,7 +17,7 @@ whole_begins most front whole text content is begins =
     let behind : drop (length text) whole ≡ content ++ rest = ap (drop (length text)) joined ∙ drop_at text (content ++ rest) (length text) refl in
     joined ∙ ap (λ l. text ++ l) (sym behind)
 
--- and behind that stands the front of what is left
+-- and after that comes the front of what is left
 pub front_behind : (most less : ℕ) (front whole text content : List ℕ) → IsFrontOf most front whole → front ≡ text ++ content → most ≡ length text + less → IsFrontOf less content (drop (length text) whole)
 front_behind most less front whole text content is begins fits =
     let rest : List ℕ = drop (length front) whole in
@@ -32,7 +32,7 @@ front_behind most less front whole text content is begins fits =
       ];
     }
 
--- what the whole begins with, the front does, where that isn't too long
+-- what the whole begins with, the front begins with, if that isn't too long
 pub front_begins : (most : ℕ) (front whole text rest : List ℕ) → IsFrontOf most front whole → whole ≡ text ++ rest → length text ≤ most → front ≡ text ++ drop (length text) front
 front_begins most front whole text rest is begins fits = elim is.enough [
   | inl many ↦

@@ -15,7 +15,7 @@ use Rattle.journal.specs.Reading.{Place, SpellsFrom, Leads, IsLast, IsNothing, I
 use Rattle.journal.specs.Windows.{WindowValue, IsOver, IsFull}
 use Rattle.journal.proofs.Pieces.{IsFrontOf, whole_begins, front_behind, front_begins, window_front}
 
--- how many bytes a record has at most
+-- the greatest number of bytes of a record
 abbrev pub longest_record : ℕ
 longest_record = 131084
 
@@ -29,7 +29,7 @@ length-head count size = omega (arith, length-append (word count) (long_word siz
 head_apart : (count size : ℕ) (content : List ℕ) → head_text count size ++ content ≡ open_gate ∷ (word count ++ (long_word size ++ content))
 head_apart count size content = ap (λ (l : List ℕ). open_gate ∷ l) (append_assoc (word count) (long_word size) content)
 
--- the records behind a batch's head, and the batches behind them
+-- the records after a batch's head, and the batches after them
 pub record HasHead (n count size : ℕ) (content : List ℕ) (records : List Record) (tail : List ℕ) : Type 0 where
   pub batch : List Record
   pub batches : List (List Record)
@@ -65,12 +65,12 @@ head_of n count size content tail [] records (first ∷ batches) none count_fits
       flat = flat;
     }
 
--- a batch's text behind its gate, from its head
+-- a batch's encoding after its gate, from its head
 batch_of_head : (n : ℕ) (batch : List Record) (rest : List ℕ) → open_gate ∷ (batch_text n batch ++ rest) ≡ head_text (length batch) (length (records_text n batch)) ++ (records_text n batch ++ rest)
 batch_of_head n batch rest =
     ap (λ (l : List ℕ). open_gate ∷ l) (batch_apart n batch rest) ∙ sym (head_apart (length batch) (length (records_text n batch)) (records_text n batch ++ rest))
 
--- A reader that went into the next batch, or was in one: where it is then, and that the same is spelled from there on.
+-- A reader that went into the next batch, or was in one: where it is then, and that from there on the same is encoded.
 pub record IsEntered (bytes front : List ℕ) (old : Place) (count size : ℕ) (content : List ℕ) : Type 0 where
   pub at : ℕ
   pub shown : IsFrontOf longest_record content (drop at bytes)
@@ -152,7 +152,7 @@ pub entered : (bytes front : List ℕ) (old : Place) (count size : ℕ) (content
 entered bytes front old count size content is (inl within) = in_same bytes front old count size content is within.0 within.1 within.2 within.3
 entered bytes front old count size content is (inr next) = in_next bytes front old count size content is next.0 next.1 next.2 next.3 next.4 next.5
 
--- the first record of those that a batch still has
+-- the first of the records that are left of a batch
 pub record HasNext (bytes : List ℕ) (place : Place) (records : List Record) (end : ℕ) : Type 0 where
   pub first : Record
   pub more : List Record
@@ -201,7 +201,7 @@ pub has_next : (bytes : List ℕ) (place : Place) (records : List Record) (end :
 has_next bytes place records end some spells =
     next_of bytes place records end spells.batch spells.batches spells.tail some spells.text spells.counted spells.sized spells.closed spells.none_empty spells.flat spells.canonical spells.bounded spells.ended
 
--- the records that a batch still has, with one more in front
+-- the records that are left of a batch, with one more before them
 one_more : (bytes : List ℕ) (old new : Place) (entry : Record) (records more : List Record) (end : ℕ) → IsRecord entry → 0 < old.left → drop old.at bytes ≡ record_text old.number entry ++ drop new.at bytes
     → new.number ≡ old.number + 1 → new.left ≡ old.left - 1 → new.size + length (record_text old.number entry) ≡ old.size → records ≡ entry ∷ more → SpellsFrom bytes new more end → SpellsFrom bytes old records end
 one_more bytes old new entry records more end fits some text numbered left sized are spells =
@@ -227,7 +227,7 @@ one_more bytes old new entry records more end fits some text numbered left sized
       ended = spells.ended;
     }
 
--- the record that stands in front is the first of those that are spelled
+-- the record at the front is the first of those that are encoded
 first_is : (bytes : List ℕ) (old new : Place) (entry : Record) (records : List Record) (end : ℕ) → IsRecord entry → old.number < MAX_RECORDS → drop old.at bytes ≡ record_text old.number entry ++ drop new.at bytes
     → new.number ≡ old.number + 1 → new.left ≡ old.left - 1 → new.size + length (record_text old.number entry) ≡ old.size → HasNext bytes old records end → (more : List Record) × (records ≡ entry ∷ more) × SpellsFrom bytes new more end
 first_is bytes old new entry records end fits room text numbered left sized has =
@@ -284,7 +284,7 @@ whole_closed most [] whole is closed = tt
 whole_closed most (gate ∷ front) [] is closed = absurd (cc is.shown)
 whole_closed most (gate ∷ front) (first ∷ whole) is closed = λ opened. closed (ap first_byte (sym is.shown) ∙ opened)
 
--- No open gate stands behind the last batch.
+-- No open gate comes after the last batch.
 pub last : (bytes front : List ℕ) (window : WindowValue) (old : Place) → IsOver bytes window → IsFull window → old.at ≡ window.at → front ≡ window.front → old.number ≤ MAX_RECORDS → IsBehindBatches old.left old.size front → IsLast bytes old
 last bytes front window old over full same shows room behind =
     let whole : List ℕ = drop old.at bytes in
@@ -304,7 +304,7 @@ last bytes front window old over full same shows room behind =
       ended = omega (arith, length-drop old.at bytes, over.inside);
     }
 
--- what is spelled behind the last batch, or from the next one's head on
+-- what is encoded after the last batch, or from the next one's head on
 no_step : (n : ℕ) (left size : ℕ) (front whole tail : List ℕ) (batch records : List Record) (batches : List (List Record)) → IsFrontOf LONGEST_STEP front whole
     → whole ≡ records_text n batch ++ (batches_text (n + length batch) batches ++ tail) → length batch ≡ left → length (records_text n batch) ≡ size → IsClosed tail → NoneEmpty batches
     → records ≡ batch ++ all_records batches → AreRecords records → n + length records ≤ MAX_RECORDS

@@ -1,4 +1,4 @@
--- What a stop may leave while a text is stored behind a slot's gate, call by call.
+-- The post-crash contents while bytes are stored after a slot's gate, call by call.
 use Rattle.std.proofs.Common.{◌≡◌, ◌⊎◌, inl, inr, ℕ, ◌+◌, ◌-◌, ◌<◌, ◌≤◌, List, Result, Ok, Err, [], ◌∷◌, ◌++◌, length, take, drop, get_or, refl, sym, ◌∙◌, ap, subst, arith, length-append, append_assoc, take-append-drop}
 use Rattle.std.proofs.lemmas.Bool.{cases_lt}
 use Rattle.std.proofs.lemmas.List.{append-nil, take_at, drop_at, take_all, take-append-le, drop_all, drop_more, take_more, length-take}
@@ -25,7 +25,7 @@ passes_then old mid new P Q first second less = record {
   ];
 }
 
--- What a stop after a call may leave: what it might leave before, or what the call makes of that.
+-- What a crash after a call may leave: what it might have left before, or what the call makes of that.
 pub left_after : (old new : View) (P : Slots → Type 0) → Passes old new P → (c : Slots) → MayLeave new c → MayLeave old c ⊎ P c
 left_after old new P time c left = elim (cases_lt old.moment new.moment) [
   | inl later ↦ inr (time.since new.moment c later (omega arith) left)
@@ -52,7 +52,7 @@ slot_set c Image1 x = refl
 slot_set c Segment0 x = refl
 slot_set c Segment1 x = refl
 
--- while the text is stored: what a stop at a moment since then may leave, and what a stop now may leave
+-- while the bytes are stored: what a crash at a moment since then may leave, and what a crash now may leave
 pub record IsStoring (old new : View) (slot : Slot) (text : List ℕ) : Type 0 where
   pub time : Passes old new (Follows old slot (IsMidStore text))
   pub now : (c : Slots) → MayLeave new c → Follows old slot (IsMidStore text) c
@@ -64,7 +64,7 @@ storing_none disk slot text = record {
   now = λ c left. (c, left, inl ([], sym (append-nil (slot_of c slot))), same_slot c slot);
 }
 
--- one call more
+-- one more call
 pub storing_on : (old mid new : View) (slot : Slot) (text : List ℕ) (Q : Slots → Type 0) → IsStoring old mid slot text → Passes mid new Q → ((c : Slots) → Q c → Follows old slot (IsMidStore text) c) → IsStoring old new slot text
 storing_on old mid new slot text Q so_far time less = record {
   time = passes_then old mid new (Follows old slot (IsMidStore text)) Q so_far.time time less;
@@ -79,7 +79,7 @@ storing_sync old mid new slot text so_far time = storing_on old mid new slot tex
 tail_written : (old new : List ℕ) (at n : ℕ) → at ≡ length old → TornWrite at n old new → new ≡ old ++ drop at new
 tail_written old new at n ends torn = sym (take-append-drop at new) ∙ ap (λ l. l ++ drop at new) (torn.before ∙ take_all at old (omega arith))
 
--- the write of the text behind the gate
+-- the write of the bytes after the gate
 pub storing_text : (old new : View) (slot : Slot) (text : List ℕ) (at n : ℕ) → IsSynced old slot → at ≡ length (slot_of old.seen slot) → Passes old new (Follows old slot (TornWrite at n)) → IsStoring old new slot text
 storing_text old new slot text at n synced ends time =
     storing_on old old new slot text (Follows old slot (TornWrite at n)) (storing_none old slot text) time
@@ -92,7 +92,7 @@ gate_written front text new gate at begins torn =
     let behind : drop (at + 1) new ≡ text = torn.after ∙ ap (λ l. drop (at + 1) l) (sym (append_assoc front (gate ∷ []) text)) ∙ drop_at (front ++ gate ∷ []) text (at + 1) (omega (arith, length-append front (gate ∷ []))) in
     sym (take-append-drop at new) ∙ (λ i. (torn.before ∙ take_at front (gate ∷ text) at (sym begins)) i ++ (drop_more new at 0 long ∙ ap (λ l. get_or new at 0 ∷ l) behind) i)
 
--- the write that opens the gate, once the text is on the disk
+-- the write that opens the gate, once the bytes are on the disk
 pub storing_gate : (old mid new : View) (slot : Slot) (text front : List ℕ) (gate at : ℕ) → IsSynced old slot → slot_of old.seen slot ≡ front ++ gate ∷ [] → at ≡ length front → IsStoring old mid slot text
     → ((c : Slots) → MayLeave mid c → slot_of c slot ≡ front ++ (gate ∷ text)) → Passes mid new (Follows mid slot (TornWrite at 1)) → IsStoring old new slot text
 storing_gate old mid new slot text front gate at synced whole begins so_far stored time =
@@ -116,7 +116,7 @@ storing_gate old mid new slot text front gate at synced whole begins so_far stor
 last_apart : (slot : List ℕ) (at : ℕ) → 0 < length slot → at ≡ length slot - 1 → slot ≡ take at slot ++ get_or slot at 0 ∷ []
 last_apart slot at some last = sym (take_all (at + 1) slot (omega arith)) ∙ take_more slot at 0 (omega arith)
 
--- the text was written and is on the disk, and then the gate was written
+-- the bytes were written and are on the disk, and then the gate was written
 pub storing_whole : (old written synced new : View) (slot : Slot) (text : List ℕ) (gate n : ℕ) → IsSynced old slot → 0 < length (slot_of old.seen slot) → gate ≡ length (slot_of old.seen slot) - 1
     → Passes old written (Follows old slot (TornWrite (gate + 1) (length text))) → written.seen ≡ with_slot old.seen slot (written_at (slot_of old.seen slot) (gate + 1) text)
     → Passes written synced (MayLeave written) → synced.seen ≡ written.seen → IsSynced synced slot
@@ -136,12 +136,12 @@ storing_whole old written synced new slot text gate n settled some last time_wri
     (λ c left. is_synced c left ∙ held)
     (subst (λ k. Passes synced new (Follows synced slot (TornWrite gate k))) one time)
 
--- a call that failed behind calls that didn't
+-- a call that failed after calls that didn't
 pub counted_error : {T E : Type 0} (before mid now : ℕ) (r : Result T E) (e : E) → r ≡ Err e → mid ≡ before → now ≡ one_more mid → CountsFailure before now r
 counted_error before mid now (Ok v) e is same counted = absurd (cc is)
 counted_error before mid now (Err f) e is same counted = record { ok = tt; err = counted ∙ ap one_more same }
 
--- the gate is opened over the last byte, and the text stands behind it
+-- the gate is opened over the last byte, and the stored bytes follow it
 opened_text : (s text : List ℕ) (gate x : ℕ) → gate + 1 ≡ length s → written_at (written_at s (gate + 1) text) gate (x ∷ []) ≡ take gate s ++ (x ∷ text)
 opened_text s text gate x last =
     let first : written_at s (gate + 1) text ≡ s ++ text =

@@ -12,7 +12,7 @@ front_of_one all front last is one =
     let begins : length all - 1 ≡ length front = omega (arith, ap length is, length-append front last) in
     (λ i. take (begins i) (is i)) ∙ take_at front last (length front) refl
 
--- what a batch of these records is read as
+-- how a batch of these records is read back
 pub body_back : (count : ℕ) (body : List ℕ) → body_of (content_of (record { count = count; body = body }) ++ closed_gate ∷ []) ≡ body
 unfolding content_of
 body_back count body =
@@ -39,7 +39,7 @@ pushed_long count text more pushed whole is =
       length-take (length text - 1) text,
     )
 
--- a record more before the gate, and then its count and length
+-- one more record before the gate, and then the count and length
 pub more_text : (count : ℕ) (text more pushed new : List ℕ) → IsWhole count text → pushed ≡ take (length text - 1) text ++ (more ++ closed_gate ∷ []) → new ≡ word (count + 1) ++ (long_word (length pushed - 13) ++ drop 12 pushed)
     → new ≡ content_of (with_text (value_of count text) more) ++ closed_gate ∷ []
 unfolding content_of
@@ -54,7 +54,7 @@ more_text count text more pushed new whole is_pushed is_new =
     is_new ∙ (λ i. word (count + 1) ++ (long_word (long i) ++ behind i))
     ∙ ap (λ (l : List ℕ). word (count + 1) ++ (long_word (length (body ++ more)) ++ l)) (sym (append_assoc body more (closed_gate ∷ [])))
 
--- so many bytes less before the gate, and then a count less and the length
+-- this many bytes less before the gate, and then the count less one, and the length
 pub cut_text : (count size : ℕ) (text cut new : List ℕ) → IsWhole count text → size ≤ length (body_of text) → cut ≡ take (length text - 1 - size) text ++ closed_gate ∷ [] → new ≡ word (count - 1) ++ (long_word (length cut - 13) ++ drop 12 cut)
     → new ≡ content_of (without_last (value_of count text) size) ++ closed_gate ∷ []
 unfolding content_of
@@ -82,11 +82,11 @@ none_text : replicate 13 0 ≡ content_of (record { count = 0; body = [] }) ++ c
 unfolding content_of
 none_text = refl
 
--- where there are no bytes is a batch of no records
+-- no bytes stand for a batch of no records
 pub none_whole : (text : List ℕ) → text ≡ [] → IsWhole 0 (padded text)
 none_whole text is = whole_of 0 [] (padded text) (ap padded is ∙ none_text)
 
--- bytes are there
+-- bytes that aren't empty stay as they are
 pub padded_some : (text : List ℕ) → 0 < length text → padded text ≡ text
 padded_some [] some = absurd (omega arith)
 padded_some (x ∷ text) some = refl

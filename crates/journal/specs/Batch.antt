@@ -1,4 +1,4 @@
--- Records that are stored together, as the text of one batch.
+-- Records that are stored together, as the encoding of one batch.
 use Rattle.std.specs.Prelude.{◌≡◌, ℕ, ◌-◌, ◌+◌, List, [], ◌∷◌, ◌++◌, length, take, drop, replicate, refl}
 use Rattle.std.specs.Coded.{Coded, code_by, coded×, coded_ℕ, coded_list}
 use Rattle.ipc_model.specs.declared.record.Record.{Record}
@@ -6,7 +6,7 @@ use Rattle.ipc_model.specs.texts.Texts.{records_text}
 use Rattle.ipc_model.specs.store.Store.{closed_gate}
 use Rattle.words.specs.Words.{word, long_word}
 
--- How many records a batch has, and the texts of these, joined.
+-- How many records a batch has, and their encodings, joined.
 pub record BatchValue : Type 0 where
   pub count : ℕ
   pub body : List ℕ
@@ -19,23 +19,23 @@ batch_code =
 abbrev pub empty_batch : BatchValue
 empty_batch = record { count = 0; body = [] }
 
--- one record more, of this text
+-- one more record, with this encoding
 abbrev pub with_text : BatchValue → List ℕ → BatchValue
 with_text batch text = record { count = batch.count + 1; body = batch.body ++ text }
 
--- without the last record, whose text has so many bytes
+-- without the last record, whose encoding has this many bytes
 abbrev pub without_last : BatchValue → ℕ → BatchValue
 without_last batch size = record { count = batch.count - 1; body = take (length batch.body - size) batch.body }
 
--- what stands behind the batch's gate: how many records, how many bytes they have, and the records
+-- what stands after the batch's gate: how many records, how many bytes they have, and the records
 unfoldable pub content_of : BatchValue → List ℕ
 content_of batch = word batch.count ++ (long_word (length batch.body) ++ batch.body)
 
--- the bytes between a batch's first twelve, which tell its count and length, and the gate behind it
+-- the bytes between a batch's first twelve, which hold its count and length, and the gate after it
 abbrev pub body_of : List ℕ → List ℕ
 body_of text = drop 12 (take (length text - 1) text)
 
--- where there are no bytes, those of a batch of no records stand for them
+-- no bytes are taken for those of a batch of no records
 abbrev pub padded : List ℕ → List ℕ
 padded [] = replicate 13 0
 padded text = text
@@ -43,7 +43,7 @@ padded text = text
 abbrev pub value_of : ℕ → List ℕ → BatchValue
 value_of count text = record { count = count; body = body_of text }
 
--- These bytes are a batch of so many records, and a closed gate behind it.
+-- These bytes are a batch of this many records, and a closed gate after it.
 abbrev pub IsWhole : ℕ → List ℕ → Type 0
 IsWhole count text = text ≡ content_of (value_of count text) ++ closed_gate ∷ []
 

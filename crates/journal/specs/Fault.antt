@@ -1,4 +1,4 @@
--- The numbers and the texts of the store's faults.
+-- The numbers and the lines of text of the store's faults.
 use Rattle.std.specs.Prelude.{ℕ, List, codes}
 use Rattle.journal.specs.declared.fault.StoreFault.{StoreFault}
 use Rattle.journal.specs.declared.fault.StoreFault.TheVariants.{Device, Full, Damaged, NoMemory, Failed, Version}

@@ -3,7 +3,7 @@ use Rattle.std.specs.Prelude.{ℕ}
 use Rattle.journal.specs.Reading.{Place}
 use Rattle.journal.specs.Windows.{WindowValue}
 
--- the window that it looks through, how many records it has read, and what the batch still has that it is in
+-- the window that it looks through, how many records it has read, and what is left of the batch that it is in
 pub record ReaderValue : Type 0 where
   pub window : WindowValue
   pub number : ℕ

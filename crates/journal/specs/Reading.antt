@@ -1,4 +1,4 @@
--- What a segment's bytes spell from a place on, where a reader takes one record after another.
+-- What a segment's bytes encode from a place on, where a reader takes one record after another.
 use Rattle.std.specs.Prelude.{◌≡◌, ◌↔◌, ◌⊎◌, ℕ, ◌+◌, ◌^◌, ◌<◌, ◌≤◌, List, [], ◌∷◌, ◌++◌, length, drop}
 pub use Rattle.codes.specs.declared.limits.TheConstants.{MAX_RECORDS}
 use Rattle.ipc_model.specs.declared.record.Record.{Record}
@@ -7,15 +7,15 @@ use Rattle.words.specs.Words.{word, long_word}
 use Rattle.ipc_model.specs.store.Store.{open_gate, batches_text, all_records, IsClosed, NoneEmpty, AreRecords}
 
 -- Where a reader of a segment is: at which byte, how many records it has read, and how many records, in how many bytes,
--- the batch still has that it is in. Between two batches these are none.
+-- are left of the batch that it is in. Between two batches none are left.
 pub record Place : Type 0 where
   pub at : ℕ
   pub number : ℕ
   pub left : ℕ
   pub size : ℕ
 
--- From this place on the bytes of a segment spell these records, numbered on: those that the batch still has, and those
--- of the open batches behind it. The last one ends at `end`, before a gate that isn't open or the slot's end.
+-- From this place on the bytes of a segment encode these records, numbered on: those that are left of the batch, and
+-- those of the open batches after it. The last one ends at `end`, before a gate that isn't open or the slot's end.
 pub record SpellsFrom (bytes : List ℕ) (place : Place) (records : List Record) (end : ℕ) : Type 0 where
   pub batch : List Record
   pub batches : List (List Record)
@@ -30,27 +30,27 @@ pub record SpellsFrom (bytes : List ℕ) (place : Place) (records : List Record)
   pub bounded : place.number + length records ≤ MAX_RECORDS
   pub ended : end + length tail ≡ length bytes
 
--- A record leads from one place to another: what is spelled from the first on is it, and then what is spelled from the
--- second on.
+-- A record leads from one place to another: what is encoded from the first place on is this record, and then what is
+-- encoded from the second place on.
 pub record Leads (bytes : List ℕ) (old : Place) (entry : Record) (new : Place) : Type 0 where
   pub on : (records : List Record) (end : ℕ) → SpellsFrom bytes old records end
       ↔ ((more : List Record) × (records ≡ entry ∷ more) × SpellsFrom bytes new more end)
 
--- no record is spelled from this place on
+-- no record is encoded from this place on
 abbrev pub IsLast : List ℕ → Place → Type 0
 IsLast bytes place = SpellsFrom bytes place [] place.at
 
--- nothing that a segment may hold is spelled from this place on
+-- nothing that a segment may hold is encoded from this place on
 abbrev pub IsNothing : List ℕ → Place → Type 0
 IsNothing bytes place = (records : List Record) (end : ℕ) → SpellsFrom bytes place records end → ⊥
 
--- In front of these bytes a reader is in a batch that still has records, or the head of the next batch stands there: an
--- open gate, how many records it has, and in how many bytes. Behind the head stands the content.
+-- At these bytes a reader is in a batch that still has records, or the head of the next batch begins: an open gate, how
+-- many records it has, and in how many bytes. After the head comes the content.
 abbrev pub IsInBatch : ℕ → ℕ → List ℕ → ℕ → ℕ → List ℕ → Type 0
 IsInBatch left size bytes count length_of content =
     ((0 < left) × (count ≡ left) × (length_of ≡ size) × (content ≡ bytes))
     ⊎ ((left ≡ 0) × (size ≡ 0) × (0 < count) × (count < 2 ^ 32) × (length_of < 2 ^ 64) × (bytes ≡ open_gate ∷ (word count ++ (long_word length_of ++ content))))
 
--- the last batch ended, and no open gate stands in front of these bytes
+-- the last batch ended, and these bytes don't begin with an open gate
 abbrev pub IsBehindBatches : ℕ → ℕ → List ℕ → Type 0
 IsBehindBatches left size bytes = (left ≡ 0) × (size ≡ 0) × IsClosed bytes

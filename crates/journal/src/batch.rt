@@ -8,11 +8,11 @@ use slot_steps::CLOSED_GATE;
 use std::alloc::{AllocError, Global};
 use std::marker::Model;
 
-/// How many bytes of a batch stand before its records: their count, and how many bytes they have.
+/// How many bytes of a batch come before its records: their number, and how many bytes they have.
 const HEADER: usize = 12;
 
-/// Records that are stored together, spelled as they are added. It stands ready to be written at any time, so storing it
-/// takes no memory.
+/// Records that are stored together, encoded as they are added. The batch is ready to be written at any time, so
+/// storing it takes no memory.
 #[derive(Drop)]
 pub struct Batch {
     text: Vec<u8>,
@@ -28,12 +28,12 @@ impl Model for Batch {
 
     ghost view = { λ b. value_of b.count (padded b.text.items) };
 
-    // A closed gate stands behind the records. Where there are none, there may be no bytes at all.
+    // A closed gate stands after the records. If there are none, there may be no bytes at all.
     ghost invariant = { λ b. IsWhole b.count (padded b.text.items) };
 }
 
 impl Batch {
-    /// A batch of no records. It takes no memory.
+    /// An empty batch. It takes no memory.
     pub fn new(alloc: Global) -> Self
         ensures { result ≡ empty_batch }
     {
@@ -50,7 +50,7 @@ impl Batch {
         self.count
     }
 
-    /// Adds a record by its text. Where memory is wanted nothing changed.
+    /// Adds a record by its encoding. If an allocation fails, nothing changed.
     pub fn add(&mut self, text: &[u8]) -> Result<(), AllocError>
         requires { self.old.count < 2 ^ 32 - 1 }
         ensures ok { OnOk result (self.new ≡ with_text self.old text.now) }
@@ -64,7 +64,7 @@ impl Batch {
         Ok(())
     }
 
-    /// Takes the last record, which has so many bytes, out again. The room that it took stays.
+    /// Removes the last record, which has `size` bytes. The room that it took stays.
     pub fn remove_last(&mut self, size: usize)
         requires some { 0 < self.old.count }
         requires within { size ≤ length self.old.body }
@@ -76,7 +76,7 @@ impl Batch {
         write_header(&mut self.text, count - 1);
     }
 
-    /// Takes all records out. The room that they took stays.
+    /// Removes all records. The room that they took stays.
     pub fn clear(&mut self)
         ensures { self.new ≡ empty_batch }
     {
@@ -84,7 +84,7 @@ impl Batch {
         self.count = 0;
     }
 
-    /// The batch as it is written behind its gate, with a closed gate at the end.
+    /// The batch as it is written after its gate, with a closed gate at the end.
     pub(crate) fn text(&self) -> &[u8]
         requires { 0 < self.now.count }
         ensures { result.now ≡ content_of self.now ++ closed_gate ∷ [] }
@@ -94,7 +94,7 @@ impl Batch {
     }
 }
 
-/// Has the bytes of a batch of no records stand where nothing stands.
+/// Writes the bytes of an empty batch if there are no bytes yet.
 fn write_front(text: &mut Vec<u8>) -> Result<(), AllocError>
     ensures ok { OnOk result (text.new.items ≡ padded text.old.items) }
     ensures err { OnErr result (text.new.items ≡ text.old.items) }
@@ -105,7 +105,7 @@ fn write_front(text: &mut Vec<u8>) -> Result<(), AllocError>
     text.extend_from_slice(&[0; HEADER + 1])
 }
 
-/// Adds bytes before the gate at the end. There is room.
+/// Adds bytes before the gate at the end. There must be room.
 fn push_before_gate(text: &mut Vec<u8>, more: &[u8])
     requires some { 0 < length text.old.items }
     requires room { vec_len text.old + length more.now ≤ vec_capacity text.old }
@@ -117,7 +117,7 @@ fn push_before_gate(text: &mut Vec<u8>, more: &[u8])
     text.push_reserved(CLOSED_GATE);
 }
 
-/// Takes bytes out before the gate at the end.
+/// Removes bytes before the gate at the end.
 fn cut_before_gate(text: &mut Vec<u8>, size: usize)
     requires { size < length text.old.items }
     ensures { text.new.items ≡ take (length text.old.items - 1 - size) text.old.items ++ closed_gate ∷ [] }
@@ -127,7 +127,7 @@ fn cut_before_gate(text: &mut Vec<u8>, size: usize)
     text.push_reserved(CLOSED_GATE);
 }
 
-/// Writes the count and the length of the records into the first bytes of a batch.
+/// Writes the number and the length of the records into the first bytes of a batch.
 fn write_header(text: &mut Vec<u8>, count: u32)
     requires { 13 ≤ length text.old.items }
     ensures { text.new.items ≡ word count ++ (long_word (length text.old.items - 13) ++ drop 12 text.old.items) }

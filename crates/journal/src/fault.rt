@@ -12,9 +12,9 @@ pub enum StoreFault {
     Device = 1,
     /// The segment holds as many records as it may.
     Full = 2,
-    /// The slots are none that a server leaves.
+    /// The slots are not as a server leaves them.
     Damaged = 3,
-    /// No memory; nothing changed.
+    /// Out of memory; nothing changed.
     NoMemory = 4,
     /// The device failed before; the store has to be opened again.
     Failed = 5,
@@ -30,7 +30,7 @@ impl StoreFault {
         self as u8
     }
 
-    /// The fault as a line of errors, behind the name of a program: its kind, its number and its text.
+    /// The fault as a line of errors, after the name of a program: its kind, its number and its text.
     pub fn line(self) -> &'static str
         ensures { result.now ≡ fault_line self }
     {

@@ -1,4 +1,5 @@
-//! The journal: the segment in use, batches of records in it, each behind a gate of its own, and how a new segment is made.
+//! The journal: the segment in use, the batches of records in it, each after a gate of its own, and how a new segment
+//! is made.
 #![tactic(auto)]
 
 mod batch;

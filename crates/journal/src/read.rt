@@ -23,7 +23,7 @@ use words::{take_long_word, take_word};
 /// How many bytes of a segment a reader holds at most.
 pub const PIECE: usize = 1 << 20;
 
-/// What stands behind the open gate that the bytes begin with, if they do.
+/// What stands after the open gate in front of these bytes; `None` if they don't begin with one.
 fn behind_open_gate(bytes: &[u8]) -> Option<&[u8]>
     ensures open { IfSome result (λ behind. bytes.now ≡ open_gate ∷ behind.now) }
     ensures closed { IfNone result (IsClosed bytes.now) }
@@ -34,10 +34,10 @@ fn behind_open_gate(bytes: &[u8]) -> Option<&[u8]>
     }
 }
 
-/// How many records the batch that these bytes go on with still has, in how many bytes, and its content. Where the
-/// last batch has ended, that is the next one, whose open gate stands in front.
+/// How many records are left in the batch at these bytes, in how many bytes, and its content. If the last batch has
+/// ended, it is the next one, whose open gate stands in front.
 ///
-/// `Damaged`: the batch has bytes behind its last record, or no record, or the slot ends within its head.
+/// `Damaged`: the batch has bytes after its last record, or no record, or the slot ends within its head.
 fn batch_at(bytes: &[u8], left: u32, size: u64) -> Result<Option<(u32, u64, &[u8])>, StoreFault>
     ensures found { IfOk result (λ found. IfSome found (λ r. IsInBatch left size bytes.now r.0 r.1 r.2.now)) }
     ensures ended { IfOk result (λ found. IfNone found (IsBehindBatches left size bytes.now)) }
@@ -66,9 +66,9 @@ fn batch_at(bytes: &[u8], left: u32, size: u64) -> Result<Option<(u32, u64, &[u8
     Ok(Some((count, length, content)))
 }
 
-/// The record of this number that stands in front, in so many bytes at most, and what stands behind it.
+/// The record with this number in front, in at most `size` bytes, and what stands after it.
 ///
-/// `Damaged`: there is none, or a segment holds no record of this number. `NoMemory`: no memory.
+/// `Damaged`: there is none, or a segment holds no record with this number. `NoMemory`: out of memory.
 fn record_at(
     alloc: Global,
     bytes: &[u8],
@@ -94,8 +94,8 @@ fn record_at(
     Ok((entry, rest))
 }
 
-/// Takes the records of a segment one after another, from its first batch on: those of the batches behind open gates,
-/// up to the first gate that is closed or isn't there. It holds a piece of the slot at a time.
+/// Takes the records of a segment one after another, from its first batch on: those of the batches after open gates, up
+/// to the first gate that is closed or missing. It holds a piece of the slot at a time.
 #[derive(Drop)]
 pub struct RecordReader {
     window: Window,
@@ -118,7 +118,7 @@ impl Model for RecordReader {
 }
 
 impl RecordReader {
-    /// A reader of a segment's slot, whose first batch begins at this place. It holds so many bytes at most.
+    /// A reader of a segment's slot, whose first batch begins at this place. It holds at most `room` bytes.
     pub fn new<D: Disk>(
         alloc: Global,
         disk: &D,
@@ -143,7 +143,7 @@ impl RecordReader {
         })
     }
 
-    /// The place in the slot behind the last record.
+    /// The place in the slot after the last record.
     pub fn at(&self) -> u64
         ensures { result ≡ self.now.window.at }
     {
@@ -185,11 +185,11 @@ impl RecordReader {
         Ok(Some(entry))
     }
 
-    /// Takes the next record, if there is one more.
+    /// Takes the next record, if there is one.
     ///
-    /// `Damaged`, which comes just where the bytes from here on spell no batches: the batch isn't whole, isn't spelled
-    /// as a batch is, or is numbered otherwise than on from the one before, or there are more records than a segment
-    /// may hold. `NoMemory`: no memory. `Device`: the device failed.
+    /// `Damaged`, exactly if the bytes from here on encode no batches: the batch isn't whole, isn't encoded as a batch,
+    /// or isn't numbered on from the one before, or there are more records than a segment may hold. `NoMemory`: out of
+    /// memory. `Device`: the device failed.
     pub fn next<D: Disk>(&mut self, disk: &mut D) -> Result<Option<Record>, StoreFault>
         requires { D.honest → IsOver (slot_of (D.view disk.old).seen self.old.window.slot) self.old.window }
         ensures leads { D.honest → IfOk result (λ found. IfSome found (λ entry.

@@ -1,5 +1,5 @@
-// The three steps by which a new segment is made in the slot of an epoch: what stood there is closed, the header is written
-// behind the gate, and the gate is opened.
+// The three steps by which a new segment is made in the slot of an epoch: the slot is closed, the header is written
+// after the gate, and the gate is opened.
 ghost use Rattle.std.specs.Prelude.{◌≡◌, ◌<◌, ◌++◌, ◌∷◌, [], length, take, drop, IfOk, OnOk};
 ghost use Rattle.disk.specs.Slots.{slot_of, with_slot};
 ghost use Rattle.disk.specs.Moments.{IsSynced, Passes, Follows, CountsFailure};
@@ -13,7 +13,7 @@ use slot_steps::{
     write_behind, write_gate,
 };
 
-/// What stands behind the gate of a segment without batches: version 1, six zero bytes, its epoch, and a closed gate.
+/// What stands after the gate of a segment without batches: version 1, six zero bytes, its epoch, and a closed gate.
 fn segment_start(epoch: u64) -> [u8; 16]
     ensures { result ≡ epoch_text epoch ++ closed_gate ∷ [] }
 {
@@ -21,7 +21,7 @@ fn segment_start(epoch: u64) -> [u8; 16]
     [1, 0, 0, 0, 0, 0, 0, a, b, c, d, e, f, g, h, CLOSED_GATE]
 }
 
-/// Writes the header of a segment behind a slot's gate, and a closed gate behind the header.
+/// Writes the header of a segment after a slot's gate, and a closed gate after the header.
 fn write_header<D: Disk>(disk: &mut D, slot: Slot, epoch: u64) -> Result<(), DiskFault>
     requires { D.honest → 0 < length (slot_of (D.view disk.old).seen slot) }
     ensures header { D.honest → OnOk result ((D.view disk.new).seen ≡ with_slot (D.view disk.old).seen slot
@@ -36,7 +36,7 @@ fn write_header<D: Disk>(disk: &mut D, slot: Slot, epoch: u64) -> Result<(), Dis
     sync_behind(disk, slot)
 }
 
-/// Has a closed gate stand at the front of the slot that an epoch's segment gets.
+/// Makes sure that a closed gate stands at the front of the slot of an epoch's segment.
 pub fn roll_close<D: Disk>(disk: &mut D, epoch: u64) -> Result<(), DiskFault>
     ensures begun { D.honest → OnOk result (0 < length (slot_of (D.view disk.new).seen (slot_of_epoch epoch))) }
     ensures closed { D.honest → OnOk result (IsClosed (slot_of (D.view disk.new).seen (slot_of_epoch epoch))) }
@@ -50,7 +50,8 @@ pub fn roll_close<D: Disk>(disk: &mut D, epoch: u64) -> Result<(), DiskFault>
     close_slot(disk, segment_slot(epoch), SEGMENT_HEADER)
 }
 
-/// Writes the header of an epoch's segment behind the gate of its slot, which is closed, and a closed gate behind the header.
+/// Writes the header of an epoch's segment after the gate of its slot, which is closed, and a closed gate after the
+/// header.
 pub fn roll_head<D: Disk>(disk: &mut D, epoch: u64) -> Result<(), DiskFault>
     requires { D.honest → 0 < length (slot_of (D.view disk.old).seen (slot_of_epoch epoch)) }
     ensures header { D.honest → OnOk result ((D.view disk.new).seen ≡ with_slot (D.view disk.old).seen (slot_of_epoch epoch)
@@ -63,7 +64,7 @@ pub fn roll_head<D: Disk>(disk: &mut D, epoch: u64) -> Result<(), DiskFault>
     write_header(disk, segment_slot(epoch), epoch)
 }
 
-/// Opens the gate of the slot of an epoch's segment, which is in use then.
+/// Opens the gate of the slot of an epoch's segment, which is then in use.
 pub fn roll_open<D: Disk>(disk: &mut D, epoch: u64) -> Result<Segment, DiskFault>
     ensures written { D.honest → OnOk result ((D.view disk.new).seen
         ≡ with_slot (D.view disk.old).seen (slot_of_epoch epoch) (open_gate ∷ drop 1 (slot_of (D.view disk.old).seen (slot_of_epoch epoch)))) }

@@ -1,4 +1,4 @@
-// What of a slot is in memory while a reader goes over it.
+// The part of a slot that is in memory while a reader goes over it.
 ghost use Rattle.std.specs.Prelude.{◌≡◌, ◌+◌, ◌≤◌, length, take, drop, IfOk, OnOk};
 ghost use Rattle.disk.specs.Slots.{slot_of};
 ghost use Rattle.disk.specs.Moments.{Passes, MayLeave, CountsFailure};
@@ -8,7 +8,7 @@ use disk::{Disk, DiskFault, Slot};
 use std::alloc::{AllocError, Global};
 use std::marker::Model;
 
-/// The most bytes that a reader takes from a segment at once: a gate, a count and a size, and behind them a record's
+/// The most bytes that a reader takes from a segment at once: a gate, a count and a size, followed by a record's
 /// number, its space and two frames.
 pub const LONGEST_STEP: usize = 1 + 4 + 8 + 8 + 4 + 2 * (4 + 65_532);
 
@@ -37,8 +37,8 @@ impl Model for Window {
 }
 
 impl Window {
-    /// A window over a slot from a place on, which shows nothing yet. It has room for so many bytes, or for all of
-    /// the slot where these are fewer.
+    /// A window over a slot from a place on, which shows nothing yet. It has room for `room` bytes, or for the whole
+    /// slot if that has fewer.
     pub(crate) fn over<D: Disk>(
         alloc: Global,
         disk: &D,
@@ -79,7 +79,7 @@ impl Window {
         self.at
     }
 
-    /// Moves on by so many bytes.
+    /// Moves on by `count` bytes.
     pub(crate) fn pass(&mut self, count: usize)
         requires { count ≤ length self.old.front }
         ensures at { self.new.at ≡ self.old.at + count }
@@ -90,7 +90,7 @@ impl Window {
         self.at += count as u64;
     }
 
-    /// Shows what a read gives from its place on.
+    /// Shows what a read from its place on returns.
     fn read<D: Disk>(&mut self, disk: &mut D) -> Result<(), DiskFault>
         ensures shown { D.honest → IsOver (slot_of (D.view disk.old).seen self.old.slot) self.old
             → OnOk result (IsOver (slot_of (D.view disk.old).seen self.old.slot) self.new × IsFull self.new) }
@@ -105,8 +105,8 @@ impl Window {
         Ok(())
     }
 
-    /// Has the window show as many bytes as the longest step of a reader has, or all that there are. It reads only
-    /// where it shows fewer.
+    /// Makes the window show as many bytes as a reader's longest step has, or all that there are. It reads only if the
+    /// window shows fewer.
     pub(crate) fn fill<D: Disk>(&mut self, disk: &mut D) -> Result<(), DiskFault>
         ensures shown { D.honest → IsOver (slot_of (D.view disk.old).seen self.old.slot) self.old
             → OnOk result (IsOver (slot_of (D.view disk.old).seen self.old.slot) self.new × IsFull self.new) }

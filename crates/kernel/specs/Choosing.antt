@@ -42,7 +42,7 @@ space_shown _ = None
 abbrev pub shown_by : Reply → Shown
 shown_by answer = record { name = name_shown answer; space = space_shown answer; preference = preferred_by answer; names = names_shown (text_in answer) }
 
--- Where the call may be answered by a reply that shows this, it is.
+-- If the call may get a reply that shows this, it gets that reply.
 pub record Prefers (old : State) (space : ℕ) (c : Call) (shown : Shown) (answer : Reply) : Type 0 where
   pub takes : (other : Reply) (new : State) (effects : List Effect) → shown ≡ shown_by other → ActsIn old space (names_in old space) c other new effects → answer ≡ other
 
@@ -55,7 +55,7 @@ is_open (call.Receive limit large name waited) = true
 is_open (call.SpaceCreate name disposition) = true
 is_open c = false
 
--- Of other calls the state tells the reply.
+-- For other calls the state determines the reply.
 
 on_entry : (entry : Option Entry) (action : Entry → Action) (one other : Reply) (new last : State) (effects others : List Effect) → ActsOn entry action one new effects → ActsOn entry action other last others → one ≡ other
 on_entry None action one other new last effects others a b = absurd a
@@ -214,7 +214,7 @@ prefers_create old space name disposition shown answer new effects acts wanted =
         let numbered : shown.space ≡ Some (told.0, told.1) = ap space_of is ∙ ap (λ (r : Reply). space_of (shown_by r)) told.2 in
         wanted told.0 told.1 numbered last others (subst (λ (r : Reply). Done old space (names_in old space) (call.SpaceCreate name disposition) r last others) told.2 b) ∙ sym told.2
 
--- a receipt takes the message that a reply shows, and its rights get the names shown
+-- a receive takes the message that a reply shows, and its rights get the names shown
 preference_of : Shown → Preference
 preference_of shown = shown.preference
 
@@ -228,7 +228,7 @@ pub prefers_receive : (old : State) (space limit : ℕ) (large : Bool) (name : �
 unfolding preference_of names_of
 prefers_receive old space limit large name waited shown answer wanted = record { takes = λ other last others is may. wanted other last others (ap preference_of is) (ap names_of is) may }
 
--- Which calls only read, which change the state and set nothing off, which give rights up, and which copy one in.
+-- Which calls only read, which change the state and set nothing off, which give up rights, and which copy one in.
 abbrev pub only_reads : Call → Bool
 only_reads (call.Attach space) = true
 only_reads call.Names = true
@@ -262,7 +262,7 @@ hands_over (call.ExtractRight name disposition) = true
 hands_over (call.SpaceCreate name disposition) = true
 hands_over c = false
 
--- what gives rights up leaves nothing open
+-- a call that gives up rights leaves nothing open
 pub giving_told : (c : Call) → gives_up c ≡ true → is_open c ≡ false
 giving_told (call.Allocate kind) is = absurd (cc is)
 giving_told (call.RequestNotification name variant sync notify_name disposition) is = absurd (cc is)
@@ -271,7 +271,7 @@ giving_told (call.Receive limit large name waited) is = absurd (cc is)
 giving_told (call.SpaceCreate name disposition) is = absurd (cc is)
 giving_told c is = refl
 
--- nor does what only reads
+-- nor does a call that only reads
 pub reading_told : (c : Call) → only_reads c ≡ true → is_open c ≡ false
 reading_told (call.Allocate kind) is = absurd (cc is)
 reading_told (call.RequestNotification name variant sync notify_name disposition) is = absurd (cc is)

@@ -21,7 +21,7 @@ port_rows serial None = []
 port_rows serial (Some port) = port_row (serial, port) ∷ []
 
 module _ {X R : Type 0} (row : ℕ × X → R) (m : FinMap {K = ℕ} nat_cmp X) where
-  -- what was gathered, with the rows of what is left from a key on, is the whole
+  -- what was gathered, and then the rows of what is left from a key on, is the whole
   abbrev pub AreGathered : List R → ℕ → Type 0
   AreGathered rows at = rows ++ map row (entries_from m at) ≡ map row (entries m)
 
@@ -38,12 +38,12 @@ module _ {X R : Type 0} (row : ℕ × X → R) (m : FinMap {K = ℕ} nat_cmp X) 
   pub gathered_all : (rows : List R) (at : ℕ) → ((q : ℕ) → at ≤ q → get m q ≡ None) → AreGathered rows at → rows ≡ map row (entries m)
   gathered_all rows at none gathered = sym (append-nil rows) ∙ ap (λ (es : List (ℕ × X)). rows ++ map row es) (sym (from_end m at none)) ∙ gathered
 
--- a name more
+-- one more name
 pub name_more : (names : Names) (rows next : List NamedEntry) (at name : ℕ) (entry : Entry) → IsNextEntry names at (Some (name, entry)) → next ≡ rows ++ record { name = name; entry = entry } ∷ []
     → AreGathered named_row names rows at → AreGathered named_row names next (name + 1)
 name_more names rows next at name entry is more gathered = gathered_more named_row names rows next at name entry is.0 is.1 is.2 more gathered
 
--- a space more
+-- one more space
 pub space_more : (state : State) (rows next : List Space) (at number : ℕ) → at ≤ number → is_some (get state.spaces number) ≡ true → ((q : ℕ) → at ≤ q → q < number → get state.spaces q ≡ None)
     → next ≡ rows ++ record { number = number; names = names_of (names_in state number) } ∷ [] → AreGathered space_row state.spaces rows at → AreGathered space_row state.spaces next (number + 1)
 space_more state rows next at number from some between more gathered =
@@ -61,7 +61,7 @@ spaces_all state rows at lawful none gathered = gathered_all space_row state.spa
     by q le None is = is
     by q le (Some names) is = none q le (omega (arith, (lawful.spaces q names is).1))
 
--- a port more
+-- one more port
 pub port_more : (state : State) (rows next : List LivePort) (at serial : ℕ) → at ≤ serial → is_some (get state.ports serial) ≡ true → ((q : ℕ) → at ≤ q → q < serial → get state.ports q ≡ None)
     → next ≡ rows ++ port_rows serial (get state.ports serial) → AreGathered port_row state.ports rows at → AreGathered port_row state.ports next (serial + 1)
 port_more state rows next at serial from some between more gathered = by (get state.ports serial) refl

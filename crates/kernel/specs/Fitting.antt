@@ -1,4 +1,4 @@
--- What a step answers from a lawful state fits in a frame, and has the number of its call.
+-- The reply of a step from a lawful state fits in a frame, and has the number of its call.
 use Rattle.std.specs.Prelude.{◌≡◌, ℕ, ◌≤◌, Bool, true, false, [], length, Option, None, Some, List}
 use Rattle.std.proofs.Common.{refl, sym, ap, arith, ◌∙◌}
 use Rattle.std.specs.FinMap as finmap

@@ -1,4 +1,4 @@
--- Steps, by the call's own action and what it sets off.
+-- Steps, from the call's own action and what it sets off.
 use Rattle.std.specs.Prelude.{◌≡◌, ℕ, false, true, List, [], Option, None, Some, IsSome, IfSome, IfNone, is_some}
 use Rattle.std.proofs.Common.{refl, sym, ap, subst, ◌∙◌}
 use Rattle.std.specs.FinMap as finmap
@@ -17,11 +17,11 @@ use Rattle.kernel.specs.Choosing.{Prefers, shown_by}
 use Rattle.kernel.specs.Trials.{done_acting, refused_acting}
 use Rattle.port_calls.specs.Trying.{Tries, is_refusal}
 
--- Where the call may be answered by a reply that shows this, it is.
+-- If the call may get a reply that shows this, it gets that reply.
 pub record PrefersStep (old : State) (space : ℕ) (c : Call) (shown : Shown) (answer : Reply) : Type 0 where
   pub takes : (other : Reply) (new : State) → shown ≡ shown_by other → Step old space c other new → answer ≡ other
 
--- A caller whose space is there.
+-- A caller whose space exists.
 
 or_empty : Option Names → Names
 or_empty None = finmap.empty
@@ -57,7 +57,7 @@ pub step_gone : (old : State) (space : ℕ) (c : Call) (answer : Reply) → is_s
 unfolding Step
 step_gone old space c answer gone is = (old, [], gone_from old space (finmap.get old.spaces space) c answer gone is, settled)
 
--- What is preferred.
+-- Preferred replies.
 
 pub prefers_step : (old : State) (space : ℕ) (c : Call) (shown : Shown) (answer : Reply) → IsSome (finmap.get old.spaces space) → Prefers old space c shown answer → PrefersStep old space c shown answer
 unfolding Step
@@ -73,7 +73,7 @@ pub prefers_gone : (old : State) (space : ℕ) (c : Call) (shown : Shown) (answe
 unfolding Step
 prefers_gone old space c shown answer gone is = record { takes = λ other new _ step. is ∙ sym (from_gone old space (finmap.get old.spaces space) c other step.0 step.1 gone step.2) }
 
--- What was tried on a copy.
+-- Calls that were tried on a copy.
 
 pub step_tried : (old : State) (space : ℕ) (c : Call) (answer : Reply) (mid new : State) (effects : List Effect) → IsSome (finmap.get old.spaces space)
     → is_refusal answer ≡ false → Tries old space c answer mid effects → Settles mid effects new → Step old space c answer new
@@ -83,7 +83,7 @@ pub step_refused : (old : State) (space : ℕ) (c : Call) (answer : Reply) (mid 
     → is_refusal answer ≡ true → Tries old space c answer mid effects → Step old space c answer old
 step_refused old space c answer mid effects there refused tries = step_alone old space c answer old there (refused_acting old space c answer mid effects refused tries)
 
--- what is said of the value of a result
+-- what a clause says of the value of an option
 pub of_some : {X : Type 0} (P : X → Type 0) (o : Option X) (x : X) → o ≡ Some x → IfSome o P → P x
 of_some P o x is holds = subst (λ (p : Option _). IfSome p P) is holds
 

@@ -1,4 +1,4 @@
--- Calls that are tried on a copy of the state: what was refused, and what was done.
+-- Calls that are tried on a copy of the state: what a refused call left, and what a done one did.
 use Rattle.std.specs.Prelude.{◌≡◌, ℕ, Bool, true, false, List, [], Option, None, Some, MatchBool}
 use Rattle.std.proofs.Common.{refl, sym, subst}
 use Rattle.codes.specs.declared.kern_return.KernReturn.{KernReturn}
@@ -18,7 +18,7 @@ use Rattle.port_calls.specs.Trying.{Tries, is_refusal}
 abbrev Tried : Bool → State → ℕ → Call → Reply → State → List Effect → Type 0
 Tried refused old space c answer new effects = MatchBool refused (ActsIn old space (names_in old space) c answer old []) (ActsIn old space (names_in old space) c answer new effects)
 
--- what was tried acted, on the state from before or on the copy
+-- a call that was tried acted, on the state from before or on the copy
 pub acted : (old : State) (space : ℕ) (c : Call) (answer : Reply) (new : State) (effects : List Effect) → Tries old space c answer new effects
     → (last : State) × (others : List Effect) × ActsIn old space (names_in old space) c answer last others
 acted old space c answer new effects tries = by_case (is_refusal answer) tries
@@ -31,7 +31,7 @@ not_refused : (answer : Reply) → ((c : Call) → succeeded c answer ≡ true) 
 not_refused (reply.Refused number code) success = absurd (cc (success call.Names))
 not_refused answer success = refl
 
--- A call that acts so changes nothing where it is refused.
+-- A call that acts like this changes nothing where it is refused.
 pub tries_acting : (old : State) (space : ℕ) (c : Call) (answer : Reply) (new : State) (effects : List Effect) → is_port_call c ≡ true → ActsIn old space (names_in old space) c answer new effects → Tries old space c answer new effects
 tries_acting old space c answer new effects port acts =
     by_refusal (first_failing (tests_of old space (names_in old space) c)) (as_called c old space (names_in old space) answer new effects port acts)
@@ -46,7 +46,7 @@ tries_acting old space c answer new effects port acts =
     by_refusal (Some code) called =
         both (is_refusal answer) (subst (λ (s : State). ActsIn old space (names_in old space) c answer s []) called.1 (subst (λ (l : List Effect). ActsIn old space (names_in old space) c answer new l) called.2 acts)) acts
 
--- what was refused left the state as it was
+-- a refused call left the state as it was
 pub refused_acting : (old : State) (space : ℕ) (c : Call) (answer : Reply) (new : State) (effects : List Effect) → is_refusal answer ≡ true → Tries old space c answer new effects → ActsIn old space (names_in old space) c answer old []
 refused_acting old space c answer new effects is tries = subst (λ (refused : Bool). Tried refused old space c answer new effects) is tries
 

@@ -1,4 +1,5 @@
--- A step without a record changes nothing: its call was refused, or only reads, or left a message that was too large where it was.
+-- A step without a record changes nothing: its call was refused, or only reads, or left a message that was too large
+-- where it was.
 use Rattle.std.specs.Prelude.{◌≡◌, ℕ, Bool, true, false, List, [], Option, None, Some, Result, Ok, Err, MatchOption}
 use Rattle.std.proofs.Common.{refl, ap, subst, ◌∙◌}
 use Rattle.std.specs.FinMap as finmap
@@ -21,7 +22,7 @@ use Rattle.ipc_laws.specs.RecordedReceipts.{call_of}
 use Rattle.ipc_laws.specs.StepLaws.{one_end}
 use Rattle.kernel.specs.Choosing.{SentAs}
 
--- A send or a receipt without a record: a code is answered and no message, and nothing changes.
+-- A send or a receive without a record: it answers a code and no message, and nothing changes.
 pub record IsWithout (old : State) (answer : Reply) (new : State) (effects : List Effect) : Type 0 where
   pub code : KernReturn
   pub size : ℕ
@@ -33,7 +34,7 @@ pub record IsWithout (old : State) (answer : Reply) (new : State) (effects : Lis
 refused_without : (code : KernReturn) (old : State) (answer : Reply) (new : State) (effects : List Effect) → IsRefusedWith (without_message code 0 MACH_PORT_NULL) old answer new effects → IsWithout old answer new effects
 refused_without code old answer new effects acts = record { code = code; size = 0; member = MACH_PORT_NULL; answer_is = acts.0; same = acts.1; none = acts.2 }
 
--- what is answered so has a record
+-- a call with this answer has a record
 recorded_as : {X : Type 0} (c : Call) (given answer : Reply) → has_record c given ≡ true → answer ≡ given → has_record c answer ≡ false → X
 recorded_as c given answer recorded is none = absurd (cc (none, ap (has_record c) is ∙ recorded))
 
@@ -44,7 +45,7 @@ sent_without : (ready : Result Ready KernReturn) (message : List ℕ) (old : Sta
 sent_without (Ok ready) message old answer new effects none acts = recorded_as (call.Send message) (without_message Success 0 MACH_PORT_NULL) answer refl acts.0 none
 sent_without (Err code) message old answer new effects none acts = refused_without code old answer new effects acts
 
--- Receipts.
+-- Receives.
 
 large_without : (old : State) (member serial : ℕ) (message : Message) (limit : ℕ) (large : Bool) (name : ℕ) (waited : Bool) (answer : Reply) (new : State) (effects : List Effect)
     → has_record (call.Receive limit large name waited) answer ≡ false → TooLarge old member serial message large answer new effects → IsWithout old answer new effects

@@ -8,7 +8,7 @@ use ipc_model::{Reply, Sequence};
 use receiving::{Preference, names_shown};
 use std::alloc::{AllocError, Global};
 
-/// What a reply shows of that which its call leaves open.
+/// What a reply shows of the choices that its call leaves open.
 #[derive(Drop)]
 pub struct Shown {
     /// A name that a right got.
@@ -67,7 +67,7 @@ fn space_shown(reply: &Reply) -> Option<(u32, u32)>
     }
 }
 
-/// Which message was received: the reply names its port, except where the space lacked names.
+/// Which message was received: the reply names its port, unless the space lacked names.
 fn preferred_by(reply: &Reply) -> Preference
     ensures { result ≡ shows.preferred_by reply.now }
 {

@@ -14,8 +14,8 @@ use snapshot::{LivePort, NamedEntry, Snapshot, Space};
 use std::alloc::{AllocError, Global};
 
 impl Kernel {
-    /// The state as plain rows: its spaces with their names, and its live ports with the messages in their queues, where
-    /// `MACH_PORT_DEAD` stands in place of ports that have died. Where memory is wanted nothing changed.
+    /// The state as plain rows: its spaces with their names, and its live ports with the messages in their queues,
+    /// where `MACH_PORT_DEAD` stands in place of ports that have died. If an allocation fails, nothing changed.
     #[tactic(auto, unfolding(snapshot::specs::Snapshots::snapshot_of))]
     pub fn copy(&self, alloc: Global) -> Result<Snapshot, AllocError>
         ensures { IfOk result (λ copy. copy ≡ snapshot_of self.now) }
@@ -30,7 +30,7 @@ impl Kernel {
     }
 }
 
-/// The spaces, rising by number, each with its names.
+/// The spaces in ascending order, each with its names.
 fn spaces_of(alloc: Global, state: &IpcState) -> Result<Vec<Space>, AllocError>
     requires { Lawful state.now.current }
     ensures { IfOk result (λ spaces. spaces.items ≡ mapped space_row (map.entries state.now.current.spaces)) }
@@ -48,7 +48,7 @@ fn spaces_of(alloc: Global, state: &IpcState) -> Result<Vec<Space>, AllocError>
     Ok(spaces)
 }
 
-/// The names of a space, rising.
+/// The names of a space, in ascending order.
 fn names_of(alloc: Global, state: &IpcState, space: u32) -> Result<Vec<NamedEntry>, AllocError>
     ensures { IfOk result (λ names. names.items ≡ names_of (names_in state.now.current space)) }
 {
@@ -61,7 +61,7 @@ fn names_of(alloc: Global, state: &IpcState, space: u32) -> Result<Vec<NamedEntr
     Ok(names)
 }
 
-/// The live ports, rising by serial.
+/// The live ports, in ascending order of serials.
 fn ports_of(alloc: Global, state: &IpcState) -> Result<Vec<LivePort>, AllocError>
     ensures { IfOk result (λ ports. ports.items ≡ mapped port_row (map.entries state.now.current.ports)) }
 {

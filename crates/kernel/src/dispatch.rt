@@ -48,8 +48,8 @@ pub fn read(
     }
 }
 
-/// Makes a call that changes the state and sets nothing off; `None` for other calls. Where memory is wanted the
-/// changes are to be given up.
+/// Makes a call that changes the state and sets nothing off; `None` for other calls. If an allocation fails, the
+/// changes must be rolled back.
 pub fn change(
     alloc: Global,
     state: &mut IpcState,
@@ -99,8 +99,8 @@ pub fn change(
     }
 }
 
-/// Makes a call that gives rights up. Where it is refused, or memory is wanted, the changes are to be given up; `None` for
-/// other calls.
+/// Makes a call that gives rights up. If it is refused or an allocation fails, the changes must be rolled back; `None`
+/// for other calls.
 pub fn give_up(
     alloc: Global,
     state: &mut IpcState,
@@ -136,8 +136,8 @@ pub fn give_up(
     }
 }
 
-/// Makes a call that copies a right in. Where it is refused, or memory is wanted, the changes are to be given up; `None`
-/// for other calls.
+/// Makes a call that copies a right in. If it is refused or an allocation fails, the changes must be rolled back;
+/// `None` for other calls.
 pub fn hand_over(
     alloc: Global,
     state: &mut IpcState,
@@ -214,7 +214,7 @@ pub fn hand_over(
     }
 }
 
-/// Makes a send or a receipt; `None` for other calls. Where memory is wanted the changes are to be given up.
+/// Makes a send or a receive; `None` for other calls. If an allocation fails, the changes must be rolled back.
 pub fn exchange(
     alloc: Global,
     state: &mut IpcState,

@@ -27,7 +27,7 @@ use waiting::Places;
 pub enum ReplayFault {
     /// The machine has no such step.
     Mismatch = 1,
-    /// No memory.
+    /// Out of memory.
     NoMemory = 2,
 }
 
@@ -42,13 +42,13 @@ impl From<AllocError> for ReplayFault {
     }
 }
 
-/// The state of the machine. Contracts see it as the state of the written definition.
+/// The state of the machine. Contracts see it as a state of the abstract specification.
 pub struct Kernel {
     pub(crate) alloc: Global,
     pub(crate) state: IpcState,
 }
 
-// Written out, as proofs above then know one function, and not the parts.
+// Written out, so that proofs above know one function and not its parts.
 impl Drop for Kernel {
     fn drop(self) {
         let Kernel { alloc: _, state } = self;
@@ -69,8 +69,8 @@ impl Model for Kernel {
 
     ghost view = { λ k. k.state.current };
 
-    // Each live port has one receive right, each right names a live port, no ports carry one another in a circle, and no
-    // queue is too long for an image. Between calls there is no change to keep or to give up.
+    // Each live port has one receive right, each right names a live port, no ports carry one another in a cycle, and no
+    // queue is too long for an image. Between calls there is no change to commit or to roll back.
     ghost invariant = { λ k. Lawful k.state.current × Grounded k.state.current × ShortQueues k.state.current × (k.state.before ≡ k.state.current) };
 }
 
@@ -84,7 +84,7 @@ impl Kernel {
         Ok(Kernel { alloc, state })
     }
 
-    /// An image can spell the state, which is lawful. It does nothing but show it.
+    /// Shows that an image can encode the state, which is lawful. It does nothing else.
     pub fn has_image(&self)
         ensures spelled { Spellable self.now }
         ensures lawful { Lawful self.now }
@@ -94,10 +94,10 @@ impl Kernel {
         let _ = &self.state;
     }
 
-    /// Makes one step of the machine: the call of a task of this space. Where memory is wanted nothing changed.
+    /// Makes one step of the machine: the call of a task of this space. If an allocation fails, nothing changed.
     pub fn apply(&mut self, space: u32, call: &Call) -> Result<Reply, AllocError>
         ensures step { IfOk result (λ reply. Step self.old space call.now reply self.new) }
-        // The reply has the call's number, and fits in a frame; where the call has a record, this can be one.
+        // The reply has the call's number, and fits in a frame; if the call has a record, this is a possible one.
         ensures number { IfOk result (λ reply. number_of_reply reply ≡ number_of_call call.now) }
         ensures recorded { IfOk result (λ reply. has_record call.now reply ≡ true → IsAnsweredWhole call.now reply) }
         ensures fits { IfOk result (λ reply. length (reply_text reply) ≤ MAX_FRAME_CONTENT) }
@@ -118,8 +118,8 @@ impl Kernel {
         }
     }
 
-    /// Makes one step of the machine as `apply` does, and has its record written down before the step is kept. Where
-    /// memory is wanted neither the kernel nor the recorder changed.
+    /// Makes one step of the machine as `apply` does, and has its record written before the step is committed. If an
+    /// allocation fails, neither the kernel nor the recorder changed.
     pub fn apply_recorded<R: Recorder>(
         &mut self,
         space: u32,
@@ -148,8 +148,8 @@ impl Kernel {
         }
     }
 
-    /// Makes one step of the machine as `apply_recorded` does, and names the places at which it may have given a call that waits
-    /// something to do: no wake-up is lost.
+    /// Makes one step of the machine as `apply_recorded` does, and names the places at which it may have given a
+    /// waiting call something to do: no wake-up is lost.
     pub fn apply_naming<R: Recorder>(
         &mut self,
         space: u32,
@@ -181,8 +181,7 @@ impl Kernel {
         }
     }
 
-    /// What `apply` answers to a call that has no record, or `None` where a step of the call has one. It changes
-    /// nothing.
+    /// What `apply` answers to a call that has no record; `None` if a step of the call has one. It changes nothing.
     pub fn answer(&self, space: u32, call: &Call) -> Result<Option<Reply>, AllocError>
         ensures answered { IfOk result (λ answer. IfSome answer
             (λ reply. Step self.now space call.now reply self.now × (has_record call.now reply ≡ false))) }
@@ -196,19 +195,19 @@ impl Kernel {
         answer
     }
 
-    /// Another kernel of the same state, made of its plain rows.
+    /// Another kernel with the same state, made of its plain rows.
     fn again(&self) -> Result<Kernel, AllocError>
         ensures { IfOk result (λ other. other ≡ self.now) }
     {
         let rows = self.copy(self.alloc)?;
         match Kernel::from_snapshot(self.alloc, rows) {
             Ok(kernel) => Ok(kernel),
-            // The rows of a lawful state are lawful, so memory was wanted.
+            // The rows of a lawful state are lawful, so memory ran out.
             Err(_) => Err(AllocError),
         }
     }
 
-    /// What `answer` answers, without a copy of the state: the call is made and given up.
+    /// What `answer` answers, without a copy of the state: the call is made and rolled back.
     pub fn answer_in_place(&mut self, space: u32, call: &Call) -> Result<Option<Reply>, AllocError>
         ensures answered { IfOk result (λ answer. IfSome answer
             (λ reply. Step self.old space call.now reply self.old × (has_record call.now reply ≡ false))) }
@@ -222,8 +221,8 @@ impl Kernel {
         answer
     }
 
-    /// What `apply` answers to `mach_port_type`, which changes nothing: the type bits of a name, or `InvalidTask` where
-    /// the space is gone, or `InvalidName` where the name isn't in use. It takes no memory.
+    /// What `apply` answers to `mach_port_type`, which changes nothing: the type bits of a name, or `InvalidTask` if
+    /// the space is gone, or `InvalidName` if the name isn't in use. It takes no memory.
     pub fn port_type(&self, space: u32, name: u32) -> Reply
         ensures { Step self.now space (Call.Type name) result self.now }
     {
@@ -253,8 +252,8 @@ impl Kernel {
         port_calls::receive_status(&self.state, space, name)
     }
 
-    /// Makes the step that a record tells of: the machine's new state, or `Mismatch` where it has no such
-    /// step. The kernel is given up with a fault.
+    /// Makes the step of a record: the machine's new state, or `Mismatch` if it has no such step. At a fault, the
+    /// kernel is gone.
     pub fn replay(self, record: &Record) -> Result<Kernel, ReplayFault>
         ensures step { IfOk result (λ new. Step self record.now.space record.now.call record.now.reply new) }
         ensures only { IfOk result (λ new. (other : State) → Step self record.now.space record.now.call record.now.reply other → other ≡ new) }
@@ -277,7 +276,7 @@ impl Kernel {
     }
 }
 
-/// Makes the step that a record tells of. With a fault the changes are to be given up.
+/// Makes the step of a record. At a fault, the changes must be rolled back.
 fn step_again(alloc: Global, state: &mut IpcState, record: &Record) -> Result<(), ReplayFault>
     requires fresh { map.get state.old.current.ports state.old.current.next ≡ None }
     requires rest { state.old.before ≡ state.old.current }

@@ -1,4 +1,4 @@
-//! The machine as it runs: one call is one step.
+//! The running machine: one call is one step.
 #![tactic(auto)]
 
 mod choices;

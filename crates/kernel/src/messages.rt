@@ -12,7 +12,7 @@ use port_calls::IpcState;
 use sending::SendFault;
 use std::alloc::{AllocError, Global};
 
-/// Makes a send, and gives its changes up where it is refused. Where memory is wanted they are to be given up.
+/// Makes a send, and rolls its changes back if it is refused. If an allocation fails, they must be rolled back.
 pub fn send(
     alloc: Global,
     state: &mut IpcState,

@@ -13,8 +13,8 @@ use std::alloc::{AllocError, Global};
 use waiting::{place_of_name, place_of_port};
 
 impl Kernel {
-    /// The places where a call of a task of this space waits that finds nothing to do. `None`: an allocation failed, or it is a send
-    /// that is refused whatever its names stand for.
+    /// The places where a call of a task of this space waits if it finds nothing to do. `None`: an allocation failed,
+    /// or it is a send that is refused whatever its names stand for.
     pub fn places_of_call(&self, space: u32, call: &Call) -> Option<Vec<u128>>
         ensures { IfSome result (λ places. places.items ≡ places_of_call self.now space call.now) }
     {

@@ -1,4 +1,4 @@
-//! Steps whose records are written down before they are kept.
+//! Steps whose records are written before they are committed.
 ghost use Rattle.std.specs.Prelude.{◌≡◌, ℕ, true, false, None, IfOk, OnOk, OnErr};
 ghost use Rattle.std.specs.FinMap as map;
 ghost use Rattle.ipc_laws.specs.RecordedSteps.{IsAnsweredWhole};
@@ -14,15 +14,15 @@ use ipc_model::{Call, Reply};
 use port_calls::IpcState;
 use std::alloc::{AllocError, Global};
 
-/// Who writes down the record of a call, before the call is kept.
+/// Writes the record of a call before the call is committed.
 pub trait Recorder {
-    /// There is room for one record more, but for memory.
+    /// There is room for one more record, memory aside.
     ghost has_room: { Self → Type 0 };
 
-    /// What it is after it wrote down the record of a call of a task of this space that was answered so.
+    /// What it is after it wrote the record of a call of a task of this space with this reply.
     ghost wrote: { Self → ℕ → Call → Reply → Self → Type 0 };
 
-    /// Writes down a record. Where memory is wanted nothing changed.
+    /// Writes a record. If an allocation fails, nothing changed.
     fn write(&mut self, space: u32, call: &Call, reply: &Reply) -> Result<(), AllocError>
         requires room { has_room self.old }
         requires whole { IsAnsweredWhole call.now reply.now }
@@ -31,8 +31,8 @@ pub trait Recorder {
         ensures err { OnErr result (self.new ≡ self.old) };
 }
 
-/// Makes one step of the machine, and has its record written down, if it has one. The changes are to be kept, or given
-/// up where memory is wanted.
+/// Makes one step of the machine, and has its record written, if it has one. The changes must then be committed, or
+/// rolled back if an allocation failed.
 pub(crate) fn step_recorded<R: Recorder>(
     alloc: Global,
     state: &mut IpcState,

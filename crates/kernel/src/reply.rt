@@ -3,7 +3,7 @@ ghost use Rattle.port_calls.specs.Trying.{is_refusal};
 
 use ipc_model::Reply;
 
-/// Whether a call was refused that was answered so.
+/// Whether this reply refuses its call.
 pub fn is_refusal(reply: &Reply) -> bool
     ensures { result ≡ is_refusal reply.now }
 {

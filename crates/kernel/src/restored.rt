@@ -9,8 +9,8 @@ use snapshot::Snapshot;
 use std::alloc::Global;
 
 impl Kernel {
-    /// The kernel whose state a snapshot is of; or `NotLawful` where it is that of no lawful state. The snapshot is given
-    /// up.
+    /// The kernel whose state a snapshot is of; `NotLawful` if it isn't that of a lawful state. The snapshot is
+    /// consumed.
     pub fn from_snapshot(alloc: Global, snapshot: Snapshot) -> Result<Kernel, SnapshotFault>
         ensures same { IfOk result (λ kernel. snapshot ≡ snapshot_of kernel) }
         ensures lawful { IfOk result (λ kernel. IsLawfulSnapshot snapshot) }

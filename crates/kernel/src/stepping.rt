@@ -22,8 +22,8 @@ use ipc_model::{Call, Reply};
 use port_calls::IpcState;
 use std::alloc::{AllocError, Global};
 
-/// Makes one step of the machine: the call of a task of this space. Where the call may be answered by a reply that
-/// shows this, it is. The changes are to be kept, or given up where memory is wanted.
+/// Makes one step of the machine: the call of a task of this space. If the call may be answered by a reply that shows
+/// this, it is. The changes must then be committed, or rolled back if an allocation failed.
 pub fn step(
     alloc: Global,
     state: &mut IpcState,
@@ -52,7 +52,7 @@ pub fn step(
     Ok(reply)
 }
 
-/// What `step` answers to a call that has no record, or `None` where the step has one. The changes are to be given up.
+/// What `step` answers to a call that has no record; `None` if the step has one. The changes must be rolled back.
 pub fn try_answer(
     alloc: Global,
     state: &mut IpcState,
@@ -110,7 +110,7 @@ fn step_by_effects(
     Ok(reply)
 }
 
-/// Works off what a call set off, and gives its reply back behind that.
+/// Drains what a call set off, and then returns its reply.
 fn settle_behind(
     alloc: Global,
     state: &mut IpcState,
@@ -126,8 +126,8 @@ fn settle_behind(
     Ok(reply)
 }
 
-/// Makes the own action of a call that gives rights up or copies one in; where it is refused, or memory is wanted, its
-/// changes are to be given up.
+/// Does the call's own action, for a call that gives rights up or copies one in. If it is refused or an allocation
+/// fails, its changes must be rolled back.
 fn try_call(
     alloc: Global,
     state: &mut IpcState,

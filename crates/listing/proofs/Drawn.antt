@@ -46,7 +46,7 @@ placed_edge references serial k waiting = refl
 edge_is : (references : ℕ) (right : Right) → edge_of (as_seen references right) ≡ edge_line references right
 edge_is references right = placed_edge references right.port right.kind right.place
 
--- edges stand behind the text that they are added to
+-- edges come after the text that they are added to
 nothing_behind : (text : List ℕ) → text ≡ text ++ []
 nothing_behind [] = refl
 nothing_behind (x ∷ text) = ap (λ rest. x ∷ rest) (nothing_behind text)

@@ -7,7 +7,7 @@ module _ {X : Type 0} (f : X → List ℕ) (blank : X) where
   behind (x ∷ xs) zero inside = refl
   behind (x ∷ xs) (suc i) inside = behind xs i (omega (arith, inside))
 
-  -- one line more is added, and one less is left
+  -- one more line is added, and one less is left
   pub one_added : (xs : List X) (i : ℕ) (start out line new : List ℕ) → i < length xs → out ++ flat_map f (drop i xs) ≡ start → line ≡ f (slice_index_or xs i blank) → new ≡ out ++ line → new ++ flat_map f (drop (i + 1) xs) ≡ start
   one_added xs i start out line new inside so_far is added =
       let rest : List ℕ = flat_map f (drop (i + 1) xs) in

@@ -43,7 +43,7 @@ receive_is : (right : Option Right) → standing_text (option_map (λ (r : Right
 receive_is None = refl
 receive_is (Some right) = place_is right.place
 
--- what is noted of a port of a state
+-- what is recorded of a port of a state
 tally_is : (state : State) (serial : ℕ) → tally_of (gathered (snapshot_of state)) serial ≡ tallied serial (placed state) no_rights
 tally_is state serial =
     ap (λ notes. tally_of notes serial) (gathered_is state) ∙ tally_of_all serial (placed state) finmap.empty

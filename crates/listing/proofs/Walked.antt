@@ -20,7 +20,7 @@ use Rattle.listing.specs.declared.standing.StandingRight.{StandingRight}
 use Rattle.listing.specs.Listing.{references_of}
 use Rattle.listing.specs.Walking.{right, target_seen, entry_seen, names_seen, spaces_seen, carried_seen, reply_seen, rights_seen, message_seen, messages_seen, state_seen, ports_seen, snapshot_seen}
 
--- where a right stands; none of a state waits
+-- where a right stands; no right of a state waits among effects
 abbrev pub standing_of : Place → Standing
 standing_of (held space name) = Held space name
 standing_of (destination queue) = Queued queue

@@ -58,7 +58,7 @@ held_label references kind.Send = codes "send x" ++ decimal references
 held_label references kind.SendOnce = codes "send-once"
 
 -- the node that a right goes out from: its name, the port whose queue it is in, or the name or port of its request; no
--- right of a state waits
+-- right of a state waits among effects
 abbrev pub source : Place → List ℕ
 source (held space name) = name_node space name
 source (destination queue) = port_node queue

@@ -63,8 +63,8 @@ pub made-drawn : drawing made ≡ codes "digraph ports {\n  rankdir=LR;\n  node 
 unfolding drawing placed hexadecimal name_node port_node name_node_line cluster_head queue_label port_node_text edge_text encode_with digits
 made-drawn = simp (made_spaces, made_ports) (simp made_names)
 
--- Every kind of name, right and request: port 2's receive right is in a message of port 1's queue, beside a send right
--- of port 1 and one of a port that is dead.
+-- Every kind of name, right and request. Port 2's receive right is in a message of port 1's queue, alongside a send
+-- right of port 1 and one of a port that is dead.
 abbrev names_of_1 : List (ℕ × Entry)
 names_of_1 =
     (0x100, Port (record { port = 1; receive = true; send = 2; dead_name_target = None }))

@@ -11,7 +11,7 @@ use Rattle.listing.specs.declared.standing.StandingRight.{StandingRight}
 use Rattle.listing.specs.declared.tally.Tally.{Tally}
 use Rattle.listing.specs.Walking.{snapshot_seen}
 
--- what is noted of ports, by their serials
+-- what is recorded of ports, by their serials
 abbrev pub Notes : Type 0
 Notes = finmap.FinMap nat_cmp Tally
 
@@ -21,7 +21,7 @@ no_rights = record { receive = None; send = 0; send_once = 0 }
 abbrev pub tally_of : Notes → ℕ → Tally
 tally_of notes serial = unwrap_or (finmap.get notes serial) no_rights
 
--- a port's tally with one right more
+-- a port's tally with one more right
 abbrev pub with_right : RightKind → Standing → Tally → Tally
 with_right kind.Receive standing tally = record tally { receive = option_or tally.receive (Some standing) }
 with_right kind.Send standing tally = record tally { send = tally.send + 1 }
@@ -30,6 +30,6 @@ with_right kind.SendOnce standing tally = record tally { send_once = tally.send_
 unfoldable pub noted : StandingRight → Notes → Notes
 noted right notes = finmap.insert notes right.port (with_right right.kind right.standing (tally_of notes right.port))
 
--- what is noted of all of a snapshot's rights
+-- what is recorded of all rights of a snapshot
 unfoldable pub gathered : Snapshot → Notes
 gathered snapshot = snapshot_seen noted snapshot finmap.empty

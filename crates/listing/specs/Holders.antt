@@ -20,6 +20,6 @@ abbrev pub IsTold : Option Right → Type 0
 IsTold None = ⊥
 IsTold (Some right) = IsHeldOrCarried right.place
 
--- The line of each live port tells where its receive right is.
+-- The line of each live port says where its receive right is.
 abbrev pub HoldersAreTold : Type 0
 HoldersAreTold = (state : State) (serial : ℕ) → Lawful state → lives state serial ≡ true → IsTold (receive_right state serial)

@@ -21,7 +21,7 @@ port_of (SendOnce port target) = port
 port_of Set = 0
 port_of (Dead references) = 0
 
--- a name's references, 0 for a receive right alone
+-- a name's references; 0 if it holds only a receive right
 abbrev pub references_of : Entry → ℕ
 references_of (Port rights) = rights.send
 references_of (SendOnce port target) = 1
@@ -36,11 +36,11 @@ name_line name entry =
 unfoldable pub space_line : ℕ → List ℕ
 space_line space = codes "space " ++ (decimal space ++ codes "\n")
 
--- a space and its names, rising
+-- a space and its names, ascending
 abbrev pub space_lines : ℕ → Names → List ℕ
 space_lines space names = space_line space ++ flat_map (λ e. name_line e.0 e.1) (finmap.entries names)
 
--- where a receive right is: under a name, or in a message of a port's queue; requests keep send-once rights alone
+-- where a receive right is: under a name, or in a message of a port's queue; requests keep only send-once rights
 abbrev pub place_text : Place → List ℕ
 place_text (held space name) = codes " held " ++ (decimal space ++ (codes " " ++ hexadecimal name))
 place_text (destination queue) = codes " carried " ++ decimal queue
@@ -62,7 +62,7 @@ abbrev pub receive_text : Option Right → List ℕ
 receive_text None = []
 receive_text (Some right) = place_text right.place
 
--- what a port keeps beside its rights
+-- what a port keeps besides its rights
 unfoldable pub queue_text : PortState → List ℕ
 queue_text port =
     codes " queue " ++ (decimal (length port.messages) ++ (codes " of " ++ (decimal port.limit

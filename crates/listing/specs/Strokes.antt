@@ -1,4 +1,4 @@
--- The parts of a drawing, of a snapshot's rows.
+-- The parts of a drawing, from a snapshot's rows.
 use Rattle.std.specs.Prelude.{ℕ, List, ◌++◌, flat_map, codes}
 use Rattle.ipc_model.specs.declared.message.RightKind.{RightKind}
 use Rattle.snapshot.specs.declared.rows.LivePort.{LivePort}
@@ -44,14 +44,14 @@ label_of references of_kind (PortDestroyedRequest port) = codes "port-destroyed 
 abbrev pub edge_of : StandingRight → List ℕ
 edge_of right = edge_text (source_of right.standing) right.port (label_of right.references right.kind right.standing)
 
--- a text with one edge more
+-- a text with one more edge
 abbrev pub edge_drawn : StandingRight → List ℕ → List ℕ
 edge_drawn right text = text ++ edge_of right
 
 abbrev pub edges_drawn : Snapshot → List ℕ → List ℕ
 edges_drawn snapshot text = snapshot_seen edge_drawn snapshot text
 
--- a text with a whole drawing behind it
+-- a text followed by a whole drawing
 unfoldable pub drawn : Snapshot → List ℕ → List ℕ
 drawn snapshot text =
     edges_drawn snapshot (((text ++ drawing_head) ++ spaces_drawn snapshot.spaces) ++ ports_drawn (gathered snapshot) snapshot.ports) ++ drawing_end

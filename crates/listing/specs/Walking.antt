@@ -1,4 +1,4 @@
--- The rights of a snapshot, one after another: what a walk over it shows to what sees them.
+-- The rights of a snapshot, one after another: what a walk over it passes to `see`.
 use Rattle.std.specs.Prelude.{ℕ, ◌==◌, List, [], ◌∷◌, Option, None, Some, if◌then◌else◌}
 use Rattle.ipc_model.specs.declared.entry.Entry.{Entry}
 use Rattle.ipc_model.specs.declared.entry.Entry.TheVariants.{Port, SendOnce}

@@ -65,7 +65,7 @@ fn push_ports(
     Ok(())
 }
 
-/// A text that gets an edge for each right.
+/// A text to which an edge is added for each right.
 #[derive(Drop)]
 struct Edges {
     alloc: Global,
@@ -112,9 +112,9 @@ fn push_drawing(alloc: Global, snapshot: &Snapshot, out: &mut Vec<u8>) -> Result
     out.extend_from_slice(b"}\n")
 }
 
-/// Adds a drawing of a state to a text, in the words of Graphviz: its spaces as clusters of their names, its live ports,
-/// and an edge for each right from where it stands to its port. It fails where memory runs out, and some of it may have
-/// been added then.
+/// Adds a drawing of a state to a text, in the language of Graphviz: its spaces as clusters of their names, its live
+/// ports, and an edge for each right from where it stands to its port. It fails if memory runs out, and some of the
+/// drawing may have been added then.
 pub fn draw(alloc: Global, snapshot: &Snapshot, out: &mut Vec<u8>) -> Result<(), AllocError>
     ensures { (state : State) → snapshot.now ≡ snapshot_of state → OnOk result (out.new.items ≡ out.old.items ++ drawing state) }
 {

@@ -27,7 +27,7 @@ pub(crate) fn references_of(entry: &Entry) -> u32
     }
 }
 
-/// Adds a text and lets it go, so that a `?` behind the call has none to drop.
+/// Adds a text and drops it, so that a `?` after the call has nothing to drop.
 pub(crate) fn push_text(out: &mut Vec<u8>, text: String) -> Result<(), AllocError>
     ensures { OnOk result (out.new.items ≡ out.old.items ++ string_bytes text) }
 {
@@ -66,7 +66,7 @@ pub(crate) fn space_line(alloc: Global, space: u32) -> Result<String, AllocError
     format!(in alloc; "space {space}\n")
 }
 
-/// Where a port's receive right stands, a space in front.
+/// Where a port's receive right stands, with a space in front.
 fn standing_text(alloc: Global, receive: Option<Standing>) -> Result<String, AllocError>
     ensures { IfOk result (λ text. string_bytes text ≡ standing_text receive) }
 {

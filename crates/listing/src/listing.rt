@@ -71,8 +71,8 @@ fn push_rows(
 }
 
 /// Adds the lines of a state to a text: `epoch` and `records` as its store counts them, then its spaces with their
-/// names, then its live ports. One walk gathers the rights of each port, and one writes the lines. It fails where
-/// memory runs out, and some lines may have been added then.
+/// names, then its live ports. One walk gathers the rights of each port, and one writes the lines. It fails if memory
+/// runs out, and some lines may have been added then.
 pub fn list(
     alloc: Global,
     epoch: u64,

@@ -22,6 +22,6 @@ pub(crate) struct StandingRight {
     /// The port's serial.
     pub(crate) port: u64,
     pub(crate) standing: Standing,
-    /// The references of the name that holds it, 0 elsewhere.
+    /// The references of the name that holds it; 0 elsewhere.
     pub(crate) references: u32,
 }

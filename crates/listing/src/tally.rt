@@ -20,7 +20,7 @@ pub(crate) struct Tally {
     pub(crate) send_once: u64,
 }
 
-/// A count one further. No memory holds more rights than 64 bits count.
+/// The next count. No memory holds more rights than 64 bits count.
 fn one_more(count: u64) -> Result<u64, AllocError>
     ensures { IfOk result (λ more. more ≡ count + 1) }
 {
@@ -41,7 +41,7 @@ impl Tally {
         }
     }
 
-    /// The tally with one right more.
+    /// The tally with one more right.
     fn with_right(self, kind: RightKind, standing: Standing) -> Result<Tally, AllocError>
         ensures { IfOk result (λ tally. tally ≡ with_right kind standing self) }
     {
@@ -108,7 +108,7 @@ impl Visitor for Tallies {
 }
 
 #[tactic(auto, unfolding(crate::specs::Gathering::gathered))]
-/// The rights of a snapshot's ports, by one walk over it. It fails where memory runs out.
+/// The rights of a snapshot's ports, by one walk over it. It fails if memory runs out.
 pub(crate) fn gather(alloc: Global, snapshot: &Snapshot) -> Result<Tallies, AllocError>
     ensures { IfOk result (λ tallies. tallies.by_port ≡ gathered snapshot.now) }
 {

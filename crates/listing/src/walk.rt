@@ -6,7 +6,7 @@ use ipc_model::{CarriedRight, Entry, Message, PortInMessage, PortState, RightKin
 use snapshot::{LivePort, NamedEntry, Snapshot, Space};
 use std::alloc::AllocError;
 
-/// What sees the rights of a state, one after another.
+/// Sees the rights of a state, one after another.
 pub(crate) trait Visitor {
     ghost use Rattle.listing.specs.declared.standing.StandingRight.{StandingRight};
 
@@ -15,10 +15,10 @@ pub(crate) trait Visitor {
 
     ghost view: { Self → View };
 
-    // What it keeps after one right more.
+    // What it keeps after one more right.
     ghost seen: { StandingRight → View → View };
 
-    /// Sees a right. It fails where memory runs out.
+    /// Sees a right. It fails if memory runs out.
     fn see(&mut self, right: StandingRight) -> Result<(), AllocError>
         ensures { OnOk result (view self.new ≡ seen right (view self.old)) };
 }
@@ -239,7 +239,7 @@ fn see_ports<V: Visitor>(visitor: &mut V, ports: &[LivePort]) -> Result<(), Allo
 }
 
 #[tactic(auto, unfolding(crate::specs::Walking::snapshot_seen))]
-/// Shows all rights of a snapshot. It fails where memory runs out.
+/// Shows all rights of a snapshot. It fails if memory runs out.
 pub(crate) fn see_snapshot<V: Visitor>(
     visitor: &mut V,
     snapshot: &Snapshot,

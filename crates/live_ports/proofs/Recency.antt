@@ -10,16 +10,16 @@ use Rattle.ipc_laws.specs.MapSums.{key_is, same_key}
 use Rattle.live_ports.specs.Slabbed.{Keys}
 use Rattle.live_ports.specs.Recent.{Places, at, place_of, AreRecent, IsLast, IsNoted}
 
--- places that are free, or none, say nothing
+-- places that are all free agree with any keys
 pub free_recent : (places : Places) (keys : Keys) → ((place : ℕ) → at places place ≡ None) → AreRecent places keys
 free_recent places keys free = record { found = λ noted is. absurd (cc (sym is ∙ free (place_of noted.0))) }
 
--- of a content, a serial's key
+-- the key of a serial, from a place's content
 key_of : (serial key : ℕ) (content : Option (ℕ × ℕ)) → IfSome content (λ noted. (noted.0 ≡ serial) × (noted.1 ≡ key)) → (noted : ℕ × ℕ) → content ≡ Some noted → (noted.0 ≡ serial) × (noted.1 ≡ key)
 key_of serial key (Some found) is noted same = (ap (λ (n : ℕ × ℕ). n.0) (sym (some_same found noted same)) ∙ is.0, ap (λ (n : ℕ × ℕ). n.1) (sym (some_same found noted same)) ∙ is.1)
 key_of serial key None is noted same = absurd (cc same)
 
--- a serial gets a key, and its place that content
+-- a serial gets a key, and its place gets that content
 module _ (old between new : Places) (keys : Keys) (serial key : ℕ) (content : Option (ℕ × ℕ))
     (recent : AreRecent old keys) (alike : (place : ℕ) → at between place ≡ at old place) (noting : IsNoted content (place_of serial) between new)
     (is : IfSome content (λ noted. (noted.0 ≡ serial) × (noted.1 ≡ key))) where
@@ -36,7 +36,7 @@ module _ (old between new : Places) (keys : Keys) (serial key : ℕ) (content : 
         | inr apart ↦ recent.found noted (sym (noting.others (place_of noted.0) apart ∙ alike (place_of noted.0)) ∙ stands)
       ]
 
--- a serial that has a key is noted again
+-- a serial that has a key is put into its place again
 module _ (old new : Places) (keys : Keys) (serial key : ℕ) (content : Option (ℕ × ℕ))
     (recent : AreRecent old keys) (has : get keys serial ≡ Some key) (noting : IsNoted content (place_of serial) old new)
     (is : IfSome content (λ noted. (noted.0 ≡ serial) × (noted.1 ≡ key))) where
@@ -95,7 +95,7 @@ all_free count place =
 pub nothing_at : (place : ℕ) → at [] place ≡ None
 nothing_at place = get_or_past [] place None (omega arith)
 
--- what is none wherever it is a clone of none
+-- an option that can't have a value has none
 pub none_alone : (P : Option (ℕ × ℕ) → Type 0) → ((x : ℕ × ℕ) → P (Some x) → ⊥) → (content : Option (ℕ × ℕ)) → P content → content ≡ None
 none_alone P never None clone = refl
 none_alone P never (Some x) clone = absurd (never x clone)

@@ -1,4 +1,4 @@
--- What a change of the slab or of the keys does to what stands under the serials.
+-- How a change of the slab or of the keys changes what stands under the serials.
 use Rattle.std.proofs.Common.{◌≡◌, ◌≢◌, ◌⊎◌, ℕ, List, [], slice_index_or, cond, true, false, Bool, Option, None, Some, is_some, option_map, option_and_then, refl, sym, ◌∙◌, ap, inl, inr}
 use Rattle.std.proofs.lemmas.Bool.{cases_eq}
 use Rattle.std.specs.Cmp.{nat_cmp_total}
@@ -63,7 +63,7 @@ module _ (f : PortSlot → PortSlot) (old new : Slab PortSlot) (keys : Keys) (se
         | inr e ↦ ap is_some (changed.others k e) ∙ there
       ]
 
--- nothing changes where the serial has none
+-- nothing changes if the serial has no key
 pub absent_changed : (f : PortSlot → PortSlot) (ports : Slab PortSlot) (keys : Keys) (serial : ℕ) → get keys serial ≡ None → by_serial ports keys ≡ slot_changed (by_serial ports keys) serial f
 absent_changed f ports keys serial none = sym (ap (λ (o : Option PortSlot). elim o as (λ _. Slots) [ None ↦ by_serial ports keys | Some slot ↦ insert (by_serial ports keys) serial (f slot) ]) (stands ports keys serial None none))
 
@@ -75,7 +75,7 @@ replaced_is port slots serial some = go (get slots serial) some
     go None e = absurd (cc e)
     go (Some slot) e = refl
 
--- a port more
+-- one more port
 module _ (old new : Slab PortSlot) (keys : Keys) (serial key : ℕ) (port : PortSlot) (keyed : AreKeyed old keys) (none : get keys serial ≡ None) (vacant : slab.get old key ≡ None) (updates : Updates old new key (Some port)) where
   used : (other k : ℕ) → get keys other ≡ Some k → k ≢ key
   used other k is e = cc (sym (keyed.there other k is) ∙ ap (λ (n : ℕ). is_some (slab.get old n)) e ∙ ap is_some vacant)
@@ -116,7 +116,7 @@ module _ (old new : Slab PortSlot) (keys : Keys) (serial key : ℕ) (port : Port
       apart one other k false first true second is too = absurd (used one k is (sym (some_same key k too)))
       apart one other k false first false second is too = keyed.apart one other k is too
 
--- a port less
+-- one less port
 module _ (old new : Slab PortSlot) (keys : Keys) (serial key : ℕ) (keyed : AreKeyed old keys) (at : get keys serial ≡ Some key) (updates : Updates old new key None) where
   other_key : (other k : ℕ) → eq_by_cmp nat_cmp other serial ≡ false → get keys other ≡ Some k → k ≢ key
   other_key other k far is e = cc (sym far ∙ ap (λ (n : ℕ). eq_by_cmp nat_cmp n serial) (keyed.apart other serial key (is ∙ ap Some e) at) ∙ same_key serial)
@@ -181,7 +181,7 @@ fewer_keyed ports keys serial none keyed = record {
 pub same_values : (old new : Slab PortSlot) (keys : Keys) → new.slots ≡ old.slots → AreKeyed old keys → AreKeyed new keys
 same_values old new keys is keyed = record { there = λ serial key at. ap (λ (l : List (Option PortSlot)). is_some (slice_index_or l key None)) is ∙ keyed.there serial key at; apart = keyed.apart; found = λ key some. keyed.found key (ap (λ (l : List (Option PortSlot)). is_some (slice_index_or l key None)) (sym is) ∙ some) }
 
--- a slot in which something is to stand is settled, and one in which nothing is goes
+-- a slot in which something is to stand is settled, and one in which nothing is to stand is removed
 pub slot_settled : (look : PortSlot → Option PortState) (settle : PortSlot → PortSlot) (slots : Slots) (serial : ℕ) (port : PortSlot) → Some port ≡ get slots serial → is_some (look port) ≡ true → slot_changed slots serial settle ≡ worked_off look settle slots serial
 slot_settled look settle slots serial port there some =
     ap (λ (o : Option PortSlot). elim o as (λ _. Slots) [ None ↦ slots | Some slot ↦ insert slots serial (settle slot) ]) (sym there)

@@ -1,4 +1,4 @@
--- What a change of one slot does to the ports of both states.
+-- How a change of one slot changes the ports of both states.
 use Rattle.std.proofs.Common.{OnOk, IfSome, ◌<◌, ◌≤◌, ◌-◌, ◌^◌, ◌≡◌, ℕ, cond, true, false, Bool, List, [], ◌∷◌, ◌++◌, length, Option, None, Some, option_map, OnErr, Result, Ok, Err, refl, sym, ◌∙◌, ap, subst, arith}
 use Rattle.std.specs.Prelude.{option_and_then}
 use Rattle.std.specs.Cmp.{nat_cmp_total}
@@ -116,6 +116,6 @@ pub pushed_room : {A B : Type 0} (result : Result A B) (slots : Slots) (k : ℕ)
     → OnOk result (IfSome (get (present_ports slots) k) (λ port. length port.messages < 2 ^ 32 - 1))
 pushed_room result slots k room = pushed_ok result room (λ r. subst (λ (o : Option PortState). IfSome o (λ port. length port.messages < 2 ^ 32 - 1)) (sym (get_picked current_of slots k)) r)
 
--- nothing has no messages
+-- where there is no port there are no messages
 pub nothing_at : (o : Option PortState) (index : ℕ) → o ≡ None → length (messages_in o) ≤ index
 nothing_at o index none = omega (arith, ap (λ (p : Option PortState). length (messages_in p)) none)

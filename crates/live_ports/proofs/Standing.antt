@@ -1,4 +1,4 @@
--- The table of ports stands through each change.
+-- The table of ports stays valid through each change.
 use Rattle.std.proofs.Common.{IfSome, ◌||◌, drop, length-append, ◌≡◌, ℕ, zero, suc, ◌+◌, ◌-◌, ◌<◌, ◌≤◌, ◌^◌, cond, true, false, Bool, List, [], ◌∷◌, ◌++◌, length, Option, None, Some, is_some, option_map, refl, sym, ◌∙◌, ap, subst, arith}
 use Rattle.std.specs.List.{list_any}
 use Rattle.std.specs.Cmp.{nat_cmp_total}
@@ -36,7 +36,7 @@ pub rest_view : (new : Tables) (raw : Ports) (many serial : ℕ) → AreAtRest n
     (ports_at_rest (record { ports = as_seen raw; next = serial }))
 rest_view new raw many serial rest = λ i. record { before = record { ports = as_seen (rest.before i); next = rest.next_before i }; current = record { ports = as_seen (rest.current i); next = rest.next i } }
 
--- what was there is sound still
+-- the former ports are still sound
 pub former_sound : (old mid : Tables) → AreStanding old → SameBefore old mid → AreSound (former_ports mid.slots) mid.count_before mid.next_before
 former_sound old mid stands before = same_sound _ _ _ _ _ _ before.ports before.count before.next stands.before
 
@@ -141,7 +141,7 @@ last_true : (b : Bool) → (b || false) ≡ true → b ≡ true
 last_true true e = refl
 last_true false e = absurd (cc e)
 
--- where none of a list does, but one of it with another does, the other does
+-- if a predicate holds of none of a list, but of some of the list with one more, it holds of that one
 last_holds : {A : Type 0} (p : A → Bool) (xs : List A) (y : A) → list_any p (xs ++ y ∷ []) ≡ true → list_any p xs ≡ false → p y ≡ true
 last_holds p [] y some none = last_true (p y) some
 last_holds p (x ∷ xs) y some none = elim (p x) as (λ (b : Bool). (b || list_any p (xs ++ y ∷ [])) ≡ true → (b || list_any p xs) ≡ false → p y ≡ true) [
@@ -149,7 +149,7 @@ last_holds p (x ∷ xs) y some none = elim (p x) as (λ (b : Bool). (b || list_a
   | false ↦ λ (e : _) (f : _). last_holds p xs y e f
 ] some none
 
--- a message that mentions none but live ports is put into a queue with room for it
+-- a message that mentions only live ports is put into a queue with room for it
 pub pushed_sound : (ports : Ports) (count next k : ℕ) (message : Message) → AreLive (as_seen ports) message → IfSome (get ports k) (λ port. length port.messages < 2 ^ 32 - 1) → AreSound ports count next → AreSound (changed ports k (with_message message)) count next
 pushed_sound ports count next k message live room sound = changed_sound ports count next k (with_message message) keeps sound
   where

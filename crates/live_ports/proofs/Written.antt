@@ -1,4 +1,4 @@
--- What is written through a key of the slab is what changed.
+-- Only what is written through a key of the slab changes.
 use Rattle.std.proofs.Common.{◌≡◌, ℕ, None, Some, option_map, refl, sym, ◌∙◌, ap, subst}
 use Rattle.std.specs.Prelude.{IsSome}
 use Rattle.slab.specs.Slab as slab

@@ -1,4 +1,4 @@
--- What a port keeps beside its queue, and a change of one port among all.
+-- What a port keeps besides its queue, and a change of one port among all.
 use Rattle.std.specs.Prelude.{◌≡◌, ℕ, ◌<◌, ◌≤◌, List, [], ◌∷◌, ◌++◌, Option, None, Some, MatchOption, drop, length, slice_index_or}
 use Rattle.std.specs.Borrow.{Bor}
 use Rattle.std.specs.Ordering.{nat_cmp}
@@ -17,7 +17,7 @@ numbers_of port = record {
   port_destroyed_target = port.port_destroyed_target;
 }
 
--- a port of these numbers with these messages in its queue
+-- a port with these numbers, and these messages in its queue
 abbrev pub port_of : PortNumbers → List Message → PortState
 port_of numbers messages = record {
   limit = numbers.limit;
@@ -33,7 +33,7 @@ port_of numbers messages = record {
 abbrev pub with_numbers : PortNumbers → PortState → PortState
 with_numbers numbers port = port_of numbers port.messages
 
--- the port with a message more at its queue's end
+-- the port with one more message at its queue's end
 abbrev pub with_message : Message → PortState → PortState
 with_message message port = record port { messages = port.messages ++ message ∷ [] }
 

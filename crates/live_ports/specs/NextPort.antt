@@ -1,4 +1,4 @@
--- The live ports walked one by one, by the least serial from one on.
+-- A walk over the live ports, one by one: each step takes the least serial from a given one on.
 use Rattle.std.proofs.Common.{◌≡◌, ℕ, ◌+◌, ◌^◌, ◌<◌, ◌≤◌, Bool, true, false, nat_lt, Option, None, Some, IfSome, MatchOption, is_some, option_and_then, refl, sym, ◌∙◌, ap, arith}
 use Rattle.std.proofs.lemmas.Bool.{ltb-true, ltb-false}
 use Rattle.std.specs.FinMap.{get}
@@ -8,7 +8,7 @@ use Rattle.live_ports.specs.SeenLaws.{lives_seen}
 use Rattle.live_ports.specs.Tables.{Slots, current_of, present_ports}
 use Rattle.tracked_map.specs.Slots.{get_picked}
 
--- the least serial from one on under which a port lives
+-- the least serial, from a given one on, under which a port lives
 abbrev pub IsNextPort : Ports → ℕ → Option ℕ → Type 0
 IsNextPort ports from found = MatchOption found ((serial : ℕ) → from ≤ serial → get ports serial ≡ None)
     (λ next. (from ≤ next) × (is_some (get ports next) ≡ true) × ((serial : ℕ) → from ≤ serial → serial < next → get ports serial ≡ None))
@@ -18,7 +18,7 @@ abbrev pub IsNextWord : Ports → ℕ → Option ℕ → Type 0
 IsNextWord ports from found = MatchOption found ((serial : ℕ) → from ≤ serial → serial < 2 ^ 64 → get ports serial ≡ None)
     (λ next. (from ≤ next) × (is_some (get ports next) ≡ true) × ((serial : ℕ) → from ≤ serial → serial < next → get ports serial ≡ None))
 
--- no port has a serial from one on that is below another
+-- no port has a serial from `from` on that is below `at`
 abbrev pub ArePassed : Ports → ℕ → ℕ → Type 0
 ArePassed ports from at = (serial : ℕ) → from ≤ serial → serial < at → get ports serial ≡ None
 

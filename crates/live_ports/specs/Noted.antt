@@ -13,7 +13,8 @@ use Rattle.tracked_map.specs.Slots.{get_picked}
 use Rattle.tracked_map.specs.Touched.{is_touched}
 use Rattle.waiting.specs.Waiting.{occupancy}
 
--- each port whose serial isn't among these lives if it lived, and is as full, and in the same set
+-- each port whose serial isn't among these lives if it lived, holds as many messages as before, with the same limit,
+-- and is in the same set
 abbrev pub AreNoted : Ports → Ports → List ℕ → Type 0
 AreNoted before current serials = (serial : ℕ) → is_touched serial serials ≡ false → option_map occupancy (finmap.get current serial) ≡ option_map occupancy (finmap.get before serial)
 
@@ -21,7 +22,7 @@ listed_touched : (key : ℕ) (keys : List ℕ) → is_listed key keys ≡ is_tou
 listed_touched key [] = refl
 listed_touched key (k ∷ ks) = ap (λ (b : Bool). eq_by_cmp nat_cmp key k || b) (listed_touched key ks)
 
--- messages that are seen otherwise fill a queue alike
+-- how messages are seen doesn't change how full a queue is
 seen_occupancy : (raw : Ports) (serial : ℕ) → option_map occupancy (finmap.get (as_seen raw) serial) ≡ option_map occupancy (finmap.get raw serial)
 unfolding as_seen
 seen_occupancy raw serial = ap (option_map occupancy) (get-map_values (seen (lives_in raw)) raw serial) ∙ go (finmap.get raw serial)

@@ -1,4 +1,4 @@
--- A port as it was when its changes were last kept or given up, and as it is: none where it didn't live or doesn't.
+-- A port as of the last commit or rollback, and the current one: none where it didn't live, or doesn't.
 use Rattle.std.specs.Prelude.{Option, refl}
 use Rattle.std.specs.Coded.{Coded, code_by, coded×, coded_option}
 use Rattle.ipc_model.specs.declared.port.PortState.{PortState}
@@ -10,6 +10,6 @@ pub record PortSlot : Type 0 where
 abbrev pub slot_code : Coded PortState → Coded PortSlot
 slot_code c = code_by (Option PortState × Option PortState) (coded× (coded_option c) (coded_option c)) (λ t. (t.before, t.current)) (λ p. record { before = p.0; current = p.1 }) (λ _. refl)
 
--- a port without changes to keep or to give up
+-- a port without changes to commit or roll back
 abbrev pub slot_at_rest : Option PortState → PortSlot
 slot_at_rest port = record { before = port; current = port }

@@ -1,4 +1,4 @@
--- The live ports of a state with the next serial, as they were when changes were last kept or given up, and as they are.
+-- The live ports of a state with the next serial, as of the last commit or rollback, and the current ones.
 use Rattle.std.specs.Prelude.{ℕ, refl}
 use Rattle.std.specs.Ordering.{nat_cmp}
 use Rattle.std.specs.FinMap as finmap
@@ -19,6 +19,6 @@ table_code c = code_by (finmap.FinMap {K = ℕ} nat_cmp PortState × ℕ) (coded
 abbrev pub tracked_ports_code : Coded PortState → Coded TrackedPorts
 tracked_ports_code c = code_by (PortTable × PortTable) (coded× (table_code c) (table_code c)) (λ t. (t.before, t.current)) (λ p. record { before = p.0; current = p.1 }) (λ _. refl)
 
--- ports without changes to keep or to give up
+-- ports without changes to commit or roll back
 abbrev pub ports_at_rest : PortTable → TrackedPorts
 ports_at_rest table = record { before = table; current = table }

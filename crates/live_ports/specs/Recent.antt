@@ -1,4 +1,4 @@
--- A table that finds the keys of most serials in one look. A serial has one place in it, which it shares with others.
+-- A cache that finds the keys of most serials in one look. A serial has one place in it, which it shares with others.
 use Rattle.std.specs.Prelude.{◌≡◌, ◌≢◌, ◌≤◌, ◌%◌, ℕ, true, List, Option, None, Some, is_some, slice_index_or}
 use Rattle.std.specs.FinMap as finmap
 use Rattle.live_ports.specs.Slabbed.{Keys}
@@ -18,7 +18,7 @@ place_of serial = serial % 16384
 pub record AreRecent (places : Places) (keys : Keys) : Type 0 where
   pub found : (noted : ℕ × ℕ) → at places (place_of noted.0) ≡ Some noted → finmap.get keys noted.0 ≡ Some noted.1
 
--- one place has a new content or none
+-- one place has new content, or none
 pub record IsNoted (content : Option (ℕ × ℕ)) (place : ℕ) (old new : Places) : Type 0 where
   pub here : (noted : ℕ × ℕ) → at new place ≡ Some noted → content ≡ Some noted
   pub others : (other : ℕ) → other ≢ place → at new other ≡ at old other

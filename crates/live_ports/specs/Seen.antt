@@ -18,7 +18,7 @@ Ports = finmap.FinMap {K = ℕ} nat_cmp PortState
 abbrev pub lives_in : Ports → ℕ → Bool
 lives_in ports serial = is_some (finmap.get ports serial)
 
--- what stands in the place of a port, where these live
+-- what stands in the place of a port, if these ports live
 abbrev pub seen_port : (ℕ → Bool) → PortInMessage → PortInMessage
 seen_port lives in_message.Null = in_message.Null
 seen_port lives in_message.Dead = in_message.Dead
@@ -36,7 +36,7 @@ seen_message lives message = record message {
 abbrev pub seen : (ℕ → Bool) → PortState → PortState
 seen lives port = record port { messages = map (seen_message lives) port.messages }
 
--- the ports as they are seen, where they and no others live
+-- the ports as they are seen, if they and no others live
 unfoldable pub as_seen : Ports → Ports
 as_seen raw = map_values (seen (lives_in raw)) raw
 
@@ -52,11 +52,11 @@ reply_is_to serial (Some carried) = is_to serial carried
 abbrev pub mentions : ℕ → Message → Bool
 mentions serial message = reply_is_to serial message.reply || list_any (is_to serial) message.rights
 
--- each port that a right of a message is to lives
+-- each port to which a right of a message is lives
 abbrev pub AreLive : Ports → Message → Type 0
 AreLive ports message = (serial : ℕ) → mentions serial message ≡ true → lives_in ports serial ≡ true
 
--- the queue of a port forgets another that has died
+-- the queue of a port without mentions of another port, which has died
 abbrev pub queue_after_death : ℕ → PortState → PortState
 queue_after_death serial port = record port { messages = map (message_after_death serial) port.messages }
 

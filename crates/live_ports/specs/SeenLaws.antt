@@ -1,4 +1,4 @@
--- What a change of the ports does to them as they are seen.
+-- How a change of the ports changes them as they are seen.
 use Rattle.std.proofs.Common.{suc, ◌≡◌, ℕ, ◌<◌, ◌≤◌, ◌==◌, cond, true, false, Bool, ◌||◌, List, [], ◌∷◌, ◌++◌, map, drop, length, Option, None, Some, is_some, option_map, MatchOption, Bor, slice_index_or, refl, sym, ◌∙◌, ap, subst, arith}
 use Rattle.std.proofs.Math.ListN.{get_or-map}
 use Rattle.std.proofs.lemmas.Bool.{eqb-true, eq-eqb}
@@ -42,7 +42,7 @@ right_true false b e = e
 same : (m n : Ports) → ((q : ℕ) → get m q ≡ get n q) → m ≡ n
 same m n alike = same_map nat_cmp_total nat_cmp-IsAntisymmetric m n alike
 
--- which of the ports live says how their messages are seen
+-- how messages are seen depends on which ports live
 abbrev Agree : (ℕ → Bool) → (ℕ → Bool) → (ℕ → Bool) → Type 0
 Agree mentioned l k = (serial : ℕ) → mentioned serial ≡ true → l serial ≡ k serial
 
@@ -135,7 +135,7 @@ lives_changed ports s f q = ap is_some (get_changed ports s f q) ∙ at (eq_by_c
     at true is = some_mapped f (get ports s) ∙ ap (λ k. is_some (get ports k)) (sym (key_is q s is))
     at false is = refl
 
--- a port that is changed, where the change is seen as such
+-- a port that is changed by a change that shows as one of the port as seen
 pub seen_changed : (raw : Ports) (s : ℕ) (f g : PortState → PortState) → ((port : PortState) → seen (lives_in raw) (f port) ≡ g (seen (lives_in raw) port)) → as_seen (changed raw s f) ≡ changed (as_seen raw) s g
 seen_changed raw s f g sees = same _ _ (λ q.
     get_seen (changed raw s f) q ∙ (λ i. option_map (seen (λ k. lives_changed raw s f k i)) (get (changed raw s f) q)) ∙ ap (option_map (seen (lives_in raw))) (get_changed raw s f q) ∙ at q (eq_by_cmp nat_cmp q s)
@@ -238,7 +238,7 @@ seen_added raw next below = same _ _ (λ q.
     at q true = refl
     at q false = each q (get raw q) refl
 
--- what the looks at a port that is seen give
+-- what looks at a port as it is seen give
 pub length_mapped : {A B : Type 0} (f : A → B) (xs : List A) → length (map f xs) ≡ length xs
 length_mapped f [] = refl
 length_mapped f (x ∷ xs) = ap suc (length_mapped f xs)

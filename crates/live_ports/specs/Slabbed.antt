@@ -1,4 +1,4 @@
--- What stands in a slab, found by numbers that are used once, while the slab's keys are used again.
+-- The values in a slab, found by numbers that are used once, while the slab reuses its keys.
 use Rattle.std.specs.Prelude.{◌≡◌, ◌≢◌, ℕ, true, Some, is_some, option_map}
 use Rattle.std.specs.Ordering.{nat_cmp}
 use Rattle.std.specs.FinMap as finmap

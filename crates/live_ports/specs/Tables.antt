@@ -1,4 +1,4 @@
--- What the changes of the table of ports leave.
+-- The state of the tables after changes of the table of ports.
 use Rattle.std.specs.Prelude.{◌≡◌, ℕ, ◌≤◌, List, Option, None, Some, option_map}
 use Rattle.std.specs.Ordering.{nat_cmp}
 use Rattle.std.specs.FinMap as finmap
@@ -37,7 +37,7 @@ present_changed change slot = record slot { current = option_map change slot.cur
 abbrev pub buried : PortSlot → PortSlot
 buried slot = record slot { current = None }
 
--- a slot whose changes are kept, or given up
+-- a slot whose changes are committed, or rolled back
 abbrev pub kept_slot : PortSlot → PortSlot
 kept_slot slot = slot_at_rest slot.current
 
@@ -55,13 +55,13 @@ pub record SameBefore (old new : Tables) : Type 0 where
   pub next : new.next_before ≡ old.next_before
   pub touched : AreMarked new.slots new.touched.items
 
--- the ports and their count and the next serial afterwards
+-- the ports, their count and the next serial afterwards
 pub record AreNow (new : Tables) (raw : Ports) (many serial : ℕ) : Type 0 where
   pub ports : present_ports new.slots ≡ raw
   pub count : new.count ≡ many
   pub next : new.next ≡ serial
 
--- the table without changes to keep or to give up
+-- the table without changes to commit or roll back
 pub record AreAtRest (new : Tables) (raw : Ports) (many serial : ℕ) : Type 0 where
   pub before : former_ports new.slots ≡ raw
   pub current : present_ports new.slots ≡ raw
@@ -71,7 +71,7 @@ pub record AreAtRest (new : Tables) (raw : Ports) (many serial : ℕ) : Type 0 w
   pub count_before : new.count_before ≡ many
   pub next_before : new.next_before ≡ serial
 
--- ports of a state: counted, no more than may be, and below the next serial
+-- ports of a state: counted, no more than the bound, and below the next serial
 pub record AreSound (ports : Ports) (count next : ℕ) : Type 0 where
   pub counted : count ≡ finmap.len ports
   pub few : count ≤ MAX_PORTS

@@ -47,7 +47,7 @@ gone_or None p none is = sym is
 gone_or (Some x) p none is = absurd (cc none)
 
 module _ {X Y : Type 0} where
-  -- what a slot that wasn't touched is: the same as before, and something
+  -- an untouched slot: it holds something, and the same as before
   abbrev pub IsStill : (Y → Option X) → (Y → Option X) → Y → Type 0
   IsStill before current slot = (before slot ≡ current slot) × (is_some (current slot) ≡ true)
 
@@ -55,30 +55,30 @@ module _ {X Y : Type 0} where
   abbrev pub AreTouched : (Y → Option X) → (Y → Option X) → FinMap {K = ℕ} nat_cmp Y → List ℕ → Type 0
   AreTouched before current slots touched = (key : ℕ) (slot : Y) → get slots key ≡ Some slot → is_listed key touched ≡ false → IsStill before current slot
 
-  -- a slot worked off: settled, or removed where nothing is to stand there
+  -- a slot that is done: settled, or removed if nothing is to stand there
   abbrev pub worked_off : (Y → Option X) → (Y → Y) → FinMap {K = ℕ} nat_cmp Y → ℕ → FinMap {K = ℕ} nat_cmp Y
   worked_off look settle slots key = elim (get slots key) as (λ _. FinMap {K = ℕ} nat_cmp Y) [
     | None ↦ slots
     | Some slot ↦ cond (is_some (look slot)) (insert slots key (settle slot)) (remove slots key)
   ]
 
-  -- what settles a slot leaves in both places what the look saw
+  -- settling a slot leaves in both places what the look saw
   pub record IsSettling (before current look : Y → Option X) (settle : Y → Y) : Type 0 where
     pub was : (slot : Y) → before (settle slot) ≡ look slot
     pub is : (slot : Y) → current (settle slot) ≡ look slot
     pub seen : (slot : Y) → look (settle slot) ≡ look slot
 
-  -- a key more among the touched
+  -- one more key among the touched ones
   pub touched_more : (before current : Y → Option X) (slots : FinMap {K = ℕ} nat_cmp Y) (touched : List ℕ) (key : ℕ) → AreTouched before current slots touched → AreTouched before current slots (touched ++ key ∷ [])
   touched_more before current slots touched key still = λ q slot is none. still q slot is (not_listed q key touched none).0
 
-  -- a slot put under a key that is touched
+  -- a slot put under a touched key
   pub touched_put : (before current : Y → Option X) (slots : FinMap {K = ℕ} nat_cmp Y) (touched : List ℕ) (key : ℕ) (value : Y) → AreTouched before current slots touched → AreTouched before current (insert slots key value) (touched ++ key ∷ [])
   touched_put before current slots touched key value still = λ q slot is none.
       let apart = not_listed q key touched none in
       still q slot (sym (get-insert nat_cmp_total slots key value q ∙ ap (λ (b : Bool). cond b (Some value) (get slots q)) apart.1) ∙ is) apart.0
 
-  -- nothing is there, nothing is touched
+  -- nothing is there, and nothing is touched
   pub touched_none : (before current : Y → Option X) (slots : FinMap {K = ℕ} nat_cmp Y) (touched : List ℕ) → ((q : ℕ) → get slots q ≡ None) → AreTouched before current slots touched
   touched_none before current slots touched none = λ q slot is _. absurd (cc (sym is ∙ none q))
 
@@ -90,7 +90,7 @@ module _ {X Y : Type 0} where
     pub seen : picked look next ≡ picked look slots
     pub touched : AreTouched before current next rest
 
-  -- the last touched key worked off
+  -- the last touched key is done
   pub is_worked_off : (before current look : Y → Option X) (settle : Y → Y) (slots next : FinMap {K = ℕ} nat_cmp Y) (touched rest : List ℕ) (key : ℕ) → IsSettling before current look settle → next ≡ worked_off look settle slots key → touched ≡ rest ++ key ∷ []
       → AreTouched before current slots touched → IsWorkedOff before current look slots next rest
   is_worked_off before current look settle slots next touched rest key settles at last still =

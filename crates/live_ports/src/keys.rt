@@ -1,4 +1,4 @@
-//! The slab's keys of the live ports' serials.
+//! The slab keys of the live ports, by serial.
 ghost use Rattle.std.specs.Prelude.{◌≡◌, ◌<◌, ◌≤◌, ℕ, None, Some, IfSome, MatchOption, OnOk, OnErr};
 ghost use Rattle.std.specs.FinMap as map;
 ghost use Rattle.live_ports.specs.Recent.{at, place_of, IsNoted};
@@ -9,9 +9,9 @@ use std::marker::Model;
 
 const PLACES: usize = 16384;
 
-/// The keys of serials. An ordered map has them all; a table of `PLACES`, made with the first of them where there is
-/// memory for it, finds most of them in one look, and no serial above the last has one. Contracts see the finite map from
-/// serials to keys.
+/// The keys of serials. An ordered map has them all. A table of `PLACES` finds most of them in one look; it is made at
+/// the first insertion for which there is memory for it. No serial above `last` has a key. Contracts see the finite map
+/// from serials to keys.
 #[derive(Drop)]
 pub(crate) struct SerialKeys {
     alloc: Global,
@@ -61,7 +61,7 @@ impl SerialKeys {
         self.keys.get(serial).copied()
     }
 
-    /// The key of a serial, which is found in one look from now on, until another serial takes its place in the table.
+    /// The key of a serial. From now on one look finds it, until another serial takes its place in the table.
     pub(crate) fn find(&mut self, serial: u128) -> Option<usize>
         ensures found { result ≡ map.get self.old serial }
         ensures same { self.new ≡ self.old }
@@ -76,7 +76,7 @@ impl SerialKeys {
         Some(key)
     }
 
-    /// The least serial from one on that has a key, with it.
+    /// The least serial from `from` on that has a key, with it.
     pub(crate) fn next_from(&self, from: u128) -> Option<(u128, &usize)>
         ensures { MatchOption result ((serial : ℕ) → from ≤ serial → map.get self.now serial ≡ None)
             (λ e. (from ≤ e.0) × (map.get self.now e.0 ≡ Some e.1.now) × ((serial : ℕ) → from ≤ serial → serial < e.0 → map.get self.now serial ≡ None)) }
@@ -84,7 +84,7 @@ impl SerialKeys {
         self.keys.next_from(from)
     }
 
-    /// Sets the key of a serial. Where memory is wanted nothing changed.
+    /// Sets the key of a serial. If an allocation fails, nothing changed.
     pub(crate) fn insert(&mut self, serial: u128, key: usize) -> Result<(), AllocError>
         ensures ok { OnOk result (self.new ≡ map.insert self.old serial key) }
         ensures err { OnErr result (self.new ≡ self.old) }
@@ -96,7 +96,7 @@ impl SerialKeys {
         Ok(())
     }
 
-    /// A serial has no key any more. What it was.
+    /// Removes the key of a serial, and returns it.
     pub(crate) fn remove(&mut self, serial: u128) -> Option<usize>
         ensures before { result ≡ map.get self.old serial }
         ensures removed { self.new ≡ map.remove self.old serial }
@@ -113,7 +113,7 @@ fn place(serial: u128) -> usize
     (serial % PLACES as u128) as usize
 }
 
-/// What a place has for a serial and its key. A serial that is no `u64` has no place.
+/// What a place holds for a serial and its key. A serial that isn't a `u64` has no place.
 fn noted(serial: u128, key: usize) -> Option<(u64, usize)>
     ensures { IfSome result (λ noted. (noted.0 ≡ serial) × (noted.1 ≡ key)) }
 {
@@ -135,7 +135,7 @@ fn noted_key(recent: &[Option<(u64, usize)>], serial: u128) -> Option<usize>
     }
 }
 
-/// The places are there from now on, if there is memory for them.
+/// Makes the table, if there is none and there is memory for it.
 fn make_places(recent: &mut Vec<Option<(u64, usize)>>, alloc: Global)
     ensures { (place : ℕ) → at recent.new.items place ≡ at recent.old.items place }
 {
@@ -144,7 +144,7 @@ fn make_places(recent: &mut Vec<Option<(u64, usize)>>, alloc: Global)
     }
 }
 
-/// Places that are free, or none where memory is wanted.
+/// A table of free places; empty if an allocation fails.
 fn free_places(alloc: Global) -> Vec<Option<(u64, usize)>>
     ensures { (place : ℕ) → at result.items place ≡ None }
 {

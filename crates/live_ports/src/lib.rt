@@ -1,4 +1,4 @@
-//! The live ports, whose changes are kept or given up. Neither takes memory.
+//! The live ports, whose changes are committed or rolled back. Neither takes memory.
 #![tactic(auto)]
 
 mod keys;

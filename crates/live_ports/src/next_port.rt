@@ -1,4 +1,4 @@
-//! The live ports gone through by their serials.
+//! A walk over the live ports by their serials.
 ghost use Rattle.std.specs.Prelude.{◌≡◌, ℕ, ◌≤◌, ◌<◌, ◌-◌, ◌^◌, None, IfSome, MatchOption};
 ghost use Rattle.std.specs.FinMap as map;
 ghost use Rattle.live_ports.specs.NextPort.{IsNextPort, IsNextWord};
@@ -9,7 +9,7 @@ use crate::slots::PortSlots;
 use crate::tables::Tables;
 
 impl LivePorts {
-    /// The least serial from one on under which a port lives. What died since the changes were last kept is passed over.
+    /// The least serial from `from` on under which a port lives. Ports that died since the last commit are passed over.
     pub fn next_port(&self, from: u64) -> Option<u64>
         ensures next { IsNextPort self.now.current.ports from result }
         ensures fits { IfSome result (λ serial. serial < 2 ^ 64 - 1) }
@@ -21,7 +21,7 @@ impl LivePorts {
 }
 
 impl Tables {
-    /// The least serial of a word from one on under which a port lives.
+    /// The least serial of a word from `from` on under which a port lives.
     pub(crate) fn next_port(&self, from: u64) -> Option<u64>
         ensures { IsNextWord (present_ports self.now.slots) from result }
     {
@@ -36,7 +36,7 @@ impl Tables {
     }
 }
 
-/// The least serial of a word from one on that may have a slot: none before it has.
+/// The least serial of a word from `from` on that may have a slot; none before it has one.
 fn next_slot(slots: &PortSlots, from: u128) -> Option<u64>
     ensures slot { MatchOption result ((serial : ℕ) → from ≤ serial → serial < 2 ^ 64 → map.get slots.now serial ≡ None)
         (λ next. (from ≤ next) × ((serial : ℕ) → from ≤ serial → serial < next → map.get slots.now serial ≡ None)) }

@@ -9,10 +9,10 @@ use queue::Queue;
 use std::alloc::{AllocError, Global};
 use std::marker::Model;
 
-/// What a port keeps beside its queue.
+/// What a port has besides its queue.
 #[derive(Clone, Copy, PartialEq, Eq)]
 pub struct PortNumbers {
-    /// How many messages its queue holds at most, for sends that the limit stops.
+    /// How many messages its queue holds at most, for sends that the limit applies to.
     pub limit: u32,
     /// The sequence number that the next message received from it gets.
     pub sequence_number: u32,
@@ -26,8 +26,8 @@ pub struct PortNumbers {
     pub port_destroyed_target: Option<u64>,
 }
 
-/// A port whose changes are kept or given up, its birth and its death among them. Contracts see the port as it was when
-/// they last were, and as it is: none where it didn't live or doesn't.
+/// A port whose changes, its birth and its death among them, are committed or rolled back. Contracts see the port as it
+/// was at the last commit or rollback, and as it is: none if it didn't live or doesn't.
 #[derive(Drop)]
 pub(crate) struct Port {
     numbers: PortNumbers,
@@ -90,28 +90,28 @@ impl Port {
         self.lived
     }
 
-    /// What the port keeps beside its queue, if it lives.
+    /// What the port has besides its queue, if it lives.
     pub(crate) fn numbers(&self) -> Option<PortNumbers>
         ensures { result ≡ option_map numbers_of self.now.current }
     {
         if self.lives { Some(self.numbers) } else { None }
     }
 
-    /// Replaces what the port keeps beside its queue, if it lives.
+    /// Replaces what the port has besides its queue, if it lives.
     pub(crate) fn set_numbers(&mut self, numbers: PortNumbers)
         ensures { self.new ≡ record self.old { current = option_map (with_numbers numbers) self.old.current } }
     {
         self.numbers = numbers;
     }
 
-    /// How many messages are in the queue: none where the port is dead.
+    /// How many messages are in the queue: none if the port is dead.
     pub(crate) fn message_count(&self) -> u32
         ensures { result ≡ length (messages_in self.now.current) }
     {
         if self.lives { self.queue.len() } else { 0 }
     }
 
-    /// The message of an index, counted from the oldest.
+    /// The message at an index, counted from the oldest.
     pub(crate) fn message(&self, index: u32) -> &Message
         requires { index < length (messages_in self.now.current) }
         ensures { result.now ≡ slice_index_or (messages_in self.now.current) index result.now }
@@ -119,7 +119,7 @@ impl Port {
         self.queue.message(index)
     }
 
-    /// The message of an index, counted from the oldest, if there is one.
+    /// The message at an index, counted from the oldest, if there is one.
     pub(crate) fn message_at(&self, index: u32) -> Option<&Message>
         ensures { IsMessageAt (messages_in self.now.current) index result }
     {
@@ -130,8 +130,8 @@ impl Port {
         }
     }
 
-    /// Puts a message at the queue's end, whatever the limit, if the port lives. Without memory nothing changed; a queue
-    /// of `u32::MAX` messages has none.
+    /// Puts a message at the queue's end, whatever the limit, if the port lives. If memory runs out, nothing changed; a
+    /// queue of `u32::MAX` messages counts as out of memory.
     pub(crate) fn push_forced(&mut self, message: Message) -> Result<(), AllocError>
         ensures ok { OnOk result (self.new ≡ record self.old { current = option_map (with_message message) self.old.current }) }
         ensures room { OnOk result (IfSome self.old.current (λ port. length port.messages < 2 ^ 32 - 1)) }
@@ -157,7 +157,7 @@ impl Port {
         self.lives = false;
     }
 
-    /// Keeps the changes. It takes no memory.
+    /// Commits the changes. It takes no memory.
     pub(crate) fn keep(&mut self)
         ensures { self.new ≡ slot_at_rest self.old.current }
     {
@@ -166,7 +166,7 @@ impl Port {
         self.lived = self.lives;
     }
 
-    /// Gives the changes up. It takes no memory.
+    /// Rolls the changes back. It takes no memory.
     pub(crate) fn give_up(&mut self)
         ensures { self.new ≡ slot_at_rest self.old.before }
     {

@@ -16,11 +16,11 @@ use ipc_model::{CarriedRight, Message, PortInMessage};
 use std::alloc::{AllocError, Global};
 use std::marker::Model;
 
-/// The live ports by their serials, at most `MAX_PORTS`, with the serial that the next port gets. Their changes are kept
-/// or given up. Contracts see both as they were when they last were, and as they are.
+/// The live ports by their serials, at most `MAX_PORTS`, with the serial that the next port gets. Their changes are
+/// committed or rolled back. Contracts see both as they were at the last commit or rollback, and as they are.
 ///
-/// Messages in queues keep the serials of ports that have died, and are seen with `MACH_PORT_DEAD` in their places, so a
-/// death visits no other queue.
+/// Messages in queues keep the serials of ports that have died, and are seen with `MACH_PORT_DEAD` in their places, so
+/// a death visits no other queue.
 #[derive(Drop)]
 pub struct LivePorts {
     pub(crate) tables: Tables,
@@ -61,7 +61,7 @@ impl LivePorts {
         self.tables.count
     }
 
-    /// Whether as many ports live as may.
+    /// Whether as many ports live as are allowed.
     pub fn is_full(&self) -> bool
         ensures { result ≡ nat_le MAX_PORTS (map.len self.now.current.ports) }
     {
@@ -82,22 +82,22 @@ impl LivePorts {
         self.tables.contains(serial)
     }
 
-    /// What a port keeps beside its queue, if it lives.
+    /// What a port has besides its queue, if it lives.
     pub fn numbers(&self, serial: u64) -> Option<PortNumbers>
         ensures { result ≡ option_map numbers_of (map.get self.now.current.ports serial) }
     {
         self.tables.numbers(serial)
     }
 
-    /// How many messages are in a port's queue: none where it is dead.
+    /// How many messages are in a port's queue: none if it is dead.
     pub fn message_count(&self, serial: u64) -> u32
         ensures { result ≡ length (messages_at self.now.current.ports serial) }
     {
         self.tables.message_count(serial)
     }
 
-    /// The message of an index in a port's queue as it was sent, counted from the oldest, if there is one: what has become of
-    /// its rights `seen` tells.
+    /// The message at an index in a port's queue as it was sent, counted from the oldest, if there is one. `seen` says
+    /// what its rights are now.
     pub fn message_as_sent(&self, serial: u64, index: u32) -> Option<&Message>
         ensures { MatchOption result (length (messages_at self.now.current.ports serial) ≤ index)
             (λ message. (index < length (messages_at self.now.current.ports serial)) × (seen_message (lives_in self.now.current.ports) message.now ≡ slice_index_or (messages_at self.now.current.ports serial) index (seen_message (lives_in self.now.current.ports) message.now))) }
@@ -105,7 +105,7 @@ impl LivePorts {
         self.tables.message(serial, index)
     }
 
-    /// What a right of a message as it was sent is now: where its port has died, `MACH_PORT_DEAD`.
+    /// What a right of a message as it was sent is now: `MACH_PORT_DEAD` if its port has died.
     pub fn seen(&self, carried: CarriedRight) -> CarriedRight
         ensures { result ≡ seen_right (lives_in self.now.current.ports) carried }
     {
@@ -124,14 +124,14 @@ impl LivePorts {
         }
     }
 
-    /// No queue holds more messages than a word counts. It does nothing but show it.
+    /// Shows that no queue holds more messages than a word counts. It does nothing else.
     pub fn are_short(&self)
         ensures { AreShort self.now.current.ports }
     {
         let _ = &self.tables;
     }
 
-    /// Replaces what a port keeps beside its queue, if it lives. Where memory is wanted the changes are given up.
+    /// Replaces what a port has besides its queue, if it lives. If an allocation fails, the changes are rolled back.
     pub fn set_numbers(&mut self, serial: u64, numbers: PortNumbers) -> Result<(), AllocError>
         ensures ok { OnOk result (self.new ≡ record self.old {
           current = record self.old.current {
@@ -149,8 +149,8 @@ impl LivePorts {
         }
     }
 
-    /// Puts a message at the end of a port's queue, whatever the limit, if the port lives. Where memory is wanted, as by a
-    /// queue of `u32::MAX` messages, the changes are given up.
+    /// Puts a message at the end of a port's queue, whatever the limit, if the port lives. If an allocation fails, as
+    /// for a queue of `u32::MAX` messages, the changes are rolled back.
     pub fn push(&mut self, serial: u64, message: Message) -> Result<(), AllocError>
         requires { AreLive self.old.current.ports message }
         ensures ok { OnOk result (self.new ≡ record self.old {
@@ -169,7 +169,8 @@ impl LivePorts {
         }
     }
 
-    /// Takes the oldest message of a port out of its queue, if there is one. Where memory is wanted the changes are given up.
+    /// Takes the oldest message of a port out of its queue, if there is one. If an allocation fails, the changes are
+    /// rolled back.
     pub fn take(&mut self, serial: u64) -> Result<(), AllocError>
         ensures ok { OnOk result (self.new ≡ record self.old {
           current = record self.old.current {
@@ -187,7 +188,7 @@ impl LivePorts {
         }
     }
 
-    /// Makes a port, which gets the next serial. Where memory is wanted the changes are given up.
+    /// Makes a port, which gets the next serial. If an allocation fails, the changes are rolled back.
     pub fn add(&mut self) -> Result<(), AllocError>
         requires room { map.len self.old.current.ports < MAX_PORTS }
         requires serials { self.old.current.next < 2 ^ 64 - 1 }
@@ -208,7 +209,7 @@ impl LivePorts {
         }
     }
 
-    /// The next port gets this serial, which is none that was given before. It takes no memory.
+    /// Sets the serial that the next port gets, one that was never given before. It takes no memory.
     pub fn set_next_serial(&mut self, serial: u64)
         requires { self.old.current.next ≤ serial }
         ensures { self.new ≡ record self.old { current = record self.old.current { next = serial } } }
@@ -216,8 +217,8 @@ impl LivePorts {
         self.tables.set_next_serial(serial);
     }
 
-    /// A port dies: it goes, and rights to it in other queues become `MACH_PORT_DEAD`. The targets of requests stay.
-    /// Nothing changes where it is dead. Where memory is wanted the changes are given up.
+    /// A port dies: it is removed, and rights to it in other queues become `MACH_PORT_DEAD`. The targets of requests
+    /// stay. If it is dead, nothing changes. If an allocation fails, the changes are rolled back.
     pub fn bury(&mut self, serial: u64) -> Result<(), AllocError>
         ensures ok { OnOk result (self.new ≡ record self.old {
           current = record self.old.current {
@@ -238,22 +239,22 @@ impl LivePorts {
         }
     }
 
-    /// The serials of the ports that may have changed since changes were last kept or given up. Each other port lives if it lived
-    /// then, and is as full.
+    /// The serials of the ports that may have changed since the last commit or rollback. Every other port lives if it
+    /// lived then, and its queue is as full.
     pub fn changed_serials(&self) -> &[u128]
         ensures { AreNoted self.now.before.ports self.now.current.ports result.now }
     {
         self.tables.touched.as_slice()
     }
 
-    /// Keeps the changes. It takes no memory.
+    /// Commits the changes. It takes no memory.
     pub fn keep(&mut self)
         ensures { self.new ≡ ports_at_rest self.old.current }
     {
         self.tables.keep();
     }
 
-    /// Gives the changes up. It takes no memory.
+    /// Rolls the changes back. It takes no memory.
     pub fn give_up(&mut self)
         ensures { self.new ≡ ports_at_rest self.old.before }
     {

@@ -16,8 +16,8 @@ use std::alloc::{AllocError, Global};
 use std::marker::Model;
 use std::mem;
 
-/// Ports by their serials. They stand in a slab, whose keys are used again as serials never are; an ordered map has the
-/// key of each serial. Contracts see the finite map from serials to ports.
+/// Ports by their serials. They stand in a slab, whose keys are used again while serials never are; an ordered map has
+/// the key of each serial. Contracts see the finite map from serials to ports.
 #[derive(Drop)]
 pub(crate) struct PortSlots {
     ports: Slab<Port>,
@@ -62,7 +62,7 @@ impl PortSlots {
         }
     }
 
-    /// The least serial from one on that may have a port: before it none has.
+    /// The least serial from `from` on that may have a port; none before it has one.
     pub(crate) fn next_serial(&self, from: u128) -> Option<u128>
         ensures { MatchOption result ((serial : ℕ) → from ≤ serial → map.get self.now serial ≡ None)
             (λ next. (from ≤ next) × ((serial : ℕ) → from ≤ serial → serial < next → map.get self.now serial ≡ None)) }
@@ -73,7 +73,7 @@ impl PortSlots {
         Some(serial)
     }
 
-    /// Sets the port of a serial. Where memory is wanted nothing changed.
+    /// Sets the port of a serial. If an allocation fails, nothing changed.
     pub(crate) fn insert(&mut self, serial: u128, port: Port) -> Result<(), AllocError>
         ensures ok { OnOk result (self.new ≡ map.insert self.old serial port) }
         ensures err { OnErr result (self.new ≡ self.old) }
@@ -85,7 +85,7 @@ impl PortSlots {
         add_to_both(&mut self.ports, &mut self.keys, serial, port)
     }
 
-    /// The port of a serial goes, if it is there.
+    /// Removes the port of a serial, if there is one.
     pub(crate) fn remove(&mut self, serial: u128)
         ensures { self.new ≡ map.remove self.old serial }
     {
@@ -94,7 +94,7 @@ impl PortSlots {
         }
     }
 
-    /// Replaces what a port keeps beside its queue, if it lives.
+    /// Replaces what a port has besides its queue, if it lives.
     pub(crate) fn set_numbers(&mut self, serial: u128, numbers: PortNumbers)
         ensures { self.new ≡ slot_changed self.old serial (present_changed (with_numbers numbers)) }
     {
@@ -103,7 +103,7 @@ impl PortSlots {
         }
     }
 
-    /// Puts a message at the end of a port's queue, if it lives. Where memory is wanted nothing changed.
+    /// Puts a message at the end of a port's queue, if it lives. If an allocation fails, nothing changed.
     pub(crate) fn push(&mut self, serial: u128, message: Message) -> Result<(), AllocError>
         ensures ok { OnOk result (self.new ≡ slot_changed self.old serial (present_changed (with_message message))) }
         ensures room { OnOk result (IfSome (option_and_then current_of (map.get self.old serial)) (λ port. length port.messages < 2 ^ 32 - 1)) }
@@ -133,7 +133,7 @@ impl PortSlots {
         }
     }
 
-    /// Keeps the changes of a port. It is found in one look by the next call, however many ports were made since it was.
+    /// Commits the changes of a port. The next call finds it in one look, however many ports were made since it was.
     pub(crate) fn keep(&mut self, serial: u128)
         ensures { self.new ≡ slot_changed self.old serial kept_slot }
     {
@@ -142,7 +142,7 @@ impl PortSlots {
         }
     }
 
-    /// Gives the changes of a port up.
+    /// Rolls back the changes of a port.
     pub(crate) fn give_up(&mut self, serial: u128)
         ensures { self.new ≡ slot_changed self.old serial given_up_slot }
     {
@@ -152,7 +152,7 @@ impl PortSlots {
     }
 }
 
-/// A port comes under a serial that has none. Where memory is wanted nothing changed.
+/// Adds a port under a serial that has none. If an allocation fails, nothing changed.
 fn add_to_both(
     ports: &mut Slab<Port>,
     keys: &mut SerialKeys,

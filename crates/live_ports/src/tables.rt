@@ -12,8 +12,8 @@ use crate::slots::PortSlots;
 use ipc_model::Message;
 use std::alloc::{AllocError, Global};
 
-/// The ports by their serials, the serials of those that were changed, how many live and lived, and the serials that the
-/// next port gets and would have got.
+/// The ports by their serials, the serials of those that were changed, how many live and lived, and the serials that
+/// the next port gets and would have got.
 #[derive(Drop)]
 pub(crate) struct Tables {
     pub(crate) alloc: Global,
@@ -26,7 +26,7 @@ pub(crate) struct Tables {
 }
 
 impl Tables {
-    /// The table of no ports. It takes no memory.
+    /// An empty table. It takes no memory.
     pub(crate) fn new(alloc: Global) -> Self
         ensures { AreAtRest result map.empty 0 1 }
     {
@@ -51,7 +51,7 @@ impl Tables {
         }
     }
 
-    /// What a port keeps beside its queue, if it lives.
+    /// What a port has besides its queue, if it lives.
     pub(crate) fn numbers(&self, serial: u64) -> Option<PortNumbers>
         ensures { result ≡ option_map numbers_of (map.get (present_ports self.now.slots) serial) }
     {
@@ -61,7 +61,7 @@ impl Tables {
         }
     }
 
-    /// How many messages are in a port's queue: none where it is dead.
+    /// How many messages are in a port's queue: none if it is dead.
     pub(crate) fn message_count(&self, serial: u64) -> u32
         ensures { result ≡ length (messages_at (present_ports self.now.slots) serial) }
     {
@@ -71,7 +71,7 @@ impl Tables {
         }
     }
 
-    /// The message of an index in a port's queue as it was sent, counted from the oldest, if there is one.
+    /// The message at an index in a port's queue as it was sent, counted from the oldest, if there is one.
     pub(crate) fn message(&self, serial: u64, index: u32) -> Option<&Message>
         ensures { IsMessageAt (messages_at (present_ports self.now.slots) serial) index result }
     {
@@ -81,7 +81,8 @@ impl Tables {
         }
     }
 
-    /// Replaces what a port keeps beside its queue, if it lives. Where memory is wanted the changes are to be given up.
+    /// Replaces what a port has besides its queue, if it lives. If an allocation fails, the changes must be rolled
+    /// back.
     pub(crate) fn set_numbers(
         &mut self,
         serial: u64,
@@ -96,8 +97,8 @@ impl Tables {
         Ok(())
     }
 
-    /// Puts a message at the end of a port's queue, whatever the limit, if it lives. Where memory is wanted the changes
-    /// are to be given up.
+    /// Puts a message at the end of a port's queue, whatever the limit, if it lives. If an allocation fails, the
+    /// changes must be rolled back.
     pub(crate) fn push(&mut self, serial: u64, message: Message) -> Result<(), AllocError>
         requires { AreMarked self.old.slots self.old.touched.items }
         ensures ok { OnOk result (AreNow self.new (changed (present_ports self.old.slots) serial (with_message message)) self.old.count self.old.next) }
@@ -108,8 +109,8 @@ impl Tables {
         self.slots.push(u128::from(serial), message)
     }
 
-    /// Takes the oldest message out of a port's queue, if it lives and has one. Where memory is wanted the changes are to be
-    /// given up.
+    /// Takes the oldest message out of a port's queue, if it lives and has one. If an allocation fails, the changes
+    /// must be rolled back.
     pub(crate) fn take(&mut self, serial: u64) -> Result<(), AllocError>
         requires { AreMarked self.old.slots self.old.touched.items }
         ensures ok { OnOk result (AreNow self.new (changed (present_ports self.old.slots) serial without_first) self.old.count self.old.next) }
@@ -120,7 +121,7 @@ impl Tables {
         Ok(())
     }
 
-    /// Makes a port. Where memory is wanted the changes are to be given up.
+    /// Makes a port. If an allocation fails, the changes must be rolled back.
     pub(crate) fn add(&mut self) -> Result<(), AllocError>
         requires marked { AreMarked self.old.slots self.old.touched.items }
         requires unborn { map.get (former_ports self.old.slots) self.old.next ≡ None }
@@ -146,7 +147,7 @@ impl Tables {
         self.next = serial;
     }
 
-    /// A port that lives dies. Where memory is wanted the changes are to be given up.
+    /// A port that lives dies. If an allocation fails, the changes must be rolled back.
     pub(crate) fn bury(&mut self, serial: u64) -> Result<(), AllocError>
         requires marked { AreMarked self.old.slots self.old.touched.items }
         requires some { 0 < self.old.count }
@@ -159,7 +160,7 @@ impl Tables {
         Ok(())
     }
 
-    /// Keeps the changes. It takes no memory.
+    /// Commits the changes. It takes no memory.
     pub(crate) fn keep(&mut self)
         requires { AreMarked self.old.slots self.old.touched.items }
         ensures { AreAtRest self.new (present_ports self.old.slots) self.old.count self.old.next }
@@ -170,7 +171,7 @@ impl Tables {
         self.next_before = self.next;
     }
 
-    /// Gives the changes up. It takes no memory.
+    /// Rolls the changes back. It takes no memory.
     pub(crate) fn give_up(&mut self)
         requires { AreMarked self.old.slots self.old.touched.items }
         ensures { AreAtRest self.new (former_ports self.old.slots) self.old.count_before self.old.next_before }
@@ -182,7 +183,7 @@ impl Tables {
     }
 }
 
-/// Notes that a port is changed. Where memory is wanted nothing changed.
+/// Notes that a port was changed. If an allocation fails, nothing changed.
 fn touch(touched: &mut Vec<u128>, serial: u64) -> Result<(), AllocError>
     ensures ok { OnOk result (touched.new.items ≡ touched.old.items ++ serial ∷ []) }
     ensures err { OnErr result (touched.new.items ≡ touched.old.items) }
@@ -192,7 +193,7 @@ fn touch(touched: &mut Vec<u128>, serial: u64) -> Result<(), AllocError>
     Ok(())
 }
 
-/// Keeps the changes of these slots, which are among all that were changed.
+/// Commits the changes of these slots, which are among all that were changed.
 fn keep_touched(slots: &mut PortSlots, touched: &[u128])
     requires { AreMarked slots.old touched.now }
     ensures seen { present_ports slots.new ≡ present_ports slots.old }
@@ -205,7 +206,7 @@ fn keep_touched(slots: &mut PortSlots, touched: &[u128])
     }
 }
 
-/// Gives the changes of these slots up, which are among all that were changed.
+/// Rolls back the changes of these slots, which are among all that were changed.
 fn give_up_touched(slots: &mut PortSlots, touched: &[u128])
     requires { AreMarked slots.old touched.now }
     ensures seen { former_ports slots.new ≡ former_ports slots.old }
@@ -218,7 +219,7 @@ fn give_up_touched(slots: &mut PortSlots, touched: &[u128])
     }
 }
 
-/// Keeps the changes of a slot, which goes where its port is dead.
+/// Commits the changes of a slot, which is removed if its port is dead.
 fn keep_slot(slots: &mut PortSlots, serial: u128)
     ensures { slots.new ≡ worked_off current_of kept_slot slots.old serial }
 {
@@ -232,7 +233,7 @@ fn keep_slot(slots: &mut PortSlots, serial: u128)
     }
 }
 
-/// Gives the changes of a slot up, which goes where its port didn't live.
+/// Rolls back the changes of a slot, which is removed if its port didn't live.
 fn give_up_slot(slots: &mut PortSlots, serial: u128)
     ensures { slots.new ≡ worked_off before_of given_up_slot slots.old serial }
 {

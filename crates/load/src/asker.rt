@@ -26,7 +26,7 @@ impl<'a> Asker<'a> {
         })
     }
 
-    /// Makes so many calls of a kind, or twice as many. A pair's are made by `pair`.
+    /// Makes `frames` calls of a kind, or twice that many. A pair's are made by `pair`.
     pub(crate) fn round<R: Clock>(
         &mut self,
         rt: &R,
@@ -48,7 +48,7 @@ impl<'a> Asker<'a> {
         self.read()
     }
 
-    /// Allocates so many receive rights, and destroys their names.
+    /// Allocates `frames` receive rights, and destroys their names.
     fn allocate<R: Clock>(&mut self, rt: &R, frames: u32, spread: &mut Spread) -> Option<()> {
         self.take_names(rt, frames, spread)?;
         self.give_up_names(rt, frames, spread)
@@ -76,7 +76,7 @@ impl<'a> Asker<'a> {
         self.read_each(rt, &start, frames, spread)
     }
 
-    /// Sends a message of 28 bytes to a port, and receives it, so many times.
+    /// Sends a message of 28 bytes to a port and receives it, `frames` times.
     fn exchange<R: Clock>(
         &mut self,
         rt: &R,
@@ -88,8 +88,8 @@ impl<'a> Asker<'a> {
         self.ask_all(rt, &message, frames, spread)
     }
 
-    /// Asks another connection so many times, each by a message whose reply is waited for. The other waits for each message, and
-    /// answers it by the right that came with it.
+    /// Asks another connection `frames` times, each by a message whose reply is waited for. The other waits for each
+    /// message, and answers it by the right that came with it.
     pub(crate) fn pair<R: Clock>(
         &mut self,
         rt: &R,
@@ -132,7 +132,7 @@ impl<'a> Asker<'a> {
         Some(())
     }
 
-    /// Writes a frame so many times, and reads the replies.
+    /// Writes a frame `frames` times, and reads the replies.
     fn ask_all<R: Clock>(
         &mut self,
         rt: &R,
@@ -145,7 +145,7 @@ impl<'a> Asker<'a> {
         self.read_each(rt, &start, frames, spread)
     }
 
-    /// Writes a frame of these words so many times.
+    /// Writes a frame of these words `frames` times.
     fn write_each(&mut self, words: &[u32], frames: u32) -> Option<()> {
         for _ in 0..frames {
             self.write(words)?;
@@ -153,7 +153,7 @@ impl<'a> Asker<'a> {
         self.writer.flush().ok()
     }
 
-    /// Reads so many replies of calls that began then.
+    /// Reads the replies of `frames` calls that began then.
     fn read_each<R: Clock>(
         &mut self,
         rt: &R,
@@ -178,12 +178,12 @@ impl<'a> Asker<'a> {
         Some(())
     }
 
-    /// Reads a reply whose code is 0, and gives the word behind that, or 0.
+    /// Reads a reply whose code is 0, and returns the word after that, or 0.
     fn read(&mut self) -> Option<u32> {
         self.read_at(2)
     }
 
-    /// Reads a reply whose code is 0, and gives its word at this index, or 0.
+    /// Reads a reply whose code is 0, and returns its word at this index, or 0.
     fn read_at(&mut self, at: u32) -> Option<u32> {
         let count = self.word()?;
         let _ = self.word()?;

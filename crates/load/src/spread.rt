@@ -19,7 +19,7 @@ impl Spread {
         })
     }
 
-    /// Counts a call that took so many microseconds.
+    /// Counts a call that took this many microseconds.
     pub(crate) fn add(&mut self, microseconds: u64) {
         if let Some(bucket) = self.buckets.get_mut(bucket_of(microseconds)) {
             *bucket = bucket.saturating_add(1);
@@ -42,7 +42,8 @@ impl Spread {
         count
     }
 
-    /// Within how many microseconds so many of a thousand calls were answered, and less than a sixteenth more.
+    /// A bound in microseconds within which this many of a thousand calls were answered. It is too large by less than a
+    /// sixteenth.
     pub(crate) fn within(&self, of_a_thousand: u64) -> u64 {
         let wanted = self
             .count()

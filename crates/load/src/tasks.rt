@@ -9,7 +9,7 @@ use std::sync::Wait;
 use std::thread::{self, JoinHandle, Threads};
 use std::time::{Clock, Duration, Instant};
 
-/// Has all connections make calls for so many seconds. None where one of them ended before.
+/// Makes all connections make calls for `seconds` seconds. `None` if one of them ended before.
 pub(crate) fn run<
     R: Threads
         + Wait
@@ -46,7 +46,7 @@ fn begin<
     thread::spawn(&rt, move || ask(&rt, path.as_str(), seconds, kind, frames)).ok()
 }
 
-/// Makes calls on a connection for so many seconds.
+/// Makes calls on a connection for `seconds` seconds.
 fn ask<R: Net<Listener = TcpListener, Stream = TcpStream> + Wait + Clock + AllocGlobal>(
     rt: &R,
     path: &str,
@@ -85,7 +85,7 @@ fn ask_all<R: Wait + Clock>(
     Some(())
 }
 
-/// Has a connection ask another one for so many seconds.
+/// Makes a connection ask another one for `seconds` seconds.
 fn ask_partner<R: Net<Listener = TcpListener, Stream = TcpStream> + Wait + Clock + AllocGlobal>(
     rt: &R,
     asker: &mut Asker<'_>,
@@ -120,7 +120,7 @@ fn ask_each<R: Wait + Clock>(
     Some(())
 }
 
-/// Whether so many seconds have passed since then.
+/// Whether `seconds` seconds have passed since then.
 fn is_over<R: Clock>(rt: &R, start: &Instant, seconds: u64) -> Option<bool> {
     Some(start.elapsed(rt).ok()? >= Duration::from_secs(seconds))
 }

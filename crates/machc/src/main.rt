@@ -1,5 +1,5 @@
-//! `machc SOCKET` sends the frames of its standard input to a server's socket, and writes the replies to its standard output.
-//! `machc --script SOCKET` does it for the lines of a script, and prints each with its answer.
+//! `machc SOCKET` sends the frames of its standard input to a server's socket, and writes the replies to its standard
+//! output. `machc --script SOCKET` does the same for the lines of a script, and prints each with its answer.
 #![tactic(auto)]
 
 use command_line::{question_in, read_words, tell_about};

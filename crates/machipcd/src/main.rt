@@ -1,5 +1,5 @@
-//! `machipcd STORE` serves the store in a folder to its standard input and output; `machipcd --socket PATH STORE` to any number of
-//! connections on a Unix socket.
+//! `machipcd STORE` serves the store in a folder on its standard input and output; `machipcd --socket PATH STORE`
+//! serves it to any number of connections on a Unix socket.
 #![tactic(auto)]
 
 use command_line::{question_in, read_words, tell_about};

@@ -1,4 +1,4 @@
--- The text of a header, with a body behind it, is the message's, and is read again.
+-- The bytes of a header, followed by a body, are the message's, and are read back.
 use Rattle.std.specs.Prelude.{◌≡◌, ℕ, ◌+◌, ◌*◌, ◌/◌, ◌%◌, ◌^◌, ◌<◌, Bool, true, false, ◌==◌, List, ◌++◌, length}
 use Rattle.std.proofs.Common.{sym, ◌∙◌, ap, arith}
 use Rattle.std.proofs.lemmas.Bool.{eq-eqb}
@@ -9,7 +9,7 @@ use Rattle.msg_header.specs.Headers.{parts_by, header_bits, header_text, HeaderF
 use Rattle.words.specs.WordLaws.{little_number-word}
 use Rattle.words.specs.Words.{word}
 
--- the text of header and body
+-- the bytes of header and body
 abbrev pub HeaderAndBodyAreAMessage : Type 0
 HeaderAndBodyAreAMessage = (header : Header) (seqno : ℕ) (body : List ℕ) → header.size ≡ header_length + length body
     → header_text header seqno ++ body ≡ message_text (header_bits header) header.remote header.local seqno header.id body
@@ -19,7 +19,7 @@ unfolding header_text
 header_and_body header seqno body whole =
     ap (λ (size : ℕ). word (header_bits header) ++ (word size ++ (word header.remote ++ (word header.local ++ (word seqno ++ (word header.id ++ body)))))) whole
 
--- What is written of a header is read: the bytes are a message with its fields, where its size is theirs.
+-- What is written of a header is read back: the bytes are a message with its fields, if its size is theirs.
 abbrev pub WrittenHeadersAreRead : Type 0
 WrittenHeadersAreRead = (header : Header) (seqno : ℕ) (body : List ℕ) → HeaderFits header → header.size ≡ header_length + length body
     → HasUsedParts (header_text header seqno ++ body) (parts_by header body)

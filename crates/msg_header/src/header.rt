@@ -7,7 +7,7 @@ use byteorder::{ByteOrder, LittleEndian};
 use codes::{HEADER_LENGTH, KernReturn};
 use std::alloc::AllocError;
 
-/// MACH_MSGH_BITS_COMPLEX: the body has items that hold ports.
+/// `MACH_MSGH_BITS_COMPLEX`: the body has items that hold ports.
 const COMPLEX_BIT: u32 = 0x8000_0000;
 
 /// What a message's header says (`mach_msg_header_t`).
@@ -15,11 +15,11 @@ const COMPLEX_BIT: u32 = 0x8000_0000;
 pub struct Header {
     /// How many bytes the whole message has, header and body.
     pub size: usize,
-    /// MACH_MSGH_BITS_REMOTE: how the right to the destination is handed over.
+    /// `MACH_MSGH_BITS_REMOTE`: how the right to the destination is handed over.
     pub remote_disposition: u8,
-    /// MACH_MSGH_BITS_LOCAL: how the reply right is handed over.
+    /// `MACH_MSGH_BITS_LOCAL`: how the reply right is handed over.
     pub local_disposition: u8,
-    /// MACH_MSGH_BITS_COMPLEX: whether the body holds ports.
+    /// `MACH_MSGH_BITS_COMPLEX`: whether the body holds ports.
     pub complex: bool,
     /// `msgh_remote_port`: the name of the destination.
     pub remote: u32,
@@ -29,10 +29,10 @@ pub struct Header {
     pub id: u32,
 }
 
-/// The header that a message's bytes begin with. Its size is the count of the bytes: the words of size and sequence
-/// number that stand in them are ignored, and so are the bits of other meaning.
+/// The header that a message's bytes begin with. Its size is the number of bytes: the words of size and sequence number
+/// in them are ignored, and so are bits with other meanings.
 ///
-/// `SendMsgTooSmall`: they are fewer than 24. No memory is taken.
+/// `SendMsgTooSmall`: they are fewer than 24. It takes no memory.
 pub fn parse(bytes: &[u8]) -> Result<Header, KernReturn>
     ensures found { IfOk result (λ header. HasUsedParts bytes.now (parts_by header (body_of bytes.now))) }
     ensures refused { IfErr result (λ code. code ≡ KernReturn.SendMsgTooSmall) }
@@ -68,9 +68,9 @@ impl Header {
     }
 
     #[tactic(auto, unfolding(crate::specs::Headers::header_text))]
-    /// Adds the header's 24 bytes, with this sequence number (`msgh_seqno`). The size fits four bytes.
+    /// Adds the header's 24 bytes, with this sequence number (`msgh_seqno`). The size must fit four bytes.
     ///
-    /// Where memory is wanted nothing changed. None is taken where there is room for 24 bytes.
+    /// If an allocation fails, nothing changed. It takes no memory if there is room for 24 bytes.
     pub fn write_into(&self, sequence_number: u32, out: &mut Vec<u8>) -> Result<(), AllocError>
         requires { self.now.size < 2 ^ 32 }
         ensures ok { OnOk result (out.new.items ≡ out.old.items ++ header_text self.now sequence_number) }

@@ -1,2 +1,2 @@
--- What the crates above take from the libraries below, so that they name one of them.
+-- What the crates above use of the libraries below, so that they name only one of them.
 pub use Rattle.ipc_state.specs.Passed.{PortNumbers, numbers_of}

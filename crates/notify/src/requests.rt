@@ -8,8 +8,8 @@ use ipc_model::{Entry, PortRights};
 use ipc_state::{IpcState, PortNumbers};
 use std::alloc::AllocError;
 
-/// The target of a port's no-senders request becomes this one, or the request is taken or cancelled where it is
-/// none. It gives the former target. Where memory is wanted the changes are to be given up.
+/// Sets the target of a port's no-senders request; without a target, the request is taken or cancelled. Returns the
+/// former target. If an allocation fails, the changes must be rolled back.
 pub fn replace_no_senders(
     state: &mut IpcState,
     port: u64,
@@ -31,8 +31,8 @@ pub fn replace_no_senders(
     Ok(former)
 }
 
-/// The target of a port's port-destroyed request becomes this one, or the request is taken or cancelled where it
-/// is none. It gives the former target. Where memory is wanted the changes are to be given up.
+/// Sets the target of a port's port-destroyed request; without a target, the request is taken or cancelled. Returns the
+/// former target. If an allocation fails, the changes must be rolled back.
 pub fn replace_port_destroyed(
     state: &mut IpcState,
     port: u64,
@@ -54,8 +54,8 @@ pub fn replace_port_destroyed(
     Ok(former)
 }
 
-/// What a name stands for, with this dead-name request in place of its own. A set has none, and to a dead name
-/// the answer comes at once.
+/// What a name stands for, with this dead-name request in place of its own. A set has none, and for a dead name the
+/// notice comes at once.
 pub fn with_request(entry: Entry, target: Option<u64>) -> Entry
     ensures entry { result ≡ with_request target entry }
     ensures few { AreFewReferences entry → AreFewReferences result }

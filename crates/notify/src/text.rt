@@ -20,7 +20,7 @@ const ONE_RECEIVE_RIGHT: u32 = 0x1001_2010;
 /// The descriptor of one inline 32-bit integer (type 2).
 const ONE_INTEGER: u32 = 0x1001_2002;
 
-/// A notice as a message, which is sent by a send-once right, names no reply and carries no rights.
+/// A notice as a message that is sent by a send-once right, names no reply and carries no rights.
 pub fn message(alloc: Global, notice: Notice) -> Result<Message, AllocError>
     ensures message { IfOk result (λ message. message ≡ notice_message (notice_meant notice)) }
     ensures plain { IfOk result (λ message. (message.reply ≡ None) × (message.rights ≡ [])) }
@@ -33,7 +33,7 @@ pub fn message(alloc: Global, notice: Notice) -> Result<Message, AllocError>
     }
 }
 
-/// A notice that tells of one word.
+/// A notice that reports one word.
 fn plain(alloc: Global, id: u32, descriptor: u32, told: u32) -> Result<Message, AllocError>
     ensures { IfOk result (λ message. message ≡ record { destination = RightKind.SendOnce; reply = None; id = id; complex = false; rights = []; body = word descriptor ++ word told }) }
 {
@@ -54,7 +54,7 @@ fn without_rights(id: u32, alloc: Global, body: Vec<u8>) -> Message
     }
 }
 
-/// The notice that the receive right of a port would have been destroyed, as a message that brings it
+/// The notice that the receive right of a port would have been destroyed, as a message that carries it
 /// (`MACH_NOTIFY_PORT_DESTROYED`).
 pub fn port_destroyed(alloc: Global, serial: u64) -> Result<Message, AllocError>
     ensures { IfOk result (λ message. message ≡ notice_message (notice.PortDestroyed serial)) }
@@ -75,7 +75,7 @@ pub fn port_destroyed(alloc: Global, serial: u64) -> Result<Message, AllocError>
     })
 }
 
-/// A body of one item of one word.
+/// A body with one item of one word.
 fn one_item(alloc: Global, descriptor: u32, told: u32) -> Result<Vec<u8>, AllocError>
     ensures { IfOk result (λ body. body.items ≡ word descriptor ++ word told) }
 {

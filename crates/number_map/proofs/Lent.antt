@@ -3,7 +3,7 @@ use Rattle.std.proofs.Common.{◌≡◌, Option, None, Some, IsSome, MutBor, ref
 use Rattle.std.specs.Option.{option_copied_mut, ghost_name_of}
 use borrow.Follows.Closed.{read_of}
 
--- two that answer alike where there is a value, and where there is none
+-- two results agree if they agree where there is a value, and where there is none
 pub same_loan : {D X : Type 0} (lent : Option (MutBor X)) (value : Option X) (after wanted : X → D) (none wanted_none : D) → option_copied_mut lent ≡ value → (IsSome value → (w : X) → after w ≡ wanted w) → none ≡ wanted_none → read_of (ghost_name_of lent) after none ≡ read_of (ghost_name_of lent) wanted wanted_none
 same_loan None value after wanted none wanted_none is some e = ap inr e
 same_loan (Some x) value after wanted none wanted_none is some e =

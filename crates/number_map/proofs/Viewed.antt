@@ -58,7 +58,7 @@ module _ {X : Type 0} where
       ∙ ap (put nat_cmp e.0 e.1) (entries_viewed es (sorted_tail nat_cmp e.0 (keys_of es) sorted))
       ∙ put_below e.0 e.1 es (sorted_head nat_cmp e.0 (keys_of es) sorted)
 
-  -- the entries of a std map, rising by key, are those of the map that it is seen as
+  -- the entries of a std map, in ascending order of keys, are those of the map that it is seen as
   pub same_rest : (es rest : List (ℕ × X)) (m : FinMap {K = ℕ} nat_cmp X) → from_entries {R = nat_cmp} es ≡ m → IsStrictlySortedBy nat_cmp (keys_of es) → rest ≡ es → rest ≡ entries m
   same_rest es rest m view sorted is = is ∙ sym (entries_viewed es sorted) ∙ ap (λ n. entries n) view
 

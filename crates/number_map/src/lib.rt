@@ -34,7 +34,7 @@ impl<V> Model for NumberMap<V> {
 }
 
 impl<V> NumberMap<V> {
-    /// A map of nothing. It takes no memory.
+    /// An empty map. It takes no memory.
     pub fn new(alloc: Global) -> Self
         ensures { result ≡ map.empty }
     {
@@ -90,7 +90,7 @@ impl<V> NumberMap<V> {
         Some((*key, value))
     }
 
-    /// The entries from this key on, rising by key.
+    /// The entries from this key on, in ascending order of keys.
     pub fn range_from(&self, from: u128) -> Range<'_, u128, V>
         ensures rest { IsFrom self.now from result }
         ensures runs { ShowsInOrder (deref_pair {K = ℕ} {X = V}) }
@@ -98,7 +98,7 @@ impl<V> NumberMap<V> {
         self.entries.range(from..)
     }
 
-    /// The entries, rising by key.
+    /// The entries, in ascending order of keys.
     #[tactic(auto, using(crate::proofs::Viewed::same_rest))]
     pub fn iter(&self) -> Iter<'_, u128, V>
         ensures rest { result ≡ map.entries self.now }
@@ -110,8 +110,8 @@ impl<V> NumberMap<V> {
 }
 
 impl<V: Drop> NumberMap<V> {
-    /// Sets the value of a key, and gives the one before. Only a key without a value may lack memory, and then
-    /// nothing changed.
+    /// Sets the value of a key, and returns the one before. It can run out of memory only for a key without a value,
+    /// and then nothing changed.
     pub fn insert(&mut self, key: u128, value: V) -> Result<Option<V>, AllocError>
         ensures before { IfOk result (λ before. before ≡ map.get self.old key) }
         ensures ok { OnOk result (self.new ≡ map.insert self.old key value) }
@@ -121,7 +121,7 @@ impl<V: Drop> NumberMap<V> {
         Ok(self.entries.insert(key, value)?)
     }
 
-    /// Takes the value of a key out.
+    /// Removes the value of a key, and returns it.
     pub fn remove(&mut self, key: u128) -> Option<V>
         ensures before { result ≡ map.get self.old key }
         ensures removed { self.new ≡ map.remove self.old key }

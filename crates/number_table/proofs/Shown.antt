@@ -1,4 +1,4 @@
--- What rows are seen as: each number has what its row has.
+-- How rows are seen: each number has what its row has.
 use Rattle.std.proofs.Common.{◌≡◌, ◌<◌, ◌≤◌, ℕ, zero, suc, ◌+◌, Bool, true, false, cond, List, [], ◌∷◌, ◌++◌, length, Option, None, Some, refl, sym, ◌∙◌, ap, arith, ◌⊎◌, inl, inr, slice_index_or, slice_set}
 use Rattle.std.proofs.lemmas.Bool.{cases_eq, cases_lt}
 use Rattle.std.proofs.lemmas.List.{get_or_past, get_or-set_same, get_or-set_other}
@@ -22,7 +22,7 @@ other_key q k apart true e = absurd (apart (nat_cmp-IsAntisymmetric q k (tied_eq
 other_key q k apart false e = refl
 
 module _ {X : Type 0} where
-  -- a row more, in front of the others
+  -- one more row, before the others
   with_row : (m : FinMap {K = ℕ} nat_cmp X) (k q : ℕ) (x : X) → (q ≡ k → ⊥) → get (insert m k x) q ≡ get m q
   with_row m k q x apart = get-insert nat_cmp_total m k x q ∙ ap (λ (b : Bool). cond b (Some x) (get m q)) (other_key q k apart (eq_by_cmp nat_cmp q k) refl)
 
@@ -82,7 +82,7 @@ module _ {X : Type 0} where
       found (slice_set rows at None) q ∙ row_set rows at None low q ∙ ap (cond (eq_by_cmp nat_cmp q at) None) (sym (found rows q))
       ∙ sym (get-remove nat_cmp_total (rows_from 0 rows) at q))
 
-  -- a number without a row has nothing to be taken
+  -- a number without a row has nothing to take
   pub removed_past : (rows : List (Option X)) (at : ℕ) → length rows ≤ at → rows_from 0 rows ≡ remove (rows_from 0 rows) at
   removed_past rows at past = same_map nat_cmp_total nat_cmp-IsAntisymmetric _ _ (λ (q : ℕ).
       go q (cases_eq q at) ∙ sym (get-remove nat_cmp_total (rows_from 0 rows) at q))
@@ -92,7 +92,7 @@ module _ {X : Type 0} where
           ∙ sym (ap (λ (b : Bool). cond b None (get (rows_from 0 rows) q)) (ap (λ (n : ℕ). eq_by_cmp nat_cmp n at) same ∙ same_key at))
       go q (inr apart) = sym (ap (λ (b : Bool). cond b None (get (rows_from 0 rows) q)) (other_key q at apart (eq_by_cmp nat_cmp q at) refl))
 
-  -- a row without a value behind the others
+  -- a row without a value after the others
   pub grown : (rows : List (Option X)) (first : ℕ) → rows_from first (rows ++ None ∷ []) ≡ rows_from first rows
   grown [] first = refl
   grown (None ∷ rows) first = grown rows (first + 1)

@@ -1,4 +1,4 @@
-//! A map from small numbers to values, each found by one look into a row, which contracts see as a finite map.
+//! A map from small numbers to values, each found by one look into an array. Contracts see it as a finite map.
 #![tactic(auto)]
 
 ghost use Rattle.std.specs.Prelude.{◌≡◌, ◌≤◌, ◌<◌, ℕ, IfOk, OnOk, OnErr, MatchOption, None, Some, option_copied, length, slice_index_or, slice_set};
@@ -12,8 +12,8 @@ use std::alloc::{AllocError, Global};
 use std::marker::Model;
 use std::mem;
 
-/// A map from numbers to values, as a row of places that is as long as the greatest number so far wants. So it is for
-/// numbers that are given anew from the least on, and what is found beside many is found as fast as beside few.
+/// A map from numbers to values, as an array that is as long as the greatest number so far requires. So it suits
+/// numbers that are given out from the least on. A look-up among many values takes as long as among few.
 #[derive(Drop)]
 pub struct NumberTable<V> {
     rows: Vec<Option<V>>,
@@ -33,7 +33,7 @@ impl<V> Model for NumberTable<V> {
 }
 
 impl<V> NumberTable<V> {
-    /// A table of nothing. It takes no memory.
+    /// An empty table. It takes no memory.
     pub fn new(alloc: Global) -> Self
         ensures { result ≡ map.empty }
     {
@@ -80,8 +80,8 @@ impl<V> NumberTable<V> {
 }
 
 impl<V: Drop> NumberTable<V> {
-    /// Sets the value of a number, and gives the one before. Only a number without a value may lack memory, and then
-    /// nothing changed.
+    /// Sets the value of a number, and returns the one before. It can run out of memory only for a number without a
+    /// value, and then nothing changed.
     pub fn insert(&mut self, number: u32, value: V) -> Result<Option<V>, AllocError>
         ensures before { IfOk result (λ before. before ≡ map.get self.old number) }
         ensures ok { OnOk result (self.new ≡ map.insert self.old number value) }
@@ -93,7 +93,7 @@ impl<V: Drop> NumberTable<V> {
         Ok(replace_at(&mut self.rows, at, Some(value)))
     }
 
-    /// Takes the value of a number out.
+    /// Removes the value of a number, and returns it.
     pub fn remove(&mut self, number: u32) -> Option<V>
         ensures before { result ≡ map.get self.old number }
         ensures removed { self.new ≡ map.remove self.old number }
@@ -107,7 +107,7 @@ impl<V: Drop> NumberTable<V> {
     }
 }
 
-/// There is a row of this number from now on. Where memory is wanted there was none.
+/// Makes the array long enough for this number. If an allocation fails, it was too short.
 fn grow<V: Drop>(rows: &mut Vec<Option<V>>, at: usize) -> Result<(), AllocError>
     ensures same { rows_from 0 rows.new.items ≡ rows_from 0 rows.old.items }
     ensures long { OnOk result (at < length rows.new.items) }
@@ -119,7 +119,7 @@ fn grow<V: Drop>(rows: &mut Vec<Option<V>>, at: usize) -> Result<(), AllocError>
     Ok(())
 }
 
-/// Puts this in place of what a row has.
+/// Replaces the item at a place of the array, and returns the one before.
 fn replace_at<V>(rows: &mut Vec<Option<V>>, at: usize, row: Option<V>) -> Option<V>
     requires { at < length rows.old.items }
     ensures before { result ≡ slice_index_or rows.old.items at None }

@@ -12,7 +12,7 @@ use Rattle.ipc_laws.specs.MapSums.{key_is, same_key}
 abbrev pub Counts : Type 0
 Counts = FinMap {K = ℕ} nat_cmp ℕ
 
--- a pair as one number: the pairs of one first number stand together, rising
+-- a pair as one number: the pairs with the same first number stand together, ascending
 abbrev pub key : ℕ → ℕ → ℕ
 key first second = first * 2 ^ 64 + second
 
@@ -24,11 +24,11 @@ or_zero (Some n) = n
 abbrev pub count_at : Counts → ℕ → ℕ → ℕ
 count_at counts first second = or_zero (get counts (key first second))
 
--- so many of a pair
+-- the count of a pair set to this
 abbrev pub with_count : Counts → ℕ → ℕ → ℕ → Counts
 with_count counts first second n = if n == 0 then remove counts (key first second) else insert counts (key first second) n
 
--- no count that stands there is 0, and none is too great for the sum of two
+-- no count there is 0, and none is too great for the sum of two
 abbrev pub ArePositive : Counts → Type 0
 ArePositive counts = (k n : ℕ) → get counts k ≡ Some n → (0 < n) × (n < 2 ^ 63)
 
@@ -37,7 +37,7 @@ abbrev pub IsLeast : Counts → ℕ → Option ℕ → Type 0
 IsLeast counts first found = MatchOption found ((q : ℕ) → q < 2 ^ 64 → count_at counts first q ≡ 0)
     (λ least. (least < 2 ^ 64) × (0 < count_at counts first least) × ((q : ℕ) → q < least → count_at counts first q ≡ 0))
 
--- numbers that tie are equal, as the machine compares them
+-- numbers that compare as equal are equal, by the machine's comparison
 pub eq_cmp : (x y : ℕ) → eq_by_cmp nat_cmp x y ≡ (x == y)
 eq_cmp x y = go (eq_by_cmp nat_cmp x y) refl (x == y) refl
   where
@@ -62,7 +62,7 @@ same_pair a b c d small other = eq_cmp (key c d) (key a b) ∙ go (key c d == ke
     go false whole false first y second = refl
     go false whole true first false second = refl
 
--- the count of each pair once one is so many
+-- the count of each pair once one is set
 pub count_with : (counts : Counts) (a b n c d : ℕ) → b < 2 ^ 64 → d < 2 ^ 64 → count_at (with_count counts a b n) c d ≡ cond (c == a && d == b) n (count_at counts c d)
 count_with counts a b n c d small other = go (n == 0) refl
   where

@@ -7,18 +7,18 @@ use Rattle.ipc_model.specs.declared.message.RightKind.TheVariants as kind
 use Rattle.ipc_model.specs.state.Placed.{same_kind}
 use Rattle.pair_counts.specs.Counts.{Counts, count_at, count_with, with_count}
 
--- what weighs 1 where it is a right of this kind to this port, and else nothing
+-- weighs 1 if it is a right of this kind to this port, and else 0
 abbrev pub right_weight : RightKind → ℕ → Weight
 right_weight wanted serial what port = cond (same_kind what wanted && port == serial) 1 0
 
--- one more, or one less, of a pair
+-- one more, or one less, for a pair
 abbrev pub one_more : Counts → ℕ → ℕ → Counts
 one_more counts first second = with_count counts first second (count_at counts first second + 1)
 
 abbrev pub one_fewer : Counts → ℕ → ℕ → Counts
 one_fewer counts first second = with_count counts first second (count_at counts first second - 1)
 
--- a right more, or less; receive rights aren't counted
+-- one more right, or one less; receive rights aren't counted
 abbrev pub right_more : Counts → RightKind → ℕ → Counts
 right_more counts kind.Send port = one_more counts 0 port
 right_more counts kind.SendOnce port = one_more counts 1 port
@@ -29,7 +29,7 @@ right_fewer counts kind.Send port = one_fewer counts 0 port
 right_fewer counts kind.SendOnce port = one_fewer counts 1 port
 right_fewer counts kind.Receive port = counts
 
--- the counts are those of rights of which each weight gives this sum
+-- the counts are those of rights for which each weight gives this sum
 pub record AreCounted (weighed : Weight → ℕ) (counts : Counts) : Type 0 where
   pub sends : (serial : ℕ) → serial < 2 ^ 64 → count_at counts 0 serial ≡ weighed (right_weight kind.Send serial)
   pub onces : (serial : ℕ) → serial < 2 ^ 64 → count_at counts 1 serial ≡ weighed (right_weight kind.SendOnce serial)
@@ -50,7 +50,7 @@ turned a b = go (a == b) refl (b == a) refl
     go true first false second = absurd (cc (sym second ∙ eq-eqb b a (sym (eqb-true a b first))))
     go false first true second = absurd (cc (sym first ∙ eq-eqb a b (sym (eqb-true b a second))))
 
--- the count of each pair once one is counted more, or less
+-- the count of each pair once one has one more, or one less
 pub count_more : (counts : Counts) (a b c d : ℕ) → b < 2 ^ 64 → d < 2 ^ 64 → count_at (one_more counts a b) c d ≡ count_at counts c d + cond (c == a && b == d) 1 0
 count_more counts a b c d small other =
     count_with counts a b (count_at counts a b + 1) c d small other ∙ go (c == a) refl (d == b) refl ∙ ap (λ (t : Bool). count_at counts c d + cond (c == a && t) 1 0) (turned d b)
@@ -69,7 +69,7 @@ count_fewer counts a b c d n small other is =
     go true first false second was = omega (arith, was)
     go false first y second was = omega (arith, was)
 
--- a right counted more
+-- one more right is counted
 pub counted_more : (f : Weight → ℕ) (counts : Counts) (what : RightKind) (port : ℕ) → port < 2 ^ 64 → AreCounted f counts → AreCounted (λ w. f w + w what port) (right_more counts what port)
 counted_more f counts kind.Send port small are = record {
   sends = λ serial other. count_more counts 0 port 0 serial small other ∙ ap (λ (n : ℕ). n + cond (port == serial) 1 0) (are.sends serial other);
@@ -84,7 +84,7 @@ counted_more f counts kind.Receive port small are = record {
   onces = λ serial other. are.onces serial other ∙ omega arith;
 }
 
--- a right counted less
+-- one less right is counted
 pub counted_fewer : (f : Weight → ℕ) (counts : Counts) (what : RightKind) (port : ℕ) → port < 2 ^ 64 → AreCounted (λ w. f w + w what port) counts → AreCounted f (right_fewer counts what port)
 counted_fewer f counts kind.Send port small are = record {
   sends = λ serial other. count_fewer counts 0 port 0 serial _ small other (are.sends serial other);

@@ -12,8 +12,8 @@ use tracked_map::TrackedMap;
 /// The greatest count.
 const MAX_COUNT: u64 = (1 << 63) - 1;
 
-/// Counts by pairs of numbers, whose changes are kept or given up. Contracts see the counts that aren't 0, each pair as
-/// one number, as they were when their changes last were, and as they are.
+/// Counts by pairs of numbers, whose changes are committed or rolled back. Contracts see the counts that aren't 0, each
+/// pair as one number, as they were at the last commit or rollback, and as they are.
 #[derive(Drop)]
 pub struct PairCounts {
     counts: TrackedMap<u64>,
@@ -35,7 +35,7 @@ impl Model for PairCounts {
 }
 
 impl PairCounts {
-    /// Counts of nothing. They take no memory.
+    /// No counts. It takes no memory.
     pub fn new(alloc: Global) -> Self
         ensures { result ≡ at_rest map.empty }
     {
@@ -59,7 +59,7 @@ impl PairCounts {
     pub fn least(&self, first: u64) -> Option<u64>
         ensures { IsLeast self.now.current first result }
     {
-        // No farther than the pairs with this first number: those of others may have left many marks.
+        // No further than the pairs with this first number: those of others may have left many marks.
         let last = key(first, u64::MAX);
         let Some((found, _)) = self.counts.next_within(key(first, 0), last) else {
             return None;
@@ -67,7 +67,8 @@ impl PairCounts {
         Some((found - key(first, 0)) as u64)
     }
 
-    /// One more of a pair. Where memory is wanted, as by a count of 2^63 - 1, the changes are given up.
+    /// Adds one to the count of a pair. If an allocation fails, as it does for a count of 2^63 - 1, the changes are
+    /// rolled back.
     pub fn add(&mut self, first: u64, second: u64) -> Result<(), AllocError>
         ensures ok { OnOk result (self.new ≡ record self.old { current = with_count self.old.current first second (count_at self.old.current first second + 1) }) }
         ensures err { OnErr result (self.new ≡ at_rest self.old.before) }
@@ -80,7 +81,7 @@ impl PairCounts {
         self.set(first, second, count + 1)
     }
 
-    /// One less of a pair, where there is one. Where memory is wanted the changes are given up.
+    /// Subtracts one from the count of a pair, if it isn't 0. If an allocation fails, the changes are rolled back.
     pub fn subtract(&mut self, first: u64, second: u64) -> Result<(), AllocError>
         ensures ok { OnOk result (self.new ≡ record self.old { current = with_count self.old.current first second (count_at self.old.current first second - 1) }) }
         ensures err { OnErr result (self.new ≡ at_rest self.old.before) }
@@ -89,7 +90,7 @@ impl PairCounts {
         self.set(first, second, count.saturating_sub(1))
     }
 
-    /// None of a pair. Where memory is wanted the changes are given up.
+    /// Sets the count of a pair to 0. If an allocation fails, the changes are rolled back.
     pub fn clear(&mut self, first: u64, second: u64) -> Result<(), AllocError>
         ensures ok { OnOk result (self.new ≡ record self.old { current = with_count self.old.current first second 0 }) }
         ensures err { OnErr result (self.new ≡ at_rest self.old.before) }
@@ -97,7 +98,8 @@ impl PairCounts {
         self.set(first, second, 0)
     }
 
-    /// A right more, by its kind and port; receive rights aren't counted. Where memory is wanted the changes are given up.
+    /// Counts one more right, by its kind and port; receive rights aren't counted. If an allocation fails, the changes
+    /// are rolled back.
     pub fn add_right(&mut self, kind: RightKind, port: u64) -> Result<(), AllocError>
         ensures ok { OnOk result (self.new ≡ record self.old { current = right_more self.old.current kind port }) }
         ensures err { OnErr result (self.new ≡ at_rest self.old.before) }
@@ -109,7 +111,7 @@ impl PairCounts {
         }
     }
 
-    /// A right less, by its kind and port. Where memory is wanted the changes are given up.
+    /// Counts one right less, by its kind and port. If an allocation fails, the changes are rolled back.
     pub fn subtract_right(&mut self, kind: RightKind, port: u64) -> Result<(), AllocError>
         ensures ok { OnOk result (self.new ≡ record self.old { current = right_fewer self.old.current kind port }) }
         ensures err { OnErr result (self.new ≡ at_rest self.old.before) }
@@ -137,7 +139,7 @@ impl PairCounts {
         self.count(1, port)
     }
 
-    /// So many of a pair.
+    /// Sets the count of a pair.
     fn set(&mut self, first: u64, second: u64, count: u64) -> Result<(), AllocError>
         requires few { count < 2 ^ 63 }
         ensures ok { OnOk result (self.new ≡ record self.old { current = with_count self.old.current first second count }) }
@@ -152,14 +154,14 @@ impl PairCounts {
         }
     }
 
-    /// Keeps the changes. It takes no memory.
+    /// Commits the changes. It takes no memory.
     pub fn keep(&mut self)
         ensures { self.new ≡ at_rest self.old.current }
     {
         self.counts.keep();
     }
 
-    /// Gives the changes up. It takes no memory.
+    /// Rolls the changes back. It takes no memory.
     pub fn give_up(&mut self)
         ensures { self.new ≡ at_rest self.old.before }
     {

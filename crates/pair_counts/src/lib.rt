@@ -1,4 +1,4 @@
-//! Counts by pairs of numbers, as of rights by kind and port, whose changes are kept or given up.
+//! Counts by pairs of numbers, as of rights by kind and port, whose changes are committed or rolled back.
 #![tactic(auto)]
 
 mod counts;

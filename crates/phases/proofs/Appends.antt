@@ -35,7 +35,7 @@ use Rattle.storing.specs.Changes.{IsAppended, PassesAppend}
 use Rattle.storing.specs.Values.{CheckpointValue, CutValue, begun}
 use Rattle.words.specs.Words.{frame_text, long_word, word}
 
--- what is kept of records has their text
+-- what is kept of records has their encoding
 kept_text : (n : ℕ) (entry : Record) → record_text n (kept_record entry) ≡ record_text n entry
 unfolding record_text
 kept_text n entry = ap (λ (c : Call). long_word n ++ (word entry.space ++ (frame_text (call_text c) ++ frame_text (reply_text entry.reply)))) (kept_call_again entry.call)
@@ -52,8 +52,8 @@ pub holds_kept : (n : ℕ) (records : List Record) (batch : BatchValue) → Hold
 holds_kept n records batch holds =
     batch_of_records n (map kept_record records) batch (record { counted = holds.counted ∙ sym (map_long records); text = holds.text ∙ sym (kept_texts n records) })
 
--- What a kept store's segment in use stands for: its records lead from a state to the store's, and with other records in it
--- whatever a stop leaves stands for what those lead to.
+-- What a kept store's segment in use stands for: its records lead from a state to the store's. If it has other records,
+-- whatever a crash leaves stands for the state that those lead to.
 record HasSegment (disk : View) (segment : Segment) (state : State) : Type 0 where
   base : State
   records : List Record
@@ -117,7 +117,7 @@ has_segment disk segment (Some checkpoint) mid state keeps = elim keeps.phase [
 pub kept_synced : (disk : View) (segment : Segment) (checkpoint : Option CheckpointValue) (mid state : State) → Keeps disk segment checkpoint mid state → IsSynced disk (segment_slot segment.epoch)
 kept_synced disk segment checkpoint mid state keeps = (has_segment disk segment checkpoint mid state keeps).synced
 
--- a stop while a store is kept leaves one that stands for its state
+-- a crash while a store is kept leaves one that stands for its state
 pub kept_recovered : (disk : View) (segment : Segment) (checkpoint : Option CheckpointValue) (mid state : State) → Keeps disk segment checkpoint mid state → (c : Slots) → MayLeave disk c → Recovered (as_written c) state
 kept_recovered disk segment checkpoint mid state keeps c left =
     let has = has_segment disk segment checkpoint mid state keeps in
@@ -126,7 +126,7 @@ kept_recovered disk segment checkpoint mid state keeps c left =
     in_use_spells segment.epoch (slot_of c slot) has.records (subst (λ (l : List ℕ). IsInUse segment.epoch l has.records) (sym (has.synced c left)) has.in_use) in
     subst (λ (s : Slots). Recovered (as_written s) state) (with_own slot c) (has.others c left (slot_of c slot) has.records state spelled has.run)
 
--- records that are stored behind others
+-- records that are stored after others
 module _ (segment : Segment) (base before after : State) (stored records : List Record) (batch : BatchValue) (run : Run base stored before) (counted : segment.records ≡ length stored) (is : IsReadyBatch before after segment.records records batch) where
   more_run : Run base (stored ++ map kept_record records) after
   more_run = run_join base before after stored (map kept_record records) run ((run_as_kept before records after is.fit).1 is.run)
@@ -150,7 +150,7 @@ module _ (segment : Segment) (base before after : State) (stored records : List 
   more_mid : (e : ℕ) (bytes now : List ℕ) → IsInUse e bytes stored → IsMidAppend bytes (content_of batch) now → SpellsSegment e now stored ⊎ SpellsSegment e now (stored ++ map kept_record records)
   more_mid e bytes now used mid = mid_spells e bytes now stored (map kept_record records) used is.are more_some more_room (subst (λ (t : List ℕ). IsMidAppend bytes t now) text_is mid)
 
--- a stop at a moment of the append leaves the state before it or after it
+-- a crash at a moment of the append leaves the state before it or after it
 pub append_mid : (old : View) (segment : Segment) (checkpoint : Option CheckpointValue) (mid before after : State) (records : List Record) (batch : BatchValue) → Keeps old segment checkpoint mid before → IsReadyBatch before after segment.records records batch
     → (c : Slots) → Follows old (segment_slot segment.epoch) (λ was now. IsMidAppend was (content_of batch) now) c → Recovered (as_written c) before ⊎ Recovered (as_written c) after
 append_mid old segment checkpoint mid before after records batch keeps is c made =
@@ -165,7 +165,7 @@ append_mid old segment checkpoint mid before after records batch keeps is c made
       | inr spelled ↦ inr (stands (has.records ++ map kept_record records) after spelled (more_run segment has.base before after has.records records batch has.run has.counted is))
     ]
 
--- after the append the store is kept with the records
+-- after the append the store is kept, with the records
 
 kept_append : (old new : View) (segment : Segment) (before after : State) (records : List Record) (batch : BatchValue) → IsKept old segment before → IsReadyBatch before after segment.records records batch
     → IsAppended segment.epoch old.seen new.seen batch → IsSynced new (segment_slot segment.epoch) → PassesAppend segment.epoch old new batch → IsKept new (with_more segment (length records)) after

@@ -1,4 +1,4 @@
--- Steps on a segment's slot, and on an image's beside it.
+-- Steps on a segment's slot, and on an image's slot in the same store.
 use Rattle.std.proofs.Common.{◌≡◌, ℕ, ◌+◌, List, [], refl, sym, ap, subst, ◌∙◌}
 use Rattle.std.specs.Prelude.{Bool, true, false, ◌%◌, ◌==◌, if◌then◌else◌}
 use Rattle.disk.specs.declared.slot.Slot.{Slot}
@@ -13,7 +13,7 @@ use Rattle.slot_steps.proofs.Lengths.{own_of}
 use Rattle.slot_steps.specs.Steps.{IsShut, image_slot, segment_slot}
 use Rattle.standing.specs.Standing.{IsPassedImage}
 
--- what holds of each image's slot beside each segment's
+-- what holds of each image's slot with each segment's slot
 each_pair : (P : Slot → Slot → Type 0) → P Image0 Segment0 → P Image0 Segment1 → P Image1 Segment0 → P Image1 Segment1 → (a b : ℕ) → P (image_slot a) (segment_slot b)
 each_pair P first second third last a b = elim (a % 2 == 0) as (λ (m : Bool). P (if m then Image0 else Image1) (segment_slot b)) [
   | true ↦ elim (b % 2 == 0) as (λ (n : Bool). P Image0 (if n then Segment0 else Segment1)) [ true ↦ first | false ↦ second ]

@@ -1,4 +1,4 @@
--- The steps of the next image keep a store, and what a stop leaves within one stands for its state.
+-- The steps of the next image keep a store, and what a crash leaves within one stands for its state.
 use Rattle.std.proofs.Common.{◌≡◌, inl, inr, ℕ, ◌+◌, ◌^◌, ◌<◌, List, length, sym, ap, subst, arith}
 use Rattle.std.specs.Prelude.{Option, Some}
 use Rattle.checkpoint.specs.Images.{IsFinishing, open_image}
@@ -17,10 +17,10 @@ use Rattle.standing.specs.Standing.{as_written, IsPassedImage}
 use Rattle.storing.specs.Changes.{ClosesImage, FailsToCloseImage, FailsToFinish, FailsToWritePiece, Finishes, WritesPiece}
 use Rattle.storing.specs.Values.{CheckpointValue, StoreValue}
 
--- over what is seen of the disks
+-- Over the views of the disks.
 
 module _ (old new : View) (segment : Segment) (checkpoint : CheckpointValue) (mid state : State) (keeps : IsCheckpointing old segment checkpoint mid state) where
-  -- the slot is passed over still
+  -- the slot is still passed over
 
   image_keeps : (step : List ℕ → List ℕ → Type 0) (made : ℕ) → 0 < made → Passes old new (Follows old (image_slot checkpoint.epoch) step)
       → new.seen ≡ with_slot old.seen (image_slot checkpoint.epoch) (slot_of new.seen (image_slot checkpoint.epoch)) → IsShut new (image_slot checkpoint.epoch) → IsCheckpointing new segment (record checkpoint { imaged = made }) mid state
@@ -73,7 +73,7 @@ module _ (old new : View) (segment : Segment) (checkpoint : CheckpointValue) (mi
       (subst (λ (n : ℕ). Passes old new (Follows old (image_slot n) (IsFinishing n checkpoint.text))) phase.epoch (passes (image_shut old segment checkpoint mid state keeps some)))
       (subst (λ (n : ℕ). new.seen ≡ with_slot old.seen (image_slot n) (open_image n checkpoint.text)) phase.epoch made) (subst (λ (n : ℕ). IsSynced new (image_slot n)) phase.epoch synced)
 
--- of the half that stores
+-- Of the half that stores.
 
 module _ {D : Type 0} (honest : Type 0) (view : D → View) (is_honest : honest) (old new : StoreValue D) (mid state : State) where
   under_way : (checkpoint : CheckpointValue) → Keeps (view old.disk) old.segment old.checkpoint mid state → old.checkpoint ≡ Some checkpoint → IsCheckpointing (view old.disk) old.segment checkpoint mid state

@@ -1,4 +1,4 @@
--- What the steps of the next image make of a store in each phase of a checkpoint.
+-- How the steps of the next image change a store in each phase of a checkpoint.
 use Rattle.std.proofs.Common.{◌≡◌, inl, inr, ℕ, ◌+◌, ◌^◌, ◌<◌, List, [], length, sym, ap, subst, ◌∙◌, arith}
 use Rattle.std.proofs.lemmas.List.{append-nil}
 use Rattle.checkpoint.specs.Images.{IsFinishing, open_image}

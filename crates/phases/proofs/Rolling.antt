@@ -1,4 +1,4 @@
--- What the steps of rolling make of a store in the first phase of a checkpoint.
+-- How the steps of rotating change a store in the first phase of a checkpoint.
 use Rattle.std.proofs.Common.{◌≡◌, inl, inr, ℕ, ◌+◌, ◌<◌, List, [], ◌∷◌, ◌++◌, length, take, drop, refl, sym, ap, subst, ◌∙◌, arith}
 use Rattle.disk.specs.Moments.{View, Passes, Follows, IsSynced}
 use Rattle.disk.specs.Slots.{Slots, slot_of, with_slot}
@@ -47,7 +47,7 @@ header_rolling slot epoch rolling =
     }
 
 module _ (old new : View) (segment : Segment) (checkpoint : CheckpointValue) (state : State) (phase : InFirst old segment checkpoint state) where
-  -- the next segment's slot is passed over still
+  -- the next segment's slot is still passed over
   pub rolled_keeps : (step : List ℕ → List ℕ → Type 0) (bytes : List ℕ) (rolled : ℕ) → Passes old new (Follows old (segment_slot (segment.epoch + 1)) step) → new.seen ≡ with_slot old.seen (segment_slot (segment.epoch + 1)) bytes
       → IsSynced new (segment_slot (segment.epoch + 1)) → IsClosed bytes → rolled < 3 → IsRolling bytes (segment.epoch + 1) rolled → InFirst new segment (record checkpoint { rolled = rolled }) state
   rolled_keeps step bytes rolled time is synced closed before rolling =
@@ -81,7 +81,7 @@ module _ (old new : View) (segment : Segment) (checkpoint : CheckpointValue) (st
       (one_recovered (with_slot made.0 slot x) n phase.base state phase.records
       (one_next_segment_changed made.0 n phase.base phase.records x one (passed (slot_of made.0 slot) x made.2 one.other_segment)) phase.run))
 
-  -- behind the gate stands all of an empty segment
+  -- after the gate stands all of an empty segment
   behind_gate : checkpoint.rolled ≡ 2 → drop 1 (slot_of old.seen (segment_slot (segment.epoch + 1))) ≡ epoch_text (segment.epoch + 1) ++ closed_gate ∷ []
   behind_gate two = phase.rolling.header two
 

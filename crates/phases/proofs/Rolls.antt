@@ -1,4 +1,4 @@
--- The steps of rolling keep a store, and what a stop leaves within one stands for its state.
+-- The steps of rotating keep a store, and what a crash leaves within one stands for its state.
 use Rattle.std.proofs.Common.{◌≡◌, inl, inr, ℕ, ◌+◌, ◌<◌, List, ◌∷◌, ◌++◌, [], length, take, drop, ap, subst, arith}
 use Rattle.std.specs.Prelude.{Some}
 use Rattle.disk.specs.Moments.{View, Passes, Follows, IsSynced}
@@ -16,7 +16,7 @@ use Rattle.standing.specs.Standing.{as_written}
 use Rattle.storing.specs.Changes.{FailsToRollClose, FailsToRollHead, FailsToRollOpen, RollsClose, RollsHead, RollsOpen}
 use Rattle.storing.specs.Values.{CheckpointValue, StoreValue}
 
--- over what is seen of the disks
+-- Over the views of the disks.
 
 module _ (old new : View) (segment : Segment) (checkpoint : CheckpointValue) (mid state : State) (keeps : IsCheckpointing old segment checkpoint mid state) where
   first_of : checkpoint.rolled < 3 → InFirst old segment checkpoint state
@@ -89,7 +89,7 @@ module _ (old new : View) (segment : Segment) (checkpoint : CheckpointValue) (mi
         phase = inr (opened_keeps old new segment checkpoint state phase mid same two (open_time two passes) is (subst (λ (n : ℕ). IsSynced new (segment_slot n)) at synced));
       }
 
--- of the half that stores
+-- Of the half that stores.
 
 module _ {D : Type 0} (honest : Type 0) (view : D → View) (is_honest : honest) (old new : StoreValue D) (mid state : State) where
   under_way : (checkpoint : CheckpointValue) → Keeps (view old.disk) old.segment old.checkpoint mid state → old.checkpoint ≡ Some checkpoint → IsCheckpointing (view old.disk) old.segment checkpoint mid state

@@ -1,4 +1,4 @@
--- What a stop leaves in each phase of a checkpoint.
+-- The post-crash contents in each phase of a checkpoint.
 use Rattle.std.proofs.Common.{◌≡◌, inl, inr, ℕ, ◌+◌, ◌<◌, [], sym, ap, subst, ◌∙◌, arith}
 use Rattle.std.specs.Prelude.{Option, Some}
 use Rattle.std.proofs.lemmas.Bool.{cases_eq}
@@ -53,7 +53,7 @@ module _ (disk : View) (segment : Segment) (checkpoint : CheckpointValue) (mid s
   pub second_phase : checkpoint.rolled ≡ 3 → InSecond disk segment checkpoint mid state
   second_phase after = elim keeps.phase [ inl first ↦ absurd (omega (arith, after, first.before)) | inr second ↦ second ]
 
-  -- what a stop leaves of the next image's slot
+  -- what a crash leaves of the next image's slot
 
   pub image_synced : checkpoint.imaged ≡ 0 → IsSynced disk (image_slot checkpoint.epoch)
   image_synced none = elim keeps.phase as (λ _. IsSynced disk (image_slot checkpoint.epoch)) [

@@ -10,7 +10,7 @@ use Rattle.ipc_model.specs.texts.Texts.{kept_record}
 use Rattle.journal.specs.Batch.{BatchValue, Holds}
 use Rattle.journal.specs.declared.segment.Segment.{Segment}
 
--- Records that lead from one state to another and are about to be stored behind so many, as a batch.
+-- Records that lead from one state to another, and are about to be stored as a batch, after this many others.
 pub record IsReadyBatch (before after : State) (count : ℕ) (records : List Record) (batch : BatchValue) : Type 0 where
   pub run : Run before records after
   pub fit : FitCalls records
@@ -19,6 +19,6 @@ pub record IsReadyBatch (before after : State) (count : ℕ) (records : List Rec
   pub room : count + length records ≤ MAX_RECORDS
   pub holds : Holds count records batch
 
--- a segment with so many records more
+-- a segment with this many more records
 abbrev pub with_more : Segment → ℕ → Segment
 with_more segment count = record segment { records = segment.records + count }

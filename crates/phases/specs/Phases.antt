@@ -1,4 +1,5 @@
--- What a store's disk keeps to between the steps of the half that stores: outside a checkpoint, and in each of its two phases.
+-- What holds of a store's disk between the steps of the half that stores: outside a checkpoint, and in each of its two
+-- phases.
 use Rattle.std.specs.Prelude.{◌≡◌, ◌⊎◌, ℕ, ◌+◌, ◌^◌, ◌<◌, List, [], ◌∷◌, ◌++◌, Option, None, Some, length, drop}
 use Rattle.disk.specs.Moments.{View}
 use Rattle.disk.specs.Slots.{Slots, slot_of, with_slot}
@@ -15,26 +16,27 @@ use Rattle.slot_steps.specs.Steps.{IsShut, image_slot, segment_slot}
 use Rattle.standing.specs.Standing.{InOne, InTwo, IsPassedImage}
 use Rattle.storing.specs.Values.{CheckpointValue}
 
--- While the next epoch's image is made, a stop leaves of the other slots what a read gives; of the image's slot too, which is
--- passed over, until it is closed, and from then on no open gate.
+-- While the next epoch's image is made, a crash leaves of the other slots what a read gives. It leaves the same of the
+-- image's slot, which is passed over, until that slot is closed; from then on it leaves no open gate there.
 pub record IsImaging (disk : View) (epoch imaged : ℕ) : Type 0 where
   pub rest : IsAtRestBut (image_slot (epoch + 1)) disk
   pub untouched : imaged ≡ 0 → IsAtRest disk
   pub passed : imaged ≡ 0 → IsPassedImage epoch (slot_of disk.seen (image_slot (epoch + 1)))
   pub shut : 0 < imaged → IsShut disk (image_slot (epoch + 1))
 
--- What a read gives, with that image's slot empty: once it is closed, it is told what a stop leaves of it, and not what a read
--- gives.
+-- What a read gives, with that image's slot empty. Once the slot is closed, contracts say of it what a crash leaves,
+-- and not what a read gives.
 abbrev pub without_image : View → ℕ → Slots
 without_image disk epoch = with_slot disk.seen (image_slot (epoch + 1)) []
 
--- What the first two steps of rolling leave in the next segment's slot: a closed gate, and then the header behind it.
+-- What the first two steps of rotating leave in the next segment's slot: a closed gate, and then the header after it.
 pub record IsRolling (slot : List ℕ) (epoch rolled : ℕ) : Type 0 where
   pub begun : 0 < rolled → 0 < length slot
   pub closed : 0 < rolled → IsClosed slot
   pub header : rolled ≡ 2 → drop 1 slot ≡ epoch_text epoch ++ closed_gate ∷ []
 
--- The first phase, until the next segment is opened: the store is what the image of the epoch in use and its segment spell.
+-- The first phase, until the next segment is opened: the store is what the image of the epoch in use and its segment
+-- encode.
 pub record InFirst (disk : View) (segment : Segment) (checkpoint : CheckpointValue) (state : State) : Type 0 where
   pub before : checkpoint.rolled < 3
   pub next : checkpoint.epoch ≡ segment.epoch + 1
@@ -48,8 +50,8 @@ pub record InFirst (disk : View) (segment : Segment) (checkpoint : CheckpointVal
   pub run : Run base records state
   pub counted : segment.records ≡ length records
 
--- The second, until the next image is finished: the store is what the image of the former epoch, its segment, which is whole,
--- and the segment in use spell. The checkpoint's state is the one after the former segment.
+-- The second, until the next image is finished: the store is what the image of the former epoch, its whole segment, and
+-- the segment in use encode. The checkpoint's state is the one after the former segment.
 pub record InSecond (disk : View) (segment : Segment) (checkpoint : CheckpointValue) (mid state : State) : Type 0 where
   pub after : checkpoint.rolled ≡ 3
   pub former : ℕ
@@ -70,7 +72,7 @@ pub record IsCheckpointing (disk : View) (segment : Segment) (checkpoint : Check
   pub image : IsImageOf checkpoint.text mid
   pub phase : InFirst disk segment checkpoint state ⊎ InSecond disk segment checkpoint mid state
 
--- A store whose records lead to this state is kept, outside a checkpoint or within one that is made of another state.
+-- A store whose records lead to `state` is kept, outside a checkpoint or within one, whose image is of `mid`.
 abbrev pub Keeps : View → Segment → Option CheckpointValue → State → State → Type 0
 Keeps disk segment None mid state = IsKept disk segment state
 Keeps disk segment (Some checkpoint) mid state = IsCheckpointing disk segment checkpoint mid state

@@ -17,7 +17,7 @@ stayed : (places : Numbers) (place : ℕ) (former number : Option ℕ) → forme
 stayed places place former None same = ap (λ (f : Option ℕ). moved places place f None) (sym same)
 stayed places place former (Some number) same = sym (insert-remove places (key number place) tt) ∙ ap (λ (f : Option ℕ). moved places place f (Some number)) (sym same)
 
--- where it stands already nothing changes
+-- if it stands there already, nothing changes
 pub stands : (places : Numbers) (at : ℕ) → is_some (get places at) ≡ true → places ≡ insert places at tt
 stands places at there = go (get places at) refl there
   where
@@ -25,7 +25,7 @@ stands places at there = go (get places at) refl there
     go None is there = absurd (cc there)
     go (Some x) is there = sym (insert-same places at tt is)
 
--- what stays is moved to where it stands
+-- a number that stays is moved to where it stands
 pub stays : {T E : Type 0} (r : Result T E) (old new : Numbers) (place : ℕ) (former number : Option ℕ) → option_eq nat_eq former number ≡ true → OnOk r (new ≡ with_place old number place) → OnOk r (new ≡ moved old place former number)
 stays (Ok done) old new place former number same at = at ∙ stayed old place former number (same_number former number same)
 stays (Err error) old new place former number same at = tt

@@ -1,4 +1,4 @@
--- An index of places by what a look at each gives.
+-- An index of places, by what a look at each place gives.
 use Rattle.std.proofs.Common.{◌≡◌, ℕ, ◌^◌, ◌<◌, ◌==◌, Bool, true, false, cond, ◌&&◌, Option, None, Some, is_some, refl, sym, ◌∙◌, ap, arith}
 use Rattle.std.proofs.lemmas.Bool.{eqb-true, eq-eqb}
 use Rattle.std.specs.Cmp.{nat_cmp_total}
@@ -8,7 +8,7 @@ use Rattle.ipc_model.specs.state.State.{is_number}
 use Rattle.ipc_laws.specs.MapSums.{key_is, same_key}
 use Rattle.place_index.specs.Places.{Numbers, key, stands_at, with_place, without_place, moved}
 
--- the index has each place of a word by the number that the look gives there, and no other
+-- the index has each place below 2 ^ 64 under the number that the look gives there, and nothing else
 abbrev pub IsIndexed : (ℕ → Option ℕ) → Numbers → Type 0
 IsIndexed look places = (number place : ℕ) → place < 2 ^ 64 → stands_at places number place ≡ is_number (look place) number
 

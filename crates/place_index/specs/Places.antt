@@ -11,7 +11,7 @@ Numbers = map.FinMap {K = ℕ} nat_cmp (Unit {0})
 abbrev pub coded_unit : Coded (Unit {0})
 coded_unit = code_by ℕ coded_ℕ (λ _. 0) (λ _. tt) (λ _. refl)
 
--- the number of a place by what stands there: the places of one number stand together, rising
+-- a place and the number that stands there, as one key: the places of one number stand together, ascending
 abbrev pub key : ℕ → ℕ → ℕ
 key number place = number * 2 ^ 64 + place
 
@@ -31,7 +31,7 @@ without_place places (Some number) place = map.remove places (key number place)
 abbrev pub moved : Numbers → ℕ → Option ℕ → Option ℕ → Numbers
 moved places place former number = with_place (without_place places former place) number place
 
--- the first place from one on at which the number stands
+-- the first place, from a given one on, at which the number stands
 abbrev pub IsNext : Numbers → ℕ → ℕ → Option ℕ → Type 0
 IsNext places number from found = MatchOption found ((place : ℕ) → from ≤ place → place < 2 ^ 64 → stands_at places number place ≡ false)
     (λ first. (from ≤ first) × (first < 2 ^ 64) × (stands_at places number first ≡ true) × ((place : ℕ) → from ≤ place → place < first → stands_at places number place ≡ false))

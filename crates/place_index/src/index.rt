@@ -7,8 +7,8 @@ use std::alloc::{AllocError, Global};
 use std::marker::Model;
 use tracked_map::TrackedMap;
 
-/// Places by a number that stands at each, as the names that stand for a port, whose changes are kept or given up.
-/// Contracts see the set of (number, place), each pair as one number.
+/// Places by a number that stands at each, such as the names that stand for a port, whose changes are committed or
+/// rolled back. Contracts see the set of (number, place), each pair as one number.
 #[derive(Drop)]
 pub struct PlaceIndex {
     places: TrackedMap<()>,
@@ -26,7 +26,7 @@ impl Model for PlaceIndex {
 }
 
 impl PlaceIndex {
-    /// An index of nothing. It takes no memory.
+    /// An empty index. It takes no memory.
     pub fn new(alloc: Global) -> Self
         ensures { result ≡ at_rest map.empty }
     {
@@ -35,7 +35,8 @@ impl PlaceIndex {
         }
     }
 
-    /// One number, or none, stands at a place in place of another. Where memory is wanted the changes are given up.
+    /// Replaces the number, if any, that stands at a place by another one, or by none. If an allocation fails, the
+    /// changes are rolled back.
     pub fn change(
         &mut self,
         place: u64,
@@ -54,11 +55,11 @@ impl PlaceIndex {
         }
     }
 
-    /// The first place from one on at which a number stands.
+    /// The first place from `from` on at which a number stands.
     pub fn next(&self, number: u64, from: u64) -> Option<u64>
         ensures { IsNext self.now.current number from result }
     {
-        // No farther than the places of this number: those of others may have left many marks.
+        // No further than the places of this number: those of others may have left many marks.
         let last = key(number, u64::MAX);
         let Some((found, _)) = self.places.next_within(key(number, from), last) else {
             return None;
@@ -66,14 +67,14 @@ impl PlaceIndex {
         Some((found - key(number, 0)) as u64)
     }
 
-    /// Keeps the changes. It takes no memory.
+    /// Commits the changes. It takes no memory.
     pub fn keep(&mut self)
         ensures { self.new ≡ at_rest self.old.current }
     {
         self.places.keep();
     }
 
-    /// Gives the changes up. It takes no memory.
+    /// Rolls the changes back. It takes no memory.
     pub fn give_up(&mut self)
         ensures { self.new ≡ at_rest self.old.before }
     {
@@ -105,7 +106,7 @@ fn replace(
     join(places, number, place)
 }
 
-/// The number that is said to stand at a place does so from now on, if it didn't.
+/// Makes sure that the number, if there is one, stands at the place.
 fn stay(places: &mut TrackedMap<()>, number: Option<u64>, place: u64) -> Result<(), AllocError>
     ensures ok { OnOk result (places.new.current ≡ with_place places.old.current number place) }
     ensures before { places.new.before ≡ places.old.before }

@@ -1,4 +1,4 @@
-//! Places found by a number: where a port is held, or is the target of a request, whose changes are kept or given up.
+//! Places found by a number: where a port is held, or is the target of a request. Changes are committed or rolled back.
 #![tactic(auto)]
 
 mod index;

@@ -15,7 +15,7 @@ pub struct PlainDisk {
 }
 
 impl PlainDisk {
-    /// Slots that are empty. It takes no memory.
+    /// Empty slots. It takes no memory.
     pub fn new(alloc: Global) -> PlainDisk
         ensures images { (result.image0.items ≡ []) × (result.image1.items ≡ []) }
         ensures segments { (result.segment0.items ≡ []) × (result.segment1.items ≡ []) }
@@ -49,7 +49,7 @@ impl PlainDisk {
     }
 }
 
-/// Writes over what stands from a place on, and past the end.
+/// Writes over the bytes from a place on, and past the end.
 fn put(bytes: &mut Vec<u8>, at: u64, new: &[u8]) -> Result<(), AllocError> {
     let at = (at as usize).min(bytes.len());
     bytes.reserve(new.len())?;

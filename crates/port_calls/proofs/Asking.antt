@@ -1,4 +1,4 @@
--- What the tests of a request leave known, and how many names there are once it is made.
+-- What is known after the tests of a request, and how many names there are once it is made.
 use Rattle.std.proofs.Common.{◌≡◌, ℕ, ◌+◌, ◌<◌, Bool, true, false, cond, ◌==◌, ◌&&◌, List, [], ◌∷◌, ◌++◌, Option, None, Some, is_some, refl, sym, ◌∙◌, ap}
 use Rattle.std.proofs.lemmas.Bool.{leb-false}
 use Rattle.std.specs.Prelude.{is_none, not, option_and_then, if◌then◌else◌}
@@ -72,7 +72,7 @@ module _ (state : State) (space name variant sync : ℕ) (cancels : Bool) (passe
       let not_full : names_are_used_up (names_in state space) ≡ false = ap (λ (b : Bool). b && names_are_used_up (names_in state space)) (sym asked) ∙ last in
       leb-false MAX_NAMES (finmap.len (names_in state space)) not_full
 
--- a name that stands for what the request can't be made of
+-- a name that stands for something that can't have the request
 pub variant_fails : (state : State) (space name variant sync : ℕ) (cancels : Bool) (code : KernReturn) → is_no_name (names_in state space) name ≡ false
     → first_failing (tests_of_variant (names_in state space) name variant sync cancels) ≡ Some code → first_failing (tests_of_request state space name variant sync cancels) ≡ Some code
 variant_fails state space name variant sync cancels code named fails =

@@ -1,4 +1,4 @@
--- What copy in took where a right came out.
+-- What copy in took, if a right came out.
 use Rattle.std.proofs.Common.{◌≡◌, List, [], ◌++◌, Option, None, Some, Result, Ok, Err, OnOk, sym, ◌∙◌, ap}
 use Rattle.ipc_model.specs.declared.message.CarriedRight.{CarriedRight}
 use Rattle.ipc_model.specs.rights.CopyIn.{Taken}

@@ -1,4 +1,4 @@
--- What a set is told of.
+-- What the reply on the status of a set shows.
 use Rattle.std.proofs.Common.{◌≡◌, ℕ, [], Some, false, refl}
 use Rattle.std.specs.FinMap as finmap
 use Rattle.ipc_model.specs.calls.Actions.{Done}

@@ -1,4 +1,4 @@
--- A set that is renamed takes its members along: its name may change before they do.
+-- The members of a renamed set go along with it: its name may change before they do.
 use Rattle.std.proofs.Common.{◌≡◌, ℕ, List, [], ◌∷◌, Option, None, Some, IsSome, refl, ◌∙◌, ap}
 use Rattle.std.specs.FinMap as finmap
 use Rattle.ipc_model.specs.declared.entry.Entry.{Entry}

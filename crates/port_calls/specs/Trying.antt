@@ -13,8 +13,8 @@ abbrev pub is_refusal : Reply → Bool
 is_refusal (reply.Refused number code) = true
 is_refusal _ = false
 
--- A call that was tried on a copy: where it is refused the state from before stays and the copy is to be given up, else
--- the copy is the state that the call's own action leaves, and these are the effects that it sets off.
+-- A call that was tried on a copy. If it is refused, the state from before stays and the copy is to be rolled back;
+-- otherwise the copy is the state that the call's own action leaves, and these are the effects that it sets off.
 abbrev pub Tries : State → ℕ → Call → Reply → State → List Effect → Type 0
 Tries old space c answer new effects =
     MatchBool (is_refusal answer) (ActsIn old space (names_in old space) c answer old []) (ActsIn old space (names_in old space) c answer new effects)

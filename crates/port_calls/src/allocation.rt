@@ -16,8 +16,8 @@ use ipc_model::Reply;
 use rights::IpcState;
 use std::alloc::AllocError;
 
-/// `mach_port_allocate`: a new name with a new right: the wanted name where it is unused, else the least unused one
-/// from `FIRST_NAME` on. Where memory is wanted the changes are to be given up.
+/// `mach_port_allocate`: a new name with a new right. The name is the preferred one if it is unused, else the least
+/// unused one from `FIRST_NAME` on. If an allocation fails, the changes must be rolled back.
 #[tactic(auto, unfolding(ipc_model::specs::calls::PortCalls::tests_of, ipc_model::specs::calls::Actions::Done))]
 pub fn allocate(
     state: &mut IpcState,
@@ -28,7 +28,7 @@ pub fn allocate(
     requires there { IsSome (map.get state.old.current.spaces space) }
     requires fresh { map.get state.old.current.ports state.old.current.next ≡ None }
     ensures acts { IfOk result (λ reply. ActsIn state.old.current space (names_in state.old.current space) (call.Allocate right) reply state.new.current []) }
-    // Where the call may be answered with the wanted name, it is.
+    // If the call may be answered with the preferred name, it is.
     ensures wanted { IfOk result (λ reply. (shown : ℕ) → wanted ≡ Some shown → (new : State) → (effects : List Effect) → ActsIn state.old.current space (names_in state.old.current space) (call.Allocate right) (Reply.Allocate shown) new effects → reply ≡ Reply.Allocate shown) }
     ensures before { state.new.before ≡ state.old.before }
 {
@@ -40,7 +40,7 @@ pub fn allocate(
     Ok(Reply::Allocate { name })
 }
 
-/// The name that a new right gets: the wanted one where it is unused, else the least unused one.
+/// The name that a new right gets: the preferred one if it is unused, else the least unused one.
 pub fn chosen_name(state: &IpcState, space: u32, wanted: Option<u32>) -> u32
     ensures unused { IsUnused (names_in state.now.current space) result }
     ensures wanted { (shown : ℕ) → wanted ≡ Some shown → IsUnused (names_in state.now.current space) shown → result ≡ shown }
@@ -54,7 +54,7 @@ pub fn chosen_name(state: &IpcState, space: u32, wanted: Option<u32>) -> u32
     state.free_name(space)
 }
 
-/// The code that an allocation is refused with, if it is refused.
+/// The code with which an allocation is refused, if it is.
 #[tactic(auto, unfolding(ipc_model::specs::calls::PortCalls::tests_of))]
 pub fn refusal_of_allocate(state: &IpcState, space: u32, right: u32) -> Option<KernReturn>
     ensures { result ≡ first_failing (tests_of state.now.current space (names_in state.now.current space) (call.Allocate right)) }
@@ -65,8 +65,8 @@ pub fn refusal_of_allocate(state: &IpcState, space: u32, right: u32) -> Option<K
     refusal_for_want(state, space, right)
 }
 
-/// The code that a right is refused with for which there is no room: the space uses all names that it may, or no
-/// further port can be made.
+/// The code with which a right is refused for lack of room: the space uses all the names that it may, or no further
+/// port can be made.
 fn refusal_for_want(state: &IpcState, space: u32, right: u32) -> Option<KernReturn>
     ensures { result ≡ first_failing ((names_are_used_up (names_in state.now.current space), KernReturn.NoSpace) ∷ (is_right right Right.Receive && ports_are_used_up state.now.current, KernReturn.ResourceShortage) ∷ []) }
 {
@@ -79,8 +79,8 @@ fn refusal_for_want(state: &IpcState, space: u32, right: u32) -> Option<KernRetu
     None
 }
 
-/// `mach_port_allocate_name`: a new right under a name that the task chooses. Where memory is wanted the
-/// changes are to be given up.
+/// `mach_port_allocate_name`: a new right under a name that the task chooses. If an allocation fails, the changes must
+/// be rolled back.
 #[tactic(auto, unfolding(ipc_model::specs::calls::PortCalls::tests_of, ipc_model::specs::calls::Actions::Done))]
 pub fn allocate_name(
     state: &mut IpcState,
@@ -101,7 +101,7 @@ pub fn allocate_name(
     Ok(Reply::Done { number })
 }
 
-/// The code that an allocation under a chosen name is refused with, if it is refused.
+/// The code with which an allocation under a chosen name is refused, if it is.
 #[tactic(auto, unfolding(ipc_model::specs::calls::PortCalls::tests_of))]
 fn refusal_of_name(state: &IpcState, space: u32, right: u32, name: u32) -> Option<KernReturn>
     ensures { result ≡ first_failing (tests_of state.now.current space (names_in state.now.current space) (call.AllocateName right name)) }
@@ -118,7 +118,7 @@ fn refusal_of_name(state: &IpcState, space: u32, right: u32, name: u32) -> Optio
     refusal_for_want(state, space, right)
 }
 
-/// Has an unused name stand for a new right. Where memory is wanted the changes are to be given up.
+/// Makes an unused name stand for a new right. If an allocation fails, the changes must be rolled back.
 pub fn add_right(state: &mut IpcState, space: u32, right: u32, name: u32) -> Result<(), AllocError>
     requires there { IsSome (map.get state.old.current.spaces space) }
     requires fresh { map.get state.old.current.ports state.old.current.next ≡ None }

@@ -22,8 +22,8 @@ use std::alloc::{AllocError, Global};
 /// Minus one, as a delta in two's complement.
 const MINUS_ONE: u32 = u32::MAX;
 
-/// `mach_port_mod_refs`: so many references of a right more or less, in two's complement. Where memory is wanted
-/// the changes are to be given up.
+/// `mach_port_mod_refs`: adds a delta in two's complement to the references of a right. If an allocation fails, the
+/// changes must be rolled back.
 #[tactic(auto, unfolding(ipc_model::specs::calls::PortCalls::tests_of, ipc_model::specs::calls::Actions::Done))]
 pub fn mod_refs(
     alloc: Global,
@@ -126,7 +126,7 @@ fn mod_receive(
     })
 }
 
-/// A receive right goes; send references stay with the name.
+/// Removes a receive right; send references stay with the name.
 fn receive_gone(
     state: &mut IpcState,
     space: u32,
@@ -254,7 +254,7 @@ fn sum_is_negative(references: u32, delta: u32) -> bool
     delta >= 1 << 31 && u64::from(references) < falls_by(delta)
 }
 
-/// References with a delta, 0 where they would fall below.
+/// References with a delta; 0 if they would fall below.
 fn sum_of(references: u32, delta: u32) -> u64
     ensures { result ≡ sum_of references delta }
 {

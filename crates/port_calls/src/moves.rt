@@ -11,8 +11,8 @@ use port_set::received_port;
 use rights::IpcState;
 use std::alloc::AllocError;
 
-/// `mach_port_move_member`: a port becomes a member of the set `after`, or of none where that is
-/// `MACH_PORT_NULL`. Where memory is wanted the changes are to be given up.
+/// `mach_port_move_member`: makes a port a member of the set `after`, or of none if that is `MACH_PORT_NULL`. If an
+/// allocation fails, the changes must be rolled back.
 #[tactic(auto, unfolding(ipc_model::specs::calls::PortCalls::tests_of, ipc_model::specs::calls::Actions::Done))]
 pub fn move_member(
     state: &mut IpcState,

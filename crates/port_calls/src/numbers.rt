@@ -13,8 +13,8 @@ use port_set::received_port;
 use rights::{IpcState, PortNumbers};
 use std::alloc::AllocError;
 
-/// `mach_port_set_qlimit`: how many messages the queue of a port holds at most. Where memory is wanted the
-/// changes are to be given up.
+/// `mach_port_set_qlimit`: sets how many messages the queue of a port holds at most. If an allocation fails, the
+/// changes must be rolled back.
 #[tactic(auto, unfolding(ipc_model::specs::calls::PortCalls::tests_of, ipc_model::specs::calls::Actions::Done))]
 pub fn set_qlimit(
     state: &mut IpcState,
@@ -41,8 +41,8 @@ pub fn set_qlimit(
     Ok(Reply::Done { number })
 }
 
-/// `mach_port_set_mscount`: the make-send count of a port. Where memory is wanted the
-/// changes are to be given up.
+/// `mach_port_set_mscount`: sets the make-send count of a port. If an allocation fails, the changes must be rolled
+/// back.
 #[tactic(auto, unfolding(ipc_model::specs::calls::PortCalls::tests_of, ipc_model::specs::calls::Actions::Done))]
 pub fn set_mscount(
     state: &mut IpcState,
@@ -73,8 +73,8 @@ pub fn set_mscount(
     Ok(Reply::Done { number })
 }
 
-/// `mach_port_set_seqno`: the sequence number of the next message from a port. Where memory is wanted the
-/// changes are to be given up.
+/// `mach_port_set_seqno`: sets the sequence number of the next message from a port. If an allocation fails, the changes
+/// must be rolled back.
 #[tactic(auto, unfolding(ipc_model::specs::calls::PortCalls::tests_of, ipc_model::specs::calls::Actions::Done))]
 pub fn set_seqno(
     state: &mut IpcState,

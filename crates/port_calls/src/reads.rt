@@ -32,7 +32,7 @@ pub fn port_type(state: &IpcState, space: u32, name: u32) -> Reply
     }
 }
 
-/// `mach_port_get_refs`: user references of a right under a name.
+/// `mach_port_get_refs`: the user references of a right under a name.
 #[tactic(auto, unfolding(ipc_model::specs::calls::PortCalls::tests_of, ipc_model::specs::calls::Actions::Done))]
 pub fn get_refs(state: &IpcState, space: u32, name: u32, right: u32) -> Reply
     ensures { ActsIn state.now.current space (names_in state.now.current space) (call.GetRefs name right) result state.now.current [] }
@@ -49,7 +49,7 @@ pub fn get_refs(state: &IpcState, space: u32, name: u32, right: u32) -> Reply
     }
 }
 
-/// `mach_port_names`: the names in use, rising, with their type bits.
+/// `mach_port_names`: the names in use, in ascending order, with their type bits.
 #[tactic(auto, unfolding(ipc_model::specs::calls::PortCalls::tests_of, ipc_model::specs::calls::Actions::Done))]
 pub fn names(alloc: Global, state: &IpcState, space: u32) -> Result<Reply, AllocError>
     ensures { IfOk result (λ reply. ActsIn state.now.current space (names_in state.now.current space) call.Names reply state.now.current []) }
@@ -74,7 +74,7 @@ fn named_types(alloc: Global, state: &IpcState, space: u32) -> Result<Vec<NamedT
     Ok(types)
 }
 
-/// `mach_port_get_receive_status`: what a port keeps, and whether there are rights and requests.
+/// `mach_port_get_receive_status`: the numbers of a port, and whether there are rights and requests.
 #[tactic(auto, unfolding(ipc_model::specs::calls::PortCalls::tests_of, ipc_model::specs::calls::Actions::Done))]
 pub fn receive_status(state: &IpcState, space: u32, name: u32) -> Reply
     ensures { ActsIn state.now.current space (names_in state.now.current space) (call.GetReceiveStatus name) result state.now.current [] }
@@ -92,7 +92,7 @@ pub fn receive_status(state: &IpcState, space: u32, name: u32) -> Reply
     }
 }
 
-/// What a live port keeps, and which rights and requests there are.
+/// The numbers of a live port, and which rights and requests there are.
 fn status_of(state: &IpcState, port: u64) -> Option<ReceiveStatus>
     ensures { result ≡ option_map (status_of state.now.current port) (finmap.get state.now.current.ports port) }
 {
@@ -117,7 +117,7 @@ fn send_once_count(state: &IpcState, port: u64) -> u32
     state.send_once_count(port).min(u64::from(u32::MAX)) as u32
 }
 
-/// `mach_port_get_set_status`: the names of a set's members, rising.
+/// `mach_port_get_set_status`: the names of a set's members, in ascending order.
 #[tactic(auto, unfolding(ipc_model::specs::calls::PortCalls::tests_of, ipc_model::specs::calls::Actions::Done))]
 pub fn get_set_status(
     alloc: Global,
@@ -140,7 +140,7 @@ pub fn get_set_status(
     }
 }
 
-/// User references of a right under a name.
+/// The user references of a right under a name.
 pub fn references_of(right: Right, entry: Entry) -> u32
     ensures { result ≡ references_of (number_of right) entry }
 {

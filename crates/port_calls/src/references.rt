@@ -16,7 +16,7 @@ use ipc_model::{Entry, PortRights, Reply, RightKind};
 use rights::{IpcState, announce_left, set_left};
 use std::alloc::AllocError;
 
-/// `mach_port_deallocate`: one reference less of a send right, a send-once right or a dead name.
+/// `mach_port_deallocate`: removes one reference of a send right, a send-once right or a dead name.
 #[tactic(auto, unfolding(ipc_model::specs::calls::PortCalls::tests_of, ipc_model::specs::calls::Actions::Done))]
 pub fn deallocate(
     state: &mut IpcState,
@@ -61,7 +61,7 @@ pub fn deallocate(
     Ok(Reply::Done { number })
 }
 
-/// Whether a name is a set, or holds a receive right alone.
+/// Whether a name is a set, or holds only a receive right.
 fn has_no_references(entry: Entry) -> bool
     ensures { result ≡ (is_set entry || (has_receive entry && send_references entry == 0)) }
 {
@@ -72,7 +72,7 @@ fn has_no_references(entry: Entry) -> bool
     }
 }
 
-/// So many references of a send right are left under a name; where none are left the right is released.
+/// Leaves this many references of a send right under a name; if none are left, the right is released.
 pub fn send_left(
     state: &mut IpcState,
     space: u32,
@@ -105,7 +105,7 @@ pub fn release(effects: &mut Effects, kind: RightKind, port: u64) -> Result<(), 
     effects.push(Effect::Release { kind, port })
 }
 
-/// The one reference of a send-once right goes, and its name with it.
+/// Removes the one reference of a send-once right, and its name with it.
 pub fn send_once_gone(
     state: &mut IpcState,
     space: u32,

@@ -32,18 +32,17 @@ pub struct NoticeRequest {
     pub name: u32,
     /// The id of the notice.
     pub variant: u32,
-    /// How many send rights the task knows to have been made, or whether a notice that is due already is wanted.
+    /// How many send rights the task knows to have been made, or whether it wants a notice that is due already.
     pub sync: u32,
-    /// The name of the right that the notice is to be sent by, `MACH_PORT_NULL` to cancel the request.
+    /// The name of the right by which the notice is to be sent; `MACH_PORT_NULL` cancels the request.
     pub notify: u32,
     /// How that right is handed over.
     pub disposition: u32,
 }
 
-/// `mach_port_request_notification`: a request for a notice to a port is made, or cancelled where the notice's name is
-/// `MACH_PORT_NULL`. The former target comes back as a send-once right, under the wanted name where that is unused, and
-/// else under the least unused one. Where the call is refused, or memory is wanted,
-/// the changes are to be given up.
+/// `mach_port_request_notification`: requests a notice to a port, or cancels the request if the notice's name is
+/// `MACH_PORT_NULL`. The former target comes back as a send-once right, under the preferred name if that is unused,
+/// else under the least unused one. If the call is refused or an allocation fails, the changes must be rolled back.
 #[tactic(auto, unfolding(ipc_model::specs::calls::Actions::Done))]
 pub fn request_notification(
     state: &mut IpcState,
@@ -67,8 +66,8 @@ pub fn request_notification(
     }
 }
 
-/// The target of a request, copied in, none where the request is to be cancelled; or the code that the call is refused
-/// with.
+/// The target of a request, copied in, or none if the request is to be cancelled; or the code with which the call is
+/// refused.
 #[tactic(auto, unfolding(ipc_model::specs::calls::PortCalls::tests_of))]
 fn take_target(
     state: &mut IpcState,
@@ -107,7 +106,7 @@ fn take_target(
     Ok(Ok(Some(port)))
 }
 
-/// Whether a notice of this number can be asked for.
+/// Whether a notice with this number can be requested.
 fn is_variant(variant: u32) -> bool
     ensures { result ≡ is_variant variant }
 {
@@ -127,7 +126,7 @@ fn notify_disposition(disposition: u32) -> Option<Disposition>
     }
 }
 
-/// The code that a request under a name is refused with, if it is refused.
+/// The code with which a request under a name is refused, if it is.
 fn refusal_of_request(
     state: &IpcState,
     space: u32,
@@ -151,7 +150,7 @@ fn refusal_of_request(
     None
 }
 
-/// The code that a request for this notice is refused with by what the name stands for, if it is refused.
+/// The code with which a request for this notice is refused because of what the name stands for, if it is.
 fn refusal_of_variant(
     state: &IpcState,
     space: u32,
@@ -214,7 +213,7 @@ fn target_under(state: &IpcState, space: u32, name: u32, variant: u32) -> Option
     numbers.no_senders_target
 }
 
-/// The request under a name gets this target, and the former one comes back; it gives the name of the former one.
+/// Gives the request under a name this target, and the former one back to the task. Returns the former one's name.
 fn replace_target(
     state: &mut IpcState,
     space: u32,
@@ -236,7 +235,7 @@ fn replace_target(
     Ok(given)
 }
 
-/// The request under a name gets this target, or is answered at once and not kept.
+/// Gives the request under a name this target, or answers it at once and doesn't keep it.
 fn set_request(
     state: &mut IpcState,
     space: u32,
@@ -263,8 +262,8 @@ fn set_request(
     Ok(())
 }
 
-/// A dead-name request is kept with the name; of a dead name the notice goes out at once, and the name has a reference
-/// more.
+/// Keeps a dead-name request with the name. For a dead name the notice goes out at once, and the name gets one more
+/// reference.
 fn set_dead_name_request(
     state: &mut IpcState,
     space: u32,
@@ -301,7 +300,7 @@ fn set_dead_name_request(
     }
 }
 
-/// A request on a port is kept; where its notice is due it goes out at once, and the request isn't kept.
+/// Keeps a request on a port. If its notice is due, it goes out at once, and the request isn't kept.
 fn set_port_request(
     state: &mut IpcState,
     variant: u32,
@@ -335,7 +334,7 @@ fn set_port_request(
     Ok(())
 }
 
-/// Whether a port has no send right, and as many were made as the task knows of, or more.
+/// Whether a port has no send right, and at least as many were made as the task knows of.
 fn lacks_senders(state: &IpcState, sync: u32, port: u64) -> bool
     ensures { result ≡ lacks_senders state.now.current sync port }
 {
@@ -357,8 +356,8 @@ fn make_send_count(state: &IpcState, port: u64) -> u32
     }
 }
 
-/// The former target of a request comes back as a send-once right: under the wanted name where that is unused, and else
-/// under the least unused one. It gives the name, `MACH_PORT_NULL` where there was no target.
+/// The former target of a request comes back as a send-once right: under the preferred name if that is unused, else
+/// under the least unused one. Returns the name, `MACH_PORT_NULL` if there was no target.
 fn give_back(
     state: &mut IpcState,
     space: u32,

@@ -22,8 +22,8 @@ use ipc_model::{CarriedRight, Entry, PortInMessage, Reply, RightKind};
 use rights::{IpcState, arrival_wanted, names_wanted, put_right, take_right};
 use std::alloc::AllocError;
 
-/// `mach_port_insert_right`: a right that a name hands over comes to stand under a name that the task chooses. The
-/// space is there, and no effect waits. Where the call is refused, or memory is wanted, the changes are to be given up.
+/// `mach_port_insert_right`: puts a right that a name hands over under a name that the task chooses. The space must
+/// exist, and no effect may wait. If the call is refused or an allocation fails, the changes must be rolled back.
 #[tactic(auto, unfolding(ipc_model::specs::calls::PortCalls::tests_of, ipc_model::specs::calls::Actions::Done))]
 pub fn insert_right(
     state: &mut IpcState,
@@ -74,14 +74,14 @@ fn take_given(
     ensures there { IfOk result (λ taken. IfSome taken (λ right. IsSome (map.get state.new.current.spaces space))) }
     ensures before { state.new.before ≡ state.old.before }
 {
-    // Each answer has an exit of its own, at which its clauses are shown.
+    // Each answer has an exit of its own, at which its clauses are proved.
     let Some(right) = take_right(state, space, name, disposition, effects)? else {
         return Ok(None);
     };
     Ok(Some(right))
 }
 
-/// Has a right that was taken come to stand under a name.
+/// Puts a right that was taken under a name.
 fn put_given(
     state: &mut IpcState,
     space: u32,
@@ -126,8 +126,8 @@ fn refusal_of_insert(
     None
 }
 
-/// Whether a name may not take a right to a port: it is in use, and doesn't hold the port's send or receive right, or
-/// the right is a send-once one.
+/// Whether a name can't take a right to a port: it is in use and doesn't hold the port's send or receive right, or the
+/// right is a send-once right.
 fn is_taken_otherwise(kind: RightKind, port: u64, entry: Option<Entry>) -> bool
     ensures { result ≡ is_taken_otherwise kind port entry }
 {
@@ -138,7 +138,7 @@ fn is_taken_otherwise(kind: RightKind, port: u64, entry: Option<Entry>) -> bool
     }
 }
 
-/// Whether a send right more would pass the greatest number of references.
+/// Whether one more send right would exceed the greatest number of references.
 fn passes_bound(kind: RightKind, entry: Option<Entry>) -> bool
     ensures { result ≡ passes_bound kind entry }
 {
@@ -150,9 +150,9 @@ fn passes_bound(kind: RightKind, entry: Option<Entry>) -> bool
     }
 }
 
-/// `mach_port_extract_right`: a right that a name hands over comes out under its port's name, or a new one: the wanted
-/// one where it may. The space is there, and no effect waits. Where the call is refused, or memory is wanted, the
-/// changes are to be given up.
+/// `mach_port_extract_right`: a right that a name hands over comes out under its port's name, or under a new one, the
+/// preferred one if possible. The space must exist, and no effect may wait. If the call is refused or an allocation
+/// fails, the changes must be rolled back.
 #[tactic(auto, unfolding(ipc_model::specs::calls::PortCalls::tests_of, ipc_model::specs::calls::Actions::Done))]
 pub fn extract_right(
     state: &mut IpcState,
@@ -181,7 +181,7 @@ pub fn extract_right(
     })
 }
 
-/// Takes the right that is to be extracted, or gives the code with which that is refused.
+/// Takes the right that is to be extracted, or returns the code with which that is refused.
 #[tactic(auto, unfolding(ipc_model::specs::calls::PortCalls::tests_of), using(rights::specs::Room::room_to_come))]
 fn take_extracted(
     state: &mut IpcState,

@@ -23,7 +23,7 @@ use port_set::{move_ports, received_ports};
 use rights::{IpcState, arrival_wanted, put_right, take_right};
 use std::alloc::{AllocError, Global};
 
-/// Attaches a task to another space, which has to be there.
+/// Attaches a task to another space, which has to exist.
 #[tactic(auto, unfolding(ipc_model::specs::calls::PortCalls::tests_of, ipc_model::specs::calls::Actions::Done))]
 pub fn attach(state: &IpcState, space: u32, other: u32) -> Reply
     ensures { ActsIn state.now.current space (names_in state.now.current space) (call.Attach other) result state.now.current [] }
@@ -36,8 +36,8 @@ pub fn attach(state: &IpcState, space: u32, other: u32) -> Reply
 }
 
 /// Makes a space whose one name holds a right that is copied in from a name of the caller's. Its number and its name
-/// are the wanted ones, each where it may be used, and else the least that are unused. Where the call is refused, or
-/// memory is wanted, the changes are to be given up.
+/// are the preferred ones, each if it may be used, else the least that are unused. If the call is refused or an
+/// allocation fails, the changes must be rolled back.
 #[tactic(auto, unfolding(ipc_model::specs::calls::Actions::Done))]
 pub fn space_create(
     alloc: Global,
@@ -63,8 +63,8 @@ pub fn space_create(
     }
 }
 
-/// The caller's space goes, with all its names and its sets; space 1 doesn't. Where memory is wanted the
-/// changes are to be given up.
+/// Removes the caller's space with all its names and sets; space 1 stays. If an allocation fails, the changes must be
+/// rolled back.
 #[tactic(auto, unfolding(ipc_model::specs::calls::PortCalls::tests_of, ipc_model::specs::calls::Actions::Done))]
 pub fn space_destroy(
     alloc: Global,
@@ -86,7 +86,8 @@ pub fn space_destroy(
     Ok(Reply::Done { number })
 }
 
-/// The ports whose receive rights the names of a space hold leave their sets. Where memory is wanted the changes are to be given up.
+/// The ports whose receive rights the names of a space hold leave their sets. If an allocation fails, the changes must
+/// be rolled back.
 fn leave_sets(alloc: Global, state: &mut IpcState, space: u32) -> Result<(), AllocError>
     ensures left { OnOk result (state.new.current ≡ with_ports state.old.current (received_serials (names_in state.old.current space)) (λ port. record port { set = None })) }
     ensures spaces { OnOk result (state.new.current.spaces ≡ state.old.current.spaces) }
@@ -97,7 +98,8 @@ fn leave_sets(alloc: Global, state: &mut IpcState, space: u32) -> Result<(), All
     Ok(())
 }
 
-/// Adds the releases of all that the names of a space stand for, and their port-deleted notices, rising by name.
+/// Adds the releases of all that the names of a space stand for, and their port-deleted notices, in ascending order of
+/// names.
 fn release_names(
     alloc: Global,
     state: &IpcState,
@@ -113,7 +115,7 @@ fn release_names(
     Ok(())
 }
 
-/// The right that the one name of a new space is to hold, copied in, or the code that the call is refused with.
+/// The right for the one name of a new space, copied in, or the code with which the call is refused.
 #[tactic(auto, unfolding(ipc_model::specs::calls::PortCalls::tests_of))]
 fn take_for_space(
     state: &mut IpcState,
@@ -148,8 +150,8 @@ fn take_for_space(
     Ok(Ok(right))
 }
 
-/// Makes a space whose one name holds a right, and gives its number and the name: the wanted ones where they may be
-/// used, and else the least that are unused.
+/// Makes a space whose one name holds a right, and returns its number and the name: the preferred ones if they may be
+/// used, else the least that are unused.
 fn add_child(
     alloc: Global,
     state: &mut IpcState,
@@ -171,7 +173,7 @@ fn add_child(
     Ok((number, name))
 }
 
-/// The wanted number of a new space where no space has it, and else the least that none has.
+/// The number of a new space: the preferred one if no space has it, else the least that none has.
 fn space_number(state: &IpcState, wanted: Option<u32>) -> u32
     requires room { map.len state.now.current.spaces < MAX_SPACES }
     ensures unused { IsUnusedSpace state.now.current result }

@@ -7,7 +7,7 @@ use ipc_model::Entry;
 use ipc_state::IpcState;
 use std::alloc::{AllocError, Global};
 
-/// The names of a set's members in a space, rising (`mach_port_get_set_status`).
+/// The names of a set's members in a space, in ascending order (`mach_port_get_set_status`).
 #[tactic(auto, using(ipc_state::specs::SetNames::member_names))]
 pub fn members(
     alloc: Global,

@@ -8,8 +8,8 @@ use ipc_model::Entry;
 use ipc_state::{IpcState, PortNumbers};
 use std::alloc::AllocError;
 
-/// The port whose receive right a name holds becomes a member of the set of a name, or of none where the name is
-/// `MACH_PORT_NULL` (`mach_port_move_member`). Where memory is wanted the changes are to be given up.
+/// Makes the port whose receive right a name holds a member of the set of a name, or of none if the name is
+/// `MACH_PORT_NULL` (`mach_port_move_member`). If an allocation fails, the changes must be rolled back.
 pub fn move_member(state: &mut IpcState, member: Entry, after: u32) -> Result<(), AllocError>
     ensures ok { OnOk result (state.new.current ≡ with_received state.old.current member (λ port. record port { set = set_named after })) }
     ensures before { state.new.before ≡ state.old.before }
@@ -25,7 +25,7 @@ pub fn move_member(state: &mut IpcState, member: Entry, after: u32) -> Result<()
     move_port(state, port, set)
 }
 
-/// A port becomes a member of this set, or of none.
+/// Makes a port a member of this set, or of none.
 fn move_port(state: &mut IpcState, port: u64, set: Option<u32>) -> Result<(), AllocError>
     ensures ok { OnOk result (state.new.current ≡ with_port state.old.current port (λ port. record port { set = set })) }
     ensures before { state.new.before ≡ state.old.before }
@@ -36,8 +36,8 @@ fn move_port(state: &mut IpcState, port: u64, set: Option<u32>) -> Result<(), Al
     state.set_numbers(port, PortNumbers { set, ..numbers })
 }
 
-/// Ports become members of this set, or of none: a set that goes leaves its members in none, one that is renamed
-/// takes them along. Where memory is wanted the changes are to be given up.
+/// Makes ports members of this set, or of none: a set that goes leaves its members in none, and one that is renamed
+/// takes them along. If an allocation fails, the changes must be rolled back.
 pub fn move_ports(state: &mut IpcState, ports: &[u64], set: Option<u32>) -> Result<(), AllocError>
     ensures ok { OnOk result (state.new.current ≡ with_ports state.old.current ports.now (λ port. record port { set = set })) }
     ensures before { state.new.before ≡ state.old.before }

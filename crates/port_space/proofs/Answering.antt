@@ -1,4 +1,4 @@
--- What a space answers by what stands beside its names.
+-- What a space answers from what it keeps alongside its names.
 use Rattle.std.proofs.Common.{◌≡◌, ℕ, ◌+◌, ◌-◌, ◌^◌, ◌<◌, ◌≤◌, ◌==◌, Bool, true, false, not, ◌&&◌, nat_lt, Option, None, Some, MatchOption, MatchBool, IsSome, is_some, option_and_then, option_map, refl, sym, ◌∙◌, ap, subst, arith}
 use Rattle.std.proofs.lemmas.Bool.{ltb-false, ltb-true, eqb-true, eq-eqb}
 use Rattle.std.specs.FinMap.{get, len}
@@ -32,7 +32,7 @@ not_held names serial name entry found is = sym (ap (λ (o : Option Entry). is_n
 small_name : (names : Names) (name : ℕ) (entry : Entry) → AreSmall names → get names name ≡ Some entry → name < 2 ^ 32
 small_name names name entry small found = small name (ap is_some found)
 
--- no name past the words holds anything
+-- no name of more than 32 bits holds anything
 beyond : (names : Names) (serial name : ℕ) → AreSmall names → 2 ^ 32 ≤ name → holds names serial name ≡ false
 beyond names serial name small past = go (get names name) refl
   where
@@ -99,7 +99,7 @@ elsewhere_false names serial name none = not_any (λ e. is_number (port_held e.1
     go q w is true same = ap (λ (b : Bool). is_number (port_held w) serial && not b) same ∙ second_false (is_number (port_held w) serial)
     go q w is false apart = and_false _ _ (not_held names serial q w is (none q (λ same. cc (sym (eq-eqb q name same) ∙ apart))))
 
--- the first name that holds the port is the one given
+-- if the first name that holds the port is the given one, the port stands elsewhere exactly if a greater name holds it
 pub elsewhere_above : (names : Names) (serial name : ℕ) (b : Bool) → NextName names serial 0 (Some name) → StandsAbove names serial name b → b ≡ stands_elsewhere names name serial
 elsewhere_above names serial name true first above = sym (elsewhere_true names serial name above.0 (λ same. absurd (omega (arith, same, above.1))) above.2)
 elsewhere_above names serial name false first above = sym (elsewhere_false names serial name (λ other apart. elim (nat_lt other name) as (λ (t : Bool). nat_lt other name ≡ t → holds names serial other ≡ false) [
@@ -115,7 +115,7 @@ elsewhere_first names serial name None small next apart = sym (elsewhere_false n
 ] refl))
 elsewhere_first names serial name (Some f) small next apart = sym (elsewhere_true names serial name f (λ same. apart (ap Some same)) next.1)
 
--- The least unused name.
+-- The least name that may be handed out and isn't in use.
 pub record IsFreeName (names : Names) (name : ℕ) : Type 0 where
   pub fits : name < 2 ^ 32
   pub unused : IsUnused names name
@@ -147,7 +147,7 @@ gap_is_free names by_port gaps low gap beside there least =
     free_where names gap beside.bounded.few within.0 (no_value (get names gap) (beside.free.below gap within.0 within.1 ∙ ap (λ (o : Option (Unit {0})). not (is_some o)) there))
     (λ k le lt. beside.free.below k le (omega (arith, lt, within.1)) ∙ ap not (no_number (get gaps k) (least k (omega arith) lt)))
 
--- the first name past the dense ones, where there is no gap
+-- the first name past the dense ones, if there is no gap
 pub low_is_free : (names : Names) (by_port gaps : Numbers) (low : ℕ) → StandBeside names by_port gaps low → ((k : ℕ) → 0 ≤ k → k < 2 ^ 128 → get gaps k ≡ None) → IsFreeName names low
 low_is_free names by_port gaps low beside none = free_where names low beside.bounded.few beside.free.from beside.free.next (λ k le lt. beside.free.below k le lt ∙ ap not (no_gap k))
   where

@@ -93,7 +93,7 @@ still_unused : (names : Names) (low : ℕ) (b : Bool) → get names low ≡ None
 still_unused names low true none = refl
 still_unused names low false none = none
 
--- a name that goes is a gap, where it is below
+-- a name that goes is a gap, if it is below `low`
 pub free_removed : (names after : Names) (gaps more : Numbers) (low name : ℕ) → ((q : ℕ) → get after q ≡ cond (eq_by_cmp nat_cmp q name) None (get names q))
     → ((q : ℕ) → has more q ≡ cond (eq_by_cmp nat_cmp q name) true (has gaps q)) → FIRST_NAME ≤ name → name < low → AreFree names gaps low → AreFree after more low
 free_removed names after gaps more low name changed grown le short free = record {
@@ -111,7 +111,7 @@ free_removed names after gaps more low name changed grown le short free = record
     inside q true same there = let is = key_is q name same in (omega (arith, is, le), omega (arith, is, short))
     inside q false same there = free.within q there
 
--- one that isn't below leaves them as they are
+-- a name that isn't below leaves the gaps as they are
 pub free_without : (names after : Names) (gaps : Numbers) (low name : ℕ) → ((q : ℕ) → get after q ≡ cond (eq_by_cmp nat_cmp q name) None (get names q)) → ((FIRST_NAME ≤ name) → (name < low) → ⊥) → AreFree names gaps low → AreFree after gaps low
 free_without names after gaps low name changed outside free = record {
   from = free.from;

@@ -1,4 +1,4 @@
--- What a space keeps beside its names, so that no call has to search for it.
+-- What a space keeps alongside its names, so that no call has to search for it.
 use Rattle.std.specs.Prelude.{◌≡◌, ◌⊎◌, ℕ, ◌+◌, ◌*◌, ◌^◌, ◌<◌, ◌≤◌, Bool, true, not, Option, None, Some, is_some, option_and_then}
 use Rattle.std.specs.Ordering.{nat_cmp}
 use Rattle.std.specs.FinMap as map
@@ -13,7 +13,7 @@ Numbers = map.FinMap {K = ℕ} nat_cmp (Unit {0})
 abbrev pub has : Numbers → ℕ → Bool
 has numbers n = is_some (map.get numbers n)
 
--- the number of a name by its port: the names of one port stand together, rising
+-- a name and its port as one key: the names of one port stand together, ascending
 abbrev pub port_key : ℕ → ℕ → ℕ
 port_key serial name = serial * 2 ^ 32 + name
 
@@ -32,7 +32,7 @@ pub record AreFree (names : Names) (gaps : Numbers) (low : ℕ) : Type 0 where
   pub within : (name : ℕ) → has gaps name ≡ true → (FIRST_NAME ≤ name) × (name < low)
   pub next : map.get names low ≡ None
 
--- what stands beside the names of a space
+-- what a space keeps alongside its names
 pub record StandBeside (names : Names) (by_port gaps : Numbers) (low : ℕ) : Type 0 where
   pub bounded : AreBounded names
   pub ports : AreByPort names by_port
@@ -47,12 +47,12 @@ abbrev pub without_port : Numbers → Option ℕ → ℕ → Numbers
 without_port numbers None name = numbers
 without_port numbers (Some serial) name = map.remove numbers (port_key serial name)
 
--- no name from the one on is unused but the other, which is the first
+-- `next` is the first unused name from `from` on
 pub record IsFirstUnused (names : Names) (from next : ℕ) : Type 0 where
   pub from_on : from ≤ next
   pub used : (name : ℕ) → from ≤ name → name < next → is_some (map.get names name) ≡ true
   pub unused : map.get names next ≡ None
 
--- where the name that was put is `low`, the first unused one behind it is looked for
+-- where the name that was put is `low`, the next unused name after it is searched for
 abbrev pub GoesOn : Names → ℕ → ℕ → ℕ → Type 0
 GoesOn names name low next = ((name ≡ low) × IsFirstUnused names (low + 1) next) ⊎ ((name ≡ low → ⊥) × (next ≡ low))

@@ -18,7 +18,7 @@ module _ {X : Type 0} where
   has_value None h = absurd (cc h)
   has_value (Some x) h = refl
 
-  -- a key more where there is room for it
+  -- one more key where there is room for it
   pub within_after_insert : (m : Map X) (k : ℕ) (v : X) (most : ℕ) → len m ≤ most → (get m k ≡ None → len m < most) → len (insert m k v) ≤ most
   within_after_insert m k v most le room = subst (λ n. n ≤ most) (sym (len-insert nat_cmp_total m k v)) (by_case (contains_key m k) refl)
     where
@@ -47,7 +47,7 @@ module _ {X : Type 0} where
       no_key : m ≡ empty → ⊥
       no_key e = let none : is_some (get m k) ≡ false = ap (λ (m : Map X). is_some (get m k)) e ∙ ap is_some (get-empty nat_cmp k) in cc (none, there)
 
-  -- n keys in a row are at most as many as there are
+  -- a map that has n consecutive keys has at least n keys
   pub crowded : (n : ℕ) (m : Map X) (from : ℕ) → ((k : ℕ) → from ≤ k → k < from + n → IsSome (get m k)) → n ≤ len m
   crowded zero m from all = omega arith
   crowded (suc n) m from all =

@@ -29,7 +29,7 @@ below_is : (x k : ℕ) → T (is_lt (nat_cmp x k)) → x < k
 below_is x k p = ranked x k Less (sym (less_of (nat_cmp x k) p))
 
 module _ {X : Type 0} where
-  -- what is found behind a lesser key is above it
+  -- what is found after a lesser key is above it
   pub above : (x k : ℕ) (v : X) (es : List (ℕ × X)) → T (below_all nat_cmp x es) → map.find nat_cmp k es ≡ Some v → x < k
   above x k v [] below found = absurd (cc found)
   above x k v (e ∷ es) below found = elim (eq_by_cmp nat_cmp k e.0) as (λ (b : Bool). eq_by_cmp nat_cmp k e.0 ≡ b → cond b (Some e.1) (map.find nat_cmp k es) ≡ Some v → x < k) [

@@ -6,14 +6,14 @@ use Rattle.codes.specs.declared.limits.TheConstants.{MAX_NAMES, MAX_SEND_REFEREN
 use Rattle.ipc_model.specs.declared.entry.Entry.{Entry}
 use Rattle.ipc_model.specs.declared.entry.Entry.TheVariants.{Port, SendOnce, Set, Dead}
 
--- at most as many references of a send right or a dead name as may be
+-- no more references of a send right or a dead name than the bound
 abbrev pub AreFewReferences : Entry → Type 0
 AreFewReferences (Port rights) = rights.send ≤ MAX_SEND_REFERENCES
 AreFewReferences (SendOnce port target) = Unit {0}
 AreFewReferences Set = Unit {0}
 AreFewReferences (Dead references) = references ≤ MAX_DEAD_REFERENCES
 
--- at most as many names as may be, each a u32 with few references
+-- no more names than the bound, each a u32 with references within their bound
 pub record AreBounded (names : map.FinMap nat_cmp Entry) : Type 0 where
   pub few : map.len names ≤ MAX_NAMES
   pub each : (name : ℕ) (entry : Entry) → map.get names name ≡ Some entry → (name < 2 ^ 32) × AreFewReferences entry

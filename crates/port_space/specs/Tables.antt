@@ -1,4 +1,4 @@
--- What the changes of a space's tables leave.
+-- The state of a space's tables after changes.
 use Rattle.std.specs.Prelude.{◌≡◌, ℕ, ◌^◌, ◌<◌, ◌≤◌, ◌⊎◌, true, is_some, option_and_then}
 use Rattle.std.specs.FinMap as map
 use Rattle.codes.specs.declared.name.TheConstants.{FIRST_NAME}
@@ -25,7 +25,7 @@ pub record IsPut (old new : Tables) (name : ℕ) (entry : Entry) : Type 0 where
   pub gaps : new.gaps.current ≡ map.remove old.gaps.current name
   pub low : GoesOn new.names.current name old.low new.low
 
--- a name that goes is a gap, where it is below
+-- a name that goes is a gap, if it is below `low`
 abbrev pub LeavesGap : Tables → Tables → ℕ → Type 0
 LeavesGap old new name =
     ((FIRST_NAME ≤ name) × (name < old.low) × (new.gaps.current ≡ map.insert old.gaps.current name tt))
@@ -45,7 +45,7 @@ pub record AreNew (new : Tables) : Type 0 where
   pub low : new.low ≡ FIRST_NAME
   pub low_before : new.low_before ≡ FIRST_NAME
 
--- the changes are kept
+-- the changes are committed
 pub record AreKept (old new : Tables) : Type 0 where
   pub names : new.names ≡ at_rest old.names.current
   pub by_port : new.by_port ≡ at_rest old.by_port.current
@@ -53,7 +53,7 @@ pub record AreKept (old new : Tables) : Type 0 where
   pub low : new.low ≡ old.low
   pub low_before : new.low_before ≡ old.low
 
--- the changes are given up
+-- the changes are rolled back
 pub record AreGivenUp (old new : Tables) : Type 0 where
   pub names : new.names ≡ at_rest old.names.before
   pub by_port : new.by_port ≡ at_rest old.by_port.before

@@ -1,5 +1,5 @@
-//! The names of one port name space, found by their ports too, with its least unused name. What a call changes of them is kept or
-//! given up.
+//! The names of one port name space, found by their ports too, with its least unused name. What a call changes of them
+//! is committed or rolled back.
 #![tactic(auto)]
 
 mod space;

@@ -13,8 +13,9 @@ use ipc_model::Entry;
 use std::alloc::{AllocError, Global};
 use std::marker::Model;
 
-/// A port name space (`ipc_space`): at most `MAX_NAMES` names, each with what it stands for, whose changes are kept or
-/// given up. Contracts see the finite map from names to entries as it was when they last were, and as it is.
+/// A port name space (`ipc_space`): at most `MAX_NAMES` names, each with what it stands for, whose changes are
+/// committed or rolled back. Contracts see the finite map from names to entries as it was at the last commit or
+/// rollback, and as it is.
 #[derive(Drop)]
 pub struct PortSpace {
     tables: Tables,
@@ -69,7 +70,7 @@ impl PortSpace {
         self.tables.names.get(u128::from(name)).copied()
     }
 
-    /// Has a name stand for this, and gives what it stood for. Where memory is wanted the changes are given up.
+    /// Makes a name stand for this, and returns what it stood for. If an allocation fails, the changes are rolled back.
     pub fn put(&mut self, name: u32, entry: Entry) -> Result<Option<Entry>, AllocError>
         requires room { map.get self.old.current name ≡ None → map.len self.old.current < MAX_NAMES }
         requires few { AreFewReferences entry }
@@ -86,7 +87,7 @@ impl PortSpace {
         }
     }
 
-    /// Takes a name out of use, and gives what it stood for. Where memory is wanted the changes are given up.
+    /// Takes a name out of use, and returns what it stood for. If an allocation fails, the changes are rolled back.
     pub fn remove(&mut self, name: u32) -> Result<Option<Entry>, AllocError>
         ensures former { IfOk result (λ former. former ≡ map.get self.old.current name) }
         ensures few { IfOk result (λ former. IfSome former AreFewReferences) }
@@ -130,7 +131,7 @@ impl PortSpace {
         }
     }
 
-    /// Whether a name may be handed out: it is neither `MACH_PORT_NULL` nor `MACH_PORT_DEAD`, and not in use.
+    /// Whether a name may be given out: it is neither `MACH_PORT_NULL` nor `MACH_PORT_DEAD`, and isn't in use.
     pub fn is_unused(&self, name: u32) -> bool
         ensures { IsTrue result ↔ IsUnused self.now.current name }
     {
@@ -149,14 +150,14 @@ impl PortSpace {
         }
     }
 
-    /// That there are at most `MAX_NAMES` names. It does nothing but show it.
+    /// Shows that there are at most `MAX_NAMES` names. It does nothing else.
     pub fn are_few(&self)
         ensures { map.len self.now.current ≤ MAX_NAMES }
     {
         let _ = &self.tables;
     }
 
-    /// The least name from one on, with what it stands for.
+    /// The least name from `from` on, with what it stands for.
     pub fn next_entry(&self, from: u64) -> Option<(u32, Entry)>
         ensures next { IsNextEntry self.now.current from result }
         ensures fits { IfSome result (λ e. e.0 < 2 ^ 32) }
@@ -167,14 +168,14 @@ impl PortSpace {
         Some((name as u32, *entry))
     }
 
-    /// Keeps the changes. It takes no memory.
+    /// Commits the changes. It takes no memory.
     pub fn keep(&mut self)
         ensures { self.new ≡ at_rest self.old.current }
     {
         self.tables.keep();
     }
 
-    /// Gives the changes up. It takes no memory.
+    /// Rolls the changes back. It takes no memory.
     pub fn give_up(&mut self)
         ensures { self.new ≡ at_rest self.old.before }
     {

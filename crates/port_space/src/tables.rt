@@ -1,4 +1,4 @@
-//! The names of a space with what stands beside them, as plain tables.
+//! The names of a space as plain tables, with the indexes that go with them.
 ghost use Rattle.std.specs.Prelude.{◌≡◌, ◌≤◌, ◌<◌, ◌^◌, ℕ, true, false, None, Some, IfOk, OnOk, MatchOption, is_some, option_and_then};
 ghost use Rattle.std.specs.FinMap as map;
 ghost use Rattle.ipc_model.specs.state.State.{port_held};
@@ -11,7 +11,7 @@ use std::alloc::{AllocError, Global};
 use tracked_map::TrackedMap;
 
 /// What stands under each name; the names by the ports that they hold send or receive rights of; and the unused names:
-/// the gaps below `low`, and `low` itself where there is none.
+/// the gaps below `low`, and `low` itself if there is no gap.
 #[derive(Drop)]
 pub(crate) struct Tables {
     pub(crate) names: TrackedMap<Entry>,
@@ -22,7 +22,7 @@ pub(crate) struct Tables {
 }
 
 impl Tables {
-    /// The tables of no names. They take no memory.
+    /// Empty tables. They take no memory.
     pub(crate) fn new(alloc: Global) -> Self
         ensures { AreNew result }
     {
@@ -35,14 +35,14 @@ impl Tables {
         }
     }
 
-    /// The least name from one on that holds a send or receive right of a port.
+    /// The least name from `from` on that holds a send or receive right of a port.
     pub(crate) fn next_name(&self, port: u64, from: u32) -> Option<u32>
         requires ports { AreByPort self.now.names.current self.now.by_port.current }
         ensures { MatchOption result ((name : ℕ) → from ≤ name → name < 2 ^ 32 → holds self.now.names.current port name ≡ false)
             (λ found. (from ≤ found) × (holds self.now.names.current port found ≡ true)
             × ((name : ℕ) → from ≤ name → name < found → holds self.now.names.current port name ≡ false)) }
     {
-        // No farther than the names of this port: those of others may have left many marks.
+        // No further than the names of this port: those of others may have left many marks.
         let last = port_key(port, u32::MAX);
         let Some((key, _)) = self.by_port.next_within(port_key(port, from), last) else {
             return None;
@@ -50,7 +50,8 @@ impl Tables {
         Some((key - port_key(port, 0)) as u32)
     }
 
-    /// Has a name stand for this, and gives what it stood for. Where memory is wanted the changes are to be given up.
+    /// Makes a name stand for this, and returns what it stood for. If an allocation fails, the changes must be rolled
+    /// back.
     pub(crate) fn put(&mut self, name: u32, entry: Entry) -> Result<Option<Entry>, AllocError>
         requires small { AreSmall self.old.names.current }
         requires free { AreFree self.old.names.current self.old.gaps.current self.old.low }
@@ -70,7 +71,7 @@ impl Tables {
         Ok(former)
     }
 
-    /// Takes a name out of use, and gives what it stood for. Where memory is wanted the changes are to be given up.
+    /// Takes a name out of use, and returns what it stood for. If an allocation fails, the changes must be rolled back.
     pub(crate) fn remove(&mut self, name: u32) -> Result<Option<Entry>, AllocError>
         ensures former { IfOk result (λ former. former ≡ map.get self.old.names.current name) }
         ensures ok { OnOk result (IsRemoved self.old self.new name) }
@@ -84,7 +85,7 @@ impl Tables {
         Ok(former)
     }
 
-    /// Keeps the changes. It takes no memory.
+    /// Commits the changes. It takes no memory.
     pub(crate) fn keep(&mut self)
         ensures { AreKept self.old self.new }
     {
@@ -94,7 +95,7 @@ impl Tables {
         self.low_before = self.low;
     }
 
-    /// Gives the changes up. It takes no memory.
+    /// Rolls the changes back. It takes no memory.
     pub(crate) fn give_up(&mut self)
         ensures { AreGivenUp self.old self.new }
     {
@@ -150,7 +151,7 @@ fn change_port(
     join_port(by_port, port, name)
 }
 
-/// The name that is said to hold a right of a port does so from now on, if it didn't.
+/// Makes sure that the name, if it holds a right of a port, is listed under that port.
 fn stay_with_port(
     by_port: &mut TrackedMap<()>,
     port: Option<u64>,
@@ -189,7 +190,7 @@ fn join_port(by_port: &mut TrackedMap<()>, port: Option<u64>, name: u32) -> Resu
     }
 }
 
-/// The unused name that no dense one is above: the same, unless this name was it.
+/// The bound of the dense names once this name is used: the same, unless this name was it.
 fn next_unused(names: &TrackedMap<Entry>, name: u128, low: u128) -> u128
     requires small { AreSmall names.now.current }
     requires fits { name < 2 ^ 32 }

@@ -1,4 +1,4 @@
--- The indexes once a port that no request has to do with has died.
+-- The indexes once a port has died which is no request's target and has no requests.
 use Rattle.std.proofs.Common.{◌≡◌, ℕ, zero, suc, ◌+◌, ◌-◌, ◌^◌, ◌<◌, ◌==◌, Bool, true, false, cond, ◌&&◌, ◌||◌, List, [], ◌∷◌, map, Option, None, Some, is_some, option_map, option_and_then, refl, sym, ◌∙◌, ap, subst, arith}
 use Rattle.std.proofs.lemmas.Bool.{eqb-true}
 use Rattle.std.specs.Cmp.{nat_cmp_total}
@@ -32,7 +32,7 @@ use Rattle.ports.specs.Indexes.{AreSmall, AreIndexed, present_parts, no_senders_
 use Rattle.ports.specs.Requests.{IsUntargeted}
 use Rattle.ports.specs.declared.indexes.PortIndexes.{PortIndexes}
 
--- nothing of this first number any more
+-- nothing is left under this first number
 abbrev pub IsCleared : ℕ → Counts → Counts → Type 0
 IsCleared first old new = (a b : ℕ) → b < 2 ^ 64 → count_at new a b ≡ cond (a == first) 0 (count_at old a b)
 
@@ -43,7 +43,7 @@ pub record AreWithout (old new : PortIndexes) (serial : ℕ) (messages : List Me
   pub no_senders : new.no_senders.current ≡ old.no_senders.current
   pub destroyed : new.port_destroyed.current ≡ old.port_destroyed.current
 
--- a pair less is counted
+-- one pair is no longer counted
 pub fewer_pairs : (old new : Counts) (a b : ℕ) → new ≡ with_count old a b 0 → 0 < count_at old a b → len new < len old
 fewer_pairs old new a b at many = by (get old (key a b)) refl
   where
@@ -97,7 +97,7 @@ module _ (w : Weight) (serial : ℕ) (blind : (what : RightKind) → w what seri
       total-map_values (port_weigh w) (queue_after_death serial) ports
       ∙ weigh-same (λ (e : ℕ × PortState). port_weigh w e.0 (queue_after_death serial e.1)) (λ (e : ℕ × PortState). port_weigh w e.0 e.1) (λ e. port_blind e.0 e.1) (entries ports)
 
--- weights that see the port alone
+-- weights that see only the port
 module _ (w : Weight) (serial : ℕ) (only : (what : RightKind) (port : ℕ) → (port == serial) ≡ false → w what port ≡ 0) where
   right_only : (right : CarriedRight) → carried_weigh w (right_after_death serial right) ≡ 0
   right_only right = go right.port

@@ -1,4 +1,5 @@
--- The rights of messages and requests, counted more and counted less, and the receive rights by the queues that carry them.
+-- The rights of messages and requests are added to counts and removed from them, and so are receive rights, by the
+-- queues that carry them.
 use Rattle.std.proofs.Common.{◌≡◌, ℕ, ◌+◌, ◌^◌, ◌<◌, ◌==◌, Bool, true, false, cond, ◌&&◌, ◌||◌, List, [], ◌∷◌, Option, None, Some, refl, sym, ◌∙◌, ap, arith}
 use Rattle.std.proofs.lemmas.Bool.{eq-eqb}
 use Rattle.std.specs.List.{list_any}
@@ -16,7 +17,7 @@ use Rattle.live_ports.specs.Seen.{is_to, reply_is_to, mentions}
 use Rattle.pair_counts.specs.Counts.{Counts, count_at}
 use Rattle.pair_counts.specs.Rights.{AreCounted, one_more, one_fewer, right_more, right_fewer, count_more, count_fewer, counted_more, counted_fewer, counted_same, turned}
 
--- a right that a message carries counted more, if it is one
+-- adds a right that a message carries, if it is one
 abbrev pub place_more : Counts → RightKind → PortInMessage → Counts
 place_more counts kind in_message.Null = counts
 place_more counts kind in_message.Dead = counts
@@ -40,7 +41,7 @@ abbrev pub target_more : Counts → Option ℕ → Counts
 target_more counts None = counts
 target_more counts (Some target) = right_more counts kind.SendOnce target
 
--- counted less
+-- removed
 abbrev pub place_fewer : Counts → RightKind → PortInMessage → Counts
 place_fewer counts kind in_message.Null = counts
 place_fewer counts kind in_message.Dead = counts
@@ -68,7 +69,7 @@ abbrev pub target_fewer : Counts → Option ℕ → Counts
 target_fewer counts None = counts
 target_fewer counts (Some target) = right_fewer counts kind.SendOnce target
 
--- a receive right that a queue carries, more and less
+-- a receive right that a queue carries, added and removed
 abbrev pub carrier_more : Counts → ℕ → RightKind → PortInMessage → Counts
 carrier_more carriers outer kind.Receive in_message.Null = carriers
 carrier_more carriers outer kind.Receive in_message.Dead = carriers
@@ -180,7 +181,7 @@ receives inner carried = cond (is_receive_right inner carried) 1 0
 abbrev pub received : ℕ → List CarriedRight → ℕ
 received inner rights = weigh (receives inner) rights
 
--- so many in one queue
+-- this many in one queue
 abbrev pub in_queue : ℕ → ℕ → ℕ → ℕ
 in_queue queue outer n = cond (queue == outer) n 0
 

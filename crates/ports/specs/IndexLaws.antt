@@ -1,4 +1,4 @@
--- What a change of the ports does to their indexes.
+-- How a change of the ports changes their indexes.
 use Rattle.std.proofs.Common.{◌≡◌, ℕ, ◌+◌, ◌-◌, ◌^◌, ◌<◌, ◌≤◌, Bool, true, false, cond, ◌||◌, List, [], ◌∷◌, ◌++◌, Option, None, Some, is_some, option_map, option_and_then, refl, sym, ◌∙◌, ap, subst, arith}
 use Rattle.std.specs.Cmp.{nat_cmp_total}
 use Rattle.std.specs.List.{list_any}
@@ -24,17 +24,17 @@ use Rattle.ports.specs.Counting.{Fit, in_queue, received, target_fewer, target_m
 use Rattle.ports.specs.Indexes.{Parts, TargetsFit, AreSmall, AreIndexed, SameBefore, AreAtRest, AreRetargeted, AreOfMore, former_parts, present_parts, no_senders_of, destroyed_of, target_at, carried_by, carried_at, weighed}
 use Rattle.ports.specs.declared.indexes.PortIndexes.{PortIndexes}
 
--- the ports with one changed that is there
+-- the ports with one live port changed
 pub changed_there : (ports : Ports) (serial : ℕ) (f : PortState → PortState) (port : PortState) → get ports serial ≡ Some port → changed ports serial f ≡ insert ports serial (f port)
 changed_there ports serial f port there = ap (λ (o : Option PortState). elim o as (λ _. Ports) [ None ↦ ports | Some p ↦ insert ports serial (f p) ]) there
 
--- what was
+-- the indexes as of before
 pub indexed_before : (table after : PortTable) (old new : PortIndexes) → after ≡ table → SameBefore old new → AreIndexed table (former_parts old) → AreIndexed after (former_parts new)
 indexed_before table after old new same before are =
     let parts : former_parts new ≡ former_parts old = λ i. record { counts = before.counts i; carriers = before.carriers i; no_senders = before.no_senders i; destroyed = before.destroyed i } in
     subst (λ (t : PortTable). AreIndexed t (former_parts new)) (sym same) (subst (AreIndexed table) (sym parts) are)
 
--- indexes without changes to keep or to give up
+-- indexes without changes to commit or roll back
 pub rest_indexed : (table before current : PortTable) (new : PortIndexes) (parts : Parts) → before ≡ table → current ≡ table → AreAtRest new parts → AreIndexed table parts → AreIndexed before (former_parts new) × AreIndexed current (present_parts new)
 rest_indexed table before current new parts was is rest are =
     let former : former_parts new ≡ parts = λ i. record { counts = (rest.counts i).before; carriers = (rest.carriers i).before; no_senders = (rest.no_senders i).before; destroyed = (rest.destroyed i).before } in
@@ -63,7 +63,7 @@ none_indexed next fits = record {
     nothing : (w : Weight) → weighed empty w ≡ 0
     nothing w = ap (weigh (λ (e : ℕ × PortState). port_weigh w e.0 e.1)) entries_none
 
--- the target of a request once a port that is there has changed
+-- the target of a request once a live port has changed
 pub target_changed : (look : PortState → Option ℕ) (ports : Ports) (serial : ℕ) (f : PortState → PortState) (port : PortState) (q : ℕ) → get ports serial ≡ Some port → target_at look (changed ports serial f) q ≡ cond (eq_by_cmp nat_cmp q serial) (look (f port)) (target_at look ports q)
 target_changed look ports serial f port q there =
     ap (option_and_then look) (get_changed ports serial f q ∙ ap (λ (o : Option PortState). cond (eq_by_cmp nat_cmp q serial) (option_map f o) (get ports q)) there) ∙ go (eq_by_cmp nat_cmp q serial)
@@ -75,7 +75,7 @@ target_changed look ports serial f port q there =
 pub target_there : (look : PortState → Option ℕ) (ports : Ports) (serial : ℕ) (port : PortState) → get ports serial ≡ Some port → target_at look ports serial ≡ look port
 target_there look ports serial port there = ap (option_and_then look) there
 
--- what a queue carries once a port that is there has changed
+-- what a queue carries once a live port has changed
 pub carried_changed : (ports : Ports) (serial : ℕ) (f : PortState → PortState) (port : PortState) (inner outer : ℕ) → get ports serial ≡ Some port → carried_at (changed ports serial f) inner outer ≡ cond (eq_by_cmp nat_cmp outer serial) (carried_by inner (f port)) (carried_at ports inner outer)
 carried_changed ports serial f port inner outer there =
     ap (weight (λ _ p. carried_by inner p) outer) (get_changed ports serial f outer ∙ ap (λ (o : Option PortState). cond (eq_by_cmp nat_cmp outer serial) (option_map f o) (get ports outer)) there) ∙ go (eq_by_cmp nat_cmp outer serial)

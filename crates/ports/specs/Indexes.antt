@@ -1,4 +1,4 @@
--- The rights of the ports counted, and found by the ports that they are to.
+-- The rights that ports keep, counted, and found by the ports that they are to.
 use Rattle.std.proofs.Common.{◌≡◌, ℕ, ◌^◌, ◌<◌, true, List, Option, Some, is_some, option_and_then}
 use Rattle.std.specs.List.{list_any}
 use Rattle.std.specs.FinMap.{get}
@@ -71,7 +71,7 @@ pub record SameBefore (old new : PortIndexes) : Type 0 where
   pub no_senders : new.no_senders.before ≡ old.no_senders.before
   pub destroyed : new.port_destroyed.before ≡ old.port_destroyed.before
 
--- no changes to keep or to give up
+-- no changes to commit or roll back
 pub record AreAtRest (new : PortIndexes) (parts : Parts) : Type 0 where
   pub counts : new.counts ≡ at_rest parts.counts
   pub carriers : new.carriers ≡ at_rest parts.carriers
@@ -85,7 +85,7 @@ pub record AreRetargeted (old new : PortIndexes) (serial : ℕ) (former numbers 
   pub no_senders : new.no_senders.current ≡ moved old.no_senders.current serial former.no_senders_target numbers.no_senders_target
   pub destroyed : new.port_destroyed.current ≡ moved old.port_destroyed.current serial former.port_destroyed_target numbers.port_destroyed_target
 
--- a message more is in a queue
+-- one more message is in a queue
 pub record AreOfMore (old new : PortIndexes) (queue : ℕ) (message : Message) : Type 0 where
   pub counts : new.counts.current ≡ message_more old.counts.current queue message
   pub carriers : new.carriers.current ≡ carriers_more old.carriers.current queue message.rights

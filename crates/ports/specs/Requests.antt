@@ -1,4 +1,4 @@
--- Requests that have a port for their target, worked off one after another.
+-- Requests whose target is a port, cleared one after another.
 use Rattle.std.proofs.Common.{◌≡◌, ℕ, ◌+◌, ◌<◌, ◌≤◌, ◌==◌, Bool, true, false, cond, nat_lt, Option, None, Some, MatchOption, option_map, option_and_then, refl, sym, ◌∙◌, ap, arith}
 use Rattle.std.proofs.lemmas.Bool.{ltb-false, ltb-true}
 use Rattle.std.specs.Cmp.{nat_cmp_total}
@@ -32,7 +32,7 @@ no_senders_forgotten target port = record port { no_senders_target = without_tar
 abbrev pub destroyed_forgotten : ℕ → PortState → PortState
 destroyed_forgotten target port = record port { port_destroyed_target = without_target target port.port_destroyed_target }
 
--- the first port from one on whose request has this target, if there is one
+-- the first port, from a given one on, whose request has this target, if there is one
 abbrev pub IsNextRequester : (PortState → Option ℕ) → Ports → ℕ → ℕ → Option ℕ → Type 0
 IsNextRequester look ports target from found = MatchOption found ((q : ℕ) → from ≤ q → is_number (target_at look ports q) target ≡ false)
     (λ first. (is_number (target_at look ports first) target ≡ true) × ((q : ℕ) → from ≤ q → q < first → is_number (target_at look ports q) target ≡ false))
@@ -47,7 +47,7 @@ pub record IsUntargeted (serial : ℕ) (ports : Ports) : Type 0 where
 same : (m n : Ports) → ((q : ℕ) → get m q ≡ get n q) → m ≡ n
 same m n alike = same_map nat_cmp_total nat_cmp-IsAntisymmetric m n alike
 
--- what is forgotten of a request that has the target is that it is there
+-- to forget a request with the target is to clear it
 pub record IsForgetting (look : PortState → Option ℕ) (clear forget : PortState → PortState) (target : ℕ) : Type 0 where
   pub cleared : (port : PortState) → look (clear port) ≡ None
   pub settles : (port : PortState) → is_number (look port) target ≡ true → forget (clear port) ≡ forget port
@@ -80,7 +80,7 @@ abbrev pub requests : (PortState → Option ℕ) → ℕ → Ports → ℕ
 requests look target ports = total (λ _ port. cond (is_number (look port) target) 1 0) ports
 
 module _ (look : PortState → Option ℕ) (clear forget : PortState → PortState) (target : ℕ) (forgets : IsForgetting look clear forget target) where
-  -- one is cleared: all that is to be forgotten is as before
+  -- one is cleared: what is left once all are forgotten is the same
   pub cleared_settles : (ports : Ports) (serial : ℕ) → is_number (target_at look ports serial) target ≡ true → map_values forget (changed ports serial clear) ≡ map_values forget ports
   cleared_settles ports serial is = same _ _ (λ q.
       get-map_values forget (changed ports serial clear) q ∙ ap (option_map forget) (get_changed ports serial clear q) ∙ at q (eq_by_cmp nat_cmp q serial) refl ∙ sym (get-map_values forget ports q))
@@ -133,7 +133,7 @@ module _ (look : PortState → Option ℕ) (clear forget : PortState → PortSta
       by true e = none (get ports serial)
       by false e = passed (other e)
 
-  -- none is left, below and from there on
+  -- none is left, neither below nor from there on
   pub none_requests : (ports : Ports) (at : ℕ) → ((q : ℕ) → q < at → is_number (target_at look ports q) target ≡ false) → ((q : ℕ) → at ≤ q → is_number (target_at look ports q) target ≡ false) → (q : ℕ) → is_number (target_at look ports q) target ≡ false
   none_requests ports at before behind q = elim (nat_lt q at) as (λ (b : Bool). nat_lt q at ≡ b → is_number (target_at look ports q) target ≡ false) [
     | true ↦ λ (e : _). before q (ltb-true q at e)
@@ -148,7 +148,7 @@ module _ (look : PortState → Option ℕ) (clear forget : PortState → PortSta
       each None e = refl
       each (Some port) e = ap Some (forgets.stays port e)
 
--- after all that no request has the port for its target
+-- after all of that, no request has the port as its target
 without_is : (serial : ℕ) (o : Option ℕ) → is_number (without_target serial o) serial ≡ false
 without_is serial None = refl
 without_is serial (Some t) = elim (t == serial) as (λ (b : Bool). (t == serial) ≡ b → is_number (cond b None (Some t)) serial ≡ false) [ true ↦ λ (e : _). refl | false ↦ λ (e : _). e ] refl
@@ -221,11 +221,11 @@ disconnected_dies serial ports = same _ _ (λ q.
     at q true = refl
     at q false = each (get ports q)
 
--- all is as before, but for the ports
+-- everything but the ports is as before
 pub table_is : (old new : TrackedPorts) (ports : Ports) → new.before ≡ old.before → new.current.next ≡ old.current.next → new.current.ports ≡ ports → new ≡ record old { current = record old.current { ports = ports } }
 table_is old new ports before next at = λ i. record { before = before i; current = record { ports = at i; next = next i } }
 
--- the ports once requests are worked off, and once the port has died
+-- the ports once the requests are cleared, and once the port has died
 pub disconnected_is : (old first second third : TrackedPorts) (serial : ℕ) → first ≡ record old { current = record old.current { ports = map_values (no_senders_forgotten serial) old.current.ports } }
     → second ≡ record first { current = record first.current { ports = map_values (destroyed_forgotten serial) first.current.ports } } → third ≡ record second { current = record second.current { ports = changed second.current.ports serial requests_cleared } }
     → third ≡ record old { current = record old.current { ports = disconnected serial old.current.ports } }

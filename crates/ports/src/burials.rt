@@ -1,4 +1,4 @@
-//! The rights of a queue or a message that goes, and the counts of rights to a port that dies.
+//! Uncounts the rights of a queue or a message that goes, and the rights to a port that dies.
 ghost use Rattle.std.specs.Prelude.{◌≡◌, ◌+◌, OnOk, drop, map, option_map, take};
 ghost use Rattle.live_ports.specs.Changed.{messages_at};
 ghost use Rattle.live_ports.specs.Seen.{lives_in, seen_message, seen_right};
@@ -10,7 +10,7 @@ use live_ports::LivePorts;
 use pair_counts::PairCounts;
 use std::alloc::AllocError;
 
-/// The rights of the messages in a port's queue less.
+/// Uncounts the rights of the messages in a port's queue.
 pub(crate) fn subtract_queue(
     counts: &mut PairCounts,
     carriers: &mut PairCounts,
@@ -28,7 +28,7 @@ pub(crate) fn subtract_queue(
     Ok(())
 }
 
-/// The rights of the oldest message in a port's queue less, if there is one.
+/// Uncounts the rights of the oldest message in a port's queue, if there is one.
 pub(crate) fn subtract_oldest(
     counts: &mut PairCounts,
     carriers: &mut PairCounts,
@@ -47,7 +47,8 @@ pub(crate) fn subtract_oldest(
     Ok(())
 }
 
-/// The rights of one message less, if it is there: what is left to subtract from there on then is what is left behind it.
+/// Uncounts the rights of one message, if there is one. What is left to subtract from this message on is then what is
+/// left after it.
 fn subtract_message_at(
     counts: &mut PairCounts,
     carriers: &mut PairCounts,
@@ -67,7 +68,7 @@ fn subtract_message_at(
     Ok(())
 }
 
-/// The rights of a message less, as they are seen.
+/// Uncounts the rights of a message, as they are seen.
 fn subtract_message(
     counts: &mut PairCounts,
     carriers: &mut PairCounts,
@@ -163,7 +164,7 @@ fn subtract_received(
     }
 }
 
-/// No queue carries the receive right of a port.
+/// Removes a port's receive right from every queue's count.
 pub(crate) fn clear_carriers(carriers: &mut PairCounts, inner: u64) -> Result<(), AllocError>
     ensures ok { OnOk result (IsCleared inner carriers.old.current carriers.new.current) }
     ensures before { carriers.new.before ≡ carriers.old.before }

@@ -14,8 +14,9 @@ use pair_counts::PairCounts;
 use place_index::PlaceIndex;
 use std::alloc::{AllocError, Global};
 
-/// The rights that messages in queues are and carry, and that requests have as targets, counted by the ports that they are
-/// to; the receive rights in queues, by their ports and the queues' ports; and the ports that have a request, by its target.
+/// The rights that messages in queues are and carry, and that requests have as targets, counted by the ports that they
+/// are to; the receive rights in queues, by their ports and the queues' ports; and the ports that have a request, by
+/// its target.
 #[derive(Drop)]
 pub(crate) struct PortIndexes {
     pub(crate) counts: PairCounts,
@@ -25,7 +26,7 @@ pub(crate) struct PortIndexes {
 }
 
 impl PortIndexes {
-    /// Indexes of nothing. They take no memory.
+    /// Empty indexes. It takes no memory.
     pub(crate) fn new(alloc: Global) -> Self
         ensures { AreAtRest result (record { counts = map.empty; carriers = map.empty; no_senders = map.empty; destroyed = map.empty }) }
     {
@@ -37,7 +38,7 @@ impl PortIndexes {
         }
     }
 
-    /// What a port keeps is replaced. Where memory is wanted the changes are to be given up.
+    /// Replaces what a port has besides its queue. If an allocation fails, the changes must be rolled back.
     pub(crate) fn change_targets(
         &mut self,
         serial: u64,
@@ -57,7 +58,7 @@ impl PortIndexes {
         self.port_destroyed.change(serial, was, is)
     }
 
-    /// A message comes into a port's queue. Where memory is wanted the changes are to be given up.
+    /// A message is put into a port's queue. If an allocation fails, the changes must be rolled back.
     pub(crate) fn add_message(&mut self, serial: u64, message: &Message) -> Result<(), AllocError>
         ensures ok { OnOk result (AreOfMore self.old self.new serial message.now) }
         ensures before { SameBefore self.old self.new }
@@ -68,7 +69,8 @@ impl PortIndexes {
         add_body(&mut self.counts, &mut self.carriers, serial, rights)
     }
 
-    /// The oldest message goes from a port's queue, if there is one. Where memory is wanted the changes are to be given up.
+    /// The oldest message is taken from a port's queue, if there is one. If an allocation fails, the changes must be
+    /// rolled back.
     pub(crate) fn remove_oldest(&mut self, ports: &LivePorts, serial: u64) -> Result<(), AllocError>
         ensures ok { OnOk result (AreOfFewer self.old self.new serial (take 1 (messages_at ports.now.current.ports serial))) }
         ensures before { SameBefore self.old self.new }
@@ -76,8 +78,8 @@ impl PortIndexes {
         subtract_oldest(&mut self.counts, &mut self.carriers, ports, serial)
     }
 
-    /// A port that no request has for its target, and that has none, dies: its queue goes, and rights to it are none any
-    /// more. Where memory is wanted the changes are to be given up.
+    /// A port dies that is no request's target and has no request: its queue goes, and there are no more rights to it.
+    /// If an allocation fails, the changes must be rolled back.
     pub(crate) fn bury(&mut self, ports: &LivePorts, serial: u64) -> Result<(), AllocError>
         ensures ok { OnOk result (AreWithout self.old self.new serial (messages_at ports.now.current.ports serial)) }
         ensures before { SameBefore self.old self.new }
@@ -88,7 +90,7 @@ impl PortIndexes {
         clear_carriers(&mut self.carriers, serial)
     }
 
-    /// Keeps the changes. It takes no memory.
+    /// Commits the changes. It takes no memory.
     pub(crate) fn keep(&mut self)
         ensures { AreAtRest self.new (present_parts self.old) }
     {
@@ -98,7 +100,7 @@ impl PortIndexes {
         self.port_destroyed.keep();
     }
 
-    /// Gives the changes up. It takes no memory.
+    /// Rolls the changes back. It takes no memory.
     pub(crate) fn give_up(&mut self)
         ensures { AreAtRest self.new (former_parts self.old) }
     {
@@ -109,7 +111,7 @@ impl PortIndexes {
     }
 }
 
-/// The targets of requests are serials. It does nothing but show it.
+/// Shows that the targets of requests are serials. It does nothing else.
 pub(crate) fn targets_fit(numbers: PortNumbers)
     ensures { TargetsFit numbers }
 {

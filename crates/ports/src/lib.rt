@@ -1,5 +1,5 @@
-//! The live ports with the rights that they carry and keep, counted, and found by the ports that they are to. Changes are
-//! kept or given up.
+//! The live ports with the rights that they carry and keep, counted, and found by the ports that they are to. Changes
+//! are committed or rolled back.
 #![tactic(auto)]
 
 mod burials;

@@ -7,9 +7,9 @@ use live_ports::LivePorts;
 use std::alloc::Global;
 use std::marker::Model;
 
-/// The live ports by their serials, with the rights in their queues and the targets of their requests counted and found by
-/// the port that they are to. Contracts see the ports and the next serial as they were when changes were last kept or given
-/// up, and as they are.
+/// The live ports by their serials, with the rights in their queues and the targets of their requests counted and found
+/// by the port that they are to. Contracts see the ports and the next serial as they were at the last commit or
+/// rollback, and as they are.
 #[derive(Drop)]
 pub struct Ports {
     pub(crate) ports: LivePorts,
@@ -41,7 +41,7 @@ impl Ports {
         }
     }
 
-    /// Keeps the changes. It takes no memory.
+    /// Commits the changes. It takes no memory.
     pub fn keep(&mut self)
         ensures { self.new ≡ ports_at_rest self.old.current }
     {
@@ -49,7 +49,7 @@ impl Ports {
         self.indexes.keep();
     }
 
-    /// Gives the changes up. It takes no memory.
+    /// Rolls the changes back. It takes no memory.
     pub fn give_up(&mut self)
         ensures { self.new ≡ ports_at_rest self.old.before }
     {

@@ -1,4 +1,4 @@
-// What is asked of the ports.
+// Queries on the ports.
 ghost use Rattle.std.specs.Prelude.{◌≡◌, ◌<◌, ◌≤◌, ◌^◌, find, MatchOption, is_some, length, nat_le, option_map, slice_index_or};
 ghost use Rattle.std.specs.FinMap as map;
 ghost use Rattle.codes.specs.declared.limits.TheConstants.{MAX_PORTS};
@@ -24,7 +24,7 @@ impl Ports {
         self.ports.len()
     }
 
-    /// Whether as many ports live as may.
+    /// Whether as many ports live as are allowed.
     pub fn is_full(&self) -> bool
         ensures { result ≡ nat_le MAX_PORTS (map.len self.now.current.ports) }
     {
@@ -38,8 +38,8 @@ impl Ports {
         self.ports.next_serial()
     }
 
-    /// The serials of the ports that may have changed since changes were last kept or given up. Each other port lives if it lived
-    /// then, and is as full.
+    /// The serials of the ports that may have changed since the last commit or rollback. Every other port lives if it
+    /// lived then, and its queue is as full.
     pub fn changed_serials(&self) -> &[u128]
         ensures { AreNoted self.now.before.ports self.now.current.ports result.now }
     {
@@ -53,22 +53,22 @@ impl Ports {
         self.ports.contains(serial)
     }
 
-    /// What a port keeps beside its queue, if it lives.
+    /// What a port has besides its queue, if it lives.
     pub fn numbers(&self, serial: u64) -> Option<PortNumbers>
         ensures { result ≡ option_map numbers_of (map.get self.now.current.ports serial) }
     {
         self.ports.numbers(serial)
     }
 
-    /// How many messages are in a port's queue: none where it is dead.
+    /// How many messages are in a port's queue: none if it is dead.
     pub fn message_count(&self, serial: u64) -> u32
         ensures { result ≡ length (messages_at self.now.current.ports serial) }
     {
         self.ports.message_count(serial)
     }
 
-    /// The message of an index in a port's queue as it was sent, counted from the oldest, if there is one: what has become of
-    /// its rights `seen` tells.
+    /// The message at an index in a port's queue as it was sent, counted from the oldest, if there is one. `seen` says
+    /// what its rights are now.
     pub fn message_as_sent(&self, serial: u64, index: u32) -> Option<&Message>
         ensures { MatchOption result (length (messages_at self.now.current.ports serial) ≤ index)
             (λ message. (index < length (messages_at self.now.current.ports serial)) × (seen_message (lives_in self.now.current.ports) message.now ≡ slice_index_or (messages_at self.now.current.ports serial) index (seen_message (lives_in self.now.current.ports) message.now))) }
@@ -76,14 +76,14 @@ impl Ports {
         self.ports.message_as_sent(serial, index)
     }
 
-    /// What a right of a message as it was sent is now: where its port has died, `MACH_PORT_DEAD`.
+    /// What a right of a message as it was sent is now: `MACH_PORT_DEAD` if its port has died.
     pub fn seen(&self, carried: CarriedRight) -> CarriedRight
         ensures { result ≡ seen_right (lives_in self.now.current.ports) carried }
     {
         self.ports.seen(carried)
     }
 
-    /// No queue holds more messages than a word counts. It does nothing but show it.
+    /// Shows that no queue holds more messages than a word counts. It does nothing else.
     pub fn are_short(&self)
         ensures { AreShort self.now.current.ports }
     {

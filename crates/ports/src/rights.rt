@@ -1,4 +1,4 @@
-//! The rights of a message counted.
+//! Counts the rights of a message.
 ghost use Rattle.std.specs.Prelude.{◌≡◌, OnOk};
 ghost use Rattle.ports.specs.Counting.{carried_more, carrier_more, carriers_more, reply_more, rights_more};
 
@@ -6,7 +6,7 @@ use ipc_model::{CarriedRight, PortInMessage, RightKind};
 use pair_counts::PairCounts;
 use std::alloc::AllocError;
 
-/// A reply right more.
+/// Counts one more reply right.
 pub(crate) fn add_reply(
     counts: &mut PairCounts,
     reply: Option<CarriedRight>,
@@ -20,7 +20,7 @@ pub(crate) fn add_reply(
     }
 }
 
-/// The rights of a body more, in a port's queue.
+/// Counts the rights of one more body in a port's queue.
 pub(crate) fn add_body(
     counts: &mut PairCounts,
     carriers: &mut PairCounts,

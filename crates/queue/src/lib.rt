@@ -1,4 +1,4 @@
-//! The messages in a port's queue, whose changes are kept or given up.
+//! The messages in a port's queue, whose changes are committed or rolled back.
 #![tactic(auto)]
 
 mod queue;

@@ -11,7 +11,7 @@ use std::marker::Model;
 pub enum PushFault {
     /// The queue holds as many messages as its limit allows.
     Full,
-    /// No memory.
+    /// Out of memory.
     NoMemory,
 }
 
@@ -29,12 +29,12 @@ impl From<AllocError> for PushFault {
 /// How many messages a queue holds at most.
 const MAX_MESSAGES: usize = u32::MAX as usize;
 
-/// The messages in a port's queue (`ipc_mqueue`), oldest first: at most `u32::MAX`. Contracts see the list of them as it
-/// was when its changes were last kept or given up, and as it is. Messages that are taken stay in the ring until then.
+/// The messages in a port's queue (`ipc_mqueue`), oldest first: at most `u32::MAX`. Contracts see the list of them as
+/// it was at the last commit or rollback, and as it is. Messages that are taken stay in the ring until then.
 #[derive(Drop)]
 pub struct Queue {
     messages: VecDeque<Message>,
-    /// How many of the messages are taken, the oldest ones.
+    /// How many of the messages, the oldest ones, are taken.
     taken: usize,
     /// How many messages there were.
     before: usize,
@@ -82,7 +82,7 @@ impl Queue {
         self.len() == 0
     }
 
-    /// Puts a message at the end, unless the queue holds as many as its limit allows. With a fault nothing changed.
+    /// Puts a message at the end, unless the queue holds as many as its limit allows. At a fault, nothing changed.
     pub fn push(&mut self, limit: u32, message: Message) -> Result<(), PushFault>
         ensures ok { OnOk result (self.new ≡ record self.old { current = self.old.current ++ message ∷ [] }) }
         ensures err { OnErr result (self.new ≡ self.old) }
@@ -94,8 +94,8 @@ impl Queue {
         Ok(self.push_forced(message)?)
     }
 
-    /// Puts a message at the end, whatever the limit. Without memory nothing changed; a queue of `u32::MAX`
-    /// messages has none.
+    /// Puts a message at the end, whatever the limit. If memory runs out, nothing changed; a queue of `u32::MAX`
+    /// messages counts as out of memory.
     pub fn push_forced(&mut self, message: Message) -> Result<(), AllocError>
         ensures ok { OnOk result (self.new ≡ record self.old { current = self.old.current ++ message ∷ [] }) }
         ensures err { OnErr result (self.new ≡ self.old) }
@@ -115,7 +115,7 @@ impl Queue {
         }
     }
 
-    /// The message of an index, counted from the oldest.
+    /// The message at an index, counted from the oldest.
     pub fn message(&self, index: u32) -> &Message
         requires { index < length self.now.current }
         ensures { result.now ≡ slice_index_or self.now.current index result.now }
@@ -123,7 +123,7 @@ impl Queue {
         &self.messages[self.taken + index as usize]
     }
 
-    /// Keeps the changes. It takes no memory.
+    /// Commits the changes. It takes no memory.
     pub fn keep(&mut self)
         ensures { self.new ≡ list_at_rest self.old.current }
     {
@@ -132,7 +132,7 @@ impl Queue {
         self.before = self.messages.len();
     }
 
-    /// Gives the changes up. It takes no memory.
+    /// Rolls the changes back. It takes no memory.
     pub fn give_up(&mut self)
         ensures { self.new ≡ list_at_rest self.old.before }
     {
@@ -141,7 +141,7 @@ impl Queue {
     }
 }
 
-/// Drops so many of the oldest messages.
+/// Drops the `count` oldest messages.
 fn drop_front(messages: &mut VecDeque<Message>, count: usize)
     requires { count ≤ length messages.old.items }
     ensures { messages.new.items ≡ drop count messages.old.items }

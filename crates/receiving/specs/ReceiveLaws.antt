@@ -1,4 +1,4 @@
--- A receipt that takes its message from the port that was found, and its reply.
+-- A receive that takes its message from the port that was found, and its reply.
 use Rattle.std.specs.Prelude.{◌≡◌, ℕ, Bool, true, false, nat_lt, Contains, List, [], ◌∷◌, Option, None, Some, Result, Ok, IfOk, is_some, MatchBool, MatchOption, if◌then◌else◌, refl}
 use Rattle.std.proofs.Common.{sym, ◌∙◌, ap, subst}
 use Rattle.std.proofs.lemmas.Bool.{eq-eqb, eqb-true}
@@ -41,7 +41,7 @@ found state serial has = by_port (finmap.get state.ports serial) refl has
     by_port None at some = absurd (cc some)
     by_port (Some port) at some = by_messages port port.messages at refl some
 
--- a receipt by whether it is refused
+-- a receive, by whether it is refused
 abbrev ReceivesBy : Option KernReturn → State → ℕ → Names → Receipt → Reply → State → List Effect → Type 0
 ReceivesBy refusal old space names receipt answer new effects =
     MatchOption refusal
@@ -68,7 +68,7 @@ shown_member old names receipt wanted member serial other port prefers is among 
 has_first : (state : State) (serial : ℕ) (port : PortState) (message : Message) (later : List Message) → finmap.get state.ports serial ≡ Some port → port.messages ≡ message ∷ later → has_message state serial ≡ true
 has_first state serial port message later live first = ap (λ (l : List Message). is_some (oldest l)) (messages_of_port state serial port live ∙ first)
 
--- another receipt that took the message of the port that was found
+-- another receive that took the message of the port that was found
 abbrev pub ToldBy : State → ℕ → Names → Receipt → ℕ → ℕ → Reply → Reply → State → List Effect → Type 0
 ToldBy old space names receipt member serial answer other last others =
     OfOldest old serial (λ port message. TakesOut old space names receipt member serial port message other last others → answer ≡ other)
@@ -93,7 +93,7 @@ both_lack : (large lacks : Bool) → (if large then false else lacks) ≡ true �
 both_lack true lacks is = absurd (cc is)
 both_lack false lacks is = (refl, is)
 
--- where the message that was found lacks names, so says the reply
+-- if there are no names for the message that was found, the reply says so
 lacking_answer : (old : State) (space : ℕ) (names : Names) (receipt : Receipt) (member serial : ℕ) (answer : Reply) (new : State) (effects : List Effect) → has_message old serial ≡ true
     → OfOldest old serial (λ port message. TakesOut old space names receipt member serial port message answer new effects) → oldest_lacks receipt names (messages_at old.ports serial) ≡ true → answer ≡ without_message RcvHeaderErrorSpace 0 0
 lacking_answer old space names receipt member serial answer new effects has takes lacks =
@@ -141,12 +141,12 @@ module _ (old : State) (space : ℕ) (names : Names) (receipt : Receipt) (member
             ] refl rest
       ] refl may
 
-  -- a receipt by the same reply took the same message
+  -- a receive with the same reply took the same message
   pub receives_told : Receives old space names receipt other last others → answer ≡ other
   receives_told may =
       let taken : ReceivesBy None old space names receipt other last others = subst (λ (refusal : Option KernReturn). ReceivesBy refusal old space names receipt other last others) source.passes may in
       by_outcome taken.0 taken.1 taken.2 taken.3 taken.4 taken.5 taken.6 taken.7 taken.8 taken.9
 
--- what is said of the value of a result
+-- what a clause says of the value of a result
 pub of_ok : {X Y : Type 0} (P : X → Type 0) (r : Result X Y) (x : X) → r ≡ Ok x → IfOk r P → P x
 of_ok P r x is holds = subst (λ (q : Result _ _). IfOk q P) is holds

@@ -30,11 +30,11 @@ use Rattle.ipc_model.specs.state.State.{Names, IsUnused, name_of_port}
 use Rattle.words.specs.WordLaws.{little_number-word}
 use Rattle.words.specs.Words.{AreBytes, word}
 
--- the name of the reply right: a disposition of 0 says that there is none
+-- the name of the reply right; a disposition of 0 means that there is none
 abbrev pub name_in_header : ℕ → ℕ → List ℕ
 name_in_header disposition name = if disposition == 0 then [] else name ∷ []
 
--- the names in the port items of a body, of which there are none where items don't tile it
+-- the names in the port items of a body; none where no items tile it
 abbrev pub names_in_items : Result (List Item) KernReturn → List ℕ
 names_in_items (Ok items) = flat_map names_of_item items
 names_in_items (Err code) = []
@@ -42,8 +42,8 @@ names_in_items (Err code) = []
 abbrev pub names_in_parts : UsedParts → List ℕ
 names_in_parts parts = name_in_header parts.remote_disposition parts.remote ++ names_in_items (items_if_complex parts.complex parts.body)
 
--- The names that a message's bytes show: that of the reply right, and behind it those of the body's ports, from the left.
--- Bytes that are fewer than a header's show none.
+-- The names that a message's bytes show: that of the reply right, and then those of the body's ports, from the left.
+-- Fewer bytes than a header's show none.
 unfoldable pub names_shown : List ℕ → List ℕ
 names_shown bytes = if nat_lt (length bytes) header_length then [] else names_in_parts (used_parts bytes)
 
@@ -61,7 +61,7 @@ none_shown bytes short = ap (λ (b : Bool). if b then [] else names_in_parts (us
 abbrev pub FitWords : List ℕ → Type 0
 FitWords names = All (λ n. n < 2 ^ 32) names
 
--- Words that are written are read again.
+-- Words that are written are read back.
 
 words_back : (names : List ℕ) → FitWords names → words_of (length names) (flat_map word names) ≡ names
 words_back [] fit = refl
@@ -141,7 +141,7 @@ body_shown message names lawful many fit =
       | false ↦ λ (none : _). sym (nil_from_length names (many ∙ ap length none))
     ] lawful.ports
 
--- What is read of a message's text.
+-- What is read from a message's bytes.
 
 text_shown : (bits remote local seqno id : ℕ) (body : List ℕ) → bits < 2 ^ 32 → remote < 2 ^ 32
     → names_shown (message_text bits remote local seqno id body) ≡ name_in_header (remote_disposition bits) remote ++ names_in_items (items_if_complex (is_complex bits) body)
@@ -181,7 +181,7 @@ complex_back reply destination false r d =
     let none : ((reply + destination * 2 ^ 8 + 0) / 2 ^ 31) % 2 ≡ 0 = omega (arith, r, d) in
     ap (λ (n : ℕ). n == 1) none
 
--- the reply right's name in front of those of the body
+-- the reply right's name before those of the body
 with_reply : (message : Message) (reply : Option CarriedRight) (remote member seqno : ℕ) (names : List ℕ) → LawfulMessage message → length names ≡ length message.rights → FitWords names → remote < 2 ^ 32
     → names_shown (message_text (bits_with reply message.destination message.complex) remote member seqno message.id (received_body message names)) ≡ name_in_header (reply_kind_number reply) remote ++ names
 with_reply message reply remote member seqno names lawful many fit remote_fits =
@@ -214,7 +214,7 @@ ShownAreGiven = (message : Message) (member seqno : ℕ) (given : List ℕ) → 
 pub shown_are_given : ShownAreGiven
 shown_are_given message member seqno given lawful many fit = given_shown message message.reply member seqno given lawful many fit
 
--- Names under which rights arrive are numbers of four bytes, where those in use are.
+-- Names under which rights arrive are numbers of four bytes, if those in use are.
 
 abbrev pub NamesFit : Names → Type 0
 NamesFit names = (name : ℕ) (entry : Entry) → finmap.get names name ≡ Some entry → name < 2 ^ 32

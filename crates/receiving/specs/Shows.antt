@@ -1,4 +1,4 @@
--- What a receipt's reply shows of the choice that was made: the port, and the names that the message's rights got.
+-- What a receive's reply shows of the choice that was made: the port, and the names that the message's rights got.
 use Rattle.std.specs.Prelude.{ℕ, List, []}
 use Rattle.codes.specs.declared.kern_return.KernReturn.{KernReturn}
 use Rattle.codes.specs.declared.kern_return.KernReturn.TheVariants.{RcvHeaderErrorSpace}

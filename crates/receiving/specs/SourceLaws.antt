@@ -58,7 +58,7 @@ pair_of_name (p ∷ pairs) member at =
     (λ (is : p.0 ≡ member). (p.1, subst (λ (n : ℕ). Contains (p ∷ pairs) (n, p.1)) is (here p pairs)))
     (λ (rest : Contains (map (λ q. q.0) pairs) member). let found = pair_of_name pairs member rest in (found.0, later p (member, found.0) pairs found.1))
 
--- what a search finds is there and passes; where it finds nothing, nothing passes
+-- what a search finds is in the list and passes the test; where it finds nothing, nothing passes
 pub find_there : (test : ℕ × ℕ → Bool) (pairs : List (ℕ × ℕ)) (pair : ℕ × ℕ) → find test pairs ≡ Some pair → Contains pairs pair × (test pair ≡ true)
 find_there test [] pair is = absurd (cc is)
 find_there test (p ∷ pairs) pair is =
@@ -119,7 +119,7 @@ named_pair state names set member serial at holds =
     let found = pair_of_name (member_pairs state names set) member (subst (λ (l : List ℕ). Contains l member) (sym (member_names state set (finmap.entries names))) at) in
     subst (λ (s : ℕ). Contains (member_pairs state names set) (member, s)) (one_serial names member found.0 serial (pair_holds state names set member found.0 found.1) holds) found.1
 
--- the message that a port under a name gives is the port's oldest
+-- the message that the port under a name gives is its oldest
 
 under_held : (state : State) (names : Names) (member serial : ℕ) → HoldsReceiveRight names member serial → port_under state names member ≡ finmap.get state.ports serial
 under_held state names member serial holds =
@@ -154,7 +154,7 @@ every_empty state names (name ∷ others) each =
     ap (λ (b : Bool). if b then false else all_empty state names others) (each name (here name others))
     ∙ every_empty state names others (λ (member : ℕ) (at : Contains others member). each member (later name member others at))
 
--- by what the name gives messages
+-- by the giver of a name's messages
 
 same_port : (one other : ℕ) → giver.Port one ≡ giver.Port other → one ≡ other
 same_port one other e = ap port_in e

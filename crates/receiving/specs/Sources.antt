@@ -1,4 +1,4 @@
--- From which port a receipt takes its message.
+-- From which port a receive takes its message.
 use Rattle.std.specs.Prelude.{◌≡◌, ℕ, Bool, true, false, ◌==◌, nat_lt, Contains, List, [], ◌∷◌, Option, None, Some, is_some, if◌then◌else◌}
 use Rattle.std.specs.FinMap as finmap
 use Rattle.codes.specs.declared.kern_return.KernReturn.{KernReturn}
@@ -15,7 +15,7 @@ use Rattle.receiving.specs.declared.source.Giver.{Giver}
 use Rattle.receiving.specs.declared.source.Giver.TheVariants as giver
 use Rattle.receiving.specs.declared.source.Source.{Source}
 
--- what a name gives messages by
+-- what gives the messages of a name
 abbrev pub port_giver : ℕ → Bool → Giver
 port_giver port receive = if receive then giver.Port port else giver.Nothing
 
@@ -33,7 +33,7 @@ has_message state serial = is_some (oldest (messages_at state.ports serial))
 abbrev pub is_in_set : State → ℕ → Bool
 is_in_set state serial = elim (finmap.get state.ports serial) as (λ _. Bool) [ None ↦ false | Some port ↦ is_some port.set ]
 
--- the code that a receipt from this port is refused with
+-- the code with which a receive from this port is refused
 abbrev pub port_refusal : State → Receipt → ℕ → Option KernReturn
 port_refusal state receipt serial =
     if is_in_set state serial then Some (if receipt.waited then RcvPortChanged else RcvInSet)
@@ -60,14 +60,14 @@ source_value source = (source.member, source.port)
 abbrev pub source_list : State → Names → Receipt → List ℕ
 source_list state names receipt = source_names (sources state names receipt.name (finmap.get names receipt.name))
 
--- A receipt takes its message from this port, whose receive right stands under this name.
+-- A receive takes its message from this port, whose receive right stands under this name.
 pub record IsSource (state : State) (names : Names) (receipt : Receipt) (member serial : ℕ) : Type 0 where
   pub passes : receive_refusal state names receipt ≡ None
   pub among : Contains (source_list state names receipt) member
   pub holds : HoldsReceiveRight names member serial
   pub has : has_message state serial ≡ true
 
--- Where a port that might be the source is preferred, it is.
+-- If any port that might be the source is preferred, so is this one.
 abbrev pub IsPreferred : State → Names → Receipt → Preference → ℕ → ℕ → Type 0
 IsPreferred state names receipt preference member serial =
     (other : ℕ) (port : ℕ) → Contains (source_list state names receipt) other → HoldsReceiveRight names other port → has_message state port ≡ true

@@ -41,7 +41,7 @@ pub body_names_seen : (lives : ℕ → Bool) (reply : Option CarriedRight) (give
 body_names_seen lives None given = refl
 body_names_seen lives (Some right) given = refl
 
--- names and queues are changed in either order
+-- names and queues can be changed in either order
 pub names_then_oldest : (state : State) (space serial : ℕ) (names : Names) → without_oldest (with_names state space names) serial ≡ with_names (without_oldest state serial) space names
 names_then_oldest state space serial names = elim (finmap.get state.ports serial) as (λ (o : Option PortState).
     (elim o as (λ _. State) [ None ↦ with_names state space names | Some port ↦ record (with_names state space names) { ports = finmap.insert state.ports serial (record port { messages = drop 1 port.messages; sequence_number = (without port) }) } ])
@@ -53,7 +53,7 @@ names_then_oldest state space serial names = elim (finmap.get state.ports serial
     without : PortState → ℕ
     without port = next_count port.sequence_number
 
--- what comes of the message
+-- what becomes of the message
 pub was_large : (old : State) (space : ℕ) (names : Names) (receipt : Receipt) (member serial : ℕ) (port : PortState) (message : Message) (answer : Reply) (new : State) (effects : List Effect)
     → nat_lt receipt.limit (message_size message) ≡ true → TooLarge old member serial message receipt.large answer new effects → TakesOut old space names receipt member serial port message answer new effects
 was_large old space names receipt member serial port message answer new effects large is =
@@ -76,7 +76,7 @@ was_received old space names receipt member serial port message answer new effec
     (MatchBool (lacks_names names message) ((answer ≡ without_message RcvHeaderErrorSpace 0 0) × (new ≡ old) × (effects ≡ [])) (Received old space names member serial port message answer new effects))) (sym small)
     (subst (λ (b : Bool). MatchBool b ((answer ≡ without_message RcvHeaderErrorSpace 0 0) × (new ≡ old) × (effects ≡ [])) (Received old space names member serial port message answer new effects)) (sym fits) is)
 
--- the port of what is known of its numbers, and its oldest message as it is seen
+-- a live port and its messages, of which `sent`, as it is seen, is the oldest
 pub record Known (state : State) (serial : ℕ) (sent : Message) : Type 0 where
   pub port : PortState
   pub later : List Message
@@ -108,7 +108,7 @@ oldest_long state serial sent given is lawful many =
     let long = body_long seen (body_names seen.reply given) (lawful is.port seen is.later is.live is.first) (names_left seen.reply seen.rights given (many is.port seen is.later is.live is.first)) in
     ap (λ (names : List ℕ). length (received_body sent names)) (sym (body_names_seen (lives_in state.ports) sent.reply given)) ∙ long
 
--- a header with the body behind it is the message as received
+-- a header followed by the body is the message as received
 pub text_of_header : (message : Message) (member seqno : ℕ) (given : List ℕ) (header : Header) (first mid last : List ℕ) → length (received_body message (body_names message.reply given)) ≡ length message.body
     → header ≡ record {
       size = message_size message;
@@ -139,7 +139,7 @@ whole_received old space names member serial port message answer mid new effects
   consumed ∙ ap (λ (l : List Effect). l ++ destination_consumed message.destination serial) none,
 )
 
--- What a reply shows tells it.
+-- A reply is determined by what it shows.
 
 pub large_told : (old : State) (space : ℕ) (names : Names) (receipt : Receipt) (member serial : ℕ) (port : PortState) (message : Message) (answer : Reply) (new : State) (effects : List Effect) (other : Reply) (last : State) (others : List Effect)
     → nat_lt receipt.limit (message_size message) ≡ true → TooLarge old member serial message receipt.large answer new effects → TakesOut old space names receipt member serial port message other last others → answer ≡ other

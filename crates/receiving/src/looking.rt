@@ -1,4 +1,4 @@
-//! What is asked of a message before it is received.
+//! Queries on a message before it is received.
 ghost use Rattle.std.specs.Prelude.{◌≡◌, ◌+◌, ◌++◌, [], nat_lt, IfOk, OnOk, map, option_map};
 ghost use Rattle.std.specs.FinMap as finmap;
 ghost use Rattle.codes.specs.declared.limits.TheConstants.{MAX_NAMES};
@@ -67,7 +67,7 @@ fn push_body(
     Ok(())
 }
 
-/// Whether the rights of a message want more new names than a space has left.
+/// Whether the rights of a message need more new names than a space has left.
 pub(crate) fn lacks_names(
     alloc: Global,
     state: &IpcState,
@@ -80,7 +80,7 @@ pub(crate) fn lacks_names(
     Ok(lacks_room(state, space, rights.as_slice()))
 }
 
-/// Whether rights want more new names than a space has left.
+/// Whether rights need more new names than a space has left.
 pub(crate) fn lacks_room(state: &IpcState, space: u32, rights: &[CarriedRight]) -> bool
     ensures { result ≡ nat_lt MAX_NAMES (finmap.len (names_in state.now.current space) + names_wanted (names_in state.now.current space) [] rights.now) }
 {

@@ -25,25 +25,26 @@ use ipc_model::{CarriedRight, Reply, RightKind, Sequence};
 use rights::{IpcState, arrive};
 use std::alloc::{AllocError, Global};
 
-/// What is to be known of a message before it is taken out.
+/// What has to be known of a message before it is taken out.
 #[derive(Clone, Copy)]
 struct Outline {
     size: u32,
     destination: RightKind,
 }
 
-/// `mach_msg` with `MACH_RCV_MSG`: the oldest message of the port whose receive right a name holds, or of a member of a
-/// set, is taken out; its rights arrive in the caller's space, and what its destination sets off goes to the end of the
-/// effects. Of a set it is the message that is preferred, where one is, and else that of the member with the least name;
-/// rights arrive under these names where they may. The space is there, the state is one that the kernel keeps, and no
-/// effect waits.
+/// `mach_msg` with `MACH_RCV_MSG`: takes out the oldest message of the port whose receive right a name holds, or of a
+/// member of a set. Its rights arrive in the caller's space, and what its destination sets off goes to the end of the
+/// effects. Of a set it takes the preferred message, if there is one, else that of the member with the least name;
+/// rights arrive under these names if they may. The space must exist, the state must be one that the kernel keeps, and
+/// no effect may wait.
 ///
-/// The message has its port's sequence number, which then grows by one.
+/// The message gets its port's sequence number, which is then incremented.
 ///
-/// The reply's code: `RcvInvalidName` where the name holds neither a receive right nor a set (after a wait `RcvPortDied`),
-/// `RcvInSet` where the port is in a set (after a wait `RcvPortChanged`), `RcvTimedOut` where there is no message;
-/// `RcvTooLarge` where it is larger than the limit, and is destroyed unless the receipt asked for it to stay;
-/// `RcvHeaderErrorSpace` where the space lacks names for its rights. Where memory is wanted the changes are to be given up.
+/// The reply's code: `RcvInvalidName` if the name holds neither a receive right nor a set (after a wait `RcvPortDied`),
+/// `RcvInSet` if the port is in a set (after a wait `RcvPortChanged`), `RcvTimedOut` if there is no message;
+/// `RcvTooLarge` if it is larger than the limit, and it is destroyed unless the receive asked for it to stay;
+/// `RcvHeaderErrorSpace` if the space lacks names for its rights. If an allocation fails, the changes must be rolled
+/// back.
 pub fn receive(
     alloc: Global,
     state: &mut IpcState,
@@ -57,7 +58,7 @@ pub fn receive(
     requires there { IsSome (map.get state.old.current.spaces space) }
     requires lawful { Lawful state.old.current }
     ensures acts { IfOk result (λ reply. ActsIn state.old.current space (names_in state.old.current space) (call.Receive asked.limit asked.large asked.name asked.waited) reply state.new.current effects.new) }
-    // Where the call may be answered by a reply that shows this, it is.
+    // If the call may be answered by a reply that shows this, it is.
     ensures shown { IfOk result (λ reply. (other : machine.Reply) → (last : State) → (others : List waiting.Effect) → preference ≡ preferred_by other → names.now ≡ names_shown (text_in other)
         → ActsIn state.old.current space (names_in state.old.current space) (call.Receive asked.limit asked.large asked.name asked.waited) other last others → reply ≡ other) }
     ensures before { state.new.before ≡ state.old.before }
@@ -114,7 +115,7 @@ fn take_out(
     Ok(reply)
 }
 
-/// What is to be known of a port's oldest message, if it has one.
+/// What has to be known of a port's oldest message, if it has one.
 fn outline_of(state: &IpcState, port: u64) -> Option<Outline>
     requires lawful { Lawful state.now.current }
     ensures none { IfNone result (messages_at state.now.current.ports port ≡ []) }
@@ -129,7 +130,7 @@ fn outline_of(state: &IpcState, port: u64) -> Option<Outline>
     }
 }
 
-/// The rights that arrive with a port's oldest message; none where it has no message.
+/// The rights that arrive with a port's oldest message; none if it has no message.
 fn oldest_rights(
     alloc: Global,
     state: &IpcState,
@@ -143,8 +144,8 @@ fn oldest_rights(
     }
 }
 
-/// The answer to a receipt whose message is too large. It stays where the receipt asked for that; else it is destroyed,
-/// with its rights.
+/// The answer to a receive whose message is too large. The message stays if the receive asked for that; else it is
+/// destroyed, with its rights.
 fn too_large(
     alloc: Global,
     state: &mut IpcState,
@@ -166,7 +167,7 @@ fn too_large(
     Ok(Reply::without_message(alloc, KernReturn::RcvTooLarge, outline.size, source.member))
 }
 
-/// The destination right of a message that was taken out is consumed: a send right is released, a send-once right
+/// Consumes the destination right of a message that was taken out: a send right is released, a send-once right
 /// vanishes.
 fn consume(right: RightKind, port: u64, effects: &mut Effects) -> Result<(), AllocError>
     ensures { OnOk result (effects.new ≡ effects.old ++ destination_consumed right port) }
@@ -177,7 +178,7 @@ fn consume(right: RightKind, port: u64, effects: &mut Effects) -> Result<(), All
     }
 }
 
-/// Takes a message out whole: its rights arrive, and its destination is consumed.
+/// Takes a whole message out: its rights arrive, and its destination is consumed.
 fn take_whole(
     alloc: Global,
     state: &mut IpcState,
@@ -213,7 +214,7 @@ fn take_whole(
     })
 }
 
-/// The bytes of a port's oldest message as it is received, where its rights got these names; none where it has no message.
+/// The bytes of a port's oldest message as it is received if its rights got these names; none if it has no message.
 fn oldest_text(
     alloc: Global,
     state: &IpcState,
@@ -236,7 +237,7 @@ fn oldest_text(
     }
 }
 
-/// What `mach_msg` answers where no message is told of.
+/// The answer of `mach_msg` that reports no message.
 fn without_message(alloc: Global, code: KernReturn) -> Reply
     ensures { result ≡ Reply.Message code 0 MACH_PORT_NULL [] }
 {

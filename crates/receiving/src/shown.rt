@@ -38,7 +38,7 @@ fn add_names_in_items(items: &[Item<'_>], names: &mut Vec<u32>) -> Result<(), Al
     Ok(())
 }
 
-/// Adds the names in the port items of a body, of which there are none where items don't tile it.
+/// Adds the names in the port items of a body; there are none if items don't tile it.
 fn add_names_in_body(alloc: Global, body: &[u8], names: &mut Vec<u32>) -> Result<(), AllocError>
     ensures { OnOk result (names.new.items ≡ names.old.items ++ shown.names_in_items (items_of body.now)) }
 {
@@ -53,11 +53,11 @@ fn add_names_in_body(alloc: Global, body: &[u8], names: &mut Vec<u32>) -> Result
 }
 
 #[tactic(auto, using(crate::specs::ShownNames::none_shown))]
-/// The names that a received message shows, which its rights got in the receiver's space: that of the reply right, if the
-/// header says that there is one, and behind it those in the port items of the body, from the left, if
-/// MACH_MSGH_BITS_COMPLEX says that there are any.
+/// The names that a received message shows, which its rights got in the receiver's space: that of the reply right, if
+/// the header says that there is one, and after it those in the port items of the body, from the left, if
+/// `MACH_MSGH_BITS_COMPLEX` says that there are any.
 ///
-/// Bytes that are fewer than a header's show none, and no memory is taken for them. Where memory is wanted nothing is given.
+/// Fewer bytes than a header has show none, and take no memory. If an allocation fails, nothing is returned.
 pub fn names_shown(alloc: Global, message: &[u8]) -> Result<Vec<u32>, AllocError>
     ensures { IfOk result (λ names. names.items ≡ shown.names_shown message.now) }
 {

@@ -14,26 +14,26 @@ use ipc_model::Entry;
 use rights::IpcState;
 use std::alloc::{AllocError, Global};
 
-/// What a name gives messages by.
+/// Where a name gets its messages from.
 #[derive(Clone, Copy)]
 pub(crate) enum Giver {
     /// The name isn't in use, or holds no receive right and is no set.
     Nothing,
-    /// The port of this serial, whose receive right it holds.
+    /// The port with this serial, whose receive right the name holds.
     Port(u64),
     /// The members of a set.
     Set,
 }
 
-/// A port that gives a message, and the name of its receive right.
+/// A port that has a message, and the name of its receive right.
 #[derive(Clone, Copy)]
 pub(crate) struct Source {
     pub(crate) member: u32,
     pub(crate) port: u64,
 }
 
-/// The port from which a receipt takes its message, or the code that it is refused with: the name holds neither a receive
-/// right nor a set (`RcvInvalidName`, or `RcvPortDied` after a wait), the port is in a set (`RcvInSet`, or
+/// The port from which a receive takes its message, or the code with which it is refused: the name holds neither a
+/// receive right nor a set (`RcvInvalidName`, or `RcvPortDied` after a wait), the port is in a set (`RcvInSet`, or
 /// `RcvPortChanged` after a wait), or there is no message (`RcvTimedOut`).
 pub(crate) fn find_source(
     alloc: Global,
@@ -53,7 +53,7 @@ pub(crate) fn find_source(
     }
 }
 
-/// What a name gives messages by that stands for this.
+/// Where a name with this entry gets its messages from.
 fn giver_by(entry: Option<Entry>) -> Giver
     ensures { result ≡ giver_of entry }
 {
@@ -64,7 +64,7 @@ fn giver_by(entry: Option<Entry>) -> Giver
     }
 }
 
-/// The code where no receive right and no set stands under the name. After a wait there was one.
+/// The code if neither a receive right nor a set stands under the name. After a wait there was one.
 fn not_there(waited: bool) -> KernReturn
     ensures { result ≡ (if waited then KernReturn.RcvPortDied else KernReturn.RcvInvalidName) }
 {
@@ -75,7 +75,7 @@ fn not_there(waited: bool) -> KernReturn
     }
 }
 
-/// The port as the source, or the code that the receipt is refused with.
+/// The port as the source, or the code with which the receive is refused.
 fn from_port(state: &IpcState, asked: Asked, port: u64) -> Result<Source, KernReturn>
     ensures found { IfOk result (λ source. (port_refusal state.now.current (receipt_of asked) port ≡ None) × (source ≡ record { member = asked.name; port = port })) }
     ensures refused { IfErr result (λ code. port_refusal state.now.current (receipt_of asked) port ≡ Some code) }
@@ -92,7 +92,7 @@ fn from_port(state: &IpcState, asked: Asked, port: u64) -> Result<Source, KernRe
     })
 }
 
-/// The code where a port gives its messages through a set. After a wait it has come there since.
+/// The code if a port delivers its messages through a set. After a wait it has been put there since.
 fn in_set(waited: bool) -> KernReturn
     ensures { result ≡ (if waited then KernReturn.RcvPortChanged else KernReturn.RcvInSet) }
 {
@@ -123,7 +123,7 @@ fn has_message(state: &IpcState, port: u64) -> bool
     }
 }
 
-/// The member of a set that gives a message: the preferred one, or else the one with the least name.
+/// The member of a set that delivers a message: the preferred one, else the one with the least name.
 fn from_set(
     alloc: Global,
     state: &IpcState,
@@ -170,7 +170,7 @@ fn first(
     Ok(None)
 }
 
-/// Whether a member has a message, and is preferred.
+/// Whether a member has a message and is preferred.
 fn gives(
     alloc: Global,
     state: &IpcState,

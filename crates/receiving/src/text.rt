@@ -10,7 +10,7 @@ use msg_header::Header;
 use std::alloc::{AllocError, Global};
 use type_desc::push_filled_body;
 
-/// The bytes of a message that is received under this name of its port, with this sequence number, where its rights got
+/// The bytes of a message that is received under this name of its port, with this sequence number, if its rights got
 /// these names.
 pub(crate) fn received_text(
     alloc: Global,
@@ -52,7 +52,7 @@ fn header_of(message: &Message, member: u32, given: &[u32]) -> Header
     }
 }
 
-/// The number of a reply right's kind, 0 where there is none.
+/// The number of a reply right's kind; 0 if there is no reply right.
 fn reply_kind(reply: Option<CarriedRight>) -> u8
     ensures { result ≡ reply_kind_number reply }
 {
@@ -88,7 +88,7 @@ fn first_name(given: &[u32]) -> u32
     }
 }
 
-/// The names that the rights of the body got, which are those behind the reply right's.
+/// The names that the rights of the body got: those after the reply right's.
 fn body_names(reply: Option<CarriedRight>, given: &[u32]) -> &[u32]
     ensures { result.now ≡ body_names reply given.now }
 {

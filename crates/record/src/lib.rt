@@ -1,4 +1,4 @@
-//! Records as bytes, one spelling each.
+//! Records as bytes, in a canonical encoding.
 #![tactic(auto)]
 
 mod frame;

@@ -5,9 +5,9 @@ ghost use Rattle.ipc_model.specs.texts.Texts.{call_text, reply_text, kept_record
 
 use ipc_model::{Call, Reply, call_in_range, reply_in_range};
 
-/// The numbers of a call and its reply are in the ranges of their types, which a clause doesn't see behind a reference:
-/// what is kept of the record of a call that has one, whole and with its results, may stand in a segment. It does nothing
-/// but show it.
+/// Shows that the numbers of a call and its reply are in the ranges of their types, which a clause doesn't see behind a
+/// reference: what is kept of the record of a call that has one, whole and with its results, may stand in a segment. It
+/// does nothing else.
 pub fn in_range(space: u32, call: &Call, reply: &Reply)
     ensures { IsWholeCall call.now → number_of_reply reply.now ≡ number_of_call call.now
         → HasItsResults call.now reply.now → IsTrue (has_record call.now reply.now)

@@ -10,8 +10,7 @@ use ipc_model::Record;
 use std::alloc::{AllocError, Global};
 use words::{take_long_word, take_word};
 
-/// The number and the space of the record that stands in front, the texts of its call and its reply, and the bytes
-/// behind it.
+/// The number and the space of the record in front, the encodings of its call and its reply, and the bytes after it.
 fn take_parts(bytes: &[u8]) -> Option<(u64, u32, &[u8], &[u8], &[u8])>
     ensures found { IfSome result (λ r. bytes.now
         ≡ long_word r.0 ++ (word r.1 ++ (frame_text r.2.now ++ (frame_text r.3.now ++ r.4.now)))) }
@@ -28,7 +27,7 @@ fn take_parts(bytes: &[u8]) -> Option<(u64, u32, &[u8], &[u8], &[u8])>
     Some((number, space, call, reply, rest))
 }
 
-/// The record of this space whose call and reply have these texts.
+/// The record of this space whose call and reply have these encodings.
 fn read_record(
     alloc: Global,
     space: u32,
@@ -54,7 +53,7 @@ fn read_record(
 }
 
 #[tactic(auto, unfolding(ipc_model::specs::texts::Texts::record_text))]
-/// The record that stands in front, with its number, and the bytes behind it. Memory is wanted for messages alone.
+/// The record in front, with its number, and the bytes after it. It can run out of memory only for messages.
 pub fn take_record(alloc: Global, bytes: &[u8]) -> Result<Option<(u64, Record, &[u8])>, AllocError>
     ensures found { IfOk result (λ found. IfSome found (λ r.
         (bytes.now ≡ record_text r.0 r.1 ++ r.2.now) × IsRecord r.1)) }

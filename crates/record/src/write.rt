@@ -8,7 +8,7 @@ use ipc_model::{Call, Record, Reply};
 use std::alloc::{AllocError, Global};
 use words::{push_long_word, push_word};
 
-/// Adds the frame of a call as a record keeps it. Where memory is wanted some of its bytes may have been added.
+/// Adds the frame of a call as a record keeps it. If an allocation fails, some of its bytes may have been added.
 fn push_call_frame(alloc: Global, out: &mut Vec<u8>, call: &Call) -> Result<(), AllocError>
     requires { length (call_text call.now) < 2 ^ 32 }
     ensures { OnOk result (out.new.items ≡ out.old.items ++ frame_text (call_text (kept_call call.now))) }
@@ -20,7 +20,7 @@ fn push_call_frame(alloc: Global, out: &mut Vec<u8>, call: &Call) -> Result<(), 
     Ok(())
 }
 
-/// Adds the frame of a reply. Where memory is wanted some of its bytes may have been added.
+/// Adds the frame of a reply. If an allocation fails, some of its bytes may have been added.
 fn push_reply_frame(out: &mut Vec<u8>, reply: &Reply) -> Result<(), AllocError>
     requires { length (reply_text reply.now) < 2 ^ 32 }
     ensures { OnOk result (out.new.items ≡ out.old.items ++ frame_text (reply_text reply.now)) }
@@ -33,8 +33,8 @@ fn push_reply_frame(out: &mut Vec<u8>, reply: &Reply) -> Result<(), AllocError>
 }
 
 #[tactic(auto, unfolding(ipc_model::specs::texts::Texts::record_text))]
-/// Adds the record of a call of a task of this space that was answered so, with its number: the call as a record keeps
-/// it. Where memory is wanted some of its bytes may have been added.
+/// Adds the record of a call of a task of this space with this reply, with its number: the call as a record keeps it.
+/// If an allocation fails, some of its bytes may have been added.
 pub fn push_exchange(
     alloc: Global,
     out: &mut Vec<u8>,
@@ -53,7 +53,8 @@ pub fn push_exchange(
     push_reply_frame(out, reply)
 }
 
-/// Adds a record with its number, its call as a record keeps it. Where memory is wanted some of its bytes may have been added.
+/// Adds a record with its number, and its call as a record keeps it. If an allocation fails, some of its bytes may have
+/// been added.
 pub fn push_record(
     alloc: Global,
     out: &mut Vec<u8>,

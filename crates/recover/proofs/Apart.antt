@@ -12,7 +12,7 @@ by_parity true false d bytes = refl
 by_parity false true d bytes = refl
 by_parity false false d bytes = refl
 
--- What is inside a segment stays there where an image is written.
+-- What is inside a segment stays there when an image is written.
 pub stays_inside : (e f end : ℕ) (slot : Slot) (first mid written : Slots) (bytes : List ℕ) → slot ≡ segment_slot f → end ≤ length (slot_of first slot) → mid ≡ first → written ≡ with_slot mid (image_slot e) bytes → end ≤ length (slot_of written slot)
 stays_inside e f end slot first mid written bytes at inside same made =
     subst (λ (s : Slot). end ≤ length (slot_of written s)) (sym at)

@@ -1,4 +1,4 @@
--- The faults of what a store is opened by.
+-- The faults of the functions that open a store.
 use Rattle.std.proofs.Common.{◌≡◌, ◌⊎◌, inl, inr, Result, Ok, Err, IfOk, OnErr, OnOk}
 use Rattle.std.specs.Prelude.{IsErrOf}
 use Rattle.disk.specs.Moments.{MayLeave, Passes, View}
@@ -27,7 +27,7 @@ one_of_four (Err f) faults = elim faults [
   ]
 ]
 
--- behind steps that only read
+-- after steps that only read
 pub untouched_then : {T : Type 0} (r : Result T StoreFault) (old mid new : View) → Passes old mid (MayLeave old) → OnErr r ((r ≡ Err fault.Device) ⊎ Passes mid new (MayLeave mid)) → OnErr r ((r ≡ Err fault.Device) ⊎ Passes old new (MayLeave old))
 untouched_then (Ok v) old mid new still step = tt
 untouched_then (Err f) old mid new still step = elim step [

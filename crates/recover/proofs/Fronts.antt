@@ -29,7 +29,7 @@ front_of_epoch number epoch n slot is = record {
   of_number = is.of_number;
 }
 
--- and the other way round, where the front has the whole header
+-- and conversely, if the front has the whole header
 epoch_of_front : (number epoch n : ℕ) (slot : List ℕ) → 16 ≤ n → IsOfEpoch number epoch slot → IsOfEpoch number epoch (take n slot)
 epoch_of_front number epoch n slot whole is =
     let apart : n ≡ 16 + (n - 16) = omega arith in
@@ -60,6 +60,6 @@ front_read slot buffer old n count bytes =
       | inr whole ↦ let all : n ≡ 24 = omega (arith, count, whole) in front ∙ ap (λ k. take k slot) all
     ]
 
--- an epoch behind the front of a header
+-- an epoch after the front of a header
 pub epoch_behind : (slot rest behind : List ℕ) (epoch : ℕ) → slot ≡ version_one ++ rest → rest ≡ long_word epoch ++ behind → epoch < 2 ^ 64 → IsOfEpoch (epoch % 2) epoch slot
 epoch_behind slot rest behind epoch first second fits = record { rest = behind; text = first ∙ ap (λ l. version_one ++ l) second; fits = fits; of_number = refl }

@@ -1,4 +1,4 @@
--- A gate stands behind a segment's batches at each moment of what a server does to it.
+-- A gate stands after a segment's batches at each moment of what a server does to the segment.
 use Rattle.std.proofs.Common.{◌≡◌, inl, inr, ℕ, ◌+◌, ◌<◌, ◌≤◌, List, [], ◌∷◌, ◌++◌, length, take, drop, refl, sym, ap, subst, ◌∙◌, arith, append_assoc, length-append}
 use Rattle.std.specs.Prelude.{◌-◌}
 use Rattle.std.proofs.lemmas.Bool.{cases_eq}
@@ -12,7 +12,7 @@ use Rattle.journal.specs.Reading.{MAX_RECORDS}
 use Rattle.recover.specs.Making.{empty_segment}
 use Rattle.recover.specs.Stopping.{HasLastGate, AppendKeepsGate}
 
--- equal texts of batches have the same behind them
+-- equal bytes that begin with encodings of batches go on alike after these
 same_rest : (n : ℕ) (more more_too : List (List Record)) (x y : List ℕ) → IsClosed x → IsClosed y → AreRecords (all_records more) → AreRecords (all_records more_too)
     → n + length (all_records more) ≤ MAX_RECORDS → n + length (all_records more_too) ≤ MAX_RECORDS
     → batches_text n more ++ x ≡ batches_text n more_too ++ y → x ≡ y
@@ -34,7 +34,7 @@ one_rest bytes r1 r2 a b =
     same_rest 0 a.batches b.batches a.rest b.rest a.closed b.closed (subst AreRecords a.flat a.canonical) (subst AreRecords b.flat b.canonical)
     (omega (arith, a.bounded, ap length a.flat)) (omega (arith, b.bounded, ap length b.flat)) (sym a.text ∙ b.text)
 
--- a segment with a reading that has a byte behind its batches
+-- a segment with a reading that has a byte after its batches
 pub has_gate : (epoch : ℕ) (segment : List ℕ) (records : List Record) → (known : SpellsSegment epoch segment records) → 0 < length known.spelled.rest → HasLastGate segment
 has_gate epoch segment records known some other_epoch others other =
     let same : known.content ≡ other.content = ap (drop 16) (sym known.text ∙ other.text) in
@@ -66,7 +66,7 @@ empty_has_gate epoch segment is = has_gate epoch segment []
 
 -- a segment in use to which a batch is appended
 
--- the batches of a segment in use, with other bytes behind them
+-- the batches of a segment in use, with other bytes after them
 other_behind : (epoch : ℕ) (old new behind : List ℕ) (records : List Record) → (used : IsInUse epoch old records) → new ≡ take (length old - 1) old ++ behind → new ≡ segment_header open_gate epoch ++ (batches_text 0 used.spelled.batches ++ behind)
 other_behind epoch old new behind records used is =
     let header : List ℕ = segment_header open_gate epoch in

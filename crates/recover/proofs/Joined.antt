@@ -102,7 +102,7 @@ first_kept old mid new image segment rest unused is_new is holds first made sync
       counted = refl;
     })
 
--- a store goes on
+-- a store continues
 
 -- the segment in this slot is ended
 abbrev EndsAt : View → View → Slot → ℕ → Type 0
@@ -165,7 +165,7 @@ pub rested_after_image : (old mid written : View) (e : ℕ) (base : State) (imag
     → written.seen ≡ with_slot mid.seen (image_slot image.epoch) (open_image image.epoch image.text) → IsSynced written (image_slot image.epoch) → IsAtRest written
 rested_after_image old mid written e base image is rest still same writes made synced = next_rest mid written e base image is (rest_kept old mid still same rest) writes made synced
 
--- a stop while a store is kept leaves its state
+-- a crash while a store is kept leaves its state
 pub kept_recovered : (disk : View) (segment : Segment) (state : State) → IsKept disk segment state → (c : Slots) → MayLeave disk c → Recovered (as_written c) state
 kept_recovered disk segment state kept c left =
     subst (λ (s : Slots). Recovered (as_written s) state) (sym (kept.at_rest c left)) (one_recovered disk.seen segment.epoch kept.base state kept.records kept.stands kept.run)

@@ -26,7 +26,7 @@ pub run_join : (old mid new : State) (records more : List Record) → Run old re
 run_join old mid new [] more first second = subst (λ (s : State). Run s more new) first second
 run_join old mid new (one ∷ records) more first second = (first.0, first.1, run_join first.0 mid new records more first.2 second)
 
--- slots from which one state is recovered stand for what others stand for, from which it is too
+-- slots from which one state is recovered stand for what other slots stand for from which the same state is recovered
 pub same_by_one : (s c : Slots) (state : State) → Recovered (as_written s) state → Recovered (as_written c) state → RecoverSame s c
 same_by_one s c state one other found is = subst (Recovered (as_written c)) (recovers_once (as_written s) state found one is) other
 
@@ -152,9 +152,9 @@ next_image s e base mid state first next x content two run more image remade = e
       (two_finished s e base mid first next x two (subst (λ l. HoldsImage (e + 1) l mid) (sym whole) image)) more
 ]
 
--- a segment that is ended behind its batches
+-- a segment that is ended after its batches
 
--- a closed gate is left of what stands behind the batches, or put there
+-- of what stands after the batches a closed gate is left, or one is put there
 gate_behind : (rest : List ℕ) → IsClosed rest → IsClosed (take 1 (rest ++ closed_gate ∷ [])) × (length (take 1 (rest ++ closed_gate ∷ [])) ≡ 1)
 gate_behind [] is = (λ e. cc, refl)
 gate_behind (gate ∷ rest) is = (is, refl)

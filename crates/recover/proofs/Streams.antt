@@ -14,7 +14,7 @@ use Rattle.recover.specs.Replayed.{Replays, ReplaysAll}
 pub record IsLeft (segment : List ℕ) (first place : Place) (old now : State) : Type 0 where
   pub same : (state : State) (count end : ℕ) → Replays segment place now state count end ↔ Replays segment first old state count end
 
--- the records behind the first, from the state after it
+-- the records after the first, from the state after it
 behind : (segment : List ℕ) (place next : Place) (entry : Record) (now mid state : State) (records more : List Record) (count end : ℕ) → records ≡ entry ∷ more → SpellsFrom segment next more end
     → ((other : State) → Step now entry.space entry.call entry.reply other → other ≡ mid) → next.number ≡ place.number + 1 → Run now records state → count ≡ place.number + length records → Replays segment next mid state count end
 behind segment place next entry now mid state records more count end are spelled only numbered run counted =
@@ -43,7 +43,7 @@ left_on segment first place next entry old now mid so_far leads numbered step on
   );
 }
 
--- a record that is no step
+-- a record that isn't a step
 pub none_left : (segment : List ℕ) (first place next : Place) (entry : Record) (old now : State) → IsLeft segment first place old now → Leads segment place entry next
     → ((new : State) → Step now entry.space entry.call entry.reply new → ⊥) → (state : State) (count end : ℕ) → Replays segment first old state count end → ⊥
 none_left segment first place next entry old now so_far leads fails state count end r =
@@ -52,7 +52,7 @@ none_left segment first place next entry old now so_far leads fails state count 
     let run : Run now (entry ∷ apart.0) state = subst (λ (l : List Record). Run now l state) apart.1 here.run in
     fails run.0 run.1
 
--- bytes that spell nothing
+-- bytes that encode nothing
 pub unread : (segment : List ℕ) (first place : Place) (old now : State) → IsLeft segment first place old now → IsNothing segment place → (state : State) (count end : ℕ) → Replays segment first old state count end → ⊥
 unread segment first place old now so_far nothing state count end r =
     let here = (so_far.same state count end).1 r in nothing here.records end here.spelled

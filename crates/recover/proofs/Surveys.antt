@@ -16,14 +16,15 @@ use Rattle.recover.specs.Surveyed.{Adjoins, IsLatest, IsNoLater}
 use Rattle.recover.specs.declared.headers.Header.{Header}
 use Rattle.recover.specs.declared.headers.Header.TheVariants.{Closed, Open, OtherVersion, Unreadable}
 
--- What the slots of an epoch tell: its image's, the other image's, its segment's and the other segment's.
+-- What the slots of an epoch are, as `Tells` has it: its image's, the other image's, its segment's and the other
+-- segment's.
 pub record TellOf (s : Slots) (e : ℕ) (a b c d : Option ℕ) : Type 0 where
   pub image : Tells image_header (e % 2) (slot_of s (image_slot e)) a
   pub other_image : Tells image_header ((e + 1) % 2) (slot_of s (image_slot (e + 1))) b
   pub segment : Tells segment_header_length (e % 2) (slot_of s (segment_slot e)) c
   pub other_segment : Tells segment_header_length ((e + 1) % 2) (slot_of s (segment_slot (e + 1))) d
 
--- what two numbers that are 0 and 1 tell
+-- the same for two numbers that are 0 and 1
 abbrev pub TellBy : Slots → Option ℕ → Option ℕ → Option ℕ → Option ℕ → ℕ → ℕ → Type 0
 TellBy s a b c d n m =
     Tells image_header n (slot_of s (if n == 0 then Image0 else Image1)) a × Tells image_header m (slot_of s (if m == 0 then Image0 else Image1)) b
@@ -42,14 +43,14 @@ tell_odd s e a b c d odd t =
     let even : (e + 1) % 2 ≡ 0 = omega arith in
     tell_of s e b a d c (subst (λ n. TellBy s b a d c n ((e + 1) % 2)) (sym odd) (subst (λ m. TellBy s b a d c 1 m) (sym even) (t.image1, t.image0, t.segment1, t.segment0)))
 
--- an epoch that a slot tells is one
+-- the epoch that a slot is of is the only one
 told_epoch : (length number n e o : ℕ) (slot : List ℕ) → Tells length number slot (Some o) → IsOfEpoch n e slot → o ≡ e
 told_epoch length number n e o slot tells is = one_epoch o e tells.1.rest is.rest tells.1.fits is.fits (sym tells.1.text ∙ is.text)
 
 spelled_epoch : (e : ℕ) (slot : List ℕ) (records : List Record) → e < 2 ^ 64 → SpellsSegment e slot records → IsOfEpoch (e % 2) e slot
 spelled_epoch e slot records fits spelled = record { rest = spelled.content; text = spelled.text; fits = fits; of_number = refl }
 
--- where the disk spells something, its epoch is the latest image's
+-- if the disk encodes something, its epoch is the latest image's
 
 before_or_none : (e f : ℕ) (slot : List ℕ) (o : Option ℕ) → Tells image_header ((e + 1) % 2) slot o → IsLatest e o → IsOfEpoch ((e + 1) % 2) f slot → IsOpen image_header slot → f ≤ e
 before_or_none e f slot None told latest is is_open = absurd (told is_open)
@@ -109,7 +110,7 @@ parts_of s e base records stored is =
     } in
     subst (λ f. PartsOf s f base records) is moved
 
--- a store whose latest image is open is no new one
+-- a store whose latest image is open isn't new
 pub never_new : (s : Slots) (e : ℕ) → IsOpen image_header (slot_of s (image_slot e)) → IsNew (as_written s) → ⊥
 never_new s e is_open new = new.no_image (e % 2) (omega arith) (subst (IsOpen image_header) (sym (image_at s e)) is_open)
 
@@ -158,7 +159,7 @@ unused_damaged s segment0 segment1 tells wrong base records spelled = elim spell
 of_version_one : (header number epoch : ℕ) (slot : List ℕ) → IsOfEpoch number epoch slot → HasOtherVersion header slot → ⊥
 of_version_one header number epoch slot is other = other.1 (ap (λ (l : List ℕ). slice_index l 1) is.text)
 
--- a header that no slot of its number has
+-- a header that no slot of its number may have
 foreign_fails : (header number : ℕ) (slot : List ℕ) (h : Header) → Says header slot h → IsForeign h number → (IsOpen header slot → (epoch : ℕ) × IsOfEpoch number epoch slot) → ⊥
 foreign_fails header number slot Closed says foreign fits = foreign
 foreign_fails header number slot (Open epoch) says foreign fits =
@@ -183,7 +184,7 @@ foreign_damaged s image0 image1 segment0 segment1 says foreign base records spel
       ]
     ]
 
--- a header of the slot's number tells its epoch
+-- a header that fits the slot's number gives the slot's epoch
 pub says_tells : (header number : ℕ) (slot : List ℕ) (h : Header) (o : Option ℕ) → Says header slot h → ((o ≡ None) × (h ≡ Closed)) ⊎ ((epoch : ℕ) × (o ≡ Some epoch) × (h ≡ Open epoch) × (epoch % 2 ≡ number)) → Tells header number slot o
 says_tells header number slot h o says (inl none) = subst (Tells header number slot) (sym none.0) (subst (Says header slot) none.1 says)
 says_tells header number slot h o says (inr some) =
@@ -194,12 +195,12 @@ pub tells_of : (header number : ℕ) (slot : List ℕ) (h : Header) (o : Option 
 tells_of header number slot h None says some none = says_tells header number slot h None says (inl (refl, none))
 tells_of header number slot h (Some epoch) says some none = says_tells header number slot h (Some epoch) says (inr (epoch, refl, some.0, some.1))
 
--- the epochs of both numbers differ
+-- epochs of the two slot numbers differ
 strictly : (s : Slots) (a b c d : Option ℕ) (e : ℕ) → TellAll s a b c d → e % 2 ≡ 1 → IsNoLater e a → IsLatest e a
 strictly s None b c d e tells odd no_later = tt
 strictly s (Some o) b c d e tells odd no_later = omega (arith, no_later, odd, tells.image0.1.of_number)
 
--- what the latest image's slots tell
+-- what the slots of the latest image's epoch are
 pub first_tells : (s : Slots) (a b c d : Option ℕ) (e : ℕ) → TellAll s a b c d → a ≡ Some e → TellOf s e (Some e) b c d
 first_tells s a b c d e tells is =
     let moved : TellAll s (Some e) b c d = subst (λ o. TellAll s o b c d) is tells in

@@ -20,14 +20,14 @@ use Rattle.snapshot.specs.Snapshots.{snapshot_of}
 use Rattle.snapshot.specs.declared.rows.Snapshot.{Snapshot}
 use Rattle.recover.specs.Loaded.{HoldsText}
 
--- a text that stands there with its length is one
+-- bytes that follow their length are determined
 pub one_text : (a b x y : List ℕ) → length a < 2 ^ 64 → length b < 2 ^ 64 → long_word (length a) ++ (a ++ x) ≡ long_word (length b) ++ (b ++ y) → a ≡ b
 one_text a b x y fits fits_too is =
     let long : length a ≡ length b = same_long_word (length a) (length b) (a ++ x) (b ++ y) fits fits_too is in
     let behind : a ++ x ≡ b ++ y = ap (λ (l : List ℕ). drop 8 l) is in
     sym (take_at a x (length b) long) ∙ ap (take (length b)) behind ∙ take_at b y (length b) refl
 
--- the image of a state, and its text
+-- the image of a state, and its encoding
 pub image_behind : (epoch : ℕ) (slot : List ℕ) (state : State) → HoldsImage epoch slot state → HoldsText slot (image_text state)
 image_behind epoch slot state image = record {
   rest = image.rest;
@@ -49,7 +49,7 @@ text_is_image number epoch slot text state is holds image =
       short = image.short;
     }
 
--- a word that is read behind a slot's header
+-- a word that is read after a slot's header
 pub word_read : (slot buffer old behind : List ℕ) (n size : ℕ) → 24 ≤ length slot → length old ≡ 8 → n ≡ min (length old) (length slot - 16) → buffer ≡ take n (drop 16 slot) ++ drop n old → buffer ≡ long_word size ++ behind
     → (rest : List ℕ) × (drop 16 slot ≡ long_word size ++ rest)
 word_read slot buffer old behind n size long one count bytes found =
@@ -62,7 +62,7 @@ word_read slot buffer old behind n size long one count bytes found =
     nothing [] is = refl
     nothing (x ∷ l) is = absurd (omega (arith, is))
 
--- a text that is read behind a slot's whole header
+-- an encoding that is read after a slot's whole header
 pub text_read : (slot buffer old rest : List ℕ) (n size : ℕ) → drop 16 slot ≡ long_word size ++ rest → size < 2 ^ 64 → size ≤ length slot - 24 → 24 ≤ length slot → length old ≡ size → n ≡ min (length old) (length slot - 24)
     → buffer ≡ take n (drop 24 slot) ++ drop n old → HoldsText slot buffer
 text_read slot buffer old rest n size word fits room long made count bytes =
@@ -114,7 +114,7 @@ pub read_length : (slot buffer old : List ℕ) (n : ℕ) → n ≡ min (length o
 read_length slot buffer old n count bytes =
     omega (arith, ap length bytes, length-append (take n (drop 24 slot)) (drop n old), length-take n (drop 24 slot), length-drop 24 slot, length-drop n old, count)
 
--- a text that stands in a slot with an image is the image's
+-- the encoding that stands in a slot with an image is the image's
 pub text_of_image : (epoch : ℕ) (slot text : List ℕ) (state : State) → HoldsText slot text → HoldsImage epoch slot state → IsImageOf text state
 text_of_image epoch slot text state holds image =
     let own = image_behind epoch slot state image in

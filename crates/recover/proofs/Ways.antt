@@ -55,7 +55,7 @@ recover_self s state found = found
 pub recover_as : (s c : Slots) → c ≡ s → RecoverSame s c
 recover_as s c is = subst (RecoverSame s) (sym is) (recover_self s)
 
--- last gates of slots one of which is changed
+-- last gates of slots of which one is changed
 
 pub gates_beside_image : (s : Slots) (x : List ℕ) (e : ℕ) → HaveLastGates s → HaveLastGates (with_slot s (image_slot e) x)
 gates_beside_image s x e gates = by_parity (λ a b c d. HaveLastGates (with_slot s a x)) gates gates e
@@ -66,7 +66,7 @@ gates_with_segment s x e gates own = by_parity (λ a b c d. HaveLastGates (with_
 pub own_last_gate : (s : Slots) (e : ℕ) → HaveLastGates s → HasLastGate (slot_of s (segment_slot e))
 own_last_gate s e gates = by_parity (λ a b c d. HasLastGate (slot_of s c)) gates.0 gates.1 e
 
--- what a segment that was replayed spells
+-- what a segment that was replayed encodes
 
 header_apart : (n e : ℕ) (slot : List ℕ) → IsOfEpoch n e slot → slot ≡ segment_header open_gate e ++ drop 16 slot
 header_apart n e slot is = is.text ∙ ap (λ (l : List ℕ). segment_header open_gate e ++ l) (sym (ap (λ (l : List ℕ). drop 16 l) is.text))
@@ -149,7 +149,7 @@ records_fit : (records : List Record) → AreRecords records → FitCalls record
 records_fit [] are = tt
 records_fit (first ∷ records) are = (are.0.call.fits, records_fit records are.1)
 
--- the state that an epoch's image and segment lead to is one
+-- an epoch's image and segment lead to only one state
 pub one_read : (s : Slots) (e n : ℕ) (state other : State) (count end : ℕ) → IsOfEpoch n e (slot_of s (segment_slot e)) → ReadsOne s e state count end → (runs : RunsIn s e other) → runs.mid ≡ state
 one_read s e n state other count end is r runs =
     let segment = slot_of s (segment_slot e) in
@@ -159,13 +159,13 @@ one_read s e n state other count end is r runs =
     one_run r.base r.replays.records runs.mid state (records_fit r.replays.records r.replays.spelled.spelled.canonical) r.image.lawful r.image.grounded
     (subst (λ (b : State). Run b r.replays.records runs.mid) base (subst (λ (l : List Record). Run runs.base l runs.mid) records runs.run)) r.replays.run
 
--- nothing is recovered where the image or its records are none
+-- nothing is recovered if there is no image, or no run of records
 pub read_damaged : (s : Slots) (e : ℕ) (follows : Bool) → Uses s e follows
     → ((base state : State) (records : List Record) → HoldsImage e (slot_of s (image_slot e)) base → SpellsSegment e (slot_of s (segment_slot e)) records → Run base records state → ⊥)
     → (state : State) → Recovered (as_written s) state → ⊥
 read_damaged s e follows used none state found = let runs = runs_in s e follows state used found in none runs.base runs.mid runs.first runs.image runs.segment runs.run
 
--- nor where the records of the segment that follows are none
+-- nor if the segment that follows has no run of records
 pub next_damaged : (s : Slots) (e : ℕ) (mid : State) (count end : ℕ) → Uses s e true → ReadsOne s e mid count end
     → ((records : List Record) (state : State) → SpellsBatches (drop 16 (slot_of s (segment_slot (e + 1)))) records → Run mid records state → ⊥)
     → (state : State) → Recovered (as_written s) state → ⊥
@@ -221,7 +221,7 @@ image_same old new e base mid state first next content rest gates two run more i
       gates_beside_image old.seen x (e + 1) gates,
     ))
 
--- A store that goes on in an epoch: what was read of it.
+-- A store that continues in an epoch: what was read of it.
 pub record OneParts (s : Slots) (e : ℕ) (state : State) (count end : ℕ) : Type 0 where
   pub base : State
   pub header : IsOfEpoch (e % 2) e (slot_of s (segment_slot e))
@@ -262,7 +262,7 @@ one_kept s new e state count end parts rest is =
       counted = parts.replays.counted;
     }
 
--- A store that goes on in the next epoch: what was read of it, and the image to be written.
+-- A store that continues in the next epoch: what was read of it, and the image to be written.
 pub record NextParts (s : Slots) (e : ℕ) (content : List ℕ) (state : State) (count end : ℕ) : Type 0 where
   pub base : State
   pub mid : State
@@ -358,7 +358,7 @@ two_reads s e mid state number stop count end used read replays =
       counted = omega (arith, read.replays.counted, replays.counted, length-append read.replays.records replays.records);
     }
 
--- no run begins from the state of an image whose segment spells none
+-- no run begins from the state of an image whose segment encodes none
 pub no_run : (e : ℕ) (image_bytes segment_bytes : List ℕ) (read base state : State) (records : List Record) → HoldsImage e image_bytes read → HoldsImage e image_bytes base → SpellsSegment e segment_bytes records → Run base records state
     → ((rs : List Record) (s : State) → SpellsBatches (drop 16 segment_bytes) rs → Run read rs s → ⊥) → ⊥
 no_run e image_bytes segment_bytes read base state records one other spelled run none =

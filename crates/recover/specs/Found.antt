@@ -15,19 +15,19 @@ pub record HasOwn (slots : Slots) (epoch : ℕ) : Type 0 where
   pub image : IsOfEpoch (epoch % 2) epoch (slot_of slots (image_slot epoch))
   pub segment : IsOfEpoch (epoch % 2) epoch (slot_of slots (segment_slot epoch))
 
--- The state after an epoch's image and the records of its segment: so many, and the last batch ends at `end`.
+-- The state after an epoch's image and the records of its segment: there are `count`, and the last batch ends at `end`.
 pub record ReadsOne (slots : Slots) (epoch : ℕ) (state : State) (count end : ℕ) : Type 0 where
   pub base : State
   pub image : HoldsImage epoch (slot_of slots (image_slot epoch)) base
   pub replays : ReplaysAll (slot_of slots (segment_slot epoch)) base state count end
 
--- no image is open, or that of this epoch is the latest
+-- no image is open and the epoch is 0, or the image of this epoch is the latest
 abbrev pub IsLatestEpoch : Slots → ℕ → Type 0
 IsLatestEpoch slots epoch =
     (((number : ℕ) → number < 2 → IsOpen image_header ((as_written slots).image number) → ⊥) × (epoch ≡ 0))
     ⊎ (IsOpen image_header (slot_of slots (image_slot epoch)) × IsOfEpoch (epoch % 2) epoch (slot_of slots (image_slot epoch)) × IsPassedImage epoch (slot_of slots (image_slot (epoch + 1))))
 
--- What slots spell: the epoch of the image, so many records in the segments, and the state after them.
+-- What slots encode: the epoch of the image, `count` records in the segments, and the state after them.
 pub record Reads (slots : Slots) (epoch count : ℕ) (state : State) : Type 0 where
   pub latest : IsLatestEpoch slots epoch
   pub base : State

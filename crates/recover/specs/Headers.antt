@@ -10,32 +10,32 @@ use Rattle.recover.specs.declared.headers.Header.TheVariants.{Closed, Open, Othe
 abbrev pub version_one : List ℕ
 version_one = open_gate ∷ 1 ∷ 0 ∷ 0 ∷ 0 ∷ 0 ∷ 0 ∷ 0 ∷ []
 
--- what the header of a slot says, which has so many bytes
+-- what the header of a slot says; it has this many bytes
 abbrev pub Says : ℕ → List ℕ → Header → Type 0
 Says length slot Closed = IsOpen length slot → ⊥
 Says length slot (Open epoch) = IsOpen length slot × IsOfEpoch (epoch % 2) epoch slot
 Says length slot OtherVersion = HasOtherVersion length slot
 Says length slot Unreadable = IsOpen length slot × (HasOtherVersion length slot → ⊥) × ((number epoch : ℕ) → IsOfEpoch number epoch slot → ⊥)
 
--- A slot of this number isn't open, or is of this epoch.
+-- A slot of this number isn't open, or it is open and of this epoch.
 abbrev pub Tells : ℕ → ℕ → List ℕ → Option ℕ → Type 0
 Tells length number slot found = MatchOption found (IsOpen length slot → ⊥) (λ epoch. IsOpen length slot × IsOfEpoch number epoch slot)
 
--- A header that no slot of this number has.
+-- A header that no slot of this number may have.
 abbrev pub IsForeign : Header → ℕ → Type 0
 IsForeign Closed number = ⊥
 IsForeign (Open epoch) number = epoch % 2 ≢ number
 IsForeign OtherVersion number = Unit {0}
 IsForeign Unreadable number = Unit {0}
 
--- what all four tell
+-- what all four slots are, as `Tells` has it
 pub record TellAll (slots : Slots) (a b c d : Option ℕ) : Type 0 where
   pub image0 : Tells image_header 0 slots.image0 a
   pub image1 : Tells image_header 1 slots.image1 b
   pub segment0 : Tells segment_header_length 0 slots.segment0 c
   pub segment1 : Tells segment_header_length 1 slots.segment1 d
 
--- what the headers of all four say
+-- what the headers of all four slots say
 pub record SayAll (slots : Slots) (a b c d : Header) : Type 0 where
   pub image0 : Says image_header slots.image0 a
   pub image1 : Says image_header slots.image1 b

@@ -11,8 +11,8 @@ use Rattle.slot_steps.specs.Steps.{segment_slot}
 use Rattle.standing.specs.Standing.{InOne}
 use Rattle.recover.specs.AtRest.{IsAtRest}
 
--- All of the disk is synced. It holds the image of the epoch in use and that epoch's segment, with so many records and one
--- closed gate behind them, and the state is the one after them. The other slots are passed over.
+-- All of the disk is synced. It holds the image of the epoch in use and that epoch's segment, with this many records
+-- and one closed gate after them, and the state is the one after them. The other slots are passed over.
 pub record IsKept (disk : View) (segment : Segment) (state : State) : Type 0 where
   pub at_rest : IsAtRest disk
   pub base : State

@@ -1,8 +1,8 @@
--- An image in its slot, behind the header's epoch.
+-- An image in its slot, after the header's epoch.
 use Rattle.std.specs.Prelude.{◌≡◌, ℕ, ◌^◌, ◌<◌, List, ◌++◌, length, drop}
 use Rattle.words.specs.Words.{long_word}
 
--- A slot holds a text with its length in front, behind the sixteen bytes of a gate, a version and an epoch.
+-- A slot holds these bytes, preceded by their length, after the sixteen bytes of a gate, a version and an epoch.
 pub record HoldsText (slot text : List ℕ) : Type 0 where
   pub rest : List ℕ
   pub fits : length text < 2 ^ 64

@@ -1,4 +1,4 @@
--- What a look at a store tells.
+-- What a look at a store shows.
 use Rattle.std.specs.Prelude.{◌≡◌}
 use Rattle.disk.specs.Slots.{Slots}
 use Rattle.ipc_model.specs.state.State.{State}
@@ -6,7 +6,8 @@ use Rattle.snapshot.specs.Snapshots.{snapshot_of}
 use Rattle.recover.specs.Found.{Reads}
 use Rattle.recover.specs.declared.looking.Looked.{Looked}
 
--- A state, as rows. On an honest disk it is the one that the slots spell, with the epoch of its image and so many records.
+-- A state, as rows of a snapshot. On an honest disk it is the one that the slots encode, with the epoch of its image
+-- and the number of records.
 pub record IsLook (honest : Type 0) (slots : Slots) (look : Looked) : Type 0 where
   pub state : State
   pub reads : honest → Reads slots look.epoch look.records state

@@ -6,15 +6,16 @@ use Rattle.ipc_model.specs.declared.record.Record.{Record}
 use Rattle.ipc_model.specs.state.State.{State}
 use Rattle.journal.specs.Reading.{Place, SpellsFrom}
 
--- The records that the segment spells from this place on lead from one state to another. So many are read by then,
--- and the last batch ends at `end`.
+-- The records that the segment encodes from this place on lead from one state to another. By then `count` records are
+-- read, and the last batch ends at `end`.
 pub record Replays (segment : List ℕ) (place : Place) (old new : State) (count end : ℕ) : Type 0 where
   pub records : List Record
   pub spelled : SpellsFrom segment place records end
   pub run : Run old records new
   pub counted : count ≡ place.number + length records
 
--- The records of a segment, behind its header, lead from one state to another: so many, and the last batch ends at `end`.
+-- The records of a segment, after its header, lead from one state to another: there are `count`, and the last batch
+-- ends at `end`.
 pub record ReplaysAll (segment : List ℕ) (old new : State) (count end : ℕ) : Type 0 where
   pub records : List Record
   pub spelled : SpellsCounted (drop 16 segment) records (end - 16)

@@ -1,2 +1,2 @@
--- What is known of the machine's steps, passed on to who stands above.
+-- What is known of the machine's steps, passed on to the crates above.
 pub use Rattle.kernel.specs.Unrecorded.{unrecorded_step}

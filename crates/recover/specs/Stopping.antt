@@ -1,4 +1,4 @@
--- What a stop while a store is opened may leave.
+-- The post-crash contents while a store is opened.
 use Rattle.std.specs.Prelude.{◌⊎◌, ℕ, ◌+◌, ◌<◌, ◌≤◌, List, length}
 use Rattle.disk.specs.Moments.{View, MayLeave}
 use Rattle.disk.specs.Slots.{Slots}
@@ -9,8 +9,8 @@ use Rattle.ipc_model.specs.store.Store.{AreRecords, SpellsSegment, IsInUse, IsMi
 use Rattle.journal.specs.Reading.{MAX_RECORDS}
 use Rattle.standing.specs.Standing.{as_written}
 
--- Behind the batches of an open segment, or behind its header where it has none, stands a byte: a gate that isn't open. So
--- it is in each segment that a server leaves. A segment that isn't open needs none.
+-- After the batches of an open segment, or after its header if it has none, stands a byte: a gate that isn't open. Each
+-- segment that a server leaves is like that. A segment that isn't open needs no such byte.
 abbrev pub HasLastGate : List ℕ → Type 0
 HasLastGate segment = (epoch : ℕ) (records : List Record) → (segment_is : SpellsSegment epoch segment records) → 0 < length segment_is.spelled.rest
 
@@ -26,13 +26,13 @@ RecoverSame before after = (state : State) → Recovered (as_written before) sta
 abbrev pub StandForSame : Slots → Slots → Type 0
 StandForSame before c = RecoverSame before c × HaveLastGates c
 
--- What a stop may leave since the store was as it was before: what a stop might have left then, or slots that stand for
--- what the store stood for.
+-- What a crash may leave while the store is opened: what a crash might have left before the opening, or slots that
+-- stand for what the store stood for.
 abbrev pub LeavesSame : View → Slots → Type 0
 LeavesSame before c = MayLeave before c ⊎ StandForSame before.seen c
 
--- Whatever a stop leaves while a batch is appended to a segment in use, which holds at most MAX_RECORDS records, has its last
--- gate too.
+-- Whatever a crash leaves while a batch is appended to a segment in use, which then holds at most MAX_RECORDS records,
+-- has its last gate too.
 abbrev pub AppendKeepsGate : Type 0
 AppendKeepsGate =
     (epoch : ℕ) (old new : List ℕ) (records batch : List Record) → IsInUse epoch old records → 0 < length batch → AreRecords batch → length records + length batch ≤ MAX_RECORDS

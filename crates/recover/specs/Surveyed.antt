@@ -1,4 +1,4 @@
--- What the headers of a store's slots tell of the store.
+-- What the headers of a store's slots say about the store.
 use Rattle.std.specs.Prelude.{◌≡◌, ℕ, ◌+◌, ◌%◌, ◌^◌, ◌<◌, ◌≤◌, Bool, true, false, Option, None, Some}
 use Rattle.disk.specs.Slots.{Slots, slot_of}
 use Rattle.ipc_model.specs.store.Recovery.{HeadersFit, IsOfEpoch, IsOpen, image_header, segment_header_length}
@@ -19,7 +19,7 @@ abbrev pub IsLatest : ℕ → Option ℕ → Type 0
 IsLatest epoch None = Unit {0}
 IsLatest epoch (Some other) = other < epoch
 
--- no later one
+-- another image is of no later epoch, or none is open
 abbrev pub IsNoLater : ℕ → Option ℕ → Type 0
 IsNoLater epoch None = Unit {0}
 IsNoLater epoch (Some other) = other ≤ epoch
@@ -42,7 +42,7 @@ abbrev pub OtherSegment : Slots → ℕ → Bool → Type 0
 OtherSegment slots epoch true = (epoch + 1 < 2 ^ 64) × IsOfEpoch ((epoch + 1) % 2) (epoch + 1) (slot_of slots (segment_slot (epoch + 1)))
 OtherSegment slots epoch false = IsPassedSegment epoch (slot_of slots (segment_slot (epoch + 1)))
 
--- The image of an epoch is open, and no later one; its segment is, and the other one follows or is passed over.
+-- The image of an epoch is open, and no later one; its segment is open, and the other one follows or is passed over.
 pub record IsInUse (slots : Slots) (epoch : ℕ) (follows : Bool) : Type 0 where
   pub fits : epoch < 2 ^ 64
   pub image_open : IsOpen image_header (slot_of slots (image_slot epoch))

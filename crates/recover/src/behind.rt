@@ -1,4 +1,4 @@
-//! Steps behind which a value comes back that its holder would have to drop where a step fails.
+//! Steps that return a value afterwards, which their caller would have to drop if a step fails.
 ghost use Rattle.std.specs.Prelude.{◌≡◌, ◌+◌, ◌<◌, ◌≤◌, ◌∷◌, ◌++◌, [], Ok, Err, length, take, IfErr, IfOk, OnOk};
 ghost use Rattle.checkpoint.specs.Images.{open_image};
 ghost use Rattle.disk.specs.Moments.{CountsFailure, Follows, IsSynced, Passes};
@@ -12,7 +12,7 @@ use crate::making::end_segment;
 use checkpoint::Image;
 use disk::{Disk, DiskFault, Slot};
 
-/// A value, and another one where it was made. Who holds the first has nothing to drop where it wasn't.
+/// A value, and another one if it was made. If it wasn't, the caller has nothing to drop.
 pub(crate) fn both<T: Drop, U: Drop, E: Drop>(value: T, made: Result<U, E>) -> Result<(T, U), E>
     ensures ok { IfOk result (λ r. (r.0 ≡ value) × (made ≡ Ok r.1)) }
     ensures err { IfErr result (λ e. made ≡ Err e) }
@@ -23,7 +23,7 @@ pub(crate) fn both<T: Drop, U: Drop, E: Drop>(value: T, made: Result<U, E>) -> R
     }
 }
 
-/// Writes an image, and gives a value back behind that.
+/// Writes an image, and then returns a value.
 pub(crate) fn write_behind<D: Disk, T: Drop>(
     disk: &mut D,
     image: &Image,
@@ -41,7 +41,7 @@ pub(crate) fn write_behind<D: Disk, T: Drop>(
     behind(value, written)
 }
 
-/// Ends a segment, and gives a value back behind that.
+/// Ends a segment, and then returns a value.
 pub(crate) fn end_behind<D: Disk, T: Drop>(
     disk: &mut D,
     slot: Slot,
@@ -62,7 +62,7 @@ pub(crate) fn end_behind<D: Disk, T: Drop>(
     behind(value, ended)
 }
 
-/// A value behind a step that was done. Who holds it has nothing to drop where the step wasn't.
+/// A value after a step that was done. If the step wasn't done, the caller has nothing to drop.
 pub(crate) fn behind<T: Drop, E: Drop>(value: T, done: Result<(), E>) -> Result<T, E>
     ensures ok { IfOk result (λ v. (v ≡ value) × (done ≡ Ok tt)) }
     ensures err { IfErr result (λ e. done ≡ Err e) }

@@ -24,7 +24,7 @@ use std::alloc::Global;
 
 /// The state after an epoch's image and the records of its segment, how many they are, and where the last batch ends.
 ///
-/// `Damaged`: the image is none of a lawful state, or the records are no run from it.
+/// `Damaged`: the image isn't that of a lawful state, or the records are no run from it.
 pub(crate) fn read_epoch<D: Disk>(
     alloc: Global,
     disk: &mut D,

@@ -18,7 +18,7 @@ pub(crate) enum Header {
     Open(u64),
     /// It is open, and of another version.
     OtherVersion,
-    /// It is open, and its header is none that a server writes.
+    /// It is open, and its header isn't one that a server writes.
     Unreadable,
 }
 
@@ -51,7 +51,7 @@ fn is_other_version(slot: &[u8], header: usize) -> bool
     slot.get(1) != Some(&1)
 }
 
-/// What stands behind the front of a header of version 1, if that stands there.
+/// What stands after the front of a header of version 1, if there is one.
 fn behind_version(slot: &[u8]) -> Option<&[u8]>
     ensures found { IfSome result (λ rest. slot.now ≡ version_one ++ rest.now) }
     ensures none { IfNone result ((rest : List ℕ) → slot.now ≢ version_one ++ rest) }
@@ -59,7 +59,7 @@ fn behind_version(slot: &[u8]) -> Option<&[u8]>
     slot.strip_prefix(&VERSION_ONE)
 }
 
-/// The epoch of a header of version 1, if that stands there.
+/// The epoch of a header of version 1, if there is one.
 fn epoch_of(slot: &[u8]) -> Option<u64>
     ensures found { IfSome result (λ epoch. IsOfEpoch (epoch % 2) epoch slot.now) }
     ensures none { IfNone result (16 ≤ length slot.now → (number epoch : ℕ) → IsOfEpoch number epoch slot.now → ⊥) }
@@ -69,7 +69,7 @@ fn epoch_of(slot: &[u8]) -> Option<u64>
     Some(epoch)
 }
 
-/// What the header of so many bytes says that these bytes begin with.
+/// What the header of `size` bytes says that these bytes begin with.
 fn header_in(slot: &[u8], size: usize) -> Header
     requires { 16 ≤ size }
     ensures { Says size slot.now result }

@@ -15,7 +15,7 @@ use slot_steps::IMAGE_HEADER;
 use std::alloc::Global;
 use words::take_long_word;
 
-/// How many bytes an image's text has, as its header says.
+/// How many bytes an image's encoding has, as its header says.
 fn text_length<D: Disk>(disk: &mut D, slot: Slot) -> Result<u64, DiskFault>
     requires { D.honest → IsOpen 24 (slot_of (D.view disk.old).seen slot) }
     ensures fits { IfOk result (λ size. size < 2 ^ 64) }
@@ -32,7 +32,7 @@ fn text_length<D: Disk>(disk: &mut D, slot: Slot) -> Result<u64, DiskFault>
     }
 }
 
-/// The text of an image.
+/// The encoding in an image.
 ///
 /// `Damaged`: the slot ends within it.
 fn read_text<D: Disk>(alloc: Global, disk: &mut D, slot: Slot) -> Result<Vec<u8>, StoreFault>
@@ -56,9 +56,9 @@ fn read_text<D: Disk>(alloc: Global, disk: &mut D, slot: Slot) -> Result<Vec<u8>
     Ok(text)
 }
 
-/// The state whose image these bytes are.
+/// The state that these bytes encode.
 ///
-/// `Damaged`: they are the image of no lawful state.
+/// `Damaged`: they encode no lawful state.
 fn state_of(alloc: Global, text: &[u8]) -> Result<Kernel, StoreFault>
     ensures image { IfOk result (λ kernel. IsImageOf text.now kernel) }
     ensures damaged { IsErrOf result StoreFault.Damaged → (state : State) → IsImageOf text.now state → ⊥ }
@@ -78,7 +78,7 @@ fn state_of(alloc: Global, text: &[u8]) -> Result<Kernel, StoreFault>
 
 /// The state whose image an open slot holds.
 ///
-/// `Damaged`: it holds no lawful state's.
+/// `Damaged`: it holds no image of a lawful state.
 pub(crate) fn load_image<D: Disk>(
     alloc: Global,
     disk: &mut D,

@@ -23,7 +23,7 @@ use std::alloc::{AllocError, Global};
 /// What a store holds.
 #[derive(Drop)]
 pub struct Looked {
-    /// The epoch of its image, 0 for a new store.
+    /// The epoch of its image; 0 for a new store.
     pub epoch: u64,
     /// How many records its segments hold.
     pub records: u64,
@@ -95,7 +95,7 @@ fn find<D: Disk>(alloc: Global, disk: &mut D) -> Result<(u64, u64, Kernel), Stor
     }
 }
 
-/// A state as plain rows, which are all that is left of it.
+/// A state as plain rows; the kernel is consumed.
 fn into_rows(alloc: Global, kernel: Kernel) -> Result<Snapshot, AllocError>
     ensures { IfOk result (λ rows. rows ≡ snapshot_of kernel) }
 {
@@ -104,10 +104,10 @@ fn into_rows(alloc: Global, kernel: Kernel) -> Result<Snapshot, AllocError>
     rows
 }
 
-/// Looks at a store, and writes nothing: neither what it holds nor what a stop leaves of it changes.
+/// Looks at a store and writes nothing: neither its contents nor its post-crash contents change.
 ///
-/// `Device`: the device failed. `Damaged`: the slots are none that a server leaves. `Version`: an open slot is
-/// of another version. `NoMemory`: no memory.
+/// `Device`: the device failed. `Damaged`: the slots are not as a server leaves them. `Version`: an open slot is of
+/// another version. `NoMemory`: out of memory.
 pub fn look<D: Disk>(alloc: Global, disk: &mut D) -> Result<Looked, StoreFault>
     ensures state { IfOk result (λ look. IsLook D.honest (D.view disk.old).seen look) }
     ensures seen { D.honest → (D.view disk.new).seen ≡ (D.view disk.old).seen }

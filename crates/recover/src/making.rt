@@ -11,7 +11,7 @@ use disk::{Disk, DiskFault, Slot};
 use journal::{Segment, roll_close, roll_head, roll_open};
 use slot_steps::CLOSED_GATE;
 
-/// Syncs the four slots, so that what is read next is what a stop leaves.
+/// Syncs the four slots, so that what is read next is what a crash leaves.
 pub(crate) fn sync_all<D: Disk>(disk: &mut D) -> Result<(), DiskFault>
     ensures seen { D.honest → (D.view disk.new).seen ≡ (D.view disk.old).seen }
     ensures time { D.honest → Passes (D.view disk.old) (D.view disk.new) (MayLeave (D.view disk.old)) }
@@ -38,14 +38,14 @@ pub(crate) fn make_segment<D: Disk>(disk: &mut D, epoch: u64) -> Result<Segment,
     roll_open(disk, epoch)
 }
 
-/// Ends a segment behind its last batch, which ends at this place: with the closed gate that stands there, or a
-/// new one where the slot ends there.
+/// Ends a segment after its last batch, which ends at this place: with the closed gate that stands there, or with a new
+/// one if the slot ends there.
 pub(crate) fn end_segment<D: Disk>(disk: &mut D, slot: Slot, end: u64) -> Result<(), DiskFault>
     requires { D.honest → end ≤ length (slot_of (D.view disk.old).seen slot) }
     ensures ended { D.honest → OnOk result ((D.view disk.new).seen ≡ with_slot (D.view disk.old).seen slot
         (take (end + 1) (slot_of (D.view disk.old).seen slot ++ closed_gate ∷ []))) }
     ensures rest { D.honest → IsAtRest (D.view disk.old) → OnOk result (IsAtRest (D.view disk.new)) }
-    // Where the gate stands there already, a stop takes nothing from what stands up to it.
+    // If the gate stands there already, a crash takes nothing from what stands up to it.
     ensures any_moment { D.honest → IsAtRest (D.view disk.old) → end < length (slot_of (D.view disk.old).seen slot)
         → Passes (D.view disk.old) (D.view disk.new) (DiffersIn (D.view disk.old).seen slot
         (λ after. take (end + 1) after ≡ take (end + 1) (slot_of (D.view disk.old).seen slot))) }

@@ -45,11 +45,11 @@ impl<D: Disk> Model for Opened<D> {
 
     ghost view = { λ o. record { kernel = o.kernel; disk = o.disk; segment = o.segment } };
 
-    // Who has an opened store can go on from it.
+    // The holder of an opened store can go on from it.
     ghost invariant = { λ o. D.honest → IsKept (D.view o.disk) o.segment o.kernel };
 }
 
-/// The image that an epoch begins with, in this state.
+/// The image that an epoch begins with, for this state.
 fn image_of(alloc: Global, epoch: u64, kernel: &Kernel) -> Result<Image, AllocError>
     ensures image { IfOk result (λ image. image ≡ unwritten epoch (image_text kernel.now)) }
     ensures holds { OnOk result (HoldsImage epoch (open_image epoch (image_text kernel.now)) kernel.now) }
@@ -62,7 +62,7 @@ fn image_of(alloc: Global, epoch: u64, kernel: &Kernel) -> Result<Image, AllocEr
     Ok(image)
 }
 
-/// Makes a new store: its segment first, and once that is whole, its image. A value comes back behind that.
+/// Makes a new store: its segment first, and once that is whole, its image. Then it returns a value.
 fn write_first<D: Disk, T: Drop>(
     disk: &mut D,
     image: &Image,
@@ -84,7 +84,7 @@ fn write_first<D: Disk, T: Drop>(
     Ok((value, segment))
 }
 
-/// A store that was never in use is made.
+/// Initializes a store that was never in use.
 fn begin<D: Disk>(
     alloc: Global,
     disk: &mut D,
@@ -113,7 +113,7 @@ fn begin<D: Disk>(
     Ok((kernel, segment))
 }
 
-/// A store goes on in an epoch, whose segment is ended behind its batches.
+/// Goes on in an epoch, whose segment is ended after its batches.
 fn go_on<D: Disk>(alloc: Global, disk: &mut D, epoch: u64) -> Result<(Kernel, Segment), StoreFault>
     requires rest { D.honest → IsAtRest (D.view disk.old) }
     requires used { D.honest → IsInUse (D.view disk.old).seen epoch false }
@@ -135,7 +135,7 @@ fn go_on<D: Disk>(alloc: Global, disk: &mut D, epoch: u64) -> Result<(Kernel, Se
     Ok((kernel, Segment { epoch, records }))
 }
 
-/// A store goes on in the next epoch, whose segment follows: its image is made of the state before that segment, and written.
+/// Goes on in the next epoch, whose segment follows: its image is made of the state before that segment, and written.
 fn go_on_next<D: Disk>(
     alloc: Global,
     disk: &mut D,
@@ -171,7 +171,7 @@ fn go_on_next<D: Disk>(
     ))
 }
 
-/// A state and the image of an epoch that begins with it.
+/// A state, and the image of an epoch that begins with it.
 fn with_image(alloc: Global, kernel: Kernel, epoch: u64) -> Result<(Kernel, Image), AllocError>
     ensures base { IfOk result (λ r. r.0 ≡ kernel) }
     ensures image { IfOk result (λ r. r.1 ≡ unwritten epoch (image_text kernel)) }
@@ -225,11 +225,11 @@ fn load<D: Disk>(alloc: Global, disk: &mut D) -> Result<(Kernel, Segment), Store
     }
 }
 
-/// Opens a store. A new one gets its first segment and image. Of another the state is read; a checkpoint that was half done is
-/// finished, and the segment in use is ended behind its last batch. With a fault the disk comes back.
+/// Opens a store. A new one gets its first segment and image. From an existing one the state is read; a checkpoint that
+/// was half done is finished, and the segment in use is ended after its last batch. At a fault the disk comes back.
 ///
-/// `Device`: the device failed. `Damaged`: the slots are none that a server leaves. `Version`: an open slot is
-/// of another version. `NoMemory`: no memory.
+/// `Device`: the device failed. `Damaged`: the slots are not as a server leaves them. `Version`: an open slot is of
+/// another version. `NoMemory`: out of memory.
 pub fn open<D: Disk>(alloc: Global, disk: D) -> Result<Opened<D>, (StoreFault, D)>
     ensures state { D.honest → IfOk result (λ opened. Recovered (as_written (D.view disk).seen) opened.kernel) }
     ensures version { D.honest → IfErr result (λ fault. fault.0 ≡ StoreFault.Version → IsOtherVersion (as_written (D.view disk).seen)) }
@@ -239,23 +239,23 @@ pub fn open<D: Disk>(alloc: Global, disk: D) -> Result<Opened<D>, (StoreFault, D
     ensures quiet { IfOk result (λ opened. D.failed_calls opened.disk ≡ D.failed_calls disk) }
     ensures still { IfErr result (λ fault. fault.0 ≢ StoreFault.Device → D.failed_calls fault.1 ≡ D.failed_calls disk) }
     ensures device { IfErr result (λ fault. fault.0 ≡ StoreFault.Device → D.failed_calls fault.1 ≡ one_more (D.failed_calls disk)) }
-    // A fault that isn't the device's leaves the slots as they were, and a stop leaves of them what it left before.
+    // A fault that isn't the device's leaves the slots as they were, and their post-crash contents too.
     ensures unchanged { D.honest → IfErr result (λ fault. fault.0 ≢ StoreFault.Device → (D.view fault.1).seen ≡ (D.view disk).seen) }
     ensures untouched { D.honest → IfErr result (λ fault. fault.0 ≢ StoreFault.Device
         → Passes (D.view disk) (D.view fault.1) (MayLeave (D.view disk))) }
-    // Whatever a stop leaves, at any moment of the call and also where it fails, it might have left before, or it stands
-    // for what the store stood for, with a gate behind its batches. Of a segment that has none, which no server leaves,
-    // nothing is said: a stop within the write of that gate could leave an open one.
+    // Whatever a crash leaves, at any moment of the call and also if it fails, might have been left before, or it
+    // stands for what the store stood for, with a gate after its batches. Nothing is said of a segment that has no such
+    // gate, which no server leaves: a crash within the write of that gate could leave an open one.
     ensures any_moment { D.honest → HaveLastGates (D.view disk).seen
         → IfOk result (λ opened. Passes (D.view disk) (D.view opened.disk) (LeavesSame (D.view disk))) }
     ensures any_moment_of_fault { D.honest → HaveLastGates (D.view disk).seen
         → IfErr result (λ fault. Passes (D.view disk) (D.view fault.1) (LeavesSame (D.view disk))) }
-    // What is left at the end stands for the state, and who goes on from there knows the slots.
+    // What is left at the end stands for the state, and a caller that goes on from there knows the slots.
     ensures stands { D.honest → IfOk result (λ opened. (c : Slots) → MayLeave (D.view opened.disk) c
         → Recovered (as_written c) opened.kernel) }
     ensures kept { D.honest → IfOk result (λ opened. IsKept (D.view opened.disk) opened.segment opened.kernel) }
-    // What slots stand for is what opening them gives. A store that stands for a state isn't told to be damaged or of
-    // another version.
+    // What slots stand for is what opening them returns. A store that stands for a state isn't reported as damaged or
+    // of another version.
     ensures same { D.honest → IfOk result (λ opened. (state : State) → Recovered (as_written (D.view disk).seen) state → opened.kernel ≡ state) }
     ensures opens { D.honest → IfErr result (λ fault. (state : State) → Recovered (as_written (D.view disk).seen) state
         → (fault.0 ≢ StoreFault.Damaged) × (fault.0 ≢ StoreFault.Version)) }

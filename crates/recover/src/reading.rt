@@ -19,7 +19,7 @@ use std::alloc::Global;
 
 /// The state after a record.
 ///
-/// `Damaged`: the record is no step of the machine. `NoMemory`: no memory.
+/// `Damaged`: the record is no step of the machine. `NoMemory`: out of memory.
 fn replay_one(kernel: Kernel, entry: Record) -> Result<Kernel, StoreFault>
     ensures step { IfOk result (λ state. Step kernel entry.space entry.call entry.reply state) }
     ensures only { IfOk result (λ state. (other : State) → Step kernel entry.space entry.call entry.reply other → other ≡ state) }
@@ -35,7 +35,7 @@ fn replay_one(kernel: Kernel, entry: Record) -> Result<Kernel, StoreFault>
 
 /// The state after the records of a segment that are still to be read. Each is replayed as it is read.
 ///
-/// `Damaged`: the segment spells no batches from here on, or a record is no step of the machine. `NoMemory`: no
+/// `Damaged`: the segment encodes no batches from here on, or a record is no step of the machine. `NoMemory`: out of
 /// memory. `Device`: the device failed.
 fn replay_all<D: Disk>(
     kernel: Kernel,

@@ -1,4 +1,4 @@
-// What the headers of a store's slots tell of the store.
+// What the headers of a store's slots say of the store.
 ghost use Rattle.std.specs.Prelude.{◌≡◌, ◌≢◌, ◌⊎◌, ◌+◌, ◌%◌, ◌^◌, ◌<◌, IsTrue, List, Some, None, IfOk, IfSome, IfNone, IsErrOf, OnOk, OnErr, MatchBool};
 ghost use Rattle.disk.specs.Slots.{Slots};
 ghost use Rattle.ipc_model.specs.declared.record.Record.{Record};
@@ -20,9 +20,9 @@ pub(crate) enum Survey {
     InUse { epoch: u64, follows: bool },
 }
 
-/// The epoch of a slot of this number, if it is open.
+/// The epoch of a slot with this number, if it is open.
 ///
-/// `Damaged`: it is open, and of no epoch of this number.
+/// `Damaged`: it is open, and of no epoch with this number.
 fn epoch_in(header: Header, number: u64) -> Result<Option<u64>, StoreFault>
     ensures open { IfOk result (λ found. IfSome found (λ epoch. (header ≡ Header.Open epoch) × (epoch % 2 ≡ number))) }
     ensures closed { IfOk result (λ found. IfNone found (header ≡ Header.Closed)) }
@@ -36,7 +36,8 @@ fn epoch_in(header: Header, number: u64) -> Result<Option<u64>, StoreFault>
     }
 }
 
-/// Whether the next epoch's segment is open, where the image of an epoch is the latest. Its own segment has to be.
+/// Whether the next epoch's segment is open, if the image of an epoch is the latest. The epoch's own segment has to be
+/// open.
 fn follows(epoch: u64, own: Option<u64>, other: Option<u64>) -> Result<bool, StoreFault>
     ensures own { OnOk result (own ≡ Some epoch) }
     ensures other { IfOk result (λ follows. MatchBool follows (other ≡ Some (epoch + 1)) (Adjoins epoch other)) }
@@ -55,14 +56,14 @@ fn follows(epoch: u64, own: Option<u64>, other: Option<u64>) -> Result<bool, Sto
     }
 }
 
-/// Which image is the latest, of the slots of both numbers.
+/// Which image is the latest, of the slots with both numbers.
 #[derive(Clone, Copy)]
 pub(crate) enum Latest {
     /// None is open.
     None,
-    /// That of number 0, of this epoch.
+    /// The one with number 0, of this epoch.
     First(u64),
-    /// That of number 1, of this epoch.
+    /// The one with number 1, of this epoch.
     Second(u64),
 }
 
@@ -124,7 +125,7 @@ fn survey_open(
     }
 }
 
-/// Tests that no header is of another version.
+/// Checks that no header is of another version.
 fn have_one_version(headers: &Headers) -> Result<(), StoreFault>
     ensures none { OnOk result ((headers.now.image0 ≢ Header.OtherVersion) × (headers.now.image1 ≢ Header.OtherVersion)
         × (headers.now.segment0 ≢ Header.OtherVersion) × (headers.now.segment1 ≢ Header.OtherVersion)) }
@@ -147,7 +148,7 @@ fn have_one_version(headers: &Headers) -> Result<(), StoreFault>
     Ok(())
 }
 
-/// What a store is, by the headers of its slots, where none is of another version.
+/// What a store is, by the headers of its slots, if none is of another version.
 fn survey_headers(headers: &Headers) -> Result<Survey, StoreFault>
     ensures surveyed { (slots : Slots) → SayAll slots headers.now.image0 headers.now.image1 headers.now.segment0 headers.now.segment1
         → IfOk result (Surveys slots) }
@@ -165,8 +166,8 @@ fn survey_headers(headers: &Headers) -> Result<Survey, StoreFault>
 
 /// What a store is, by the headers of its slots.
 ///
-/// `Version`: an open slot is of another version. `Damaged`: an open slot is of an epoch of the other number, or the slots
-/// are none that a server leaves.
+/// `Version`: an open slot is of another version. `Damaged`: an open slot is of an epoch with the other number, or the
+/// slots are not as a server leaves them.
 pub(crate) fn survey_store(headers: &Headers) -> Result<Survey, StoreFault>
     ensures surveyed { (slots : Slots) → SayAll slots headers.now.image0 headers.now.image1 headers.now.segment0 headers.now.segment1
         → IfOk result (Surveys slots) }

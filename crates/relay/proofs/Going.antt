@@ -1,4 +1,4 @@
--- How a relay goes on, and how it ends.
+-- How a relay continues, and how it ends.
 use Rattle.std.proofs.Common.{◌≡◌, inl, inr, ◌-◌, ℕ, List, [], ◌∷◌, ◌++◌, length, Result, Err, refl, sym, ap, subst, ◌∙◌, ◌+◌, arith, append_assoc, length-append}
 use Rattle.std.proofs.lemmas.List.{append-nil}
 use Rattle.std.specs.Io.KnownBytes.{Appends, Consumes}
@@ -46,7 +46,7 @@ nothing_waits : (waiting : List ℕ) (exchanges : Exchanges) (exchange : List �
 nothing_waits waiting [] exchange = refl
 nothing_waits waiting (first ∷ exchanges) exchange = refl
 
--- one frame more
+-- one more frame
 pub goes_on : (own peer own_mid peer_mid own_now peer_now : Side) (count : ℕ) (request reply : List ℕ) → Going own peer own_mid peer_mid count → IsTaken own_mid.left request own_now.left → Appends peer_mid.written peer_now.written (frame_text request) → peer_now.waiting ≡ []
     → IsTaken peer_mid.left reply peer_now.left → Appends own_mid.written own_now.written (frame_text reply) → own_now.waiting ≡ [] → Going own peer own_now peer_now (count + 1)
 goes_on own peer own_mid peer_mid own_now peer_now count request reply so_far asked sent sent_on answered told told_on =
@@ -68,7 +68,7 @@ goes_on own peer own_mid peer_mid own_now peer_now count request reply so_far as
       counted = omega (arith, so_far.counted, length-append so_far.exchanges (exchange ∷ []));
     }
 
--- as is said of the result
+-- as the clause of the result says
 ended_as : (own peer own_new peer_new : Side) (fault : WireFault) (result : Result (Unit {0}) WireFault) → result ≡ Err fault → Ends own peer own_new peer_new (Err fault) → Ends own peer own_new peer_new result
 ended_as own peer own_new peer_new fault result is ends = subst (Ends own peer own_new peer_new) (sym is) ends
 

@@ -7,14 +7,14 @@ use Rattle.wire.specs.Fault.{fault_line}
 use Rattle.wire.specs.declared.fault.WireFault.{WireFault}
 use Rattle.wire.specs.declared.fault.WireFault.TheVariants.{NoMemory}
 
--- 0: the input was relayed to its end; 1: a fault, or no peer; 2: the words are not one, or can't be read
+-- 0: the input was relayed to its end; 1: a fault, or no peer; 2: the arguments are not exactly one, or can't be read
 abbrev pub status_of : RelayEnd → ℕ
 status_of Relayed = 0
 status_of CommandLine = 2
 status_of Socket = 1
 status_of (Fault fault) = 1
 
--- what stands on the line of errors behind the program's name; no line where all was relayed
+-- what follows the program's name on the line of errors; no line where all was relayed
 abbrev pub words_of : RelayEnd → List ℕ
 words_of Relayed = []
 words_of CommandLine = codes "command line\n"
@@ -32,7 +32,7 @@ module _ (old new : Side) where
   abbrev pub Relays : Result (Unit {0}) WireFault → Type 0
   Relays result = (peer peer_new : Side) × Ends old peer new peer_new result
 
-  -- how the client ends for so many words, or for words that can't be read
+  -- how the client ends for this many arguments, or for arguments that can't be read
   abbrev pub EndsClient : Option ℕ → RelayEnd → Type 0
   EndsClient words CommandLine = (words ≢ Some 1) × (new ≡ old)
   EndsClient words Socket = (words ≡ Some 1) × (new ≡ old)

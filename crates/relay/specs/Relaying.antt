@@ -1,4 +1,5 @@
--- What a relay reads and writes on its two sides, by how it ended. What a stream holds may be unknown; then nothing is said of it.
+-- What a relay reads and writes on its two sides, by how it ended. If what a stream holds is unknown, nothing is said
+-- of it.
 use Rattle.std.specs.Prelude.{◌≡◌, ◌⊎◌, ℕ, ◌-◌, ◌^◌, List, [], ◌∷◌, ◌++◌, length, ⊤, Option, Some, IfSome, Result, Ok, Err}
 use Rattle.std.specs.Io.KnownBytes.{Appends, Consumes}
 use Rattle.wire.specs.Frame.{IsContentLength, IsReadOf}
@@ -16,7 +17,7 @@ pub record Side : Type 0 where
 abbrev pub side : Option (List ℕ) → Option (List ℕ) → List ℕ → Side
 side left written waiting = record { left = left; written = written; waiting = waiting }
 
--- a side of which something was read since
+-- a side from which something was read since
 abbrev pub as_left : Option (List ℕ) → Side → Side
 as_left left now = side left now.written now.waiting
 
@@ -37,7 +38,7 @@ abbrev pub AreFrames : Exchanges → Type 0
 AreFrames [] = ⊤
 AreFrames (exchange ∷ exchanges) = IsContentLength (length exchange.0) × IsContentLength (length exchange.1) × AreFrames exchanges
 
--- what waits for a flush behind some exchanges: behind the first one, nothing
+-- what waits for a flush after some exchanges: nothing, if there was at least one
 abbrev pub waiting_behind : List ℕ → Exchanges → List ℕ
 waiting_behind waiting [] = waiting
 waiting_behind waiting (exchange ∷ exchanges) = []
@@ -51,16 +52,16 @@ pub record IsTaken (old : Option (List ℕ)) (content : List ℕ) (new : Option 
 abbrev pub TakesAll : Option (List ℕ) → Option (List ℕ) → Type 0
 TakesAll old new = IfSome old (λ rest. (rest ≡ []) × (new ≡ Some []))
 
--- no frame could be read, and no byte behind the fault was
+-- no frame could be read, and no byte after the fault was read
 abbrev pub IsUnread : Option (List ℕ) → WireFault → Option (List ℕ) → Type 0
 IsUnread old fault new = IfSome old (λ rest. IsReadOf rest (Err fault) new)
 
--- no reply could be read, or none was there
+-- no reply could be read, or there was none
 abbrev pub IsUnanswered : Option (List ℕ) → WireFault → Option (List ℕ) → Type 0
 IsUnanswered old fault new = IsUnread old fault new ⊎ ((fault ≡ Short) × TakesAll old new)
 
--- The frames of these exchanges were read from the front of the input and sent to the peer, and their replies read from the
--- peer and written to the output, all whole and in order; and all of it was flushed.
+-- The frames of these exchanges were read from the front of the input and sent to the peer, and their replies were read
+-- from the peer and written to the output, all whole and in order; and all of it was flushed.
 pub record Exchanged (own peer : Side) (exchanges : Exchanges) (own_now peer_now : Side) : Type 0 where
   pub frames : AreFrames exchanges
   pub read : Consumes own.left own_now.left (requests_text exchanges)
@@ -72,21 +73,21 @@ pub record Exchanged (own peer : Side) (exchanges : Exchanges) (own_now peer_now
 
 -- How a relay ended between the side that it stands on (`own`) and its peer's.
 module _ (own peer own_new peer_new : Side) where
-  -- the input is at its end behind these exchanges
+  -- the input is at its end after these exchanges
   pub record RelaysAll : Type 0 where
     pub exchanges : Exchanges
     pub exchanged : Exchanged own peer exchanges own_new peer_new
     pub all : IfSome own.left (λ input. own_new.left ≡ Some [])
 
-  -- behind some exchanges no frame can be read from the input
+  -- after some exchanges no frame can be read from the input
   pub record StopsReading (fault : WireFault) : Type 0 where
     pub exchanges : Exchanges
     pub left : Option (List ℕ)
     pub exchanged : Exchanged own peer exchanges (as_left left own_new) peer_new
     pub unread : IsUnread left fault own_new.left
 
-  -- The next frame can't be sent: some first bytes of it are written, or all and it can't be flushed. Nothing more is read on
-  -- either side.
+  -- The next frame can't be sent: a prefix of it is written, or all of it, and it can't be flushed. Nothing more is
+  -- read on either side.
   pub record StopsSending (fault : WireFault) : Type 0 where
     pub exchanges : Exchanges
     pub left : Option (List ℕ)
@@ -110,7 +111,8 @@ module _ (own peer own_new peer_new : Side) where
     pub sent_on : peer_new.waiting ≡ []
     pub unanswered : IsUnanswered peer_mid.left fault peer_new.left
 
-  -- the next frame is answered, and the reply can't be written: some first bytes of it are, or all and it can't be flushed
+  -- the next frame is answered, and the reply can't be written: a prefix of it is, or all of it, and it can't be
+  -- flushed
   pub record StopsTelling (fault : WireFault) : Type 0 where
     pub exchanges : Exchanges
     pub own_mid : Side

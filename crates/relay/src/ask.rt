@@ -11,11 +11,12 @@ use std::net::Net;
 use std::os::unix::net::UnixStream;
 use wire::WireFault;
 
-/// All of the client: the words of its command line, or none where they can't be read as text, its input, output and errors.
-/// It gives the status to end with.
+/// The whole client: the words of its command line, or none if they can't be read as text, its input, output and
+/// errors. It returns the status to end with.
 ///
-/// The one word is the socket of the peer. 0: the input was relayed to its end. 1: after a fault, or where the socket can't be
-/// connected to, which is a line of errors. 2: the words are not one or can't be read, which is a line of errors too.
+/// The one word is the socket of the peer. 0: the input was relayed to its end. 1: after a fault, or if the socket
+/// can't be connected to, with a line of errors. 2: there isn't exactly one word or the words can't be read, with a
+/// line of errors too.
 pub fn run_client<N: Net, I: Read, O: Write + Drop, E: Write>(
     alloc: Global,
     net: &N,
@@ -24,7 +25,8 @@ pub fn run_client<N: Net, I: Read, O: Write + Drop, E: Write>(
     output: &mut BufWriter<O>,
     errors: &mut E,
 ) -> u8
-    // The status and the line of errors are those of how the run ended. A writer of errors that fails has a part of the line.
+    // The status and the line of errors are those of how the run ended. A writer of errors that fails has a part of the
+    // line.
     ensures ended { (end : RelayEnd) × (result ≡ status_of end) × AppendsPart (E.contents errors.old) (E.contents errors.new) (line_of end)
         × EndsClient (side (I.remaining input.old) (writer_contents O.contents output.old) (writer_buffer output.old))
         (side (I.remaining input.new) (writer_contents O.contents output.new) (writer_buffer output.new)) (option_map (λ texts. length texts.now) words.entry) end }
@@ -34,7 +36,7 @@ pub fn run_client<N: Net, I: Read, O: Write + Drop, E: Write>(
     end.status()
 }
 
-/// What `run_client` does but for its line of errors.
+/// What `run_client` does except for its line of errors.
 pub fn ask_peer<N: Net, I: Read, O: Write + Drop>(
     alloc: Global,
     net: &N,

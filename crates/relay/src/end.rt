@@ -11,7 +11,7 @@ use wire::{WireFault, write_bytes};
 pub enum RelayEnd {
     /// The input was relayed to its end.
     Relayed,
-    /// The words are not one, or can't be read.
+    /// There isn't exactly one word, or the words can't be read.
     CommandLine,
     /// No peer could be connected to.
     Socket,
@@ -20,8 +20,8 @@ pub enum RelayEnd {
 }
 
 impl RelayEnd {
-    /// The status to end with: 0 without a fault, 1 after a fault or with no peer, 2 where the words are not one or can't be
-    /// read.
+    /// The status to end with: 0 without a fault, 1 after a fault or with no peer, 2 if there isn't exactly one word or
+    /// the words can't be read.
     pub fn status(self) -> u8
         ensures { result ≡ status_of self }
     {
@@ -32,7 +32,7 @@ impl RelayEnd {
         }
     }
 
-    /// What stands on the line of errors behind the program's name: nothing where all was relayed.
+    /// What follows the program's name on the line of errors: nothing if all was relayed.
     pub fn words(self) -> &'static str
         ensures { result.now ≡ words_of self }
     {
@@ -44,8 +44,8 @@ impl RelayEnd {
         }
     }
 
-    /// Writes the line of errors, if there is one. `Device`: the writer failed, and some first bytes of the line may have
-    /// been written.
+    /// Writes the line of errors, if there is one. `Device`: the writer failed, and some first bytes of the line may
+    /// have been written.
     pub fn tell<E: Write>(self, errors: &mut E) -> Result<(), WireFault>
         ensures ok { OnOk result (Appends (E.contents errors.old) (E.contents errors.new) (line_of self)) }
         ensures part { OnErr result (AppendsPart (E.contents errors.old) (E.contents errors.new) (line_of self)) }
@@ -60,7 +60,7 @@ impl RelayEnd {
     }
 }
 
-/// Writes the program's name and these words behind it.
+/// Writes the program's name, followed by these words.
 fn write_line<E: Write>(errors: &mut E, words: &str) -> Result<(), WireFault>
     ensures ok { OnOk result (Appends (E.contents errors.old) (E.contents errors.new) (codes "machc: " ++ words.now)) }
     ensures part { OnErr result (AppendsPart (E.contents errors.old) (E.contents errors.new) (codes "machc: " ++ words.now)) }

@@ -12,7 +12,7 @@ use wire::{Frame, WireFault, read_frame, write_frame};
 /// Sends each frame of the input to a peer, and writes the peer's reply to the output, before the next frame is read.
 ///
 /// `Short`: the peer ended before a reply, or a stream within a frame. The other faults are those of reading or writing
-/// the first frame that could not be.
+/// the first frame that couldn't be read or written.
 pub fn relay<I: Read, O: Write + Drop, P: Read, S: Write + Drop>(
     alloc: Global,
     input: &mut I,
@@ -46,7 +46,7 @@ fn next_request<I: Read>(alloc: Global, input: &mut I) -> Result<Option<Frame>, 
     read_frame(alloc, input)
 }
 
-/// The peer's next frame. A peer that ends before it is `Short`.
+/// The peer's next frame. If the peer ends before it, that is `Short`.
 pub fn next_reply<P: Read>(alloc: Global, replies: &mut P) -> Result<Frame, WireFault>
     ensures found { IfOk result (λ frame. IsTaken (P.remaining replies.old) frame.content (P.remaining replies.new)) }
     ensures unanswered { IfErr result (λ fault. IsUnanswered (P.remaining replies.old) fault (P.remaining replies.new)) }

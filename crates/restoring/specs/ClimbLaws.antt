@@ -1,4 +1,4 @@
--- No ports carry one another in a circle exactly where hops that are doubled fifteen times lead nowhere.
+-- No ports carry one another in a circle exactly where hops doubled fifteen times lead nowhere.
 use Rattle.std.proofs.Common.{◌≡◌, ℕ, zero, suc, ◌+◌, ◌<◌, ◌≤◌, nat_lt, Bool, true, false, cond, ◌||◌, List, [], ◌∷◌, Option, None, Some, option_and_then, option_map, refl, sym, ◌∙◌, ap, subst, arith}
 use Rattle.std.specs.Prelude.{find}
 use Rattle.std.specs.List.{list_all, list_any}
@@ -29,7 +29,7 @@ use Rattle.restoring.specs.Holding.{lawful_tight}
 use Rattle.restoring.specs.Linked.{looks_of, is_linked_message, is_linked_port, is_live_place, is_live_target, replies_well, travels_well}
 use Rattle.restoring.specs.LinkLaws.{AreTight, first_holds, second_holds}
 
--- Ranks by which hops go up, all below a bound.
+-- Ranks that each hop raises, all below a bound.
 pub record Ranked (f : ℕ → Option ℕ) : Type 0 where
   pub rank : ℕ → ℕ
   pub bound : ℕ
@@ -39,7 +39,7 @@ pub record Ranked (f : ℕ → Option ℕ) : Type 0 where
 nowhere : (f : ℕ → Option ℕ) → ((q : ℕ) → f q ≡ None) → Ranked f
 nowhere f none = record { rank = λ q. 0; bound = 1; below = λ q. omega arith; up = λ q t is. absurd (cc (sym is ∙ none q)) }
 
--- a rank and that of the next port together: the last port of a climb has the bound in place of the next
+-- the rank of the next port, to be added to a port's own; at the last port of a climb, the bound
 above_or : ℕ → (ℕ → ℕ) → Option ℕ → ℕ
 above_or bound rank None = bound
 above_or bound rank (Some t) = rank t
@@ -139,7 +139,7 @@ module _ (state : State) where
       | Some next ↦ λ (first : _) (second : _). omega (arith, climbs k q next first, climbs k next t second)
     ] refl is
 
-    -- in a state without circles the hops end
+    -- in an acyclic state the hops end
     pub hops_end : finmap.len state.ports ≤ MAX_PORTS → (q : ℕ) → doubled 15 (up_of state) q ≡ None
     unfolding two higher
     hops_end few q = elim (doubled 15 (up_of state) q) as (λ (o : Option ℕ). doubled 15 (up_of state) q ≡ o → o ≡ None) [
@@ -175,7 +175,7 @@ module _ (state : State) where
       let right = any_all (is_receive_right inner) (travels_well (looks_of state)) message.0.rights message.1 (second_holds (replies_well (looks_of state) message.0.reply) _ message.2) in
       right_lives inner right.0 right.1 right.2
 
-  -- Where hops lead nowhere in the end no ports carry one another in a circle.
+  -- If hops lead nowhere in the end, no ports carry one another in a circle.
   pub hops_ground : Lawful state → (k : ℕ) → ((q : ℕ) → doubled k (up_of state) q ≡ None) → Grounded state
   hops_ground lawful k none =
       let ranked : Ranked (up_of state) = lowered k (up_of state) (nowhere (doubled k (up_of state)) none) in (

@@ -12,12 +12,12 @@ up_of state q = cond (lives state q) (carrier_of state q) None
 abbrev pub twice : (ℕ → Option ℕ) → ℕ → Option ℕ
 twice f q = option_and_then f (f q)
 
--- doubled so often
+-- doubled this often
 abbrev pub doubled : ℕ → (ℕ → Option ℕ) → ℕ → Option ℕ
 doubled zero f = f
 doubled (suc k) f = twice (doubled k f)
 
--- doubled so often they lead nowhere
+-- doubled often enough, they lead nowhere
 abbrev pub EndsSomewhere : State → Type 0
 EndsSomewhere state = (k : ℕ) × ((q : ℕ) → doubled k (up_of state) q ≡ None)
 

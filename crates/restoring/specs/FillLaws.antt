@@ -1,4 +1,4 @@
--- A state that is filled with the rows of a snapshot is that of the snapshot.
+-- A state that is filled from the rows of a snapshot is that of the snapshot.
 use Rattle.std.proofs.Common.{◌≡◌, ℕ, ◌+◌, ◌-◌, ◌<◌, ◌≤◌, ◌^◌, ◌==◌, Bool, true, false, cond, All, List, [], ◌∷◌, ◌++◌, length, map, Option, None, Some, is_some, option_map, option_and_then, append_assoc, append-nil, refl, sym, ◌∙◌, ap, subst, arith}
 use Rattle.std.specs.List.{list_all}
 use Rattle.std.specs.Cmp.{nat_cmp_total}
@@ -44,7 +44,7 @@ use Rattle.restoring.specs.Shaped.{IsShapedName, IsShapedPort, IsShapedSpace}
 abbrev pub emptied_in_row : LivePort → ℕ × PortState
 emptied_in_row row = (row.serial, emptied row.state)
 
--- what is asked of a state before ports are opened in it
+-- what has to hold of a state before ports are opened in it
 pub record MayOpen (rows : List LivePort) (state : State) : Type 0 where
   pub few : len state.ports + length rows ≤ MAX_PORTS
   pub below : (k : ℕ) (port : PortState) → get state.ports k ≡ Some port → k < state.next
@@ -114,7 +114,7 @@ pub spaced_all_is : (rows : List Space) (state : State) → spaced_all rows stat
 spaced_all_is [] state = refl
 spaced_all_is (row ∷ rows) state = ap (spaced_all rows) (spaced_is row state) ∙ spaced_all_is rows (with_names state row.number (names_in_rows row.names))
 
--- what is asked of a state before names are put into a space
+-- what has to hold of a state before names are put into a space
 pub record MayName (space : ℕ) (rows : List NamedEntry) (state : State) : Type 0 where
   pub names : Names
   pub there : get state.spaces space ≡ Some names
@@ -133,7 +133,7 @@ may_name_next space row rows state may = subst (MayName space rows) (sym (ap (λ
     one_more true n = omega arith
     one_more false n = omega arith
 
--- what is asked of a state before spaces are opened in it
+-- what has to hold of a state before spaces are opened in it
 pub record MaySpace (rows : List Space) (state : State) : Type 0 where
   pub from : ℕ
   pub below : (k : ℕ) (names : Names) → get state.spaces k ≡ Some names → k < from
@@ -299,7 +299,7 @@ pub all_queued_alike : (serial : ℕ) (messages : List Message) (state : State) 
 all_queued_alike serial [] state s = refl
 all_queued_alike serial (message ∷ messages) state s = all_queued_alike serial messages (queued state serial message) s ∙ queued_alike serial message state s
 
--- A space of a lawful shape that is there without names.
+-- A space of a lawful shape that exists and has no names.
 pub may_name_first : (row : Space) (state : State) → IsShapedSpace row → MayName row.number row.names (with_names state row.number empty)
 may_name_first row state shape = record {
   names = empty;

@@ -1,5 +1,5 @@
--- How a state is filled with the rows of a snapshot: first the ports with their numbers, then the spaces with their names, then
--- the messages.
+-- How a state is filled from the rows of a snapshot: first the ports with their numbers, then the spaces with their
+-- names, then the messages.
 use Rattle.std.specs.Prelude.{ℕ, ◌+◌, List, [], ◌∷◌}
 use Rattle.std.specs.FinMap as finmap
 use Rattle.ipc_model.specs.declared.message.Message.{Message}

@@ -87,7 +87,7 @@ no_reply serial (Some right) lawful = elim right.port as (λ (p : PortInMessage)
   | Live other ↦ no_receive right.kind serial other lawful
 ]
 
--- The rights of a port's messages, if they are lawful ones.
+-- The rights of a port's messages, if the messages are lawful.
 both_all : {A : Type 0} (P Q : A → Type 0) (xs : List A) → All P xs → All Q xs → All (λ x. P x × Q x) xs
 both_all P Q xs p q = λ k d less. (p k d less, q k d less)
 
@@ -163,7 +163,7 @@ module _ (state : State) where
             )
       ] refl
 
-  -- The other way round: the rows of a lawful state are linked.
+  -- Conversely: the rows of a lawful state are linked.
 
   module _ (lawful : Lawful state) where
     live_of : (q : ℕ) → 1 ≤ state_weigh (any_of q) state → lives state q ≡ true
@@ -247,7 +247,7 @@ module _ (state : State) where
     pub lawful_well : AreWell state
     lawful_well space name names entry there at = stands space name names entry there at
 
-    -- a carried receive right's port is in no set: its space would hold the right too
+    -- a carried receive right's port is in no set, or its space would hold the right too
     in_no_set : (what : RightKind) (serial : ℕ) → ((w : Weight) → w what serial ≤ total (port_weigh w) state.ports) → (not (same_kind what kind.Receive) || not (is_some (seen.set_of serial))) ≡ true
     in_no_set kind.Send serial part = refl
     in_no_set kind.SendOnce serial part = refl

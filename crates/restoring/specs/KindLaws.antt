@@ -38,18 +38,18 @@ kinds_all item rights front behind more port is long same =
     front_all (kind_of_number item.type_name) front behind more
     (ap (map carried_kind) (sym is) ∙ same ∙ ap (λ (kinds : List RightKind). kinds ++ more) (kinds_is item port ∙ ap (λ (n : ℕ). replicate n (kind_of_number item.type_name)) (sym long)))
 
--- an element read, and those behind it
+-- an element that is read, and those after it
 pub read_cons : {A : Type 0} (xs : List A) (i : ℕ) (x : A) → i < length xs → x ≡ get_or xs i x → drop i xs ≡ x ∷ drop (i + 1) xs
 read_cons xs i x less is = drop-cons xs i x less ∙ (λ t. sym is t ∷ drop (sym (add-one i) t) xs)
 
--- the kinds of one item more
+-- the kinds of one more item
 pub kinds_step : {W : Type 0} (items others : List Item) (item : Item) (kinds behind : List RightKind) → items ≡ item ∷ others → kinds ≡ kinds_of_item item ++ behind → W ↔ HasKinds items kinds → W ↔ HasKinds others behind
 kinds_step items others item kinds behind is begin same = (
   (λ w. append_cancel_left (kinds_of_item item) behind (flat_map kinds_of_item others) (sym begin ∙ same.0 w ∙ ap (flat_map kinds_of_item) is)),
   (λ has. same.1 (begin ∙ ap (λ (rest : List RightKind). kinds_of_item item ++ rest) has ∙ sym (ap (flat_map kinds_of_item) is))),
 )
 
--- what holds of items holds of their values, and the other way round
+-- what holds of items holds of their values, and conversely
 pub values_all : (items : List declared.Item) → All (λ (item : declared.Item). IsStoredItem (item_value item)) items ↔ All IsStoredItem (map item_value items)
 values_all items = (All-map IsStoredItem item_value items, back items)
   where

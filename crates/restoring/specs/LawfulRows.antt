@@ -1,4 +1,5 @@
--- Rows of a lawful shape that are linked, where each port has one receive right, are those of a lawful state, and no others.
+-- Rows of a lawful shape that are linked, and in which each port has one receive right, are those of a lawful state,
+-- and no other rows are.
 use Rattle.std.proofs.Common.{◌≡◌, inl, ℕ, ◌<◌, ◌^◌, Bool, true, false, cond, T, All, List, [], ◌∷◌, length, map, Some, is_some, refl, sym, ◌∙◌, ap, subst, arith}
 use Rattle.std.specs.Prelude.{IsPermutation}
 use Rattle.std.specs.List.Sorted.{IsNonDecreasing}
@@ -56,7 +57,7 @@ module _ (state : State) (snapshot : Snapshot) (same : snapshot ≡ snapshot_of 
   many_ports : length snapshot.ports ≡ len state.ports
   many_ports = ap length ports_are ∙ length_mapped port_row (entries state.ports) ∙ sym (len-entries state.ports)
 
-  -- Rows of a lawful state are of a lawful shape.
+  -- Rows of a lawful state have a lawful shape.
 
   module _ (lawful : Lawful state) (short : ShortQueues state) where
     begins : (es : List (ℕ × Names)) → T (is_sorted nat_cmp es) → ((k : ℕ) (v : Names) → find nat_cmp k es ≡ Some v → 0 < k) → (names : Names) → find nat_cmp FIRST_SPACE es ≡ Some names → BeginsFirst (map space_row es)
@@ -114,7 +115,7 @@ module _ (state : State) (snapshot : Snapshot) (same : snapshot ≡ snapshot_of 
       counted s true live = omega (arith, (at_rest state lawful).one_receive s live, count-receive state [] s, ap {B = ℕ} (λ (b : Bool). cond b 1 0) live)
       counted s false dead = omega (arith, state_less (receive_of s) (any_of s) (receive_is_any s) state, dangles_none state [] (at_rest state lawful) s dead, ap {B = ℕ} (λ (b : Bool). cond b 1 0) dead)
 
-  -- The other way round.
+  -- Conversely.
 
   module _ (shape : IsShaped snapshot) where
     space_at : (space : ℕ) (names : Names) → get state.spaces space ≡ Some names → IsShapedSpace (space_row (space, names))
@@ -141,7 +142,7 @@ module _ (state : State) (snapshot : Snapshot) (same : snapshot ≡ snapshot_of 
     pub short_state : ShortQueues state
     short_state serial port there = (port_at serial port there).short
 
-    -- Linked, and with one receive right of each port: a lawful state.
+    -- Linked rows with one receive right of each port are of a lawful state.
     pub lawful_state : state.next < 2 ^ 64 → is_linked (looks_of state) snapshot ≡ true → (sorted : List ℕ) → IsPermutation (receivers snapshot) sorted → sorted ≡ map serial_of snapshot.ports → Lawful state
     lawful_state fits links sorted moved is = alone state (record {
       first_space = (first.0, get-entries state.spaces FIRST_SPACE ∙ first.1);
@@ -176,7 +177,7 @@ module _ (state : State) (snapshot : Snapshot) (same : snapshot ≡ snapshot_of 
         first : (names : Names) × (find nat_cmp FIRST_SPACE (entries state.spaces) ≡ Some names)
         first = first_there snapshot.spaces (entries state.spaces) spaces_are shape.first
 
--- A lawful snapshot is that of one state, which is lawful, grounded and short.
+-- A lawful snapshot is that of one state, which is lawful and acyclic, with short queues.
 pub lawful_one : (state : State) (snapshot : Snapshot) → snapshot ≡ snapshot_of state → IsLawfulSnapshot snapshot → Lawful state × Grounded state × ShortQueues state
 lawful_one state snapshot same lawful =
     let one : lawful.state ≡ state = one_state lawful.state state (sym lawful.same ∙ same) in

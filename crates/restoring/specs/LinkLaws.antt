@@ -1,5 +1,5 @@
--- Rows that are linked are those of a state without dangling rights, in which ports stand under one name and are in sets of
--- the space that holds their receive right; and the rows of a lawful state are linked.
+-- Linked rows are those of a state without dangling rights, in which ports stand under one name and are in sets of the
+-- space that holds their receive right; and the rows of a lawful state are linked.
 use Rattle.std.proofs.Common.{◌≡◌, ◌≢◌, inl, inr, ℕ, zero, suc, ◌+◌, ◌≤◌, ◌==◌, Bool, true, false, cond, T, ◌&&◌, ◌||◌, not, if◌then◌else◌, All, List, [], ◌∷◌, map, Option, None, Some, is_some, refl, sym, ◌∙◌, ap, subst, arith}
 use Rattle.std.specs.List.{list_all, list_any}
 use Rattle.std.specs.Ordering.{nat_cmp, eq_by_cmp}
@@ -69,7 +69,7 @@ module _ {X : Type 0} where
         | false ↦ λ (_ : _) (later : _). found_true p es k x (second_holds (p e) (list_all p es) all) later
       ] refl there
 
-  -- what all entries pass, each does, and the other way round
+  -- what all entries pass, each passes, and conversely
   pub each_true : (p : ℕ × X → Bool) (m : FinMap {K = ℕ} nat_cmp X) (k : ℕ) (x : X) → list_all p (entries m) ≡ true → get m k ≡ Some x → p (k, x) ≡ true
   each_true p m k x all there = found_true p (entries m) k x all (sym (get-entries m k) ∙ there)
 

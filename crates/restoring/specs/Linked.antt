@@ -1,4 +1,4 @@
--- What names and queues say of other ports and names: each right is to a port that lives, a port stands under one name of a
+-- What names and queues say of other ports and names: each right is to a live port, a port stands under one name of a
 -- space, and is in a set of the space that holds its receive right.
 use Rattle.std.specs.Prelude.{ℕ, Bool, true, false, ◌&&◌, ◌||◌, not, Option, None, Some, is_some, option_and_then}
 use Rattle.std.specs.List.{list_all}

@@ -1,4 +1,4 @@
--- Each port has one receive right exactly where the receive rights' ports, sorted, are the ports that live.
+-- Each port has one receive right exactly where the receive rights' ports, sorted, are the live ports.
 use Rattle.std.proofs.Common.{◌≡◌, ◌≢◌, inl, inr, ℕ, suc, ◌+◌, ◌<◌, ◌≤◌, ◌==◌, nat_lt, Bool, true, false, cond, if◌then◌else◌, All, List, [], ◌∷◌, length, get_or, map, flat_map, Option, None, Some, is_some, sum_by, refl, sym, ◌∙◌, ap, arith}
 use Rattle.std.specs.Prelude.{IsPermutation}
 use Rattle.std.specs.List.Sorted.{IsNonDecreasing}
@@ -33,7 +33,7 @@ use Rattle.restoring.specs.Holding.{no_receive, no_reply, no_target, unless_same
 use Rattle.restoring.specs.Receivers.{received_as, received_at, received_by, received_in, received_under, received_with, receivers}
 use Rattle.snapshot.specs.Rows.{all_entries, named_row, port_row, serial_of, space_row}
 
--- 1 for a number, 0 for others
+-- 1 for one number, 0 for others
 abbrev pub is_one : ℕ → ℕ → ℕ
 is_one serial n = cond (n == serial) 1 0
 
@@ -168,7 +168,7 @@ none_below s at [] less from = refl
 none_below s at (x ∷ xs) less from =
     omega (arith, ap {B = ℕ} (λ (b : Bool). cond b 1 0) (not_equal x s (λ same. absurd (omega (arith, same, less, from.0)))), none_below s at xs less from.1)
 
--- lists that climb and have each number as often are the same
+-- ascending lists that have each number equally often are the same
 pub same_climbing : (xs ys : List ℕ) → Climbs xs → Climbs ys → ((s : ℕ) → weigh (is_one s) xs ≡ weigh (is_one s) ys) → xs ≡ ys
 same_climbing [] [] up also same = refl
 same_climbing [] (y ∷ ys) up also same = absurd (omega (arith, same y, own_one y))
@@ -187,7 +187,7 @@ same_climbing (x ∷ xs) (y ∷ ys) up also same = elim (number_decided x y) as 
     one_is_less : (a b : ℕ) → a ≢ b → (a < b → 1 ≤ 0) → (b < a → 1 ≤ 0) → 1 ≤ 0
     one_is_less a b apart first second = elim (nat_lt a b) as (λ (t : Bool). nat_lt a b ≡ t → 1 ≤ 0) [ true ↦ λ (e : _). first (ltb-true a b e) | false ↦ λ (e : _). second (omega (arith, ltb-false a b e, apart)) ] refl
 
--- sums of what is in another order
+-- sums of reordered lists
 weigh_sum : (f : ℕ → ℕ) (xs : List ℕ) → weigh f xs ≡ sum_by f xs
 weigh_sum f [] = refl
 weigh_sum f (x ∷ xs) = ap (λ (n : ℕ). f x + n) (weigh_sum f xs) ∙ sym (sum_by-cons f x xs)

@@ -56,7 +56,7 @@ module _ (snapshot : Snapshot) (shape : IsShaped snapshot) where
   pub grounded_lawful : IsLawfulSnapshot snapshot → (q : ℕ) → doubled 15 (up_of (state_of_rows snapshot)) q ≡ None
   grounded_lawful lawful = hops_end (state_of_rows snapshot) (one lawful).1 (one lawful).0.few_ports
 
-  -- rows that pass them are those of a lawful state
+  -- rows that pass the tests are those of a lawful state
 
   pub lawful_rows : snapshot.next_serial < 2 ^ 64 → is_linked (looks_of (skeleton snapshot)) snapshot ≡ true → AreSorted snapshot → Lawful (state_of_rows snapshot)
   lawful_rows fits links sorted = lawful_state (state_of_rows snapshot) snapshot same_rows shape fits (sym (ap (λ (looks : Looks). is_linked looks snapshot) looks_are) ∙ links) sorted.sorted sorted.moved sorted.same
@@ -64,7 +64,7 @@ module _ (snapshot : Snapshot) (shape : IsShaped snapshot) where
   pub short_rows : ShortQueues (state_of_rows snapshot)
   short_rows = short_state (state_of_rows snapshot) snapshot same_rows shape
 
-  -- and they may be filled in
+  -- and a state may be filled from them
 
   pub may_open : (state : State) → state ≡ nothing → snapshot.next_serial < 2 ^ 64 → MayOpen snapshot.ports state
   may_open state is fits = subst (MayOpen snapshot.ports) (sym is) (record {
@@ -86,7 +86,7 @@ module _ (snapshot : Snapshot) (shape : IsShaped snapshot) where
     each = shape.spaces;
   }
 
--- what was filled in tells whether the snapshot is lawful
+-- the outcome of filling says whether the snapshot is lawful
 pub told : (answer : Result Bool AllocError) (outcome : Result (Unit {0}) SnapshotFault) (L : Type 0) → IfOk answer (λ yes. IsTrue yes → IsOk outcome) → IfOk answer (λ yes. yes ≡ false → IsErrOf outcome NotLawful)
     → (IsOk outcome → L) → (IsErrOf outcome NotLawful → L → ⊥) → IfOk answer (λ yes. IsTrue yes ↔ L)
 told (Ok true) outcome L first second is isnt = (λ _. is (first refl), λ _. refl)

@@ -1,4 +1,5 @@
--- Rows of a lawful shape, each looked at alone: they rise, there are no more than may be, and what each says keeps its bounds.
+-- Rows of a lawful shape, each looked at by itself: they ascend, there are no more than their bound, and what each says
+-- keeps its bounds.
 use Rattle.std.specs.Prelude.{◌≡◌, ℕ, ◌<◌, ◌≤◌, ◌^◌, All, List, [], ◌∷◌, length, map}
 use Rattle.codes.specs.declared.limits.TheConstants.{MAX_NAMES, MAX_PORTS, MAX_SPACES}
 use Rattle.codes.specs.declared.name.TheConstants.{FIRST_SPACE, MACH_PORT_DEAD}
@@ -25,7 +26,7 @@ pub record IsShapedPort (next : ℕ) (row : LivePort) : Type 0 where
   pub lawful : LawfulPort row.state
   pub short : length row.state.messages < 2 ^ 32
 
--- the first space is there
+-- there is a first space
 abbrev pub BeginsFirst : List Space → Type 0
 BeginsFirst [] = ⊥
 BeginsFirst (row ∷ rows) = row.number ≡ FIRST_SPACE

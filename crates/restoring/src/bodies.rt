@@ -33,14 +33,14 @@ pub(crate) fn is_lawful_message(alloc: Global, message: &Message) -> Result<bool
     }
 }
 
-/// A body is of bytes. It does nothing but show it.
+/// Shows that a body consists of bytes. It does nothing else.
 fn are_bytes(body: &[u8])
     ensures { AreBytes body.now }
 {
     let _ = body;
 }
 
-/// A right to reply by is no receive right.
+/// Whether a right for a reply isn't a receive right.
 fn is_lawful_reply(reply: Option<CarriedRight>) -> bool
     ensures { IsTrue result ↔ LawfulReply reply }
 {
@@ -111,7 +111,7 @@ fn are_zeros(content: &[u8]) -> bool
     content.iter().all(|byte| *byte == 0)
 }
 
-/// Whether the rights are of the kinds that the items bring, in their order.
+/// Whether the rights are of the kinds that the items carry, in their order.
 fn have_kinds(items: &[Item<'_>], rights: &[CarriedRight]) -> bool
     ensures { IsTrue result ↔ HasKinds (map item_value items.now) (map carried_kind rights.now) }
 {
@@ -125,7 +125,7 @@ fn have_kinds(items: &[Item<'_>], rights: &[CarriedRight]) -> bool
     rest.is_empty()
 }
 
-/// The rights behind those that an item brings, if they begin with these.
+/// The rights after those that an item carries, if they begin with these.
 fn behind_kinds<'a>(item: &Item<'_>, rights: &'a [CarriedRight]) -> Option<&'a [CarriedRight]>
     ensures { MatchOption result
         ((more : List Kind) → map carried_kind rights.now ≡ kinds_of_item (item_value item.now) ++ more → ⊥)
@@ -146,7 +146,7 @@ fn behind_kinds<'a>(item: &Item<'_>, rights: &'a [CarriedRight]) -> Option<&'a [
     }
 }
 
-/// The kind of right that a port item's type tells.
+/// The kind of right that a port item's type gives.
 fn kind_of(type_name: u16) -> RightKind
     ensures { result ≡ kind_of_number type_name }
 {

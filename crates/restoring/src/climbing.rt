@@ -1,5 +1,5 @@
-//! Whether ports carry one another in a circle: each hop to the port that carries a receive right is doubled, until none is
-//! left, or more ports were passed than may be.
+//! Whether ports carry one another in a cycle. Each hop to the port that carries a receive right is doubled, until none
+//! is left, or more ports were passed than there may be.
 ghost use Rattle.std.specs.Prelude.{◌≡◌, ℕ, false, None, IfOk, OnOk, IsTrue, Option};
 ghost use Rattle.std.specs.FinMap as map;
 ghost use Rattle.ipc_model.specs.state.State.{lives};
@@ -9,10 +9,10 @@ use ipc_state::IpcState;
 use number_map::NumberMap;
 use std::alloc::{AllocError, Global};
 
-/// How often hops are doubled: then each would pass more than `MAX_PORTS` ports.
+/// How many times hops are doubled: after that each would pass more than `MAX_PORTS` ports.
 const ROUNDS: usize = 15;
 
-/// Whether no ports carry one another in a circle.
+/// Whether no ports carry one another in a cycle.
 pub(crate) fn is_grounded(alloc: Global, state: &IpcState) -> Result<bool, AllocError>
     ensures ends { IfOk result (λ yes. IsTrue yes → EndsSomewhere state.now.current) }
     ensures circles { IfOk result (λ yes. yes ≡ false → ((q : ℕ) → doubled 15 (up_of state.now.current) q ≡ None) → ⊥) }
@@ -27,7 +27,7 @@ pub(crate) fn is_grounded(alloc: Global, state: &IpcState) -> Result<bool, Alloc
     Ok(up.is_empty())
 }
 
-/// From each live port whose receive right is in a queue to the queue's port.
+/// The hops from each live port whose receive right is in a queue to the queue's port.
 fn hops(alloc: Global, state: &IpcState) -> Result<NumberMap<u64>, AllocError>
     ensures { IfOk result (λ up. (q : ℕ) → map.get up q ≡ up_of state.now.current q) }
 {
@@ -40,7 +40,7 @@ fn hops(alloc: Global, state: &IpcState) -> Result<NumberMap<u64>, AllocError>
     Ok(up)
 }
 
-/// Each two hops, one behind the other, as one.
+/// Each pair of hops, one after the other, as one.
 fn doubled(
     alloc: Global,
     state: &IpcState,

@@ -1,4 +1,4 @@
-//! Rows compared with the state of which they are: each right is to a port that lives, a port stands under one name of a
+//! Rows compared with the state that they are of: each right is to a live port, a port stands under one name of a
 //! space, and is in a set of the space that holds its receive right.
 ghost use Rattle.std.specs.Prelude.{◌≡◌};
 ghost use Rattle.restoring.specs.Linked.{has_set, is_in_no_set, is_linked, is_linked_message, is_linked_name, is_linked_row, is_linked_space, is_live_place, is_live_target, is_set, looks_of, replies_well, stands_well, travels_well};
@@ -121,7 +121,7 @@ fn is_set(entry: Option<Entry>) -> bool
     }
 }
 
-/// Whether what a port keeps is linked.
+/// Whether what a port has is linked.
 fn is_linked_port(state: &IpcState, row: &LivePort) -> bool
     ensures { result ≡ is_linked_row (looks_of state.now.current) row.now }
 {

@@ -17,12 +17,12 @@ use ipc_state::IpcState;
 use snapshot::Snapshot;
 use std::alloc::{AllocError, Global};
 
-/// Why a snapshot gives no state.
+/// Why a snapshot yields no state.
 #[derive(Clone, Copy, Debug, PartialEq, Eq)]
 pub enum SnapshotFault {
-    /// It is that of no lawful state.
+    /// It isn't the snapshot of a lawful state.
     NotLawful = 1,
-    /// No memory.
+    /// Out of memory.
     NoMemory = 2,
 }
 
@@ -37,7 +37,7 @@ impl From<AllocError> for SnapshotFault {
     }
 }
 
-/// Whether a snapshot is that of a lawful state, in which no ports carry one another in a circle.
+/// Whether a snapshot is that of a lawful state in which no ports carry one another in a cycle.
 pub fn lawful(alloc: Global, snapshot: &Snapshot) -> Result<bool, AllocError>
     ensures { IfOk result (λ yes. IsTrue yes ↔ IsLawfulSnapshot snapshot.now) }
 {
@@ -80,7 +80,7 @@ pub fn restore(alloc: Global, snapshot: &Snapshot) -> Result<IpcState, SnapshotF
     }
 }
 
-/// Fills a state of nothing with the rows of a snapshot. With a fault it is to be given up.
+/// Fills an empty state with the rows of a snapshot. At a fault, the state must be rolled back.
 fn fill(alloc: Global, state: &mut IpcState, snapshot: &Snapshot) -> Result<(), SnapshotFault>
     requires { state.old.current ≡ nothing }
     ensures filled { OnOk result ((snapshot.now ≡ snapshot_of state.new.current) × Lawful state.new.current × Grounded state.new.current × ShortQueues state.new.current) }
@@ -96,7 +96,8 @@ fn fill(alloc: Global, state: &mut IpcState, snapshot: &Snapshot) -> Result<(), 
     fill_messages(alloc, state, snapshot)
 }
 
-/// Fills a state of ports and spaces with the messages of their rows, which are linked. With a fault it is to be given up.
+/// Fills a state of ports and spaces with the messages of their rows, which are linked. At a fault, the state must be
+/// rolled back.
 fn fill_messages(
     alloc: Global,
     state: &mut IpcState,
@@ -132,7 +133,7 @@ fn open_rows(state: &mut IpcState, snapshot: &Snapshot) -> Result<(), AllocError
     Ok(())
 }
 
-/// The next serial is a long word. It does nothing but show it.
+/// Shows that the next serial is a long word. It does nothing else.
 fn serial_fits(snapshot: &Snapshot)
     ensures { snapshot.now.next_serial < 2 ^ 64 }
 {

@@ -1,4 +1,4 @@
-//! Rows of a lawful shape, each looked at alone.
+//! Rows of a lawful shape, each looked at by itself.
 ghost use Rattle.std.specs.Prelude.{◌↔◌, ◌<◌, ◌^◌, All, IfOk, IsTrue, length};
 ghost use Rattle.ipc_model.specs.state.Lawful.{LawfulEntry, LawfulMessage, LawfulPort};
 ghost use Rattle.restoring.specs.Shaped.{BeginsFirst, IsShaped, IsShapedName, IsShapedPort, IsShapedSpace};
@@ -27,7 +27,7 @@ pub(crate) fn is_shaped(alloc: Global, snapshot: &Snapshot) -> Result<bool, Allo
     are_shaped_ports(alloc, snapshot.next_serial, ports)
 }
 
-/// Whether the first space is there.
+/// Whether the first space exists.
 fn begins_first(spaces: &[Space]) -> bool
     ensures { IsTrue result ↔ BeginsFirst spaces.now }
 {
@@ -105,7 +105,7 @@ fn is_long(messages: &[Message]) -> bool
     messages.len() > u32::MAX as usize
 }
 
-/// Whether a live port may keep this.
+/// Whether a live port may have this.
 fn is_lawful_port(alloc: Global, port: &PortState) -> Result<bool, AllocError>
     ensures { IfOk result (λ yes. IsTrue yes ↔ LawfulPort port.now) }
 {

@@ -1,4 +1,4 @@
--- What is no right changes nothing where it arrives.
+-- MACH_PORT_NULL and MACH_PORT_DEAD change nothing when they arrive.
 use Rattle.std.proofs.Common.{◌≡◌, ℕ, Some, refl, sym, ◌∙◌, ap}
 use Rattle.std.specs.Ordering.{nat_cmp}
 use Rattle.std.specs.FinMap as finmap

@@ -1,4 +1,4 @@
--- What is told of a name that is left, and what a receive right loses that moves.
+-- What clauses say of a name that is left, and what a receive right loses when it moves.
 use Rattle.std.proofs.Common.{◌≡◌, ◌++◌, if◌then◌else◌, ℕ, Bool, true, List, [], Option, None, Some, Result, Ok, Err, OnOk, option_map, refl, sym, ◌∙◌, ap}
 use Rattle.std.specs.FinMap.{get, insert}
 use Rattle.ipc_model.specs.declared.entry.Entry.{Entry}

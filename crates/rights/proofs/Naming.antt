@@ -17,7 +17,7 @@ after_more : (named : List ℕ) (xs ys : List CarriedRight) → named_after name
 after_more named [] ys = refl
 after_more named (x ∷ xs) ys = after_more (named_with named x.kind x.port) xs ys
 
--- the ports named by one right more
+-- the ports named by one more right
 pub named_one_more : (rights : List CarriedRight) (i : ℕ) (d : CarriedRight) → i < length rights
     → named_after [] (take (i + 1) rights) ≡ named_with (named_after [] (take i rights)) (get_or rights i d).kind (get_or rights i d).port
 named_one_more rights i d h = ap (named_after []) (take_more rights i d h) ∙ after_more [] (take i rights) (get_or rights i d ∷ [])
@@ -65,7 +65,7 @@ module _ (serial : ℕ) where
   stays named [] h = h
   stays named (right ∷ rights) h = stays (named_with named right.kind right.port) rights (kept named right.kind right.port h)
 
-  -- what one of the rights brings is there in the end
+  -- the name that one of the rights brings is there in the end
   pub brought_by_one : (rights : List CarriedRight) (i : ℕ) (d : CarriedRight) → i < length rights → names_port serial (get_or rights i d).kind (get_or rights i d).port ≡ true
       → holds (named_after [] rights) ≡ true
   brought_by_one rights i d h e =
@@ -73,7 +73,7 @@ module _ (serial : ℕ) where
       (ap holds (after_more [] (take (i + 1) rights) (drop (i + 1) rights))
       ∙ stays (named_after [] (take (i + 1) rights)) (drop (i + 1) rights) (ap holds (named_one_more rights i d h) ∙ brought (named_after [] (take i rights)) (get_or rights i d).kind (get_or rights i d).port e))
 
--- the count of new names, one right more
+-- the count of new names, with one more right
 pub one_wants : (names : Names) (rights : List CarriedRight) (i : ℕ) (d : CarriedRight) → i < length rights
     → names_wanted names (named_after [] (take i rights)) (drop i rights)
     ≡ (cond (wants_name names (named_after [] (take i rights)) (get_or rights i d).kind (get_or rights i d).port) 1 0)

@@ -27,7 +27,7 @@ way_first names rights wanted given none room = record {
   wants = λ last arrives. (sym (ap (λ (l : List ℕ). l ++ wanted) none), arrives);
 }
 
--- what is wanted of the one that arrives, and of those behind it
+-- what is required of the right that arrives, and of those after it
 wanted_front : (left later : List ℕ) (shown : Option ℕ) (n : ℕ) (others : List ℕ) → MatchOption shown ((left ≡ []) × (later ≡ [])) (λ first. left ≡ first ∷ later) → left ≡ n ∷ others → (shown ≡ Some n) × (later ≡ others)
 wanted_front left later None n others front is = absurd (cc (sym front.0 ∙ is))
 wanted_front left later (Some first) n others front is =
@@ -77,7 +77,7 @@ way_wanted start now rights rest wanted left given way none last arrives =
     let ended = subst (λ (l : List CarriedRight). Arrives now l left last) none had.1 in
     sym (had.0 ∙ ap (λ (l : List ℕ). given ++ l) ended.0 ∙ append-nil given)
 
--- Names of a space that is there.
+-- Names of an existing space.
 
 abbrev or_none : Option Names → Names
 or_none None = finmap.empty
@@ -90,13 +90,13 @@ there_is state space there = by_case (finmap.get state.spaces space) refl there
     by_case None is some = absurd (cc some)
     by_case (Some names) is some = is ∙ ap (λ k. Some k) (sym (ap or_none is))
 
--- what is no right changes nothing
+-- MACH_PORT_NULL and MACH_PORT_DEAD change nothing
 pub unchanged : (state : State) (space : ℕ) (right : CarriedRight) (name : ℕ) → is_some (finmap.get state.spaces space) ≡ true → names_after (names_in state space) right.kind right.port name ≡ names_in state space
     → state ≡ with_names state space (names_after (names_in state space) right.kind right.port name)
 unchanged state space right name there same =
     ap (λ (spaces : FinMap nat_cmp Names). record state { spaces = spaces }) (sym (insert-same state.spaces space (names_in state space) (there_is state space there) ∙ refl) ∙ ap (λ (n : Names). finmap.insert state.spaces space n) (sym same))
 
--- the names of a space that got these
+-- the names of a space that got these rights
 pub names_got : (state new : State) (space : ℕ) (names : Names) → new ≡ with_names state space names → names_in new space ≡ names
 names_got state new space names is =
     ap (λ (s : State). names_in s space) is ∙ ap or_none (get-here state.spaces space names)
@@ -104,11 +104,11 @@ names_got state new space names is =
 pub there_too : (state new : State) (space : ℕ) (names : Names) → new ≡ with_names state space names → is_some (finmap.get new.spaces space) ≡ true
 there_too state new space names is = ap (λ (s : State). is_some (finmap.get s.spaces space)) is ∙ ap is_some (get-here state.spaces space names)
 
--- at first nothing has changed
+-- at first no name has changed
 pub got_first : (state : State) (space : ℕ) → is_some (finmap.get state.spaces space) ≡ true → state ≡ with_names state space (names_in state space)
 got_first state space there = ap (λ (spaces : FinMap nat_cmp Names). record state { spaces = spaces }) (sym (insert-same state.spaces space (names_in state space) (there_is state space there)))
 
--- names that were got twice
+-- names that changed twice
 pub got_later : (state now after : State) (space : ℕ) (names : Names) → now ≡ with_names state space (names_in now space) → after ≡ with_names now space names → after ≡ with_names state space (names_in after space)
 got_later state now after space names before is =
     is

@@ -21,12 +21,13 @@ use Rattle.ipc_laws.specs.ListLaws.{some_same}
 use Rattle.ipc_laws.specs.MapLaws.{get-here, get-there}
 use Rattle.ipc_laws.specs.Others.{number_decided, number_same}
 
--- room for the names that rights want, where every port that wants none has a name
+-- room for the names that rights need, if every port that needs none has a name
 pub record Fits (start now : Names) (named : List ℕ) (rights : List CarriedRight) : Type 0 where
   pub room : finmap.len now + names_wanted start named rights ≤ MAX_NAMES
   pub known : (serial : ℕ) → (is_none (name_of_port start serial) && not (list_any (λ port. port == serial) named)) ≡ false → HasName now serial
 
--- what comes of the names as one right arrives: ports keep their names, its own port has one, and there is a name more only where one was wanted
+-- what becomes of the names when one right arrives: ports keep their names, the right's own port has one, and there is
+-- one more name only where one was needed
 record HasArrived (names after : Names) (what : RightKind) (port : PortInMessage) : Type 0 where
   still : (serial : ℕ) → HasName names serial → HasName after serial
   own : (serial : ℕ) → port ≡ in_message.Live serial → what ≢ kind.SendOnce → HasName after serial
@@ -57,7 +58,7 @@ merged_holds kind.Receive rights = refl
 merged_holds kind.Send rights = refl
 merged_holds kind.SendOnce rights = refl
 
--- under a name that isn't in use
+-- the right arrives under a name that isn't in use
 fresh : (names : Names) (what : RightKind) (serial name : ℕ) → finmap.get names name ≡ None → ((other : ℕ) → in_message.Live serial ≡ in_message.Live other → HasName names other → what ≢ kind.SendOnce → ⊥)
     → HasArrived names (finmap.insert names name (merged_entry what serial (finmap.get names name))) what (in_message.Live serial)
 fresh names what serial name free alone =
@@ -69,7 +70,7 @@ fresh names what serial name free alone =
       same = λ (has : _). absurd (alone serial refl (has serial refl).1 (has serial refl).0);
     })
 
--- under the name of its port
+-- the right arrives under the name of its port
 merged : (names : Names) (what : RightKind) (name : ℕ) (entry : Entry) (serial : ℕ) → finmap.get names name ≡ Some entry → port_held entry ≡ Some serial
     → HasArrived names (finmap.insert names name (merged_entry what serial (finmap.get names name))) what (in_message.Live serial)
 merged names what name (Port rights) serial at held =
@@ -101,7 +102,7 @@ arrived names kind.SendOnce (in_message.Live serial) name unused = fresh names k
 arrived names kind.Send (in_message.Live serial) name may = by_name names kind.Send serial name (name_of_port names serial) refl (λ (e : _). cc e) may
 arrived names kind.Receive (in_message.Live serial) name may = by_name names kind.Receive serial name (name_of_port names serial) refl (λ (e : _). cc e) may
 
--- a port that wants no name by the count has one
+-- a port that needs no name by the count has one
 has_one : (start now : Names) (named : List ℕ) (rights : List CarriedRight) (what : RightKind) (port : PortInMessage) → Fits start now named rights → wants_name start named what port ≡ false → (serial : ℕ) → port ≡ in_message.Live serial
     → (what ≢ kind.SendOnce) × HasName now serial
 has_one start now named rights what in_message.Null fits unwanted serial is = absurd (cc is)
@@ -128,7 +129,7 @@ known_later start now after named rights kind.SendOnce (in_message.Live n) fits 
 known_later start now after named rights kind.Send (in_message.Live n) fits still own serial unwanted = one_named start now after named rights kind.Send n fits still (λ (is : _). cc is) own serial unwanted
 known_later start now after named rights kind.Receive (in_message.Live n) fits still own serial unwanted = one_named start now after named rights kind.Receive n fits still (λ (is : _). cc is) own serial unwanted
 
--- there is room for one right, where it comes under a name that isn't in use
+-- there is room for one right if it arrives under an unused name
 by_named : (start now : Names) (named : List ℕ) (rights : List CarriedRight) (what : RightKind) (port : PortInMessage) (name : ℕ) → MayArrive now what port name → finmap.get now name ≡ None → (serial : ℕ) → port ≡ in_message.Live serial
     → ((what ≢ kind.SendOnce) × HasName now serial → ⊥)
 by_named start now named rights what in_message.Null name may free serial is has = cc is

@@ -21,7 +21,7 @@ use Rattle.ipc_model.specs.state.State.{State, Names, with_names, with_changed, 
 abbrev Spaces : Type 0
 Spaces = FinMap nat_cmp Names
 
--- the same spaces are there, whatever their names
+-- the same spaces exist, whatever their names
 pub record KeepsSpaces (old new : State) : Type 0 where
   pub there : (space : ℕ) → is_some (finmap.get new.spaces space) ≡ is_some (finmap.get old.spaces space)
   pub count : finmap.len new.spaces ≡ finmap.len old.spaces
@@ -108,14 +108,14 @@ copied_in : (state : State) (space name : ℕ) (disposition : Disposition) → T
 unfolding copy_in
 copied_in state space name disposition = some_entry_taken state space name disposition (entry_at state space name)
 
--- what copy in took leaves the spaces that were there
+-- after copy in, the spaces are those from before
 pub copy_in_keeps_spaces : (state : State) (space name : ℕ) (disposition : Disposition) (taken : Taken) → copy_in state space name disposition ≡ Some taken → KeepsSpaces state taken.state
 copy_in_keeps_spaces state space name disposition taken is = subst (TakenKeeps state) is (copied_in state space name disposition)
 
 pub copy_in_keeps : (state : State) (space name : ℕ) (disposition : Disposition) (taken : Taken) → IsSome (finmap.get state.spaces space) → copy_in state space name disposition ≡ Some taken → IsSome (finmap.get taken.state.spaces space)
 copy_in_keeps state space name disposition taken there is = (copy_in_keeps_spaces state space name disposition taken is).there space ∙ there
 
--- whether or not anything was taken, there are as many spaces as before
+-- the number of spaces is the same, whether or not anything was taken
 pub spaces_counted : (state : State) (space name : ℕ) (disposition : Disposition) (waiting : List Effect) (right : Option CarriedRight) (new : State) (after : List Effect)
     → Takes (copy_in state space name disposition) state waiting right new after → finmap.len new.spaces ≡ finmap.len state.spaces
 spaces_counted state space name disposition waiting right new after takes =

@@ -1,4 +1,4 @@
--- There is room for the name that a right gets, where there is for the names that are wanted.
+-- There is room for the name that a right gets, if there is for the names that are needed.
 use Rattle.std.specs.Prelude.{◌≡◌, ℕ, ◌+◌, ◌<◌, ◌≤◌, Bool, true, ◌&&◌, [], ◌∷◌, Option, None, Some, is_none, MatchOption, if◌then◌else◌, refl}
 use Rattle.std.proofs.Common.{sym, ◌∙◌, ap, subst, arith}
 use Rattle.std.specs.FinMap as finmap
@@ -12,7 +12,7 @@ use Rattle.ipc_laws.specs.Arrivals.{named_there}
 use Rattle.ipc_model.specs.rights.CopyOut.{MayArrive, MayBeNamed, names_wanted, wants_name}
 use Rattle.ipc_model.specs.state.State.{Names, IsUnused, name_of_port}
 
--- how many names one right wants
+-- how many names one right needs
 abbrev count_of : Bool → ℕ
 count_of wanted = (if wanted then 1 else 0) + 0
 

@@ -5,8 +5,8 @@ use Rattle.ipc_model.specs.rights.CopyIn.{Taken}
 use Rattle.ipc_model.specs.effects.Effects.{Effect}
 use Rattle.ipc_model.specs.state.State.{State}
 
--- What was to be taken was taken: the right comes out, and notices wait at the end of the list. Where nothing
--- was to be taken all is as before.
+-- What was to be taken was taken: the right comes out, and its notices wait at the end of the list. Where nothing was
+-- to be taken, everything is as before.
 abbrev pub Takes : Option Taken → State → List Effect → Option CarriedRight → State → List Effect → Type 0
 Takes None old waiting right new after = (right ≡ None) × (new ≡ old) × (after ≡ waiting)
 Takes (Some taken) old waiting right new after = (right ≡ Some taken.right) × (new ≡ taken.state) × (after ≡ waiting ++ taken.notices)

@@ -1,4 +1,4 @@
--- Which ports have names once rights have arrived.
+-- Which ports have names after rights have arrived.
 use Rattle.std.specs.Prelude.{ℕ, Bool, false, List, [], ◌∷◌}
 use Rattle.ipc_model.specs.declared.message.CarriedRight.{CarriedRight}
 use Rattle.ipc_model.specs.declared.message.PortInMessage.{PortInMessage}
@@ -7,7 +7,7 @@ use Rattle.ipc_model.specs.declared.message.RightKind.TheVariants as kind
 use Rattle.ipc_model.specs.state.Circular.{is_port}
 use Rattle.ipc_model.specs.rights.CopyOut.{named_with}
 
--- the ports that have names once these rights have arrived, one after another
+-- the ports that have names after these rights have arrived, one by one
 abbrev pub named_after : List ℕ → List CarriedRight → List ℕ
 named_after named [] = named
 named_after named (right ∷ rights) = named_after (named_with named right.kind right.port) rights

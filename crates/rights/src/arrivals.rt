@@ -12,7 +12,7 @@ use ipc_model::{CarriedRight, PortInMessage};
 use ipc_state::IpcState;
 use std::alloc::AllocError;
 
-/// The name under which a right arrives: the wanted one where it may arrive under it, or else the one that it gets by
+/// The name under which a right arrives: the preferred one if it may arrive under it, else the one that it gets by
 /// itself.
 pub fn arrival_wanted(state: &IpcState, space: u32, right: CarriedRight, wanted: Option<u32>) -> u32
     ensures may { MayArrive (names_in state.now.current space) right.kind right.port result }
@@ -24,7 +24,7 @@ pub fn arrival_wanted(state: &IpcState, space: u32, right: CarriedRight, wanted:
     }
 }
 
-/// Has a right that arrives come to stand under a name; what is no right changes nothing.
+/// Puts a right that arrives under a name; if it is no right, nothing changes.
 fn put_arrived(
     state: &mut IpcState,
     space: u32,
@@ -43,7 +43,7 @@ fn put_arrived(
     }
 }
 
-/// One right arrives, and this is its name.
+/// Puts one right into the space, and returns its name.
 fn arrive_one(
     state: &mut IpcState,
     space: u32,
@@ -63,7 +63,7 @@ fn arrive_one(
     Ok(name)
 }
 
-/// The first of the names that are wanted, if there is one, and those behind it.
+/// The first of the preferred names, if there is one, and those after it.
 fn front(wanted: &[u32]) -> (Option<u32>, &[u32])
     ensures { MatchOption result.0 ((wanted.now ≡ []) × (result.1.now ≡ [])) (λ first. wanted.now ≡ first ∷ result.1.now) }
 {
@@ -73,8 +73,8 @@ fn front(wanted: &[u32]) -> (Option<u32>, &[u32])
     }
 }
 
-/// Rights arrive in a space, each under the wanted name where it may; their names are added. There is room for the new
-/// names that they want. Where memory is wanted the changes are to be given up.
+/// Puts rights into a space, each under its preferred name if it may arrive there, and adds their names. The space has
+/// room for the new names that they need. If an allocation fails, the changes must be rolled back.
 pub fn arrive(
     state: &mut IpcState,
     space: u32,

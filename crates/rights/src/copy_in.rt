@@ -11,9 +11,9 @@ use ipc_model::{CarriedRight, Entry, PortInMessage, PortRights, RightKind};
 use ipc_state::{IpcState, PortNumbers};
 use std::alloc::AllocError;
 
-/// Copy in: takes a right from a name of a space by a disposition, or nothing where that is refused, and then
-/// all is as before. The port-deleted notice of a name that ceases to be goes to the end of the effects. Where memory is
-/// wanted the changes are to be given up.
+/// Copy in: takes a right from a name of a space by a disposition. If that is refused, it takes nothing and nothing
+/// changed. The port-deleted notice of a name that ceases to exist goes to the end of the effects. If an allocation
+/// fails, the changes must be rolled back.
 #[tactic(auto, unfolding(ipc_model::specs::rights::CopyIn::copy_in))]
 pub fn take_right(
     state: &mut IpcState,
@@ -159,7 +159,7 @@ fn move_send(
     Ok(Some(right_to(RightKind::Send, rights.port)))
 }
 
-/// A send right is made from the receive right, and counted.
+/// Makes a send right from the receive right, and counts it.
 fn make_send(state: &mut IpcState, rights: PortRights) -> Result<Option<CarriedRight>, AllocError>
     ensures none { IfOk result (λ made. IfNone made ((rights.receive ≡ false) × (state.new.current ≡ state.old.current))) }
     ensures made { IfOk result (λ made. IfSome made (λ right. (rights.receive ≡ true) × (right ≡ record { kind = RightKind.Send; port = PortInMessage.Live rights.port })
@@ -182,7 +182,7 @@ fn make_send(state: &mut IpcState, rights: PortRights) -> Result<Option<CarriedR
     Ok(Some(right_to(RightKind::Send, rights.port)))
 }
 
-/// A send-once right is moved, and its name ceases to be.
+/// Moves a send-once right; its name ceases to exist.
 fn take_send_once(
     state: &mut IpcState,
     space: u32,

@@ -10,8 +10,8 @@ use ipc_model::{CarriedRight, Entry, PortInMessage, PortRights, RightKind};
 use ipc_state::IpcState;
 use std::alloc::AllocError;
 
-/// The name that a right gets which arrives in a space: a send or receive right the name of its port, if it
-/// has one there, and else the least unused name; `MACH_PORT_NULL` and `MACH_PORT_DEAD` arrive as themselves.
+/// The name that a right gets when it arrives in a space: for a send or receive right the name of its port, if it has
+/// one there, else the least unused name; `MACH_PORT_NULL` and `MACH_PORT_DEAD` arrive as themselves.
 pub fn arrival_name(state: &IpcState, space: u32, right: CarriedRight) -> u32
     ensures { MayArrive (names_in state.now.current space) right.kind right.port result }
 {
@@ -57,8 +57,8 @@ fn may_be_named(state: &IpcState, space: u32, kind: RightKind, port: u64, name: 
     }
 }
 
-/// Copy out: a right arrives in a space under a name; a send right adds a reference, up to the greatest number of
-/// them. Where memory is wanted the changes are to be given up.
+/// Copy out: puts a right into a space under a name; a send right adds a reference, up to the greatest number of them.
+/// If an allocation fails, the changes must be rolled back.
 pub fn put_right(
     state: &mut IpcState,
     space: u32,
@@ -78,7 +78,7 @@ pub fn put_right(
     state.put_name(space, name, entry)
 }
 
-/// What a name stands for that takes a right more.
+/// What a name stands for after it takes one more right.
 fn merged(kind: RightKind, port: u64, before: Option<Entry>) -> Entry
     requires few { IfSome before AreFewReferences }
     ensures entry { result ≡ merged_entry kind port before }
@@ -90,7 +90,7 @@ fn merged(kind: RightKind, port: u64, before: Option<Entry>) -> Entry
     }
 }
 
-/// The rights of a name with one more of the same port.
+/// The rights of a name with one more right to the same port.
 fn with_right(kind: RightKind, rights: PortRights) -> PortRights
     requires few { rights.send ≤ MAX_SEND_REFERENCES }
     ensures rights { result ≡ merged_rights kind rights }

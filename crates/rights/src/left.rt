@@ -8,7 +8,7 @@ use ipc_model::Entry;
 use ipc_state::{IpcState, request_of};
 use std::alloc::AllocError;
 
-/// Whether a name stands for nothing any more, and so ceases to be.
+/// Whether a name stands for nothing any more, and so ceases to exist.
 pub fn is_empty(entry: Entry) -> bool
     ensures { result ≡ is_empty_entry entry }
 {
@@ -19,8 +19,7 @@ pub fn is_empty(entry: Entry) -> bool
     }
 }
 
-/// Adds the port-deleted notice of a name that ceases to be, where this is what is left of it. Where memory is
-/// wanted nothing changed.
+/// Adds the port-deleted notice of a name, if what is left of it is nothing. If an allocation fails, nothing changed.
 pub fn announce_left(effects: &mut Effects, name: u32, entry: Entry) -> Result<(), AllocError>
     ensures ok { OnOk result (effects.new ≡ effects.old ++ notices_of_left name entry) }
     ensures err { OnErr result (effects.new ≡ effects.old) }
@@ -31,8 +30,8 @@ pub fn announce_left(effects: &mut Effects, name: u32, entry: Entry) -> Result<(
     Ok(())
 }
 
-/// A name that is in use comes to stand for this; left without a right, it ceases to be. Where memory is wanted the changes
-/// are to be given up.
+/// Makes a name in use stand for this; left without a right, it ceases to exist. If an allocation fails, the changes
+/// must be rolled back.
 pub fn set_left(state: &mut IpcState, space: u32, name: u32, entry: Entry) -> Result<(), AllocError>
     requires named { IsSome (entry_at state.old.current space name) }
     requires few { AreFewReferences entry }

@@ -1,4 +1,4 @@
--- How long the texts of replies are.
+-- How long the encodings of replies are.
 use Rattle.std.proofs.Common.{◌≡◌, ℕ, ◌+◌, ◌*◌, ◌<◌, ◌≤◌, List, [], ◌∷◌, ◌++◌, length, flat_map, ◌^◌, refl, arith, length-append}
 use Rattle.ipc_model.specs.declared.call.NamedType.{NamedType}
 use Rattle.ipc_model.specs.declared.call.Reply.{Reply}

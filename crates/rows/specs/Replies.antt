@@ -1,4 +1,4 @@
--- Frames of replies, and what they have to be.
+-- Frames of replies, and what they are expected to be.
 use Rattle.std.specs.Prelude.{◌≡◌, ℕ, List, ◌++◌, length}
 use Rattle.ipc_model.specs.declared.call.Reply.{Reply}
 use Rattle.ipc_model.specs.declared.call.Reply.TheVariants as reply
@@ -13,12 +13,12 @@ pub record HasCode (frame : List ℕ) (code : ℕ) : Type 0 where
   pub results : List ℕ
   pub is : frame ≡ word content_length ++ (word number ++ (word code ++ results))
 
--- the frame is one that is wanted
+-- the frame is an expected one
 abbrev pub Meets : Wanted → List ℕ → Type 0
 Meets (wanted.Frame frame) answer = answer ≡ frame.items
 Meets (wanted.Code code) answer = HasCode answer code
 
--- the frame is the one that is wanted, byte for byte
+-- the frame is the expected one, byte for byte
 abbrev pub IsSame : Wanted → List ℕ → Type 0
 IsSame (wanted.Frame frame) answer = answer ≡ frame.items
 IsSame (wanted.Code code) answer = ⊥

@@ -21,7 +21,7 @@ pub struct Store<D> {
 }
 
 impl<D: Device + Drop> Store<D> {
-    /// A store of nothing.
+    /// An empty store.
     pub fn new(alloc: Global) -> Store<D> {
         Store {
             disk: D::empty(alloc),
@@ -35,7 +35,7 @@ impl<D: Device + Drop> Store<D> {
         self.space = FIRST_SPACE;
     }
 
-    /// Plans a stop at a call of its disk, and what it leaves.
+    /// Plans a crash at a call of its disk, and what it leaves.
     pub fn plan_stop(&mut self, stop_at: u64, torn: Torn) {
         self.disk.plan_stop(stop_at, torn);
     }
@@ -102,8 +102,8 @@ impl<D: Device + Drop> Connection<D> {
         }
     }
 
-    /// Opens a store that `stop` gives back: until then it is an empty one. So whoever goes on with it has no store to drop
-    /// where a call fails.
+    /// Opens a store that `stop` gives back: until then it is an empty one. So a caller that goes on with it has no
+    /// store to drop if a call fails.
     pub fn borrow(store: &mut Store<D>, place: Place) -> Result<Connection<D>, Failure> {
         Connection::open(store.take(), place)
     }
@@ -163,7 +163,7 @@ impl<D: Device + Drop> Connection<D> {
         }
     }
 
-    /// The store that a stop leaves, which is the planned one where it came.
+    /// The store that a crash leaves: the planned crash, if it came.
     pub fn stop(self) -> Result<Store<D>, Failure> {
         let Store { disk, alloc, space } = self.close();
         match disk.stop() {
@@ -172,7 +172,7 @@ impl<D: Device + Drop> Connection<D> {
         }
     }
 
-    /// Gives back the store that a stop leaves.
+    /// Gives back the store that a crash leaves.
     pub fn stop_in(self, store: &mut Store<D>) -> Result<(), Failure> {
         *store = self.stop()?;
         Ok(())

@@ -1,24 +1,24 @@
-//! What scripts are run on: a disk, and the server over its store. The methods have no clauses, so that the proofs of what runs
-//! scripts carry nothing of a disk or of a core: what is known of one would be written out at each exit of a function that owns
-//! it.
+//! What scripts are run on: a disk, and the server over its store. The methods have no clauses, so that the proofs of
+//! what runs scripts carry nothing of a disk or of a core: what is known of one would be written out at each exit of a
+//! function that owns it.
 
 use disk::{Disk, MemDisk, Slot, Torn};
 use journal::StoreFault;
 use server::{Alone, open, serve};
 use std::alloc::Global;
 
-/// A disk that stops as it is planned to.
+/// A disk that crashes as planned.
 pub trait Device {
     /// The server over the store of such a disk.
     type Server: Drop;
 
-    /// A disk of nothing.
+    /// An empty disk.
     fn empty(alloc: Global) -> Self;
 
-    /// Plans a stop at a call of the disk, and what it leaves.
+    /// Plans a crash at a call of the disk, and what it leaves.
     fn plan_stop(&mut self, stop_at: u64, torn: Torn);
 
-    /// What a stop leaves, where there is memory.
+    /// What a crash leaves, if there is memory.
     fn stop(self) -> Option<Self>;
 
     /// How many bytes segment 0 has.

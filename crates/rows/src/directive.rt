@@ -9,7 +9,7 @@ use std::str;
 pub enum Directive<'a> {
     /// Nothing, or a comment.
     Nothing,
-    /// The script is run straight alone.
+    /// The script is only run straight.
     Straight,
     /// A new connection, whose task is attached to space 1.
     Connect,
@@ -17,13 +17,13 @@ pub enum Directive<'a> {
     Slot { length: u64 },
     /// The hexadecimal digits of a frame's content and of its reply's.
     Frame { sent: &'a [u8], wanted: &'a [u8] },
-    /// How often a call is made, and the call, with its return code where it is refused.
+    /// How many times a call is made, and the call, with its return code if it is refused.
     Repeat { times: u32, call: &'a [u8] },
-    /// A call and what it answers, or a line that can't be read.
+    /// A call and its answer, or a line that can't be read.
     Call,
 }
 
-/// How many bytes stand in front of a comment.
+/// How many bytes come before a comment.
 fn text_length(line: &[u8]) -> usize
     ensures value { result ≡ text_length line.now }
     ensures within { result ≤ length line.now }
@@ -31,7 +31,7 @@ fn text_length(line: &[u8]) -> usize
     line.iter().take_while(|byte| **byte != b'#').count()
 }
 
-/// How many spaces stand in front.
+/// How many spaces come first.
 fn count_spaces(line: &[u8]) -> usize
     ensures value { result ≡ prefix_len is_space line.now }
     ensures within { result ≤ length line.now }
@@ -39,7 +39,7 @@ fn count_spaces(line: &[u8]) -> usize
     line.iter().take_while(|byte| **byte <= b' ').count()
 }
 
-/// How many bytes the word has that stands in front.
+/// How many bytes the first word has.
 fn word_length(text: &[u8]) -> usize
     ensures value { result ≡ word_length text.now }
     ensures within { result ≤ length text.now }
@@ -47,7 +47,7 @@ fn word_length(text: &[u8]) -> usize
     text.iter().take_while(|byte| **byte > b' ').count()
 }
 
-/// What stands in front of a comment.
+/// What comes before a comment.
 fn without_comment(line: &[u8]) -> &[u8]
     ensures { result.now ≡ before_comment line.now }
 {
@@ -63,7 +63,7 @@ fn without_spaces(line: &[u8]) -> &[u8]
     text
 }
 
-/// The first word of a line, which is empty where there is none, and what stands behind it.
+/// The first word of a line, which is empty if there is none, and what stands after it.
 fn take_word(line: &[u8]) -> (&[u8], &[u8])
     ensures word { result.0.now ≡ first_word line.now }
     ensures rest { result.1.now ≡ behind_first line.now }
@@ -72,7 +72,7 @@ fn take_word(line: &[u8]) -> (&[u8], &[u8])
     text.split_at(word_length(text))
 }
 
-/// The number that a word spells in decimal digits.
+/// The number that a word writes in decimal digits.
 fn number_of(word: &[u8]) -> Option<u32> {
     let Ok(word) = str::from_utf8(word) else {
         return None;
@@ -80,7 +80,7 @@ fn number_of(word: &[u8]) -> Option<u32> {
     word.parse::<u32>().ok()
 }
 
-/// The length of segment 0 that stands behind the word `slot`.
+/// The length of segment 0 that stands after the word `slot`.
 fn slot_length(rest: &[u8]) -> Option<u64>
     ensures { IfSome result (λ _. first_word rest.now ≡ codes "segment0") }
 {
@@ -92,7 +92,7 @@ fn slot_length(rest: &[u8]) -> Option<u64>
     Some(u64::from(number_of(length)?))
 }
 
-/// What stands in front of the first `=`, and behind it.
+/// What comes before the first `=`, and what comes after it.
 fn sides(text: &[u8]) -> Option<(&[u8], &[u8])>
     ensures { IfSome result (λ r. text.now ≡ r.0.now ++ 61 ∷ r.1.now) }
 {
@@ -104,7 +104,7 @@ fn sides(text: &[u8]) -> Option<(&[u8], &[u8])>
     }
 }
 
-/// How often a call is made, and the call, that stand behind the word `repeat`.
+/// How many times a call is made, and the call, from what stands after the word `repeat`.
 fn repeated(rest: &[u8]) -> Option<(u32, &[u8])>
     ensures { IfSome result (λ r. r.1.now ≡ behind_first rest.now) }
 {
@@ -112,7 +112,7 @@ fn repeated(rest: &[u8]) -> Option<(u32, &[u8])>
     Some((number_of(times)?, call))
 }
 
-/// What a line is. One that begins as a directive and can't be read as one is taken for a call, which it isn't either.
+/// What a line is. One that begins as a directive and can't be read as one counts as a call, which it isn't either.
 pub fn directive_of(line: &[u8]) -> Directive<'_>
     ensures { IsDirective result (before_comment line.now) }
 {

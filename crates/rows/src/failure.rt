@@ -6,9 +6,9 @@ use std::fmt;
 /// Why a frame has no reply.
 #[derive(Clone, Copy)]
 pub enum Unanswered {
-    /// The server ended in place of it.
+    /// The server ended instead.
     NoReply,
-    /// The task could not be attached again to the space that it was attached to.
+    /// The task couldn't be attached again to the space that it was attached to.
     Detached,
 }
 
@@ -21,9 +21,9 @@ pub enum Difference {
     Unanswered(Unanswered),
     /// Segment 0 had another length.
     Length(u64),
-    /// The store could not be opened.
+    /// The store couldn't be opened.
     Unopened(StoreFault),
-    /// The store did not have the calls that were answered and at most the one that was being made.
+    /// The store didn't have the calls that were answered and at most the one that was being made.
     Records,
 }
 
@@ -39,18 +39,18 @@ pub struct Place {
 pub enum Way {
     /// On one server.
     Straight,
-    /// On a store that is stopped and opened again after each call.
+    /// On a store that crashes and is opened again after each call.
     Reopened,
-    /// On a store that stops at a device call of each append.
+    /// On a store that crashes at a device call of each append.
     Stopped(Stop),
 }
 
-/// A stop at one of the device calls of an append.
+/// A crash at one of the device calls of an append.
 #[derive(Clone, Copy)]
 pub struct Stop {
     /// Which of them, from 1.
     pub at: u64,
-    /// What the stop leaves.
+    /// What the crash leaves.
     pub torn: Torn,
 }
 
@@ -66,7 +66,7 @@ impl fmt::Display for Way {
     }
 }
 
-/// Why a script was not run to its end.
+/// Why a script wasn't run to its end.
 #[derive(Drop)]
 pub enum Failure {
     NoMemory,
@@ -82,7 +82,7 @@ impl Place {
         Place { line: 0, way }
     }
 
-    /// That something else came here than was wanted.
+    /// The failure that something else came here than was expected.
     pub fn differs(self, difference: Difference) -> Failure {
         Failure::At {
             place: self,

@@ -5,14 +5,14 @@ use crate::row::{Ask, Row, Script, Step, is_wanted};
 use disk::Torn;
 use std::alloc::Global;
 
-/// How many device calls `open` makes on a store that is there: four syncs, four reads of headers, two of the image, one
-/// of the segment, which is one piece here, and two that end it.
+/// How many device calls `open` makes on an existing store: four syncs, four reads of headers, two of the image, one of
+/// the segment, which is one piece here, and two that end it.
 const OPENING_CALLS: u64 = 13;
 
 /// How many device calls an append makes.
 const APPEND_CALLS: u64 = 4;
 
-/// What a stop is told to leave of the writes since the last sync.
+/// What a crash is to leave of the writes since the last sync.
 static TORN: [Torn; 6] = [
     Torn::Old,
     Torn::New,
@@ -31,7 +31,7 @@ fn check_reply(place: Place, reply: Vec<u8>, ask: &Ask) -> Result<(), Failure> {
     }
 }
 
-/// Sends a frame, and looks whether it is answered as it should be.
+/// Sends a frame, and checks whether it gets the answer that it should.
 fn check_ask<D: Device + Drop>(
     place: Place,
     connection: &mut Connection<D>,
@@ -57,7 +57,7 @@ fn check_length<D: Device + Drop>(
     }
 }
 
-/// Sends a frame as often as its row says.
+/// Sends a frame as many times as its row says.
 fn check_asks<D: Device + Drop>(
     place: Place,
     connection: &mut Connection<D>,
@@ -69,7 +69,7 @@ fn check_asks<D: Device + Drop>(
     Ok(())
 }
 
-/// Opens a store again whose slot is looked at.
+/// Opens again a store whose slot is looked at.
 fn opened_of_length<D: Device + Drop>(
     store: Store<D>,
     place: Place,
@@ -79,7 +79,7 @@ fn opened_of_length<D: Device + Drop>(
     Connection::open(store, place)
 }
 
-/// A line of a script on a server that goes on behind it. To look at a slot the server ends, and another begins.
+/// A line of a script on a server that goes on after it. To look at a slot, the server ends and another begins.
 fn straight_row<D: Device + Drop>(
     mut connection: Connection<D>,
     row: &Row,
@@ -109,13 +109,13 @@ fn run_straight<D: Device + Drop>(alloc: Global, rows: &[Row]) -> Result<(), Fai
     Ok(())
 }
 
-/// A new store, which has been opened once: that makes it, by other device calls than later ones.
+/// A new store, which has been opened once: that makes it, by other device calls than later openings.
 fn new_store<D: Device + Drop>(alloc: Global, way: Way) -> Result<Store<D>, Failure> {
     let connection: Connection<D> = Connection::open(Store::new(alloc), Place::start(way))?;
     connection.stop()
 }
 
-/// A frame on a server of its own, which stops when it is answered.
+/// A frame on a server of its own, which crashes once the frame is answered.
 fn reopened_ask<D: Device + Drop>(
     store: &mut Store<D>,
     place: Place,
@@ -127,7 +127,7 @@ fn reopened_ask<D: Device + Drop>(
     outcome
 }
 
-/// A line of a script on a store that is stopped and opened again after each call.
+/// A line of a script on a store that crashes and is opened again after each call.
 fn reopened_row<D: Device + Drop>(store: &mut Store<D>, row: &Row) -> Result<(), Failure> {
     let place = row.place(Way::Reopened);
     match &row.step {
@@ -149,7 +149,7 @@ fn reopened_rows<D: Device + Drop>(store: &mut Store<D>, rows: &[Row]) -> Result
     Ok(())
 }
 
-/// A script on a store that is stopped and opened again after each call.
+/// A script on a store that crashes and is opened again after each call.
 fn run_reopened<D: Device + Drop>(alloc: Global, rows: &[Row]) -> Result<(), Failure> {
     let mut store: Store<D> = new_store(alloc, Way::Reopened)?;
     reopened_rows(&mut store, rows)
@@ -164,7 +164,7 @@ struct Stopped {
     is_answered: bool,
 }
 
-/// Sends a frame, and tells whether it was answered, as it should be.
+/// Sends a frame, and returns whether it got an answer, the one that it should.
 fn is_answered<D: Device + Drop>(
     place: Place,
     connection: &mut Connection<D>,
@@ -180,7 +180,7 @@ fn is_answered<D: Device + Drop>(
     }
 }
 
-/// A frame on a store that stops at a device call of its append.
+/// A frame on a store that crashes at a device call of its append.
 fn stopped_once<D: Device + Drop>(
     store: &mut Store<D>,
     stop: Stop,
@@ -199,7 +199,7 @@ fn stopped_once<D: Device + Drop>(
     })
 }
 
-/// Makes a call again that was stopped, where the store doesn't know it.
+/// Makes a call again that was stopped, if the store doesn't know it.
 fn ask_again<D: Device + Drop>(
     place: Place,
     connection: &mut Connection<D>,
@@ -211,7 +211,7 @@ fn ask_again<D: Device + Drop>(
         is_answered,
     } = stopped;
     let found = connection.records();
-    // What was answered has no record, since the stop came before the end of any append.
+    // What was answered has no record, since the crash came before the end of any append.
     if found > records.saturating_add(u64::from(!is_answered)) || found < records {
         return Err(place.differs(Difference::Records));
     }
@@ -221,7 +221,7 @@ fn ask_again<D: Device + Drop>(
     Ok(())
 }
 
-/// A frame on a store that stops at a device call of its append. Where the store doesn't know the call then, it is made
+/// A frame on a store that crashes at a device call of its append. If the store doesn't know the call then, it is made
 /// again.
 fn stopped_ask<D: Device + Drop>(
     store: &mut Store<D>,
@@ -236,7 +236,7 @@ fn stopped_ask<D: Device + Drop>(
     outcome
 }
 
-/// A line of a script on a store that stops at one device call of each append.
+/// A line of a script on a store that crashes at one device call of each append.
 fn stopped_row<D: Device + Drop>(
     store: &mut Store<D>,
     stop: Stop,
@@ -249,7 +249,7 @@ fn stopped_row<D: Device + Drop>(
             }
         }
         Step::Connect => store.connect_anew(),
-        // Bytes that a stop left behind the last gate may stand there still.
+        // Bytes that a crash left after the last gate may still stand there.
         Step::Length(_) => {}
     }
     Ok(())
@@ -266,13 +266,13 @@ fn stopped_rows<D: Device + Drop>(
     Ok(())
 }
 
-/// A script on a store that stops at one device call of each append.
+/// A script on a store that crashes at one device call of each append.
 fn run_stopped<D: Device + Drop>(alloc: Global, rows: &[Row], stop: Stop) -> Result<(), Failure> {
     let mut store: Store<D> = new_store(alloc, Way::Stopped(stop))?;
     stopped_rows(&mut store, stop, rows)
 }
 
-/// A script with each stop, at each device call and with each of what it may leave.
+/// A script with each crash, at each device call and with everything that it may leave.
 fn run_stops<D: Device + Drop>(alloc: Global, rows: &[Row]) -> Result<(), Failure> {
     for torn in &TORN {
         for at in 1..=APPEND_CALLS {

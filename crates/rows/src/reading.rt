@@ -15,11 +15,11 @@ use words::push_word;
 /// Why a script can't be read.
 #[derive(Clone, Copy)]
 pub enum ReadFault {
-    /// No memory for what the script holds.
+    /// Out of memory for what the script holds.
     NoMemory,
     /// A line is neither a call nor a directive.
     Line { line: u32, fault: LineFault },
-    /// The digits of a frame are none.
+    /// The digits of a frame aren't digits.
     Digits { line: u32 },
     /// A reply is longer than any that comes.
     Long { line: u32 },
@@ -77,7 +77,7 @@ fn count_items(reply: &Reply) -> usize
     }
 }
 
-/// Whether a reply has few enough names, members or bytes of a message to be spelled.
+/// Whether a reply has few enough names, members or bytes of a message to be encoded.
 #[tactic(auto, using(crate::proofs::Lengths::short_reply))]
 fn is_short(reply: &Reply) -> bool
     ensures { IsTrue result → length (reply_text reply.now) < 2 ^ 32 }
@@ -95,7 +95,7 @@ fn reply_frame(alloc: Global, reply: &Reply, line: u32) -> Result<Vec<u8>, ReadF
     Ok(frame_of(alloc, &content)?)
 }
 
-/// The bytes that hexadecimal digits spell, with any spaces between them.
+/// The bytes that hexadecimal digits write, with any spaces between them.
 fn bytes_of(alloc: Global, text: &[u8], line: u32) -> Result<Vec<u8>, ReadFault> {
     let mut digits = Vec::new(alloc);
     for byte in text {
@@ -125,7 +125,7 @@ fn code_of(reply: &Reply) -> u32 {
     }
 }
 
-/// A call that is made so many times, each with an answer that is wanted.
+/// A call that is made `times` times, each with an expected answer.
 fn asking(alloc: Global, call: Call, wanted: Wanted, times: u32) -> Result<Step, ReadFault> {
     match call_frame(alloc, &call) {
         Ok(frame) => Ok(Step::Ask(Ask {
@@ -141,7 +141,7 @@ fn asking(alloc: Global, call: Call, wanted: Wanted, times: u32) -> Result<Step,
     }
 }
 
-/// A call and what it answers, as a step.
+/// A call and its answer, as a step.
 fn call_step(alloc: Global, exchange: Exchange, line: u32) -> Result<Step, ReadFault> {
     let Exchange { call, reply } = exchange;
     let wanted = reply_frame(alloc, &reply, line);
@@ -155,7 +155,7 @@ fn call_step(alloc: Global, exchange: Exchange, line: u32) -> Result<Step, ReadF
     }
 }
 
-/// A call that is made so many times, each with the return code that stands behind it.
+/// A call that is made `times` times, each with the return code that stands after it.
 fn refused_step(
     alloc: Global,
     times: u32,
@@ -170,7 +170,7 @@ fn refused_step(
     Ok(Some(asking(alloc, call, wanted, times)?))
 }
 
-/// A call that is made so many times, each with success.
+/// A call that is made `times` times, each with success.
 fn done_step(alloc: Global, times: u32, text: &[u8], line: u32) -> Result<Step, ReadFault> {
     match read_request_line(alloc, text) {
         Ok(call) => asking(alloc, call, Wanted::Code(0), times),
@@ -178,7 +178,7 @@ fn done_step(alloc: Global, times: u32, text: &[u8], line: u32) -> Result<Step, 
     }
 }
 
-/// A call that is made so many times, each with the return code that stands behind it, or with success.
+/// A call that is made `times` times, each with the return code that stands after it, or with success.
 fn repeat_step(
     alloc: Global,
     times: u32,
@@ -203,7 +203,7 @@ fn frame_step(alloc: Global, sent: &[u8], wanted: &[u8], line: u32) -> Result<St
     }))
 }
 
-/// What a line has done or looks at, if it does.
+/// What a line does or looks at, if anything.
 fn step_of(alloc: Global, text: &[u8], line: u32) -> Result<Option<Step>, ReadFault> {
     match directive_of(text) {
         Directive::Nothing | Directive::Straight => Ok(None),
@@ -226,7 +226,7 @@ fn add_row(alloc: Global, rows: &mut Vec<Row>, text: &[u8], line: u32) -> Result
     Ok(())
 }
 
-/// Adds the rows of a script's lines. Whether it is run straight alone.
+/// Adds the rows of a script's lines. Returns whether the script is only run straight.
 fn add_rows(alloc: Global, rows: &mut Vec<Row>, text: &[u8]) -> Result<bool, ReadFault> {
     let mut is_straight = false;
     let mut line = 0_u32;

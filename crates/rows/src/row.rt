@@ -8,7 +8,7 @@ use words::take_word;
 /// What a reply has to be.
 #[derive(Drop)]
 pub enum Wanted {
-    /// This frame, its length in front.
+    /// This frame, with its length in front.
     Frame(Vec<u8>),
     /// A frame with this return code, whatever its results are.
     Code(u32),
@@ -17,23 +17,23 @@ pub enum Wanted {
 /// A frame that is sent, and what answers it.
 #[derive(Drop)]
 pub struct Ask {
-    /// The frame, its length in front.
+    /// The frame, with its length in front.
     pub frame: Vec<u8>,
     pub wanted: Wanted,
-    /// How often it is sent, and answered so.
+    /// How many times it is sent, each with that answer.
     pub times: u32,
-    /// The call that the frame spells, where the line has one.
+    /// The call that the frame encodes, if the line has one.
     pub call: Option<Call>,
 }
 
-/// What a line of a script has done or looks at.
+/// What a line of a script does or looks at.
 #[derive(Drop)]
 pub enum Step {
     /// A frame is sent.
     Ask(Ask),
     /// The connection ends, and another begins.
     Connect,
-    /// Segment 0 has so many bytes.
+    /// Segment 0 has this many bytes.
     Length(u64),
 }
 
@@ -58,12 +58,12 @@ impl Row {
 /// A script as it is run.
 #[derive(Drop)]
 pub struct Script {
-    /// Whether it is run straight alone.
+    /// Whether it is only run straight.
     pub is_straight: bool,
     pub rows: Vec<Row>,
 }
 
-/// The return code in a reply's frame, behind its length and the call's number.
+/// The return code in a reply's frame, after its length and the call's number.
 pub fn code_of(frame: &[u8]) -> Option<u32>
     ensures found { IfSome result (HasCode frame.now) }
     ensures none { IfNone result (length frame.now < 12) }

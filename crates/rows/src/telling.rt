@@ -8,7 +8,7 @@ use script::{push_call, push_reply};
 use std::alloc::{AllocError, Global};
 use std::{io, str};
 
-/// The return codes that calls but `mach_msg` are refused with.
+/// The return codes with which calls other than `mach_msg` are refused.
 static REFUSALS: [KernReturn; 13] = [
     KernReturn::NoSpace,
     KernReturn::InvalidArgument,
@@ -44,7 +44,7 @@ fn refusal_of(call: &Call, frame: &[u8]) -> Option<Reply> {
     })
 }
 
-/// The reply to a call that a frame is, where it is a refusal or one that is recorded.
+/// The reply to a call that a frame is, if it is a refusal or one that is recorded.
 fn reply_of(alloc: Global, call: &Call, frame: &[u8]) -> Result<Option<Reply>, AllocError> {
     if let Some(refusal) = refusal_of(call, frame) {
         return Ok(Some(refusal));
@@ -71,7 +71,7 @@ fn exchange_text(
     }
 }
 
-/// A reply's frame as the line of a script, where it can be read as one, else its bytes.
+/// A reply's frame as the line of a script, if it can be read as one, else its bytes.
 fn frame_text(alloc: Global, call: Option<&Call>, frame: &[u8]) -> Result<String, AllocError> {
     if let Some(call) = call
         && let Some(reply) = reply_of(alloc, call, frame)?
@@ -107,7 +107,7 @@ fn line_of(text: &[u8], number: u32) -> &str {
     ""
 }
 
-/// What came in place of what a line wants.
+/// What came in place of what a line expects.
 fn difference_text(
     alloc: Global,
     script: &Script,
@@ -126,12 +126,12 @@ fn difference_text(
     }
 }
 
-/// Tells that a script can't be read.
+/// Prints that a script can't be read.
 pub fn tell_fault(rt: &impl Print, name: &str, fault: &ReadFault) -> io::Result<()> {
     println!(rt; "{name} {fault}")
 }
 
-/// Tells where a script went wrong, what was wanted and what came.
+/// Prints where a script went wrong, what was expected and what came.
 pub fn tell_failure(
     rt: &(impl Print + AllocGlobal),
     name: &str,

@@ -1,4 +1,4 @@
--- Calls are read as they are printed.
+-- Calls are read back as they are printed.
 use Rattle.std.proofs.Common.{◌≡◌, ℕ, ◌^◌, ◌<◌, Bool, List, ◌∷◌, ◌++◌, refl, ap, ◌∙◌, Some, Ok, append_assoc}
 use Rattle.std.specs.Prelude.{codes, find}
 use Rattle.std.specs.Str.{bytes_eq}
@@ -122,7 +122,7 @@ behind_again (call.Receive limit large name waited) ws f apart = receive_again l
 behind_again (call.SpaceCreate a b) ws f apart = two verb.SpaceCreate Hexadecimal Disposition _ a b ws refl (hex a _ f.0) (disposition b ws f.1) refl
 behind_again call.SpaceDestroy ws f apart = none verb.SpaceDestroy _ ws refl refl
 
--- the words of a call in front of others are read as the call
+-- the words of a call, followed by others, are read as the call
 pub call_again : (c : Call) (ws : List (List ℕ)) → HasLine c → NoLabel ws → call_at (call_words c ++ ws) ≡ Ok (c, ws)
 unfolding call_at call_words
 call_again c ws f apart = rw (verb_again (verb_of c)) (behind_again c ws f apart)

@@ -12,7 +12,7 @@ use Rattle.script.specs.Reading.{Reading, ◌>>=◌, number_at, label_at, Fails}
 use Rattle.script.specs.Spaced.{spaced}
 use Rattle.script.proofs.WordsOf.{spaced_more}
 
--- a number is read behind others
+-- a number is read after others
 abbrev with_done : List ℕ → List ℕ × List (List ℕ) → List ℕ × List (List ℕ)
 with_done done p = (done ++ p.0, p.1)
 
@@ -46,7 +46,7 @@ pub numbers_done : (done : List ℕ) (words : List (List ℕ)) (all : List ℕ �
 numbers_done done words all none is =
     sym is ∙ ap (λ (p : List ℕ × List (List ℕ)). (done ++ p.0, p.1)) (numbers_stop words none) ∙ ap (λ (l : List ℕ). (l, words)) (append-nil done)
 
--- an item more is printed
+-- one more item is printed
 pub item_pushed : (old line body behind : List ℕ) (left : ℕ) (words : List (List ℕ)) → item_front body ≡ Some (words, behind) → 0 < left → line ≡ old ++ spaced words
     → line ++ spaced (body_within (left - 1) behind) ≡ old ++ spaced (body_within left body)
 unfolding body_within
@@ -72,7 +72,7 @@ pub rest_pushed : {E : Type 0} (r : Result ⊤ E) (old line new : List ℕ) (wor
 rest_pushed (Ok done) old line new words rest all is same pushed = pushed ∙ sym (ap (λ (l : List (List ℕ)). line ++ spaced l) is) ∙ same
 rest_pushed (Err e) old line new words rest all is same pushed = tt
 
--- an item more is read
+-- one more item is read
 more_bytes : (done item : List ℕ) (read : Reading (List ℕ × List (List ℕ))) → behind_bytes (done ++ item) read ≡ behind_bytes done (behind_bytes item read)
 more_bytes done item (Err place) = refl
 more_bytes done item (Ok b) = ap (λ (l : List ℕ). Ok (l, b.1)) (append_assoc done item b.0)

@@ -1,4 +1,4 @@
--- Bodies are read as they are printed.
+-- Bodies are read back as they are printed.
 use Rattle.std.proofs.Common.{◌≡◌, ℕ, zero, suc, ◌+◌, ◌*◌, ◌%◌, ◌^◌, ◌<◌, ◌≤◌, Bool, true, false, ◌==◌, List, [], ◌∷◌, ◌++◌, length, drop, take, cond, refl, sym, ap, subst, ◌∙◌, arith, Option, Some, None, Ok, append_assoc}
 use Rattle.std.specs.Prelude.{nat_lt, codes, map, flat_map}
 use Rattle.std.specs.Str.{bytes_eq}
@@ -205,7 +205,7 @@ bytes_parts body found fits e =
       behind = tail.behind;
     })
 
--- what holds of each item that has a form, and where there is none
+-- what holds of each item that has a form, and of items without one
 pub item_cases : (P : Option (List (List ℕ) × List ℕ) → Type 0) (body : List ℕ) → AreBytes body
     → ((w : ℕ × List ℕ × List ℕ) → WordsFront body w → P (Some (words_item_words w.0 (numbers_in w.1), w.2)))
     → ((b : List ℕ × List ℕ) → BytesFront body b → P (Some (bytes_item_words b.0, b.1))) → P None → P (item_front body)
@@ -270,7 +270,7 @@ bytes_item_parts : (rest ws : List (List ℕ)) (bytes : List ℕ) → bytes_at r
 unfolding item_at bytes_item_at
 bytes_item_parts rest ws bytes read few = rw (label_again (codes "bytes") rest, item_at) (rw read (rw few refl))
 
--- what stands behind the items
+-- what comes after the items
 data_only : (n : ℕ) (words : List (List ℕ)) → label_at (codes "item") words ≡ None → parts_at n words ≡ optional_bytes_at (codes "data") words
 unfolding parts_at
 data_only zero words none = refl
@@ -285,7 +285,7 @@ item_more : (n : ℕ) (rest more ws : List (List ℕ)) (text body : List ℕ) �
 unfolding parts_at
 item_more n rest more ws text body item parts = rw (label_again (codes "item") rest, parts_at) (rw item (rw parts refl))
 
--- no number begins the words of a body
+-- the words of a body don't begin with a number
 data_no_number : (body : List ℕ) (ws : List (List ℕ)) → numbers_at ws ≡ ([], ws) → numbers_at (optional_bytes (codes "data") body ++ ws) ≡ ([], optional_bytes (codes "data") body ++ ws)
 unfolding optional_bytes read_word
 data_no_number [] ws none = none

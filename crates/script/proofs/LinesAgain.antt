@@ -1,4 +1,4 @@
--- Lines are read as they are printed.
+-- Lines are read back as they are printed.
 use Rattle.std.proofs.Common.{◌≡◌, ℕ, List, [], refl, sym, ap, ◌∙◌, Option, ◌∷◌, ◌++◌, Some, None, Result, Ok, Err, append-nil}
 use Rattle.ipc_model.specs.declared.call.Call.{Call}
 use Rattle.ipc_model.specs.calls.Step.{number_of_call}
@@ -64,12 +64,12 @@ pub request_fails : (f : Fault) (line : List ℕ) → Fails f (request_at (words
 request_fails fault.NoMemory line fails = tt
 request_fails (fault.Unreadable place) line fails = ap (λ (read : Reading Call). on_line line read) fails
 
--- what is printed is read again
+-- what is printed is read back
 pub line_read_again : (line : List ℕ) (x : Exchange) → words_of line ≡ exchange_words x → IsExchange x → line_read line ≡ Ok (Some x)
 unfolding call_words
 line_read_again line x is fits = line_ok line (verb_word (verb_of x.call)) (argument_words x.call ++ reply_words x.reply) x is (ap exchange_at is ∙ exchange_again x fits)
 
--- what is said of a line that can be read is no fault but of memory
+-- if a line can be read, the only fault is that memory runs out
 pub is_read : {X : Type 0} (r : Result X LineFault) (said : Result X LineFault) (x : X) → UnlessMemory r said → said ≡ Ok x → IsRead r x
 is_read (Ok y) said x unless is = let same : Ok y ≡ Ok x = sym unless ∙ is in cc
 is_read (Err (line_fault.Unreadable column expected)) said x unless is = absurd (let wrong : Err (line_fault.Unreadable column expected) ≡ Ok x = sym unless ∙ is in cc)

@@ -1,4 +1,4 @@
--- Messages are read as they are printed.
+-- Messages are read back as they are printed.
 use Rattle.std.proofs.Common.{◌≡◌, ℕ, ◌+◌, ◌*◌, ◌%◌, ◌/◌, ◌^◌, ◌<◌, ◌≤◌, Bool, true, false, ◌&&◌, ◌==◌, List, [], ◌∷◌, ◌++◌, length, drop, take, length-drop, cond, refl, sym, ap, ◌∙◌, arith, Some, None, Ok, append_assoc}
 use Rattle.std.specs.Prelude.{nat_le, nat_lt, codes}
 use Rattle.std.specs.Str.{bytes_eq}
@@ -80,7 +80,7 @@ header_parts : (start remote local id complex further size seqno ws : List (List
 unfolding header_at rights_at
 header_parts start remote local id complex further size seqno ws h e1 e2 e3 e4 e5 e6 e7 e8 = rw (e1, e2, e3, e4, e5, e6, e7, e8) refl
 
--- the words of a header in front of others are read as the header
+-- the words of a header, followed by others, are read as the header
 pub header_again : (h : Header) (ws : List (List ℕ)) → FitsHeader h → label_at (codes "complex") ws ≡ None → label_at (codes "bits") ws ≡ None
     → label_at (codes "size") ws ≡ None → label_at (codes "seqno") ws ≡ None → header_at (header_words h ++ ws) ≡ Ok (h, ws)
 unfolding header_at header_words rights_at
@@ -108,7 +108,7 @@ header_again h ws fits no_complex no_bits no_size no_seqno =
     ∙ header_parts start remote local id complex further size seqno ws h e_rd e_remote e_local e_id e_complex e_further e_size e_seqno
     ∙ ap (λ (n : ℕ). Ok (record h { bits = n }, ws)) (bits_joined h.bits fits.bits)
 
--- a word in front of a message, and the rest of it
+-- the first word of a message, and its rest
 front_word : (n : ℕ) (m rest : List ℕ) → AreBytes m → n + 4 ≤ length m → word (little_number 4 (drop n m)) ++ drop (n + 4) m ≡ drop n m
 front_word n m rest fits long =
     let enough : 4 ≤ length (drop n m) = omega (arith, length-drop n m) in

@@ -1,4 +1,4 @@
--- Numbers are read as they are printed.
+-- Numbers are read back as they are printed.
 use Rattle.std.proofs.Common.{◌≡◌, ℕ, ◌+◌, ◌-◌, ◌*◌, ◌^◌, ◌<◌, ◌≤◌, Bool, true, false, ◌&&◌, ◌==◌, List, [], ◌∷◌, ◌++◌, length, cond, refl, ap, ◌∙◌, arith, Some, None}
 use Rattle.std.specs.Prelude.{nat_lt, nat_eq, codes, decimal}
 use Rattle.std.specs.Char.{digit_value}
@@ -12,7 +12,7 @@ use Rattle.std.proofs.lemmas.Fmt.{digits_is_IsNumeral}
 use Rattle.std.proofs.lemmas.Str.Parse.{digit_from_value}
 use Rattle.script.specs.Numbers.{hexadecimal, signed, number_from, number_behind, natural, negated, number_of_word}
 
--- more digits make no less
+-- more digits don't make a number smaller
 pub value_grows : (radix n : ℕ) (ds : List ℕ) → 1 ≤ radix → n ≤ digits_value_after radix n ds
 value_grows radix n [] some = omega arith
 value_grows radix n (c ∷ cs) some = let more = value_grows radix (n * radix + digit_value c) cs some in omega (arith, more, mul-le-mul_left n some)
@@ -40,7 +40,7 @@ natural_again radix n low high fits short =
     let value : number_from radix 0 ds ≡ Some (digits_value radix ds) = from_digits radix 0 ds (omega arith) is.0.1 (omega (arith, is.1)) in
     ap (λ (b : Bool). cond b None (number_from radix 0 ds)) long ∙ value ∙ ap Some is.1
 
--- digits aren't taken for another kind of number
+-- decimal digits aren't taken for another kind of number
 plain_digits : (ds : List ℕ) → AllDigits 10 ds → (starts_with nat_eq ds (codes "0x") ≡ false) × (starts_with nat_eq ds (codes "-") ≡ false)
 plain_digits [] are = (refl, refl)
 plain_digits (c ∷ []) are = let bound = digit_from_value c are.0 in (grind (arith, nat_tests), grind (arith, nat_tests))

@@ -1,4 +1,4 @@
--- Words are read as what they were printed for.
+-- Words are read back as what they were printed for.
 use Rattle.std.proofs.Common.{◌≡◌, ℕ, ◌^◌, ◌<◌, ◌≤◌, Bool, true, false, ◌==◌, List, [], ◌∷◌, ◌++◌, cond, refl, sym, ap, ◌∙◌, arith, Option, Some, None, Ok}
 use Rattle.std.specs.Prelude.{nat_lt}
 use Rattle.std.specs.Str.{bytes_eq}
@@ -99,7 +99,7 @@ unfolding optional_bytes_at optional_bytes
 optional_bytes_again label [] ws fits none = rw (none, optional_bytes_at) refl
 optional_bytes_again label (b ∷ bytes) ws fits none = rw (label_again label (bytes_word (b ∷ bytes) ∷ ws), optional_bytes_at) (bytes_at_again (b ∷ bytes) ws fits)
 
--- words that begin with none that a letter begins, and with no number
+-- words whose first isn't one that begins with a letter, and isn't a number
 abbrev pub NoLabel : List (List ℕ) → Type 0
 NoLabel ws = ((label : List ℕ) → begins_with_letter label ≡ true → label_at label ws ≡ None) × (numbers_at ws ≡ ([], ws))
 

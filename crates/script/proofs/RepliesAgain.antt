@@ -1,4 +1,4 @@
--- Replies are read as they are printed.
+-- Replies are read back as they are printed.
 use Rattle.std.proofs.Common.{◌≡◌, ℕ, ◌^◌, ◌<◌, Bool, true, false, not, ◌&&◌, ◌||◌, ◌==◌, List, [], ◌∷◌, ◌++◌, length, cond, refl, sym, ap, ◌∙◌, arith, Some, None, Ok, append_assoc, append-nil}
 use Rattle.std.specs.Prelude.{codes, find, All, IsTrue}
 use Rattle.std.specs.Str.{bytes_eq}
@@ -100,7 +100,7 @@ message_parts : (c : KernReturn) (w0 w1 w2 : List (List ℕ)) (size member : ℕ
 unfolding message_reply_at last
 message_parts c w0 w1 w2 size member message e1 e2 e3 = rw (e1, e2, e3) refl
 
--- the results of mach_msg behind its code
+-- the results of mach_msg after its code
 results_again : (c : KernReturn) (size member : ℕ) (message : List ℕ) → size < 2 ^ 32 → member < 2 ^ 32 → AreBytes message
     → message_reply_at c (optional_words (codes "size") Decimal size ++ (optional_words (codes "member") Hexadecimal member ++ received_words message)) ≡ Ok (reply.Message c size member message)
 results_again c size member message fits fits_member bytes =
@@ -195,7 +195,7 @@ reply_again (reply.Extracted name k) fits own = extracted_again name k fits
 reply_again (reply.Message c size member message) fits own = mach_msg_again c size member message fits.0 fits.1 fits.2
 reply_again (reply.SpaceCreated space name) fits own = space_created_again space name fits.0 fits.1
 
--- nothing that a label begins stands behind a call
+-- nothing after a call begins with a label
 pub reply_no_label : (r : Reply) → NoLabel (reply_words r)
 unfolding message_reply_words outcome_words
 reply_no_label (reply.Refused n c) = no_label_sign 33 [] (code_word c ∷ []) (omega arith) no_number_sign.0

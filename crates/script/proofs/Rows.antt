@@ -10,7 +10,7 @@ use Rattle.script.specs.Reading.{Reading, ◌>>=◌, stop, wanted, number_at, va
 use Rattle.script.specs.Kinds.{read_word}
 use Rattle.script.specs.Replies.{in_front_of, named_at, member_at, names_at, members_at, names_words, members_words}
 
--- what is read, behind what was read before
+-- what is read, after what was read before
 abbrev pub behind_all : {A : Type 0} → List A → Reading (List A) → Reading (List A)
 behind_all done read = read >>= λ rest. Ok (done ++ rest)
 
@@ -82,7 +82,7 @@ members_end done words e = ap (behind_all done) (members_unroll words ∙ ap (af
 pub members_stop : (done : List ℕ) (words : List (List ℕ)) (place : Stop) → member_at words ≡ Err place → behind_all done (members_at words) ≡ Err place
 members_stop done words place e = ap (behind_all done) (members_unroll words ∙ ap (after_one members_at) e)
 
--- each takes words
+-- each read takes words
 bind_some : {A B : Type 0} (o : Reading A) (f : A → Reading B) (y : B) → (o >>= f) ≡ Ok y → (x : A) × (o ≡ Ok x) × (f x ≡ Ok y)
 bind_some (Err place) f y e = absurd (cc)
 bind_some (Ok x) f y e = (x, refl, e)
@@ -138,7 +138,7 @@ pub members_fault : (e : Fault) (done : List ℕ) (words : List (List ℕ)) (all
 members_fault fault.NoMemory done words all fails is = tt
 members_fault (fault.Unreadable place) done words all fails is = sym is ∙ members_stop done words place fails
 
--- no words are left of no rows
+-- no rows have no words
 pub names_gone : (names : List NamedType) → length names ≡ 0 → names_words names ≡ []
 unfolding names_words
 names_gone [] e = refl

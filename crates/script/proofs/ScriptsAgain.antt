@@ -1,4 +1,4 @@
--- Scripts are read as they are printed.
+-- Scripts are read back as they are printed.
 use Rattle.std.proofs.Common.{◌≡◌, ℕ, suc, ◌+◌, Bool, true, false, not, ◌&&◌, ◌==◌, Option, Some, None, List, [], ◌∷◌, ◌++◌, length, take, drop, cond, one-add, refl, sym, ap, ◌∙◌, arith, append_assoc}
 use Rattle.std.specs.Prelude.{Result, Ok, Err}
 use Rattle.std.specs.List.{prefix_len}
@@ -69,7 +69,7 @@ drop_seam : (xs ys : List ℕ) → drop (length xs) (xs ++ ys) ≡ ys
 drop_seam [] ys = refl
 drop_seam (x ∷ xs) ys = drop_seam xs ys
 
--- the first line of a script and what stands behind it
+-- the first line of a script, and what comes after it
 script_starts : (x : Exchange) (xs : List Exchange) → script_text (x ∷ xs) ≡ exchange_line x ++ 10 ∷ script_text xs
 unfolding script_text
 script_starts x xs = append_assoc (exchange_line x) (10 ∷ []) (script_text xs)
@@ -95,7 +95,7 @@ end_behind (c ∷ cs) rest e = cc
 not_empty : (x : Exchange) (xs : List Exchange) → script_text (x ∷ xs) ≡ [] → ⊥
 not_empty x xs e = end_behind (exchange_line x) (script_text xs) (sym (script_starts x xs) ∙ e)
 
--- the lines of a text: its first, and those behind it
+-- the lines of a text: its first, and those after it
 pub lines_front : (c : ℕ) (cs : List ℕ) → lines_of (c ∷ cs) ≡ take (prefix_len in_line (c ∷ cs)) (c ∷ cs) ∷ lines_of (drop 1 (drop (prefix_len in_line (c ∷ cs)) (c ∷ cs)))
 unfolding lines_of
 lines_front c [] = elim (c == 10) as (λ (b : Bool). cond b ([] ∷ lines_of []) (in_front c (lines_of [])) ≡ take (cond (not b) (1 + 0) 0) (c ∷ []) ∷ lines_of (drop 1 (drop (cond (not b) (1 + 0) 0) (c ∷ [])))) [ true ↦ refl | false ↦ refl ]
@@ -110,7 +110,7 @@ pub lines_next : (text line behind : List ℕ) → (text ≡ [] → ⊥) → lin
 lines_next [] line behind some first rest = absurd (some refl)
 lines_next (c ∷ cs) line behind some first rest = rw (first, rest) (lines_front c cs)
 
--- what is said below calls that were read
+-- what a script says, after calls that were read
 abbrev pub behind_lines : List Line → Result (List Line) ScriptFault → Result (List Line) ScriptFault
 behind_lines done below = below >>= λ lines. Ok (done ++ lines)
 
@@ -152,7 +152,7 @@ script_again n (x ∷ xs) are =
     ∙ ap (λ (r : Result (Option Exchange) LineFault). and_below n r (lines_read (n + 1) (lines_of (script_text xs)))) (line_read_again (exchange_line x) x (words_of_exchange x fits) fits)
     ∙ ap (λ (r : Result (List Line) ScriptFault). and_below n (Ok (Some x)) r) (script_again (n + 1) xs others)
 
--- what is said of a script that was printed is no fault but of memory
+-- for a script that was printed, the only fault is that memory runs out
 pub printed_ok : (xs : List Exchange) (text : List ℕ) (lines : List Line) → AreExchanges xs → text ≡ script_text xs → script_read text ≡ Ok lines → lines ≡ numbered 1 xs
 printed_ok xs text lines are is read = let same : Ok lines ≡ Ok (numbered 1 xs) = sym read ∙ ap script_read is ∙ script_again 1 xs are in cc
 

@@ -1,4 +1,4 @@
--- What is printed are words: none is empty, and none has a space or begins a comment.
+-- What is printed consists of words: none is empty, and none has a space or begins a comment.
 use Rattle.std.proofs.Common.{◌≡◌, ℕ, zero, suc, ◌-◌, ◌%◌, ◌/◌, ◌^◌, ◌<◌, ◌≤◌, Bool, true, false, ◌&&◌, ◌==◌, List, [], ◌∷◌, ◌++◌, length, drop, cond, refl, arith, Option, Some, None}
 use Rattle.std.specs.Prelude.{nat_lt, nat_le, codes, decimal, slice_index, unwrap_or, map, All}
 use Rattle.std.specs.Char.{digit_value}
@@ -169,7 +169,7 @@ unfolding optional_bytes
 optional_bytes_spelled label [] is fits = refl
 optional_bytes_spelled label (b ∷ bytes) is fits = two label (bytes_word (b ∷ bytes)) is (bytes_spelled (b ∷ bytes) fits)
 
--- rows of words one behind another
+-- rows of words, one after another
 record AreWords (ws : List (List ℕ)) : Type 0 where
   is : are_words ws ≡ true
 

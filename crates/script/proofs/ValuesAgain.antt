@@ -1,4 +1,4 @@
--- Numbers and bytes are read from the words that they are printed as.
+-- Numbers and bytes are read back from the words that they are printed as.
 use Rattle.std.proofs.Common.{◌≡◌, ℕ, ◌-◌, ◌^◌, ◌<◌, Bool, true, false, ◌==◌, List, [], ◌∷◌, ◌++◌, cond, refl, sym, ap, subst, ◌∙◌, arith, Option, Some, None}
 use Rattle.std.specs.Prelude.{nat_lt, codes, decimal, find, unwrap_or, Ok}
 use Rattle.std.specs.Result.{result_ok}
@@ -34,7 +34,7 @@ signed_no_letter n fits = elim (nat_lt n (2 ^ 31)) as (λ (b : Bool). begins_wit
   | false ↦ refl
 ]
 
--- a number in a word of no letter
+-- a number in a word that doesn't begin with a letter
 spelled : (k : Kind) (n : ℕ) (word : List ℕ) → begins_with_letter word ≡ false → number_of_word word ≡ Some n → read_word k word ≡ Some n
 unfolding read_word
 spelled k n word plain again = ap (λ (b : Bool). cond b (find (is_name k word) all_named) (number_of_word word)) plain ∙ again
@@ -42,14 +42,14 @@ spelled k n word plain again = ap (λ (b : Bool). cond b (find (is_name k word) 
 pub in_decimal : (k : Kind) (n : ℕ) → n < 2 ^ 32 → read_word k (decimal n) ≡ Some n
 in_decimal k n fits = spelled k n (decimal n) (decimal_no_letter n fits) (decimal_again n fits)
 
--- a number that is one of the named ones or isn't
+-- a number that is a named one, or isn't
 split : (P : ℕ → Option (List ℕ) → Type 0) (m n : ℕ) (word : List ℕ) (rest : Option (List ℕ)) → P m (Some word) → P n rest → P n (cond (n == m) (Some word) rest)
 split P m n word rest here there = elim (n == m) as (λ (b : Bool). (n == m) ≡ b → P n (cond b (Some word) rest)) [
   | true ↦ λ (is : _). subst (λ (k : ℕ). P k (Some word)) (sym (eqb-true n m is)) here
   | false ↦ λ (_ : _). there
 ] refl
 
--- what it is read as, by the word that stands for it
+-- what the number is read as, from the word that stands for it
 abbrev Again : Kind → ℕ → Option (List ℕ) → Type 0
 Again k n name = read_word k (unwrap_or name (decimal n)) ≡ Some n
 

@@ -13,7 +13,7 @@ use Rattle.script.specs.Spaced.{is_space, is_word_byte, begins_word, in_front, w
 word_byte : (c : ℕ) → is_space c ≡ false → (c == 35) ≡ false → is_word_byte c ≡ true
 word_byte c visible plain = grind (arith, nat_tests)
 
--- and a byte of a word is none of both
+-- and a byte of a word is neither
 grind_visible : (c : ℕ) → is_word_byte c ≡ true → (is_space c ≡ false) × ((c == 35) ≡ false)
 grind_visible c is = (grind (arith, nat_tests), grind (arith, nat_tests))
 
@@ -25,7 +25,7 @@ behind_spaces (c ∷ cs) = elim (is_space c) as (λ (b : Bool). is_space c ≡ b
   | false ↦ λ (is : _). refl
 ] refl
 
--- no word is left where none begins behind the spaces
+-- no word is left if none begins after the spaces
 pub no_word : (s : List ℕ) → prefix_len is_word_byte (drop (prefix_len is_space s) s) ≡ 0 → words_of s ≡ []
 unfolding words_of
 no_word [] none = refl
@@ -38,7 +38,7 @@ no_word (c ∷ cs) none = elim (is_space c) as (λ (b : Bool). is_space c ≡ b 
       ] refl
     ] refl none
 
--- a word begins where a byte is of one
+-- a word begins where a byte belongs to one
 pub word_front : (c : ℕ) (cs : List ℕ) → is_word_byte c ≡ true
     → words_of (c ∷ cs) ≡ (c ∷ take (prefix_len is_word_byte cs) cs) ∷ words_of (drop (prefix_len is_word_byte cs) cs)
 unfolding words_of
@@ -64,7 +64,7 @@ abbrev pub are_words : List (List ℕ) → Bool
 are_words [] = true
 are_words (w ∷ ws) = is_word w && are_words ws
 
--- a word goes on to what doesn't begin with a byte of one
+-- a word ends before the first byte that can't be in one
 whole_word : (cs rest : List ℕ) → are_word_bytes cs ≡ true → begins_word rest ≡ false → prefix_len is_word_byte (cs ++ rest) ≡ length cs
 whole_word [] [] are ends = refl
 whole_word [] (d ∷ rest) are ends = ap (λ (b : Bool). cond b (1 + prefix_len is_word_byte rest) 0) ends
@@ -102,7 +102,7 @@ spaced_again (w ∷ ws) are =
     let parts = and_parts (is_word w) (are_words ws) are in
     one_word w (spaced ws) parts.0 (spaced_ends ws) ∙ ap (λ (l : List (List ℕ)). w ∷ l) (spaced_again ws parts.1)
 
--- the words of a line of words are these
+-- the words of a line made of words are these words
 pub line_again : (ws : List (List ℕ)) → are_words ws ≡ true → words_of (line_of ws) ≡ ws
 unfolding words_of
 line_again [] are = refl
@@ -110,7 +110,7 @@ line_again (w ∷ ws) are =
     let parts = and_parts (is_word w) (are_words ws) are in
     one_word w (spaced ws) parts.0 (spaced_ends ws) ∙ ap (λ (l : List (List ℕ)). w ∷ l) (spaced_again ws parts.1)
 
--- words behind words
+-- words after words
 pub spaced_more : (old : List ℕ) (a b : List (List ℕ)) → (old ++ spaced a) ++ spaced b ≡ old ++ spaced (a ++ b)
 unfolding spaced
 spaced_more old a b = append_assoc old (spaced a) (spaced b) ∙ ap (λ (l : List ℕ). old ++ l) (sym (flat_map-append (λ (word : List ℕ). 32 ∷ word) a b))
@@ -170,7 +170,7 @@ words_fit (c ∷ cs) = elim (is_space c) as (λ (b : Bool). length (cond b (word
   ]
 ]
 
--- one word more is passed
+-- one more word is passed
 pub column_next : (column left : ℕ) (rest : List ℕ) → 0 < left → (column + word_end rest) + column_of (left - 1) (drop (word_end rest) rest) ≡ column + column_of left rest
 unfolding column_of
 column_next column zero rest some = absurd (omega arith)

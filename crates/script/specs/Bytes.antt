@@ -18,11 +18,11 @@ unfoldable pub bytes_at : List (List ℕ) → Reading (List ℕ × List (List �
 bytes_at [] = stop expected.Bytes []
 bytes_at (word ∷ words) = wanted expected.Bytes (word ∷ words) (read_bytes word) >>= λ bytes. Ok (bytes, words)
 
--- bytes behind their label, where there are some
+-- bytes after their label, if there are any
 unfoldable pub optional_bytes : List ℕ → List ℕ → List (List ℕ)
 optional_bytes label [] = []
 optional_bytes label (b ∷ bytes) = label ∷ bytes_word (b ∷ bytes) ∷ []
 
--- the bytes behind their label, or none where it is missing
+-- the bytes after their label, or none where it is missing
 unfoldable pub optional_bytes_at : List ℕ → List (List ℕ) → Reading (List ℕ × List (List ℕ))
 optional_bytes_at label words = elim (label_at label words) [ None ↦ Ok ([], words) | Some rest ↦ bytes_at rest ]

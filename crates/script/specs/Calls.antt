@@ -58,7 +58,7 @@ abbrev pub receive_words : ℕ → Bool → ℕ → Bool → List (List ℕ)
 receive_words limit large name waited =
     (name_word name ∷ codes "limit" ∷ count_word limit ∷ []) ++ flag_words (codes "large") large ++ flag_words (codes "waited") waited
 
--- the arguments of the calls that have two, a name in front
+-- the arguments of the calls that have two, the first of which is a name
 abbrev pub pair_words : Call → List (List ℕ)
 pair_words (call.Rename from to) = name_word from ∷ name_word to ∷ []
 pair_words (call.GetRefs name right) = name_word name ∷ right_word right ∷ []
@@ -120,7 +120,7 @@ behind_at verb.Send words = send_at words
 behind_at verb.Receive words = receive_at words
 behind_at v words = plain_at v words
 
--- the call in front
+-- the call at the front
 unfoldable pub call_at : List (List ℕ) → Reading (Call × List (List ℕ))
 call_at [] = stop expected.CallName []
 call_at (word ∷ words) = wanted expected.CallName (word ∷ words) (find (λ v. bytes_eq (verb_word v) word) all_verbs) >>= λ v. behind_at v words

@@ -43,6 +43,6 @@ abbrev pub begins_with_letter : List ℕ → Bool
 begins_with_letter [] = false
 begins_with_letter (c ∷ cs) = nat_le 97 c
 
--- the number that a word stands for or spells
+-- the number that a word stands for, or that its digits give
 unfoldable pub read_word : Kind → List ℕ → Option ℕ
 read_word k word = if begins_with_letter word then find (is_name k word) all_named else number_of_word word

@@ -1,4 +1,4 @@
--- Lines.
+-- Lines of scripts.
 use Rattle.std.specs.Prelude.{◌≡◌, ℕ, ◌-◌, List, [], ◌∷◌, ◌++◌, length, Option, None, Some, Result, Ok, Err}
 use Rattle.ipc_model.specs.calls.Step.{number_of_call}
 use Rattle.ipc_model.specs.texts.Texts.{number_of_reply, FitsReply}
@@ -31,7 +31,7 @@ exchange_words x = call_words x.call ++ reply_words x.reply
 unfoldable pub exchange_line : Exchange → List ℕ
 exchange_line x = line_of (exchange_words x)
 
--- what stands in it behind the call
+-- what follows the call in it
 abbrev pub reply_line : Reply → List ℕ
 reply_line r = spaced (reply_words r)
 
@@ -42,11 +42,11 @@ exchange_at words = do
   r ← reply_at (number_of_call c.0) c.1
   Ok (record { call = c.0; reply = r })
 
--- the call of a line that tells no answer
+-- the call of a line without an answer
 unfoldable pub request_at : List (List ℕ) → Reading Call
 request_at words = call_at words >>= λ c. elim c.1 [ [] ↦ Ok c.0 | word ∷ rest ↦ stop End (word ∷ rest) ]
 
--- the fault of a line: how many bytes stand in front of the first word that isn't understood, and what was expected
+-- the fault of a line: how many bytes stand before the first word that isn't understood, and what was expected
 abbrev pub fault_at : List ℕ → Stop → LineFault
 fault_at line place = line_fault.Unreadable (column_of (length (words_of line) - place.left) line) place.expected
 
@@ -62,21 +62,21 @@ abbrev pub words_read : List ℕ → List (List ℕ) → Result (Option Exchange
 words_read line [] = Ok None
 words_read line (word ∷ words) = on_line line (exchange_at (word ∷ words)) >>= λ x. Ok (Some x)
 
--- what a line says: nothing, where it has no words, else a call with its answer; or its fault
+-- what a line says: nothing, if it has no words, else a call with its answer; or its fault
 unfoldable pub line_read : List ℕ → Result (Option Exchange) LineFault
 line_read line = words_read line (words_of line)
 
--- the same of a line that is to hold a call alone
+-- the same of a line that is to hold only a call
 abbrev pub request_read : List ℕ → Result Call LineFault
 request_read line = on_line line (request_at (words_of line))
 
--- It is what is said, or memory ran out.
+-- The result is what the line says, or memory ran out.
 abbrev pub UnlessMemory : {X : Type 0} → Result X LineFault → Result X LineFault → Type 0
 UnlessMemory (Ok x) said = said ≡ Ok x
 UnlessMemory (Err (line_fault.Unreadable column expected)) said = said ≡ Err (line_fault.Unreadable column expected)
 UnlessMemory (Err line_fault.NoMemory) said = Unit {0}
 
--- It is read, unless memory runs out.
+-- The line is read as this, unless memory runs out.
 abbrev pub IsRead : {X : Type 0} → Result X LineFault → X → Type 0
 IsRead (Ok found) x = found ≡ x
 IsRead (Err fault) x = fault ≡ line_fault.NoMemory

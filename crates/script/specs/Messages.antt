@@ -12,15 +12,15 @@ use Rattle.script.specs.declared.fault.Expected.TheVariants as expected
 use Rattle.script.specs.Reading.{Reading, ◌>>=◌, value_at, bounded_at, label_at, labelled_at, optional_at, flag_at}
 use Rattle.words.specs.Words.{word}
 
--- a number behind its label, where it isn't 0
+-- a number after its label, unless it is 0
 unfoldable pub optional_words : List ℕ → Kind → ℕ → List (List ℕ)
 optional_words label k n = if n == 0 then [] else label ∷ value_word k n ∷ []
 
--- a word, where this holds
+-- a word, if this holds
 unfoldable pub flag_words : List ℕ → Bool → List (List ℕ)
 flag_words label holds = if holds then label ∷ [] else []
 
--- the right to reply by, where there is something of it
+-- the right to reply by, if the message says anything of it
 unfoldable pub local_words : ℕ → ℕ → List (List ℕ)
 local_words disposition name = if disposition == 0 && name == 0 then [] else codes "local" ∷ value_word Disposition disposition ∷ value_word Hexadecimal name ∷ []
 
@@ -35,7 +35,7 @@ header_of message = record {
   id = little_number 4 (drop 20 message);
 }
 
--- a message of them and a body
+-- a message made of them and a body
 unfoldable pub header_text : Header → List ℕ → List ℕ
 header_text h body = word h.bits ++ word h.size ++ word h.remote ++ word h.local ++ word h.seqno ++ word h.id ++ body
 
@@ -46,13 +46,13 @@ header_words h =
     ++ optional_words (codes "bits") Hexadecimal (h.bits / 0x1_0000 % 0x8000) ++ optional_words (codes "size") Decimal h.size
     ++ optional_words (codes "seqno") Decimal h.seqno
 
--- A message of a whole header is told by its fields, and a shorter one by its bytes.
+-- A message with a whole header is written as its fields, and a shorter one as its bytes.
 unfoldable pub message_words : List ℕ → List (List ℕ)
 message_words message =
     if nat_lt (length message) 24 then codes "bytes" ∷ bytes_word message ∷ []
     else header_words (header_of message) ++ body_words (drop 24 message)
 
--- the bits that stand for nothing
+-- the bits without a meaning
 unfoldable pub further_at : List (List ℕ) → Reading (ℕ × List (List ℕ))
 further_at words = elim (label_at (codes "bits") words) [ None ↦ Ok (0, words) | Some rest ↦ bounded_at expected.Number Hexadecimal 0x8000 rest ]
 

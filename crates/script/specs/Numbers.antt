@@ -21,7 +21,7 @@ abbrev pub number_behind : (ℕ → Option ℕ) → Option ℕ → Option ℕ
 number_behind f None = None
 number_behind f (Some n) = f n
 
--- the number that digits behind those of n spell
+-- the number that digits give, after those of n
 abbrev pub number_from : ℕ → ℕ → List ℕ → Option ℕ
 number_from radix n [] = Some n
 number_from radix n (c ∷ cs) = number_behind (λ m. number_from radix m cs) (with_digit radix n c)
@@ -32,7 +32,7 @@ natural radix word = if length word == 0 then None else number_from radix 0 word
 abbrev pub negated : ℕ → ℕ
 negated n = (2 ^ 32 - n) % 2 ^ 32
 
--- the number that a word spells
+-- the number that a word's digits give
 abbrev pub number_of_word : List ℕ → Option ℕ
 number_of_word word =
     if starts_with nat_eq word (codes "0x") then natural 16 (drop 2 word)

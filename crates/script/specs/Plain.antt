@@ -14,7 +14,7 @@ use Rattle.script.specs.Reading.{Reading, ◌>>=◌, wanted, value_at}
 abbrev pub three_kinds : Kind → Kind → Kind → Kinds
 three_kinds a b c = record { first = a; second = b; third = c; fourth = Absent; fifth = Absent }
 
--- how the arguments of a call are spelled
+-- how the arguments of a call are written
 abbrev pub kinds_of : Verb → Kinds
 kinds_of verb.Attach = three_kinds Decimal Absent Absent
 kinds_of verb.Names = three_kinds Absent Absent Absent
@@ -71,11 +71,11 @@ long_call verb.RequestNotification a = Some (call.RequestNotification a.first a.
 long_call verb.InsertRight a = Some (call.InsertRight a.first a.second a.third)
 long_call v a = None
 
--- the call of a verb with its arguments, of each but those of mach_msg
+-- the call of a verb with its arguments, for each verb except those of mach_msg
 abbrev pub plain_call : Verb → Arguments → Option Call
 plain_call v a = elim (short_call v a.first) [ Some made ↦ Some made | None ↦ elim (pair_call v a.first a.second) [ Some made ↦ Some made | None ↦ long_call v a ] ]
 
--- the arguments in front of words
+-- the arguments at the front of words
 unfoldable pub arguments_at : Kinds → List (List ℕ) → Reading (Arguments × List (List ℕ))
 arguments_at kinds words = do
   a ← value_at kinds.first words

@@ -1,4 +1,4 @@
--- Reading words: what they are read as and the words left, or what was expected in front of which words.
+-- Reading words: what they are read as and the words left, or what was expected, and at which words.
 use Rattle.std.specs.Prelude.{◌≡◌, ℕ, Bool, true, false, nat_lt, List, [], ◌∷◌, length, Option, None, Some, Result, Ok, Err, if◌then◌else◌}
 use Rattle.std.specs.Str.{bytes_eq}
 use Rattle.script.specs.declared.fault.Expected.{Expected}
@@ -19,19 +19,19 @@ abbrev pub ◌>>=◌ : {A B E : Type 0} → Result A E → (A → Result B E) �
 (Err e) >>= f = Err e
 (Ok x) >>= f = f x
 
--- something else was expected in front of these words
+-- something else was expected where these words begin
 abbrev pub stop_at : Expected → List (List ℕ) → Stop
 stop_at expected words = record { left = length words; expected = expected }
 
 abbrev pub stop : {X : Type 0} → Expected → List (List ℕ) → Reading X
 stop expected words = Err (stop_at expected words)
 
--- what is there, or else was expected
+-- what is there, or else what was expected
 abbrev pub wanted : {X : Type 0} → Expected → List (List ℕ) → Option X → Reading X
 wanted expected words None = stop expected words
 wanted expected words (Some x) = Ok x
 
--- A fault is owed to memory, or to what can't be read.
+-- A fault comes from memory running out, or from what can't be read.
 abbrev pub Fails : {Y : Type 0} → Fault → Reading Y → Type 0
 Fails fault.NoMemory read = Unit {0}
 Fails (fault.Unreadable place) read = read ≡ Err place
@@ -41,7 +41,7 @@ abbrev pub Gives : {X Y : Type 0} → (X → Y) → Result X Fault → Reading Y
 Gives view (Ok x) read = read ≡ Ok (view x)
 Gives view (Err e) read = Fails e read
 
--- a number in front, if there is one
+-- a number at the front, if there is one
 unfoldable pub number_at : Kind → List (List ℕ) → Option (ℕ × List (List ℕ))
 number_at kind.Absent words = Some (0, words)
 number_at k [] = None
@@ -59,12 +59,12 @@ if_below bound (Some n) = if nat_lt n.0 bound then Some n else None
 unfoldable pub bounded_at : Expected → Kind → ℕ → List (List ℕ) → Reading (ℕ × List (List ℕ))
 bounded_at expected k bound words = wanted expected words (if_below bound (number_at k words))
 
--- what stands behind a label
+-- what follows a label
 unfoldable pub label_at : List ℕ → List (List ℕ) → Option (List (List ℕ))
 label_at label [] = None
 label_at label (word ∷ words) = if bytes_eq word label then Some words else None
 
--- a number behind its label
+-- a number after its label
 unfoldable pub labelled_at : List ℕ → Kind → List (List ℕ) → Reading (ℕ × List (List ℕ))
 labelled_at label k words = wanted Label words (label_at label words) >>= λ rest. value_at k rest
 

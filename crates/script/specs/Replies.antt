@@ -1,4 +1,4 @@
--- What calls answered, in words.
+-- Replies in words.
 use Rattle.std.specs.Prelude.{◌≢◌, ℕ, Bool, true, false, ◌==◌, ◌&&◌, ◌||◌, not, IsTrue, List, [], ◌∷◌, ◌++◌, length, flat_map, map, find, Option, None, Some, Ok, codes, if◌then◌else◌}
 use Rattle.std.specs.Str.{bytes_eq}
 use Rattle.codes.specs.declared.kern_return.KernReturn.{KernReturn}
@@ -47,7 +47,7 @@ names_words names = flat_map (λ (n : NamedType). name_word n.name ∷ name_word
 unfoldable pub members_words : List ℕ → List (List ℕ)
 members_words members = map name_word members
 
--- how a mach_msg went: nothing where it was done and nothing more is told
+-- how a mach_msg went: nothing, if it was done and the reply says nothing more
 unfoldable pub outcome_words : KernReturn → Bool → List (List ℕ)
 outcome_words Success silent = if silent then [] else codes "=" ∷ []
 outcome_words code silent = codes "!" ∷ code_word code ∷ []
@@ -74,7 +74,7 @@ result_words (reply.Extracted name kind) = name_word name ∷ kind_word kind ∷
 result_words (reply.SpaceCreated space name) = codes "space" ∷ count_word space ∷ codes "name" ∷ name_word name ∷ []
 result_words answer = []
 
--- what stands behind a call
+-- what follows a call
 abbrev pub reply_words : Reply → List (List ℕ)
 reply_words (reply.Refused number code) = codes "!" ∷ code_word code ∷ []
 reply_words (reply.Done number) = []
@@ -195,11 +195,11 @@ results_at n words =
     else if n == 20 then space_created_at words
     else stop expected.End words
 
--- a call of this number has results that have to be told
+-- a call of this number has results that the line has to have
 abbrev pub has_results : ℕ → Bool
 has_results n = n == 1 || n == 2 || n == 5 || n == 8 || n == 13 || n == 14 || n == 16 || n == 18 || n == 20
 
--- what it is to tell nothing
+-- the reply of a line that gives none
 unfoldable pub silence : ℕ → List (List ℕ) → Reading Reply
 silence n words = if has_results n then stop expected.Results words else if n == 19 then Ok (reply.Message Success 0 0 []) else Ok (reply.Done n)
 
@@ -207,7 +207,7 @@ unfoldable pub refusal_at : ℕ → List (List ℕ) → Reading Reply
 refusal_at n [] = stop expected.Code []
 refusal_at n (word ∷ words) = wanted expected.Code (word ∷ words) (find (λ code. bytes_eq (code_word code) word) all_codes) >>= λ code. if n == 19 then message_reply_at code words else last (reply.Refused n code, words)
 
--- what a call of this number answered: `=` stands behind none that has no results
+-- what a call of this number answered: a call without results has no `=` after it
 unfoldable pub reply_at : ℕ → List (List ℕ) → Reading Reply
 reply_at n [] = silence n []
 reply_at n (word ∷ words) =

@@ -1,4 +1,4 @@
--- Scripts: lines one under another.
+-- Scripts: lines, one below the other.
 use Rattle.std.specs.Prelude.{◌≡◌, ℕ, ◌+◌, Bool, not, ◌==◌, List, [], ◌∷◌, ◌++◌, All, flat_map, Option, None, Some, Result, Ok, Err, if◌then◌else◌}
 use Rattle.script.specs.declared.fault.LineFault.{LineFault}
 use Rattle.script.specs.declared.fault.LineFault.TheVariants as line_fault
@@ -25,19 +25,19 @@ numbered n (x ∷ xs) = record { number = n; exchange = x } ∷ numbered (n + 1)
 abbrev pub AreExchanges : List Exchange → Type 0
 AreExchanges xs = All IsExchange xs
 
--- the lines of a text without their ends; behind the last end there is none
+-- the lines of a text without their ends; after the last end there is none
 unfoldable pub lines_of : List ℕ → List (List ℕ)
 lines_of [] = []
 lines_of (c ∷ cs) = if c == 10 then [] ∷ lines_of cs else in_front c (lines_of cs)
 
--- what a line of a number says, in front of what those below it say
+-- what a line with this number says, before what those below it say
 abbrev pub and_below : ℕ → Result (Option Exchange) LineFault → Result (List Line) ScriptFault → Result (List Line) ScriptFault
 and_below n (Err fault) below = Err (record { line = n; fault = fault })
 and_below n (Ok None) below = below
 and_below n (Ok (Some x)) below = below >>= λ lines. Ok (record { number = n; exchange = x } ∷ lines)
 
--- what lines say, of which the first has this number: each call with its line's number, or the fault of the first
--- line that has one
+-- what lines say, of which the first has this number: each call with its line's number, or the fault of the first line
+-- that has one
 unfoldable pub lines_read : ℕ → List (List ℕ) → Result (List Line) ScriptFault
 lines_read n [] = Ok []
 lines_read n (line ∷ lines) = and_below n (line_read line) (lines_read (n + 1) lines)
@@ -52,7 +52,7 @@ Adds old new n (Ok (Some x)) = new ≡ old ++ record { number = n; exchange = x 
 Adds old new n (Ok None) = new ≡ old
 Adds old new n (Err fault) = ⊥
 
--- A fault that isn't of memory is what is said.
+-- The fault of an unreadable line is the script's; nothing is claimed if memory ran out.
 abbrev pub IsFault : {X F : Type 0} → LineFault → F → Result X F → Type 0
 IsFault (line_fault.Unreadable column expected) fault said = said ≡ Err fault
 IsFault line_fault.NoMemory fault said = Unit {0}

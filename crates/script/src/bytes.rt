@@ -10,7 +10,7 @@ use hex::FromHexError;
 use std::alloc::{AllocError, Global};
 
 #[tactic(auto, unfolding(crate::specs::Bytes::bytes_at))]
-/// The bytes in front, two hexadecimal digits each or `none`, and the text behind them.
+/// The bytes in front, two hexadecimal digits each or `none`, and the text after them.
 pub(crate) fn read_bytes(alloc: Global, text: &[u8]) -> Result<(Vec<u8>, &[u8]), Fault>
     ensures { Gives (λ r. (r.0.items, words_of r.1.now)) result (bytes_at (words_of text.now)) }
 {
@@ -28,7 +28,7 @@ pub(crate) fn read_bytes(alloc: Global, text: &[u8]) -> Result<(Vec<u8>, &[u8]),
 }
 
 #[tactic(auto, unfolding(crate::specs::Bytes::optional_bytes_at))]
-/// The bytes behind this word if it is the first, else none.
+/// The bytes after this word if it is the first, else none.
 pub(crate) fn read_optional_bytes<'a>(
     alloc: Global,
     label: &[u8],
@@ -43,7 +43,7 @@ pub(crate) fn read_optional_bytes<'a>(
 }
 
 #[tactic(auto, unfolding(crate::specs::Bytes::bytes_word))]
-/// Adds bytes as a word, a space in front. Where memory is wanted some of it may have been added.
+/// Adds bytes as a word, with a space in front. If an allocation fails, some of it may have been added.
 pub(crate) fn push_bytes(line: &mut Vec<u8>, bytes: &[u8]) -> Result<(), AllocError>
     ensures { OnOk result (line.new.items ≡ line.old.items ++ spaced (bytes_word bytes.now ∷ [])) }
 {
@@ -55,7 +55,7 @@ pub(crate) fn push_bytes(line: &mut Vec<u8>, bytes: &[u8]) -> Result<(), AllocEr
 }
 
 #[tactic(auto, using(crate::proofs::WordsOf::spaced_laws), unfolding(crate::specs::Bytes::optional_bytes))]
-/// Adds bytes behind a word, if there are some.
+/// Adds bytes after a word, if there are any.
 pub(crate) fn push_optional_bytes(
     line: &mut Vec<u8>,
     label: &[u8],

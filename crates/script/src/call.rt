@@ -49,7 +49,7 @@ fn verb_of(call: &Call) -> Verb
 }
 
 #[tactic(auto, using(crate::proofs::WordsOf::spaced_laws))]
-/// Adds the words of a receipt's arguments.
+/// Adds the words of a receive's arguments.
 fn push_receive(
     line: &mut Vec<u8>,
     limit: u32,
@@ -98,7 +98,7 @@ fn push_name_and(line: &mut Vec<u8>, name: u32, kind: Kind, number: u32) -> Resu
 }
 
 #[tactic(auto, using(crate::proofs::WordsOf::spaced_laws))]
-/// Adds the words of the arguments of a call that has two, a name in front.
+/// Adds the words of the arguments of a call that has two, a name first.
 fn push_pair(line: &mut Vec<u8>, call: &Call) -> Result<(), AllocError>
     ensures { OnOk result (line.new.items ≡ line.old.items ++ spaced (pair_words call.now)) }
 {
@@ -186,7 +186,7 @@ pub(crate) fn push_call_words(line: &mut Vec<u8>, call: &Call) -> Result<(), All
 }
 
 #[tactic(auto, unfolding(crate::specs::Calls::receive_at))]
-/// The receipt whose arguments are in front.
+/// The receive whose arguments are in front.
 fn read_receive(text: &[u8]) -> Result<(Call, &[u8]), Fault>
     ensures { Gives (λ r. (r.0, words_of r.1.now)) result (receive_at (words_of text.now)) }
 {
@@ -226,7 +226,7 @@ fn read_behind(alloc: Global, verb: Verb, text: &[u8]) -> Result<(Call, &[u8]), 
 }
 
 #[tactic(auto, unfolding(crate::specs::Calls::call_at))]
-/// The call in front, and the text behind it.
+/// The call in front, and the text after it.
 pub(crate) fn read_call(alloc: Global, text: &[u8]) -> Result<(Call, &[u8]), Fault>
     ensures { Gives (λ r. (r.0, words_of r.1.now)) result (call_at (words_of text.now)) }
 {

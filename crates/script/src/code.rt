@@ -77,7 +77,7 @@ pub(crate) fn code_word(code: KernReturn) -> &'static [u8]
     }
 }
 
-/// The code of a name.
+/// The code with this name.
 pub(crate) fn code_of_word(word: &[u8]) -> Option<KernReturn>
     ensures { result ≡ find (λ code. bytes_eq (code_word code) word.now) all_codes }
 {

@@ -23,7 +23,7 @@ pub enum Expected {
     Code,
     /// `=` and the results of the call, or `!` and a return code.
     Results,
-    /// The word that tells which result or which argument follows.
+    /// The word that says which result or which argument follows.
     Label,
     /// `yes` or `no`.
     YesOrNo,
@@ -54,14 +54,14 @@ impl fmt::Display for Expected {
 /// Why a line can't be read.
 #[derive(Clone, Copy, Debug, PartialEq, Eq)]
 pub enum LineFault {
-    /// Behind so many bytes of the line something else was expected.
+    /// After `column` bytes of the line something else was expected.
     Unreadable {
         /// How many bytes stand in front of it.
         column: usize,
         /// What was expected there.
         expected: Expected,
     },
-    /// No memory for what the line holds.
+    /// Out of memory for what the line holds.
     NoMemory,
 }
 
@@ -111,12 +111,12 @@ pub(crate) struct Stop {
 pub(crate) enum Fault {
     /// Something else was expected.
     Unreadable(Stop),
-    /// No memory for what is read.
+    /// Out of memory for what is read.
     NoMemory,
 }
 
 impl Fault {
-    /// That something else was expected in front of this text.
+    /// The fault that something else was expected in front of this text.
     pub(crate) fn expected(expected: Expected, text: &[u8]) -> Fault
         ensures { result ≡ Fault.Unreadable (stop_at expected (words_of text.now)) }
     {

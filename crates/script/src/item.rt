@@ -18,7 +18,7 @@ use byteorder::{ByteOrder, LittleEndian};
 use std::alloc::{AllocError, Global};
 use words::{push_word, take_word};
 
-/// How many elements an item has less than.
+/// An item has fewer elements than this.
 const ELEMENTS_END: usize = 0x1000;
 
 /// The type and the bits of an element of an item of bytes.
@@ -29,7 +29,7 @@ const BYTE_BITS: u32 = 8;
 /// The bits of an element of an item of words.
 const WORD_BITS: u32 = 32;
 
-/// The word of a short descriptor in line.
+/// The word of a short, inline descriptor.
 fn descriptor(type_name: u32, bits: u32, number: u32) -> u32
     requires type_name { type_name < 0x100 }
     requires bits { bits < 0x100 }
@@ -39,7 +39,7 @@ fn descriptor(type_name: u32, bits: u32, number: u32) -> u32
     type_name + bits * 0x100 + number * 0x1_0000 + 0x1000_0000
 }
 
-/// How many elements a short descriptor tells.
+/// The number of elements that a short descriptor gives.
 fn number_told(descriptor: u32) -> u32
     ensures told { result ≡ number_told descriptor }
     ensures small { result < 0x1000 }
@@ -47,7 +47,7 @@ fn number_told(descriptor: u32) -> u32
     descriptor / 0x1_0000 % 0x1000
 }
 
-/// The zeros behind so many bytes of an item, up to a multiple of four.
+/// The zeros after `number` bytes of an item, up to a multiple of four.
 fn zeros(number: usize) -> &'static [u8]
     ensures { result.now ≡ zeros number }
 {
@@ -69,7 +69,7 @@ fn element_kind(type_name: u32) -> Kind
 }
 
 #[tactic(auto, unfolding(crate::specs::Items::word_front))]
-/// The number in the first four bytes, and the bytes behind it.
+/// The number in the first four bytes, and the bytes after it.
 fn word_front(bytes: &[u8]) -> Option<(u32, &[u8])>
     ensures { MatchOption result (word_front bytes.now ≡ None) (λ r. word_front bytes.now ≡ Some (r.0, r.1.now)) }
 {
@@ -81,7 +81,7 @@ fn word_front(bytes: &[u8]) -> Option<(u32, &[u8])>
 }
 
 #[tactic(auto, unfolding(crate::specs::Items::split_front))]
-/// So many bytes in front and those behind them, if there are as many.
+/// The first `count` bytes and those after them, if there are that many.
 fn split_front(bytes: &[u8], count: usize) -> Option<(&[u8], &[u8])>
     ensures { MatchOption result (split_front count bytes.now ≡ None) (λ r. split_front count bytes.now ≡ Some (r.0.now, r.1.now)) }
 {
@@ -92,7 +92,7 @@ fn split_front(bytes: &[u8], count: usize) -> Option<(&[u8], &[u8])>
 }
 
 #[tactic(auto, unfolding(crate::specs::Items::words_front))]
-/// The item of words that a body begins with: its type, their bytes, and the bytes behind it.
+/// The item of words that a body begins with: its type, their bytes, and the bytes after it.
 fn words_front(body: &[u8]) -> Option<(u32, &[u8], &[u8])>
     ensures { MatchOption result (words_front body.now ≡ None) (λ r. words_front body.now ≡ Some (r.0, r.1.now, r.2.now)) }
 {
@@ -107,7 +107,7 @@ fn words_front(body: &[u8]) -> Option<(u32, &[u8], &[u8])>
 }
 
 #[tactic(auto, unfolding(crate::specs::Items::bytes_front))]
-/// The item of bytes that a body begins with: they, and the bytes behind it.
+/// The item of bytes that a body begins with: its bytes, and the bytes after it.
 fn bytes_front(body: &[u8]) -> Option<(&[u8], &[u8])>
     ensures { MatchOption result (bytes_front body.now ≡ None) (λ r. bytes_front body.now ≡ Some (r.0.now, r.1.now)) }
 {
@@ -127,7 +127,7 @@ fn bytes_front(body: &[u8]) -> Option<(&[u8], &[u8])>
 }
 
 #[tactic(auto, using(crate::proofs::WordsOf::spaced_laws))]
-/// Adds the numbers in bytes, four in each.
+/// Adds the numbers in bytes, four bytes each.
 fn push_numbers(line: &mut Vec<u8>, kind: Kind, bytes: &[u8]) -> Result<(), AllocError>
     ensures { OnOk result (line.new.items ≡ line.old.items ++ spaced (map (value_word kind) (numbers_in bytes.now))) }
 {
@@ -140,7 +140,7 @@ fn push_numbers(line: &mut Vec<u8>, kind: Kind, bytes: &[u8]) -> Result<(), Allo
 }
 
 #[tactic(auto, using(crate::proofs::WordsOf::spaced_laws), unfolding(crate::specs::Items::words_item_words))]
-/// Adds an item of words, of which these are the bytes.
+/// Adds an item of words, which have these bytes.
 fn push_words_item(line: &mut Vec<u8>, type_name: u32, bytes: &[u8]) -> Result<(), AllocError>
     ensures { OnOk result (line.new.items ≡ line.old.items ++ spaced (words_item_words type_name (numbers_in bytes.now))) }
 {
@@ -160,7 +160,7 @@ fn push_bytes_item(line: &mut Vec<u8>, bytes: &[u8]) -> Result<(), AllocError>
 }
 
 #[tactic(auto, unfolding(crate::specs::Items::item_front))]
-/// Adds the item that a body begins with, if it has a form, and gives the bytes behind it.
+/// Adds the item that a body begins with, if it has a written form, and returns the bytes after it.
 fn push_item<'a>(line: &mut Vec<u8>, body: &'a [u8]) -> Result<Option<&'a [u8]>, AllocError>
     ensures { IfOk result (λ told. AddsItem line.old.items line.new.items (option_map (λ behind. behind.now) told) (item_front body.now)) }
 {
@@ -175,7 +175,7 @@ fn push_item<'a>(line: &mut Vec<u8>, body: &'a [u8]) -> Result<Option<&'a [u8]>,
     Ok(None)
 }
 
-/// Adds a body: the items in front that have a form, and the rest by its bytes.
+/// Adds a body: the items in front that have a written form, and the rest as bytes.
 pub(crate) fn push_body(line: &mut Vec<u8>, body: &[u8]) -> Result<(), AllocError>
     ensures { OnOk result (line.new.items ≡ line.old.items ++ spaced (body_words body.now)) }
 {
@@ -191,7 +191,7 @@ pub(crate) fn push_body(line: &mut Vec<u8>, body: &[u8]) -> Result<(), AllocErro
     push_optional_bytes(line, b"data", rest)
 }
 
-/// The numbers in front, up to a word that is none, and the text behind them.
+/// The numbers in front, up to a word that isn't one, and the text after them.
 fn read_numbers(alloc: Global, text: &[u8]) -> Result<(Vec<u32>, &[u8]), Fault>
     ensures { Gives (λ r. (r.0.items, words_of r.1.now)) result (Ok (numbers_at (words_of text.now))) }
 {
@@ -249,7 +249,7 @@ fn bytes_item(alloc: Global, bytes: &[u8]) -> Result<Vec<u8>, AllocError>
 }
 
 #[tactic(auto, unfolding(crate::specs::Items::words_item_at))]
-/// The item of words in front, and the text behind its words.
+/// The item of words in front, and the text after its words.
 fn read_words_item(alloc: Global, text: &[u8]) -> Result<(Vec<u8>, &[u8]), Fault>
     ensures { Gives (λ r. (r.0.items, words_of r.1.now)) result (words_item_at (words_of text.now)) }
 {
@@ -265,7 +265,7 @@ fn read_words_item(alloc: Global, text: &[u8]) -> Result<(Vec<u8>, &[u8]), Fault
 }
 
 #[tactic(auto, unfolding(crate::specs::Items::bytes_item_at))]
-/// The item of the bytes in front, and the text behind them.
+/// The item of the bytes in front, and the text after them.
 fn read_bytes_item(alloc: Global, text: &[u8]) -> Result<(Vec<u8>, &[u8]), Fault>
     ensures { Gives (λ r. (r.0.items, words_of r.1.now)) result (bytes_item_at (words_of text.now)) }
 {
@@ -280,7 +280,7 @@ fn read_bytes_item(alloc: Global, text: &[u8]) -> Result<(Vec<u8>, &[u8]), Fault
 }
 
 #[tactic(auto, unfolding(crate::specs::Items::item_at))]
-/// The item in front, and the text behind its words.
+/// The item in front, and the text after its words.
 fn read_item(alloc: Global, text: &[u8]) -> Result<(Vec<u8>, &[u8]), Fault>
     ensures { Gives (λ r. (r.0.items, words_of r.1.now)) result (item_at (words_of text.now)) }
 {
@@ -290,7 +290,7 @@ fn read_item(alloc: Global, text: &[u8]) -> Result<(Vec<u8>, &[u8]), Fault>
     }
 }
 
-/// A body that begins with these bytes, with the rest of it in front, and the text behind that.
+/// A body that begins with these bytes, completed by the rest in front of the text, and the text after that.
 fn read_rest(alloc: Global, mut body: Vec<u8>, text: &[u8]) -> Result<(Vec<u8>, &[u8]), Fault>
     ensures { Gives (λ r. (r.0.items, words_of r.1.now)) result (behind_bytes body.items (optional_bytes_at (codes "data") (words_of text.now))) }
 {
@@ -301,7 +301,7 @@ fn read_rest(alloc: Global, mut body: Vec<u8>, text: &[u8]) -> Result<(Vec<u8>, 
     }
 }
 
-/// The body in front, and the text behind its words.
+/// The body in front, and the text after its words.
 pub(crate) fn read_body(alloc: Global, text: &[u8]) -> Result<(Vec<u8>, &[u8]), Fault>
     ensures { Gives (λ r. (r.0.items, words_of r.1.now)) result (body_at (words_of text.now)) }
 {

@@ -9,10 +9,10 @@ use crate::spaced::push_spaced;
 use codes::{MACH_NOTIFY_DEAD_NAME, MACH_NOTIFY_NO_SENDERS, MACH_NOTIFY_PORT_DESTROYED};
 use std::alloc::{AllocError, Global};
 
-/// How a number of a call or of a reply is spelled.
+/// How a number of a call or of a reply is written.
 #[derive(Clone, Copy)]
 pub(crate) enum Kind {
-    /// A name or a type: its hexadecimal digits behind `0x`.
+    /// A name or a type: its hexadecimal digits after `0x`.
     Hexadecimal,
     /// A count.
     Decimal,
@@ -26,7 +26,7 @@ pub(crate) enum Kind {
     Notification,
     /// The number of the type of an item of words, by its word.
     Element,
-    /// No number, which is read as 0 and takes no word.
+    /// No number: it is read as 0 and takes no word.
     Absent,
 }
 
@@ -68,7 +68,7 @@ impl Kind {
     }
 
     #[tactic(auto, unfolding(crate::specs::Kinds::read_word))]
-    /// The number that a word stands for or spells.
+    /// The number that a word stands for or writes out.
     pub(crate) fn read_word(self, word: &[u8]) -> Option<u32>
         ensures { result ≡ read_word self word.now }
     {
@@ -158,7 +158,7 @@ fn signed_text(alloc: Global, number: u32) -> Result<String, AllocError>
 }
 
 #[tactic(auto, unfolding(crate::specs::Kinds::value_word))]
-/// Adds a number as a word, a space in front. Where memory is wanted some of it may have been added.
+/// Adds a number as a word, with a space in front. If an allocation fails, some of it may have been added.
 pub(crate) fn push_value(line: &mut Vec<u8>, kind: Kind, number: u32) -> Result<(), AllocError>
     ensures { OnOk result (line.new.items ≡ line.old.items ++ spaced (value_word kind number ∷ [])) }
 {

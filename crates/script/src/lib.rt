@@ -1,4 +1,4 @@
-//! Calls and what they answered as lines of text, in the words of Mach's headers.
+//! Calls and their answers as lines of text, in the words of Mach's headers.
 #![tactic(auto)]
 
 mod bytes;

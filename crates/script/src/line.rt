@@ -13,12 +13,12 @@ use crate::spaced::{column_of, count_words, take_word};
 use ipc_model::{Call, Reply};
 use std::alloc::{AllocError, Global};
 
-/// A call, and what it answered.
+/// A call and its answer.
 #[derive(Drop)]
 pub struct Exchange {
     /// The call.
     pub call: Call,
-    /// Its answer, which is one of a call of its number.
+    /// Its answer, which is one to a call with its number.
     pub reply: Reply,
 }
 
@@ -36,7 +36,7 @@ fn line_fault(line: &[u8], fault: Fault) -> LineFault
 }
 
 #[tactic(auto, unfolding(crate::specs::Lines::exchange_at))]
-/// The call of a line and what it answered.
+/// The call of a line and its answer.
 fn read_words(alloc: Global, line: &[u8]) -> Result<Exchange, Fault>
     ensures { Gives (λ x. x) result (exchange_at (words_of line.now)) }
 {
@@ -46,7 +46,7 @@ fn read_words(alloc: Global, line: &[u8]) -> Result<Exchange, Fault>
 }
 
 #[tactic(auto, unfolding(crate::specs::Lines::request_at))]
-/// The call of a line that tells no answer.
+/// The call of a line that gives no answer.
 fn read_request_words(alloc: Global, line: &[u8]) -> Result<Call, Fault>
     ensures { Gives (λ x. x) result (request_at (words_of line.now)) }
 {
@@ -57,14 +57,15 @@ fn read_request_words(alloc: Global, line: &[u8]) -> Result<Call, Fault>
     Ok(call)
 }
 
-/// The call of a line and what it answered, or none if the line has no words: it is blank, or a comment.
-/// `Unreadable`: the line is none. `NoMemory`: no memory for a message, for names or for members.
+/// The call of a line and its answer, or none if the line has no words: it is blank, or a comment. `Unreadable`: it
+/// isn't such a line. `NoMemory`: out of memory for a message, for names or for members.
 pub fn read_line(alloc: Global, line: &[u8]) -> Result<Option<Exchange>, LineFault>
     ensures only { (x : Exchange) → IsExchange x → line.now ≡ exchange_line x → IsRead result (Some x) }
-    // Whatever stands between the words, and with a comment behind them.
+    // Whatever stands between the words, and with a comment after them.
     ensures spaced { (x : Exchange) → IsExchange x → words_of line.now ≡ exchange_words x → IsRead result (Some x) }
     ensures blank { words_of line.now ≡ [] → result ≡ Ok None }
-    // Any other line too says what the grammar says of its words, or where it stops to be one and what it lacks there.
+    // Any other line also gives what the grammar says of its words, or where it stops being a line and what is missing
+    // there.
     ensures read { UnlessMemory result (line_read line.now) }
 {
     let Some(_) = take_word(line) else {
@@ -76,8 +77,8 @@ pub fn read_line(alloc: Global, line: &[u8]) -> Result<Option<Exchange>, LineFau
     }
 }
 
-/// The call of a line that tells no answer. `Unreadable`: the line is none, also where it has no words or an answer.
-/// `NoMemory`: no memory for a message.
+/// The call of a line that gives no answer. `Unreadable`: it isn't such a line, or it has no words, or an answer.
+/// `NoMemory`: out of memory for a message.
 pub fn read_request_line(alloc: Global, line: &[u8]) -> Result<Call, LineFault>
     ensures only { (c : Call) → HasLine c → line.now ≡ call_line c → IsRead result c }
     ensures spaced { (c : Call) → HasLine c → words_of line.now ≡ call_words c → IsRead result c }
@@ -101,8 +102,8 @@ pub fn push_call(out: &mut Vec<u8>, call: &Call) -> Result<(), AllocError>
 }
 
 #[tactic(auto, using(crate::proofs::WordsOf::spaced_laws))]
-/// Adds what a call answered, as it stands behind the call in a line: each word has a space in front, and there is
-/// none where the call was done and has no results. An `Err` changes nothing.
+/// Adds the answer to a call, as it stands after the call in a line: each word has a space in front. Nothing is added
+/// if the call was done and has no results. An `Err` changes nothing.
 pub fn push_reply(out: &mut Vec<u8>, reply: &Reply) -> Result<(), AllocError>
     ensures ok { OnOk result (out.new.items ≡ out.old.items ++ reply_line reply.now) }
     ensures err { OnErr result (out.new.items ≡ out.old.items) }
@@ -113,7 +114,7 @@ pub fn push_reply(out: &mut Vec<u8>, reply: &Reply) -> Result<(), AllocError>
 }
 
 #[tactic(auto, using(crate::proofs::WordsOf::spaced_laws), unfolding(crate::specs::Lines::exchange_line, crate::specs::Calls::call_words))]
-/// Adds the line of a call and what it answered, without an end of line. An `Err` changes nothing.
+/// Adds the line of a call and its answer, without an end of line. An `Err` changes nothing.
 pub fn push_exchange(out: &mut Vec<u8>, exchange: &Exchange) -> Result<(), AllocError>
     ensures ok { OnOk result (out.new.items ≡ out.old.items ++ exchange_line exchange.now) }
     ensures err { OnErr result (out.new.items ≡ out.old.items) }

@@ -40,7 +40,7 @@ pub(crate) struct Rights {
     pub(crate) local: u32,
 }
 
-/// The word behind so many bytes.
+/// The word after `front` bytes.
 fn word_at(message: &[u8], front: usize) -> u32
     requires { front + 4 ≤ length message.now }
     ensures { result ≡ little_number 4 (drop front message.now) }
@@ -84,7 +84,7 @@ fn push_short(line: &mut Vec<u8>, message: &[u8]) -> Result<(), AllocError>
 }
 
 #[tactic(auto, unfolding(crate::specs::Messages::message_words))]
-/// Adds the words of a message. Where memory is wanted some may have been added.
+/// Adds the words of a message. If an allocation fails, some may have been added.
 pub(crate) fn push_message(line: &mut Vec<u8>, message: &[u8]) -> Result<(), AllocError>
     ensures { OnOk result (line.new.items ≡ line.old.items ++ spaced (message_words message.now)) }
 {
@@ -127,7 +127,7 @@ fn push_local(line: &mut Vec<u8>, disposition: u32, name: u32) -> Result<(), All
 }
 
 #[tactic(auto, using(crate::proofs::WordsOf::spaced_laws))]
-/// Adds a number behind a word.
+/// Adds a number after a word.
 pub(crate) fn push_labelled(
     line: &mut Vec<u8>,
     label: &[u8],
@@ -141,7 +141,7 @@ pub(crate) fn push_labelled(
 }
 
 #[tactic(auto, using(crate::proofs::WordsOf::spaced_laws), unfolding(crate::specs::Messages::optional_words))]
-/// Adds a number behind a word, if it isn't 0.
+/// Adds a number after a word, if it isn't 0.
 pub(crate) fn push_optional(
     line: &mut Vec<u8>,
     label: &[u8],
@@ -181,7 +181,7 @@ fn read_further(text: &[u8]) -> Result<(u32, &[u8]), Fault>
 }
 
 #[tactic(auto, unfolding(crate::specs::Messages::local_at))]
-/// The right to reply by: its disposition and its name, or 0 and 0.
+/// The right for the reply: its disposition and its name, or 0 and 0.
 fn read_local(text: &[u8]) -> Result<(u32, u32, &[u8]), Fault>
     ensures read { Gives (λ r. (r.0, r.1, words_of r.2.now)) result (local_at (words_of text.now)) }
     ensures small { IfOk result (λ r. r.0 < 0x100) }
@@ -229,7 +229,7 @@ fn bits_of(rights: Rights, further: u32, complex: bool) -> u32
 }
 
 #[tactic(auto, unfolding(crate::specs::Messages::header_at))]
-/// The header of a message, and the text behind its words.
+/// The header of a message, and the text after its words.
 fn read_header(text: &[u8]) -> Result<(Header, &[u8]), Fault>
     ensures { Gives (λ r. (r.0, words_of r.1.now)) result (header_at (words_of text.now)) }
 {
@@ -267,7 +267,7 @@ fn message_of(alloc: Global, header: &Header, body: &[u8]) -> Result<Vec<u8>, Al
 }
 
 #[tactic(auto, unfolding(crate::specs::Messages::message_at))]
-/// The message in front, and the text behind its words.
+/// The message in front, and the text after its words.
 pub(crate) fn read_message(alloc: Global, text: &[u8]) -> Result<(Vec<u8>, &[u8]), Fault>
     ensures { Gives (λ r. (r.0.items, words_of r.1.now)) result (message_at (words_of text.now)) }
 {

@@ -11,7 +11,7 @@ pub(crate) fn send_word() -> &'static [u8]
 }
 
 #[tactic(auto, unfolding(bitflags::specs::Sets::next_name))]
-/// The word of a receipt.
+/// The word of a receive.
 pub(crate) fn receive_word() -> &'static [u8]
     ensures { result.now ≡ codes "receive" }
 {
@@ -19,7 +19,7 @@ pub(crate) fn receive_word() -> &'static [u8]
 }
 
 #[tactic(auto, unfolding(bitflags::specs::Sets::next_name))]
-/// The word of a receipt whose message stays queued where it is too large.
+/// The word of a receive whose message stays queued if it is too large.
 pub(crate) fn large_word() -> &'static [u8]
     ensures { result.now ≡ codes "large" }
 {

@@ -9,7 +9,7 @@ use crate::values::read_value;
 use crate::verb::Verb;
 use ipc_model::Call;
 
-/// How the arguments of a call are spelled, `Absent` behind the last.
+/// How the arguments of a call are written, with `Absent` after the last.
 #[derive(Clone, Copy)]
 pub(crate) struct Kinds {
     pub(crate) first: Kind,
@@ -19,7 +19,7 @@ pub(crate) struct Kinds {
     pub(crate) fifth: Kind,
 }
 
-/// The arguments of a call, 0 behind the last.
+/// The arguments of a call, with 0 after the last.
 #[derive(Clone, Copy)]
 pub(crate) struct Arguments {
     pub(crate) first: u32,
@@ -53,7 +53,7 @@ fn kinds_of_notification() -> Kinds
     }
 }
 
-/// The kinds of a call's arguments, of each but those of `mach_msg`.
+/// The kinds of a call's arguments, for every call but `mach_msg`.
 fn kinds_of(verb: Verb) -> Kinds
     ensures { result ≡ kinds_of verb }
 {
@@ -103,7 +103,7 @@ fn read_arguments(kinds: Kinds, text: &[u8]) -> Result<(Arguments, &[u8]), Fault
     Ok((arguments, rest))
 }
 
-/// The call of one argument or none.
+/// The call that has at most one argument.
 fn short_call(verb: Verb, first: u32) -> Option<Call>
     ensures { result ≡ short_call verb first }
 {
@@ -121,7 +121,7 @@ fn short_call(verb: Verb, first: u32) -> Option<Call>
     })
 }
 
-/// The call of two arguments, the first of which is a name in all but one.
+/// The call that has two arguments, the first of which is a name in all but one.
 fn pair_call(verb: Verb, name: u32, second: u32) -> Option<Call>
     ensures { result ≡ pair_call verb name second }
 {
@@ -161,7 +161,7 @@ fn pair_call(verb: Verb, name: u32, second: u32) -> Option<Call>
     })
 }
 
-/// The call of more arguments.
+/// The call that has more arguments.
 fn long_call(verb: Verb, arguments: Arguments) -> Option<Call>
     ensures { result ≡ long_call verb arguments }
 {
@@ -188,7 +188,7 @@ fn long_call(verb: Verb, arguments: Arguments) -> Option<Call>
     })
 }
 
-/// The call of a verb with these arguments, of each but those of `mach_msg`.
+/// The call of a verb with these arguments, for every call but `mach_msg`.
 fn plain_call(verb: Verb, arguments: Arguments) -> Option<Call>
     ensures { result ≡ plain_call verb arguments }
 {
@@ -202,7 +202,7 @@ fn plain_call(verb: Verb, arguments: Arguments) -> Option<Call>
 }
 
 #[tactic(auto, unfolding(crate::specs::Plain::plain_at))]
-/// The call of a verb with the arguments in front of a text, of each but those of `mach_msg`.
+/// The call of a verb with the arguments in front of a text, for every call but `mach_msg`.
 pub(crate) fn read_plain(verb: Verb, text: &[u8]) -> Result<(Call, &[u8]), Fault>
     ensures { Gives (λ r. (r.0, words_of r.1.now)) result (plain_at verb (words_of text.now)) }
 {

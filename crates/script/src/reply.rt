@@ -45,7 +45,7 @@ fn push_answer(line: &mut Vec<u8>, label: &[u8], holds: bool) -> Result<(), Allo
 }
 
 #[tactic(auto, using(crate::proofs::WordsOf::spaced_laws))]
-/// Adds what a port's state tells of its right.
+/// Adds what a port's state says of its right.
 fn push_place(line: &mut Vec<u8>, status: &ReceiveStatus) -> Result<(), AllocError>
     ensures { OnOk result (line.new.items ≡ line.old.items ++ spaced (place_words status.now)) }
 {
@@ -55,7 +55,7 @@ fn push_place(line: &mut Vec<u8>, status: &ReceiveStatus) -> Result<(), AllocErr
 }
 
 #[tactic(auto, using(crate::proofs::WordsOf::spaced_laws))]
-/// Adds what a port's state tells of its queue.
+/// Adds what a port's state says of its queue.
 fn push_queue(line: &mut Vec<u8>, status: &ReceiveStatus) -> Result<(), AllocError>
     ensures { OnOk result (line.new.items ≡ line.old.items ++ spaced (queue_words status.now)) }
 {
@@ -65,7 +65,7 @@ fn push_queue(line: &mut Vec<u8>, status: &ReceiveStatus) -> Result<(), AllocErr
 }
 
 #[tactic(auto, using(crate::proofs::WordsOf::spaced_laws))]
-/// Adds what a port's state tells of its other rights.
+/// Adds what a port's state says of its other rights.
 fn push_answers(line: &mut Vec<u8>, status: &ReceiveStatus) -> Result<(), AllocError>
     ensures { OnOk result (line.new.items ≡ line.old.items ++ spaced (answers_words status.now)) }
 {
@@ -131,7 +131,7 @@ fn push_outcome(line: &mut Vec<u8>, code: KernReturn, silent: bool) -> Result<()
 }
 
 #[tactic(auto, using(crate::proofs::WordsOf::spaced_laws), unfolding(crate::specs::Replies::message_reply_words, crate::specs::Replies::received_words))]
-/// Adds what a `mach_msg` answered.
+/// Adds the answer of a `mach_msg`.
 fn push_message_reply(
     line: &mut Vec<u8>,
     code: KernReturn,
@@ -179,7 +179,7 @@ fn push_results(line: &mut Vec<u8>, reply: &Reply) -> Result<(), AllocError>
 }
 
 #[tactic(auto, using(crate::proofs::WordsOf::spaced_laws))]
-/// Adds the words of a reply, a space in front of each.
+/// Adds the words of a reply, each with a space in front.
 pub(crate) fn push_reply_words(line: &mut Vec<u8>, reply: &Reply) -> Result<(), AllocError>
     ensures { OnOk result (line.new.items ≡ line.old.items ++ spaced (reply_words reply.now)) }
 {
@@ -292,7 +292,7 @@ fn read_status(text: &[u8]) -> Result<(ReceiveStatus, &[u8]), Fault>
 }
 
 #[tactic(auto, unfolding(crate::specs::Replies::named_at))]
-/// The name and the type in front, if a word is left, and the text behind them.
+/// The name and the type in front, if a word is left, and the text after them.
 fn read_named(text: &[u8]) -> Result<Option<(NamedType, &[u8])>, Fault>
     ensures { Gives (λ r. option_map (λ n. (n.0, words_of n.1.now)) r) result (named_at (words_of text.now)) }
 {
@@ -305,7 +305,7 @@ fn read_named(text: &[u8]) -> Result<Option<(NamedType, &[u8])>, Fault>
 }
 
 #[tactic(auto, unfolding(crate::specs::Replies::member_at))]
-/// The name in front, if a word is left, and the text behind it.
+/// The name in front, if a word is left, and the text after it.
 fn read_member(text: &[u8]) -> Result<Option<(u32, &[u8])>, Fault>
     ensures { Gives (λ r. option_map (λ n. (n.0, words_of n.1.now)) r) result (member_at (words_of text.now)) }
 {
@@ -353,7 +353,7 @@ fn read_members(alloc: Global, text: &[u8]) -> Result<Sequence<u32>, Fault>
 }
 
 #[tactic(auto, unfolding(crate::specs::Replies::received_at))]
-/// The message behind its word, or no bytes.
+/// The message after its word, or no bytes.
 fn read_received(alloc: Global, text: &[u8]) -> Result<(Vec<u8>, &[u8]), Fault>
     ensures { Gives (λ r. (r.0.items, words_of r.1.now)) result (received_at (words_of text.now)) }
 {
@@ -364,7 +364,7 @@ fn read_received(alloc: Global, text: &[u8]) -> Result<(Vec<u8>, &[u8]), Fault>
 }
 
 #[tactic(auto, unfolding(crate::specs::Replies::message_reply_at))]
-/// What a `mach_msg` answered with this code.
+/// The answer of a `mach_msg` with this code.
 fn read_message_reply(alloc: Global, code: KernReturn, text: &[u8]) -> Result<Reply, Fault>
     ensures { Gives (λ r. r) result (message_reply_at code (words_of text.now)) }
 {
@@ -417,7 +417,7 @@ fn read_last_status(text: &[u8]) -> Result<Reply, Fault>
 }
 
 #[tactic(auto, unfolding(crate::specs::Replies::results_at))]
-/// The results of a call of this number.
+/// The results of a call with this number.
 fn read_results(alloc: Global, number: u32, text: &[u8]) -> Result<Reply, Fault>
     ensures { Gives (λ r. r) result (results_at number (words_of text.now)) }
 {
@@ -454,7 +454,7 @@ fn read_results(alloc: Global, number: u32, text: &[u8]) -> Result<Reply, Fault>
     }
 }
 
-/// Whether a call of this number has results, or may have some.
+/// Whether a call with this number has results, or may have some.
 fn may_tell(number: u32) -> bool
     ensures { result ≡ (has_results number || number == 19) }
 {
@@ -474,7 +474,7 @@ fn may_tell(number: u32) -> bool
 }
 
 #[tactic(auto, unfolding(crate::specs::Replies::silence))]
-/// What the call of a number answered that isn't told.
+/// The answer to the call with this number if the line gives none.
 fn read_silence(alloc: Global, number: u32, text: &[u8]) -> Result<Reply, Fault>
     ensures { Gives (λ r. r) result (silence number (words_of text.now)) }
 {
@@ -494,7 +494,7 @@ fn read_silence(alloc: Global, number: u32, text: &[u8]) -> Result<Reply, Fault>
 }
 
 #[tactic(auto, unfolding(crate::specs::Replies::refusal_at))]
-/// How a call of this number was refused.
+/// How a call with this number was refused.
 fn read_refusal(alloc: Global, number: u32, text: &[u8]) -> Result<Reply, Fault>
     ensures { Gives (λ r. r) result (refusal_at number (words_of text.now)) }
 {
@@ -511,7 +511,7 @@ fn read_refusal(alloc: Global, number: u32, text: &[u8]) -> Result<Reply, Fault>
 }
 
 #[tactic(auto, unfolding(crate::specs::Replies::reply_at))]
-/// What the call of this number answered, of which this is all that is left of the line.
+/// The answer to the call with this number. The text is all that is left of the line.
 pub(crate) fn read_reply(alloc: Global, number: u32, text: &[u8]) -> Result<Reply, Fault>
     ensures { Gives (λ r. r) result (reply_at number (words_of text.now)) }
 {

@@ -11,7 +11,7 @@ fn count_spaces(text: &[u8]) -> usize
     text.iter().take_while(|byte| **byte <= b' ').count()
 }
 
-/// How many bytes in front are of a word.
+/// How many bytes in front belong to a word.
 fn count_word_bytes(text: &[u8]) -> usize
     ensures { result ≡ prefix_len is_word_byte text.now }
 {
@@ -20,7 +20,7 @@ fn count_word_bytes(text: &[u8]) -> usize
         .count()
 }
 
-/// The first word of a text, and what stands behind it. There is none in front of a `#` or the end.
+/// The first word of a text, and what stands after it. There is none in front of a `#` or the end.
 pub(crate) fn take_word(text: &[u8]) -> Option<(&[u8], &[u8])>
     ensures { MatchOption result (words_of text.now ≡ []) (λ r. words_of text.now ≡ r.0.now ∷ words_of r.1.now) }
 {
@@ -34,7 +34,7 @@ pub(crate) fn take_word(text: &[u8]) -> Option<(&[u8], &[u8])>
 }
 
 #[tactic(auto, using(crate::proofs::WordsOf::spaced_one))]
-/// Adds a word, a space in front. Where memory is wanted the space may have been added.
+/// Adds a word, with a space in front. If an allocation fails, the space may have been added.
 pub(crate) fn push_spaced(line: &mut Vec<u8>, word: &[u8]) -> Result<(), AllocError>
     ensures { OnOk result (line.new.items ≡ line.old.items ++ spaced (word.now ∷ [])) }
 {
@@ -65,7 +65,7 @@ fn word_end(text: &[u8]) -> usize
     spaces + count_word_bytes(behind)
 }
 
-/// How many bytes of a line stand in front of what follows so many words, its spaces among them.
+/// How many bytes of a line come before what follows the first `words` words, including its spaces.
 pub(crate) fn column_of(line: &[u8], words: usize) -> usize
     ensures { result ≡ column_of words line.now }
 {

@@ -13,7 +13,7 @@ use std::alloc::Global;
 pub struct Line {
     /// The line's number, from 1.
     pub number: usize,
-    /// The call of the line, and what it answered.
+    /// The call of the line, and its answer.
     pub exchange: Exchange,
 }
 
@@ -24,7 +24,7 @@ fn count_line_bytes(text: &[u8]) -> usize
     text.iter().take_while(|byte| **byte != b'\n').count()
 }
 
-/// What stands behind the first byte.
+/// What stands after the first byte.
 fn behind_first(text: &[u8]) -> &[u8]
     ensures { result.now ≡ drop 1 text.now }
 {
@@ -34,7 +34,7 @@ fn behind_first(text: &[u8]) -> &[u8]
     }
 }
 
-/// The first line of a text without its end, and what stands behind it.
+/// The first line of a text without its end, and what stands after it.
 fn first_line(text: &[u8]) -> (&[u8], &[u8])
     ensures line { result.0.now ≡ take (prefix_len in_line text.now) text.now }
     ensures rest { result.1.now ≡ drop 1 (drop (prefix_len in_line text.now) text.now) }
@@ -62,9 +62,9 @@ fn add_line(
     }
 }
 
-/// The calls of a script, line by line, with what they answered. The fault tells the first line that can't be read.
-/// `Unreadable`: it isn't blank, a comment or a call with its answer. `NoMemory`: no memory for what it holds or for
-/// the row of lines.
+/// The calls of a script, line by line, with their answers. The fault gives the first line that can't be read.
+/// `Unreadable`: it isn't blank, a comment or a call with its answer. `NoMemory`: out of memory for what it holds or
+/// for the list of lines.
 pub fn read_script(alloc: Global, text: &[u8]) -> Result<Vec<Line>, ScriptFault>
     ensures read { MatchResult result (λ lines. script_read text.now ≡ Ok lines.items) (λ fault. IsFault fault.fault fault (script_read text.now)) }
     ensures printed { (xs : List Exchange) → AreExchanges xs → text.now ≡ script_text xs

@@ -9,7 +9,7 @@ use crate::spaced::take_word;
 use std::alloc::AllocError;
 
 #[tactic(auto, unfolding(crate::specs::Reading::number_at))]
-/// The number in front and the text behind it, if there is one.
+/// The number in front and the text after it, if there is one.
 pub(crate) fn take_number(kind: Kind, text: &[u8]) -> Option<(u32, &[u8])>
     ensures { MatchOption result (number_at kind (words_of text.now) ≡ None)
         (λ r. number_at kind (words_of text.now) ≡ Some (r.0, words_of r.1.now)) }
@@ -23,7 +23,7 @@ pub(crate) fn take_number(kind: Kind, text: &[u8]) -> Option<(u32, &[u8])>
 }
 
 #[tactic(auto, unfolding(crate::specs::Reading::value_at))]
-/// The number in front, and the text behind it.
+/// The number in front, and the text after it.
 pub(crate) fn read_value(kind: Kind, text: &[u8]) -> Result<(u32, &[u8]), Fault>
     ensures { Gives (λ r. (r.0, words_of r.1.now)) result (value_at kind (words_of text.now)) }
 {
@@ -34,7 +34,7 @@ pub(crate) fn read_value(kind: Kind, text: &[u8]) -> Result<(u32, &[u8]), Fault>
 }
 
 #[tactic(auto, unfolding(crate::specs::Reading::bounded_at))]
-/// The number in front, which is below a bound, and the text behind it.
+/// The number in front, which is below a bound, and the text after it.
 pub(crate) fn read_bounded(
     expected: Expected,
     kind: Kind,
@@ -55,7 +55,7 @@ pub(crate) fn read_bounded(
 }
 
 #[tactic(auto, unfolding(crate::specs::Reading::label_at))]
-/// The text behind a word, if it is the first.
+/// The text after a word, if it is the first.
 pub(crate) fn behind_label<'a>(label: &[u8], text: &'a [u8]) -> Option<&'a [u8]>
     ensures { MatchOption result (label_at label.now (words_of text.now) ≡ None)
         (λ rest. label_at label.now (words_of text.now) ≡ Some (words_of rest.now)) }
@@ -65,7 +65,7 @@ pub(crate) fn behind_label<'a>(label: &[u8], text: &'a [u8]) -> Option<&'a [u8]>
 }
 
 #[tactic(auto, unfolding(crate::specs::Reading::labelled_at))]
-/// The number behind this word, which is the first.
+/// The number after this word, which is the first.
 pub(crate) fn read_labelled<'a>(
     label: &[u8],
     kind: Kind,
@@ -80,7 +80,7 @@ pub(crate) fn read_labelled<'a>(
 }
 
 #[tactic(auto, unfolding(crate::specs::Reading::optional_at))]
-/// The number behind this word if it is the first, else 0.
+/// The number after this word if it is the first, else 0.
 pub(crate) fn read_optional<'a>(
     label: &[u8],
     kind: Kind,
@@ -95,7 +95,7 @@ pub(crate) fn read_optional<'a>(
 }
 
 #[tactic(auto, unfolding(crate::specs::Reading::flag_at))]
-/// Whether this word is the first, and the text behind it.
+/// Whether this word is the first, and the text after it.
 pub(crate) fn read_flag<'a>(label: &[u8], text: &'a [u8]) -> (bool, &'a [u8])
     ensures { flag_at label.now (words_of text.now) ≡ (result.0, words_of result.1.now) }
 {
@@ -106,7 +106,7 @@ pub(crate) fn read_flag<'a>(label: &[u8], text: &'a [u8]) -> (bool, &'a [u8])
 }
 
 #[tactic(auto, using(crate::proofs::WordsOf::spaced_laws))]
-/// Adds two numbers, each as a word. Where memory is wanted some may have been added.
+/// Adds two numbers, each as a word. If an allocation fails, some may have been added.
 pub(crate) fn push_two(
     line: &mut Vec<u8>,
     first: (Kind, u32),
@@ -119,7 +119,7 @@ pub(crate) fn push_two(
 }
 
 #[tactic(auto, using(crate::proofs::WordsOf::spaced_laws))]
-/// Adds three numbers, each as a word. Where memory is wanted some may have been added.
+/// Adds three numbers, each as a word. If an allocation fails, some may have been added.
 pub(crate) fn push_three(
     line: &mut Vec<u8>,
     first: (Kind, u32),

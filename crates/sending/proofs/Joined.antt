@@ -52,7 +52,7 @@ abbrev sent_one : Message → Result Message SendFault
 sent_one message = Ok message
 
 module _ (space : ℕ) (parts : UsedParts) (items : List Item) (found : HeaderRights) (mid new : State) (waiting between after : List Effect) where
-  -- the message that is ready, where this was taken
+  -- the message that is ready, once this was taken
   ready_is : (header : TakenHeader) (taken : TakenRights) (rights : List CarriedRight) → HeaderIs mid waiting between header found → rights ≡ taken.rights → new ≡ taken.state
       → ready_message parts items header taken ≡ record { message = message_of parts items found rights; port = found.port; state = new; notices = header.notices ++ taken.notices }
   ready_is header taken rights head rights_are state_is = λ i. record {

@@ -1,4 +1,4 @@
--- Rights that are taken one after another, where one is refused, and behind effects that wait.
+-- Rights that are taken one after another, with one refused, and with effects that wait before theirs.
 use Rattle.std.proofs.Common.{◌≡◌, ℕ, ◌<◌, List, [], ◌∷◌, ◌++◌, length, drop, map, Option, None, Some, option_map, Result, Ok, Err, sym, ◌∙◌, ap, subst, append-nil, get_or, suc}
 use Rattle.std.proofs.Math.Seq.{drop-cons}
 use Rattle.codes.specs.declared.kern_return.KernReturn.{KernReturn}
@@ -41,7 +41,7 @@ failed_item code space items at item taken whole Is Then fault left less is fail
     subst (λ (o : Option TakenRights). Gave (or_refused code o) Then (Err fault)) (sym whole_is)
     (failed_first code (take_item space (item_value item) (disposition_of item.type_name) taken) (take_items space (map item_value (drop (suc at) items))) Is Then fault failed)
 
--- Effects that wait stand in front.
+-- Effects that wait stand before the new ones.
 
 mapped_failed : {X Y : Type 0} (code : KernReturn) (o : Option TakenRights) (change : TakenRights → TakenRights) (Is : TakenRights → X → Type 0) (Then : TakenRights → Y → Type 0) (fault : SendFault)
     → Gave (or_refused code (option_map change o)) Is (Err fault) → Gave (or_refused code o) Then (Err fault)

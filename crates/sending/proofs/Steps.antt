@@ -6,7 +6,7 @@ use Rattle.sending.specs.Gave.{Gave, IsWant, IsToldBy}
 use Rattle.sending.specs.declared.fault.SendFault.{SendFault}
 use Rattle.sending.specs.declared.fault.SendFault.TheVariants.{Refused, NoMemory}
 
--- the first step gave something, and the rest what comes next
+-- the first step gave something, and the rest gave what comes next
 pub gave_then : {X Y Z W : Type 0} (r : Result X KernReturn) (next : X → Result Z KernReturn) (Is : X → Y → Type 0) (Then : Z → W → Type 0) (y : Y) (result : Result W SendFault)
     → Gave r Is (Ok y) → ((x : X) → Is x y → Gave (next x) Then result) → Gave (and_then r next) Then result
 gave_then (Ok x) next Is Then y result is rest = rest x is
@@ -32,7 +32,7 @@ pub gave_same : {X Z W : Type 0} (r : Result X KernReturn) (next : X → Result 
 gave_same (Ok x) next Then y result is rest = subst (λ (v : _). Gave (next v) Then result) is rest
 gave_same (Err code) next Then y result is rest = absurd is
 
--- what a refusal or want of memory tells
+-- what a refusal, or running out of memory, says
 pub told : {X Y : Type 0} (r : Result X KernReturn) (Is : X → Y → Type 0) (fault : SendFault) → Gave r Is (Err fault) → IsToldBy r fault
 told (Ok x) Is (Refused code) is = absurd is
 told (Ok x) Is NoMemory is = tt

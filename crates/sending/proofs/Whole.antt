@@ -48,7 +48,7 @@ pub ready_failed : {Y W : Type 0} (state : State) (space : ℕ) (bytes : List �
 unfolding ready_to_send
 ready_failed state space bytes by Then fault is = failed (tests_of_size (length bytes)) (used_parts bytes) by (of_dispositions state space (used_parts bytes)) Then fault is
 
--- what was found is what is ready, where no effect waited
+-- what was found is what is ready, if no effect waited
 pub ready_found : (r : Result Ready KernReturn) (new : State) (waiting after : List Effect) (found : Message × ℕ) → waiting ≡ [] → Gave r (ReadyIs new waiting after) (Ok found)
     → r ≡ Ok (record { message = found.0; port = found.1; state = new; notices = after })
 ready_found (Err code) new waiting after found none is = absurd is
@@ -59,7 +59,7 @@ ready_found (Ok ready) new waiting after found none is = λ i. Ok (record {
   notices = sym (is.3 ∙ ap (λ (l : List Effect). l ++ ready.notices) none) i;
 })
 
--- The same of whatever came of it.
+-- The same for whatever came of it.
 pub all_found : (r : Result Ready KernReturn) (new : State) (waiting after : List Effect) (result : Result (Message × ℕ) SendFault) → waiting ≡ [] → Gave r (ReadyIs new waiting after) result
     → IfOk result (λ found. r ≡ Ok (record { message = found.0; port = found.1; state = new; notices = after }))
 all_found r new waiting after (Ok found) none is = ready_found r new waiting after found none is

@@ -1,15 +1,16 @@
--- What the written machine gives, a function gave; or it told the code of a refusal. Where memory is wanted nothing is said.
+-- A function gave what the abstract specification gives, or it reported the code of a refusal. If it is out of memory,
+-- nothing is said.
 use Rattle.std.specs.Prelude.{◌≡◌, Result, Ok, Err}
 use Rattle.codes.specs.declared.kern_return.KernReturn.{KernReturn}
 use Rattle.sending.specs.declared.fault.SendFault.{SendFault}
 use Rattle.sending.specs.declared.fault.SendFault.TheVariants.{Refused, NoMemory}
 
--- a refusal with this code, unless memory was wanted before
+-- a refusal with this code, unless memory ran out before
 abbrev pub Tells : KernReturn → SendFault → Type 0
 Tells code (Refused other) = other ≡ code
 Tells code NoMemory = Unit {0}
 
--- memory was wanted
+-- out of memory
 abbrev pub IsWant : SendFault → Type 0
 IsWant (Refused code) = ⊥
 IsWant NoMemory = Unit {0}
@@ -20,7 +21,7 @@ Gave (Ok x) Is (Err fault) = IsWant fault
 Gave (Err code) Is (Ok y) = ⊥
 Gave (Err code) Is (Err fault) = Tells code fault
 
--- a fault tells the code of a refusal, or that memory was wanted
+-- a fault has the code of the refusal, or says that memory ran out
 abbrev pub IsToldBy : {X : Type 0} → Result X KernReturn → SendFault → Type 0
 IsToldBy r (Refused code) = r ≡ Err code
 IsToldBy r NoMemory = Unit {0}

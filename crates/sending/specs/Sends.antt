@@ -11,11 +11,12 @@ use Rattle.ipc_model.specs.messages.Sending.{Ready, header_disposition, reply_di
 use Rattle.ipc_model.specs.rights.Dispositions.{Disposition}
 use Rattle.ipc_model.specs.state.State.{State}
 
--- a message that is ready and its port were found, and this is the state; its notices wait behind those that waited
+-- a message that is ready and its port were found, and this is the state; its notices wait after those that already
+-- waited
 abbrev pub ReadyIs : State → List Effect → List Effect → Ready → Message × ℕ → Type 0
 ReadyIs new waiting after ready found = (found.0 ≡ ready.message) × (found.1 ≡ ready.port) × (new ≡ ready.state) × (after ≡ waiting ++ ready.notices)
 
--- what a message becomes whose size is one that messages have
+-- what becomes of a message whose size is one that messages may have
 abbrev pub of_dispositions : State → ℕ → UsedParts → Result Ready KernReturn
 of_dispositions state space parts =
     and_then (or_refused SendInvalidHeader (header_disposition parts.remote_disposition)) (λ (destination : Disposition).

@@ -1,4 +1,4 @@
-//! What becomes of a message that is ready: it is queued, or destroyed where it would travel in a circle.
+//! What becomes of a message that is ready: it is queued, or destroyed if it would travel in a cycle.
 ghost use Rattle.std.specs.Prelude.{◌≡◌, ◌∷◌, ◌++◌, Bool, true, false, None, Some, OnOk};
 ghost use Rattle.std.specs.List.{list_any};
 ghost use Rattle.ipc_model.specs.effects.Effects.{release, releases_of};
@@ -12,7 +12,7 @@ use rights::IpcState;
 use std::alloc::AllocError;
 use transit::would_circle;
 
-/// Whether the receive right of a port, if there is one, would travel in a circle in this queue.
+/// Whether the receive right of a port, if there is one, would travel in a cycle in this queue.
 fn would_circle_with(state: &IpcState, queue: u64, port: PortInMessage) -> bool
     ensures { result ≡ elim (live_port port) as (λ _. Bool) [ None ↦ false | Some serial ↦ is_circular state.now.current serial queue ] }
 {
@@ -32,7 +32,7 @@ fn goes_in_circle(state: &IpcState, queue: u64, right: CarriedRight) -> bool
     }
 }
 
-/// Whether a message with these rights would carry a receive right in a circle.
+/// Whether a message with these rights would carry a receive right in a cycle.
 fn any_goes_in_circle(state: &IpcState, queue: u64, rights: &[CarriedRight]) -> bool
     ensures { result ≡ list_any (goes_in_circle state.now.current queue) rights.now }
 {
@@ -50,8 +50,8 @@ fn destroy(queue: u64, message: &Message, effects: &mut Effects) -> Result<(), A
     effects.release_message(message)
 }
 
-/// Puts a message at the end of a queue; where it would carry a receive right in a circle it is destroyed. Its rights are
-/// to live ports. Where memory is wanted the changes are to be given up.
+/// Puts a message at the end of a queue; if it would carry a receive right in a cycle, it is destroyed. Its rights are
+/// to live ports. If an allocation fails, the changes must be rolled back.
 #[tactic(auto, unfolding(ipc_model::specs::messages::Sending::sent))]
 pub(crate) fn deliver(
     state: &mut IpcState,

@@ -6,7 +6,7 @@ use std::alloc::AllocError;
 pub enum SendFault {
     /// A test failed, and the send is refused with this code.
     Refused(KernReturn),
-    /// No memory.
+    /// Out of memory.
     NoMemory,
 }
 

@@ -17,7 +17,8 @@ fn is_full(state: &IpcState, port: u64) -> bool
     numbers.limit <= state.message_count(port)
 }
 
-/// Whether a queue's limit stops a message that is sent by such a right: one by a send-once right isn't stopped by it.
+/// Whether a queue's limit applies to a message that is sent by this right and stops it: one by a send-once right is
+/// never stopped.
 pub(crate) fn is_stopped(state: &IpcState, port: u64, destination: RightKind) -> bool
     ensures { result ≡ (is_full state.now.current port && not (same_kind destination kind.SendOnce)) }
 {

@@ -1,4 +1,4 @@
-//! The rights of a message's header: the destination, and the right to reply by.
+//! The rights of a message's header: the destination, and the right for the reply.
 ghost use Rattle.std.specs.Prelude.{◌≡◌, ◌++◌, Some, true, false};
 ghost use Rattle.ipc_model.specs.messages.Sending as sending;
 ghost use Rattle.ipc_model.specs.state.State.{is_null_or_dead};
@@ -11,13 +11,13 @@ use effects::Effects;
 use ipc_model::{CarriedRight, RightKind};
 use rights::IpcState;
 
-/// Whose rights a message's header names, and how they are handed over.
+/// The names of the rights in a message's header, and how they are handed over.
 #[derive(Clone, Copy)]
 pub(crate) struct Named {
     pub(crate) remote: u32,
     pub(crate) destination: Disposition,
     pub(crate) local: u32,
-    /// None where there is no reply right.
+    /// `None` if there is no reply right.
     pub(crate) reply: Option<Disposition>,
 }
 
@@ -29,7 +29,7 @@ pub(crate) struct HeaderRights {
     pub(crate) reply: Option<CarriedRight>,
 }
 
-/// Takes the destination right, which has to be one to a port that lives.
+/// Takes the destination right, which has to be one to a live port.
 fn take_destination(
     state: &mut IpcState,
     space: u32,
@@ -53,7 +53,7 @@ fn take_destination(
     Ok((right.kind, port))
 }
 
-/// Takes the right to reply by, if the header names one; `MACH_PORT_NULL` and `MACH_PORT_DEAD` pass through.
+/// Takes the right for the reply, if the header names one; `MACH_PORT_NULL` and `MACH_PORT_DEAD` pass through.
 fn take_reply(
     state: &mut IpcState,
     space: u32,
@@ -75,7 +75,7 @@ fn take_reply(
     take_named_reply(state, space, name, disposition, effects)
 }
 
-/// The same of a reply that is named.
+/// The same for a reply that is named.
 fn take_named_reply(
     state: &mut IpcState,
     space: u32,
@@ -119,7 +119,7 @@ fn reply_goes_first(destination: Disposition, reply: Option<Disposition>) -> boo
     }
 }
 
-/// Takes the rights of a header: what consumes nothing goes first, and among equals the destination.
+/// Takes the rights of a header: what consumes nothing first, and otherwise the destination first.
 pub(crate) fn take_header(
     state: &mut IpcState,
     space: u32,

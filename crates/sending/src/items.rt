@@ -18,7 +18,7 @@ use rights::IpcState;
 use std::alloc::Global;
 use type_desc::Item;
 
-/// Takes the right of one name more; `MACH_PORT_NULL` and `MACH_PORT_DEAD` pass through.
+/// Takes the right of one more name; `MACH_PORT_NULL` and `MACH_PORT_DEAD` pass through.
 fn take_one(
     state: &mut IpcState,
     space: u32,
@@ -40,7 +40,7 @@ fn take_one(
     take_named(state, space, name, disposition, rights, effects)
 }
 
-/// The same of a name that may be in use.
+/// The same for a name that may be in use.
 fn take_named(
     state: &mut IpcState,
     space: u32,
@@ -104,7 +104,7 @@ fn take_item(
     }
 }
 
-/// Takes the rights of items, from the left, behind those that were taken.
+/// Takes the rights of items, from the left, after those that were taken.
 fn take_items(
     state: &mut IpcState,
     space: u32,
@@ -122,7 +122,7 @@ fn take_items(
     Ok(())
 }
 
-/// How many ports items hold, NULL and DEAD among them.
+/// How many ports items hold, counting `MACH_PORT_NULL` and `MACH_PORT_DEAD`.
 fn count_ports(items: &[Item<'_>]) -> usize {
     let mut count: usize = 0;
     for item in items {
@@ -131,7 +131,7 @@ fn count_ports(items: &[Item<'_>]) -> usize {
     count
 }
 
-/// Takes the rights of all port items of a body, from the left. Room for them is made at once.
+/// Takes the rights of all port items of a body, from the left. Room for them is allocated at once.
 pub(crate) fn take_body(
     alloc: Global,
     state: &mut IpcState,

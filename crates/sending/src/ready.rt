@@ -1,4 +1,4 @@
-//! What a task's bytes become: a message that is ready to be queued.
+//! A task's bytes turned into a message that is ready to be queued.
 ghost use Rattle.std.specs.Prelude.{◌≡◌, ◌∷◌, ◌&&◌, [], map, not, Ok, IfOk, IfErr, if◌then◌else◌};
 ghost use Rattle.std.specs.List.{list_any};
 ghost use Rattle.ipc_model.specs.calls.Tests.{and_then, or_refused, unless_failing};
@@ -34,7 +34,7 @@ pub(crate) struct Read<'a> {
     pub(crate) body: &'a [u8],
 }
 
-/// A body as a queued message has it: with items that were looked at, types of ports as received and 0 in their places.
+/// A body as a queued message has it: if items were looked at, types of ports as received and 0 in their places.
 fn kept_body(
     alloc: Global,
     complex: bool,
@@ -64,7 +64,7 @@ fn has_ports(items: &[Item<'_>]) -> bool
     false
 }
 
-/// The message of rights that were taken, unless its queue's limit stops it.
+/// Makes a message of rights that were taken, unless its queue's limit stops it.
 fn message_of(
     alloc: Global,
     state: &IpcState,
@@ -95,7 +95,7 @@ fn message_of(
     })
 }
 
-/// Takes the rights of a header and of a body's items, and makes the message of them.
+/// Takes the rights of a header and of a body's items, and makes a message of them.
 fn take_all(
     alloc: Global,
     state: &mut IpcState,
@@ -117,7 +117,7 @@ fn take_all(
     Ok((message, taken.port))
 }
 
-/// The message of what was read, unless it holds too many ports, or has no destination.
+/// The message of what was read, unless it holds too many ports or has no destination.
 fn ready_of_items(
     alloc: Global,
     state: &mut IpcState,
@@ -168,8 +168,8 @@ fn ready_by_header(
     ready_of_items(alloc, state, space, read, destination, reply, effects)
 }
 
-/// What a task's bytes become: a message that is ready to be queued and its port, or the code of the first test that
-/// fails. Where it is refused, or memory is wanted, the changes are to be given up.
+/// Turns a task's bytes into a message that is ready to be queued, and its port; or returns the code of the first test
+/// that fails. If it is refused or an allocation fails, the changes must be rolled back.
 pub(crate) fn ready(
     alloc: Global,
     state: &mut IpcState,

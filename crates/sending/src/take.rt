@@ -13,7 +13,7 @@ use effects::Effects;
 use ipc_model::{CarriedRight, PortInMessage, RightKind};
 use rights::{IpcState, take_right};
 
-/// Copy in of a name, or a refusal with this code.
+/// Copies a right in from a name, or refuses with this code.
 #[tactic(auto, using(crate::proofs::Taken::taken_gave))]
 pub(crate) fn take(
     state: &mut IpcState,
@@ -44,7 +44,7 @@ pub(crate) fn live_port(port: PortInMessage) -> Result<u64, SendFault>
     }
 }
 
-/// What stands in a message for a name that is no name: `MACH_PORT_NULL` and `MACH_PORT_DEAD` pass through.
+/// What stands in a message for a name that stands for nothing: `MACH_PORT_NULL` and `MACH_PORT_DEAD` pass through.
 pub(crate) fn passed(name: u32) -> Option<PortInMessage>
     ensures passed { IfSome result (λ port. (is_null_or_dead name ≡ true) × (port ≡ passed name)) }
     ensures none { IfNone result (is_null_or_dead name ≡ false) }

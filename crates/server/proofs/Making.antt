@@ -1,4 +1,4 @@
--- What a call of the core leaves of the store.
+-- What a call of the core leaves in the store.
 use Rattle.std.proofs.Common.{◌≡◌, ◌+◌, ℕ, Bool, true, false, Option, sym, ap, subst, ◌∙◌, refl}
 use Rattle.std.specs.Prelude.{if◌then◌else◌}
 use Rattle.disk.specs.Moments.{View, Passes}

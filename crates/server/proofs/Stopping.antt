@@ -1,4 +1,4 @@
--- What a stop leaves while a lone connection is served.
+-- The post-crash contents while a single connection is served.
 use Rattle.std.specs.Prelude.{if◌then◌else◌, MatchBool}
 use Rattle.std.proofs.Common.{◌≡◌, inl, inr, ℕ, suc, ◌+◌, ◌≤◌, Bool, true, false, List, [], ◌∷◌, ◌++◌, length, take, Option, None, Some, refl, sym, ap, subst, ◌∙◌, arith, length-append}
 use Rattle.std.proofs.lemmas.Bool.{cases_lt}
@@ -33,7 +33,7 @@ take_behind (first ∷ records) more k =
     let at : suc (length records) + k ≡ suc (length records + k) = omega arith in
     ap (λ (n : ℕ). take n (first ∷ records ++ more)) at ∙ ap (λ (l : List Record). first ∷ l) (take_behind records more k)
 
--- records behind those that slots stand within, and before them
+-- records after those that slots stand within, and before them
 in_front : (old : State) (records more : List Record) (c : Slots) → StandsWithin old records c → StandsWithin old (records ++ more) c
 in_front old records more c w = record {
   first = w.first;
@@ -68,7 +68,7 @@ passes_join old mid new P Q R first second f g = record {
   ];
 }
 
--- what a stop since then leaves, where a stop then left this state
+-- what a crash since then leaves, if a crash then would have left this state
 pub left_within : (old new : View) (state : State) (P : Slots → Type 0) → IsHeld old state → Passes old new P → ((c : Slots) → Recovered (as_written c) state → P c) → (c : Slots) → LeftSince new old.moment c → P c
 left_within old new state P held time here c left = elim (cases_lt old.moment left.0) [
   | inl later ↦ time.since left.0 c later left.2 left.3
@@ -133,7 +133,7 @@ module _ {D : Type 0} (honest : Type 0) (view : D → View) where
             time = no_time view old.store.disk new.store.disk _ (ap (λ (a : AloneValue D). a.store.disk) moved);
           }
 
-  -- time that no call is made in
+  -- time in which no call is made
   rest_reach : (old new : AloneValue D) → honest → IsHeld (view old.store.disk) old.kernel → RestsKept honest view old new → Reach view old [] new
   rest_reach old new is_honest held rested = record {
     held = rested.held is_honest;
@@ -141,7 +141,7 @@ module _ {D : Type 0} (honest : Type 0) (view : D → View) where
     time = passes_so (view old.store.disk) (view new.store.disk) _ _ (rested.passes is_honest) (at_first old.kernel []);
   }
 
-  -- what was made of a frame
+  -- what became of a frame
   record Made (P : AloneValue D → List Record → Type 0) (old new : AloneValue D) : Type 0 where
     records : List Record
     made : P new records

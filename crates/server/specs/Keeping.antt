@@ -1,4 +1,4 @@
--- What a clause sees of a lone caller, and what a stop during a call leaves.
+-- What a clause sees of a single-connection caller, and what a crash during a call leaves.
 use Rattle.std.specs.Prelude.{◌≡◌, ◌⊎◌, ℕ, ◌+◌, Bool, true, false, if◌then◌else◌, refl}
 use Rattle.std.specs.Coded.{Coded, code_by, coded×, coded_ℕ, coded_bool}
 use Rattle.codes.specs.declared.limits.TheConstants.{CHECKPOINT_RECORDS}
@@ -39,27 +39,27 @@ pub record IsCounted {D : Type 0} (old : StoreValue D) (call : Call) (answer : R
   pub segment : new.segment ≡ record old.segment { records = old.segment.records + (if has_record call answer then 1 else 0) }
   pub checkpoint : new.checkpoint ≡ old.checkpoint
 
--- what a stop leaves is a store from which this state is recovered
+-- this state is recovered from whatever a crash leaves
 abbrev pub IsHeld : View → State → Type 0
 IsHeld disk state = (c : Slots) → MayLeave disk c → Recovered (as_written c) state
 
--- From the slots the state before a call is recovered; or the state after it, which a step of the call that has a record
--- leaves.
+-- The state before a call is recovered from the slots; or the state after it, which a step of the call that has a
+-- record leaves.
 abbrev pub IsBeforeOrAfter : State → ℕ → Call → State → Slots → Type 0
 IsBeforeOrAfter before space call after c =
     Recovered (as_written c) before ⊎ ((reply : Reply) × Step before space call reply after × (has_record call reply ≡ true) × Recovered (as_written c) after)
 
--- What a lone caller may answer: what the machine does in the space that the caller is attached to. Attached to another
--- space, the caller is so from now on. It didn't fail.
+-- What a single-connection caller may answer: what the machine does in the space that the caller is attached to. If the
+-- call attached it to another space, it is attached there from now on. It didn't fail.
 abbrev pub AnswersStored : {D : Type 0} → AloneValue D → Call → Reply → AloneValue D → Type 0
 AnswersStored old call answer new = StepOrShortage old.kernel old.space call answer new.kernel × (new.space ≡ space_after old.space call answer) × (new.failed ≡ false)
 
--- memory is wanted for what is due of a checkpoint, and nothing changed
+-- out of memory: what is due of a checkpoint allocates, and nothing changed
 abbrev pub IsShortOf : {D : Type 0} → AloneValue D → AloneValue D → Type 0
 IsShortOf old new = TakesMemory CHECKPOINT_RECORDS old.store old.store.checkpoint × (new ≡ old)
 
--- A call of a lone caller that didn't fail before. On an honest disk, a stop at any moment of the call leaves the state
--- before it or the state after it, and a stop after it the state after it.
+-- A call of a single-connection caller that didn't fail before. On an honest disk, a crash at any moment of the call
+-- leaves the state before it or the state after it, and a crash after the call leaves the state after it.
 module _ {D : Type 0} (honest : Type 0) (view : D → View) where
   pub record AnswersKept (old : AloneValue D) (call : Call) (answer : Reply) (new : AloneValue D) : Type 0 where
     pub stored : AnswersStored old call answer new
@@ -68,24 +68,25 @@ module _ {D : Type 0} (honest : Type 0) (view : D → View) where
     pub passes : honest → Passes (view old.store.disk) (view new.store.disk) (IsBeforeOrAfter old.kernel old.space call new.kernel)
     pub held : honest → IsHeld (view new.store.disk) new.kernel
 
-  -- A call that fails in the store: the device failed, or a call before did. The caller is of no further use; a stop at any
-  -- moment of the call leaves the state before it or the state after it.
+  -- A call that fails in the store: the device failed, or a call before did. The caller can't be used any more; a crash
+  -- at any moment of the call leaves the state before it or the state after it.
   pub record FailsKept (old : AloneValue D) (call : Call) (fault : StoreFault) (new : AloneValue D) : Type 0 where
     pub failed : new.failed ≡ true
     pub device : old.failed ≡ false → fault ≡ Device
     pub failed_before : old.failed ≡ true → (fault ≡ Failed) × (new ≡ old)
     pub passes : honest → Passes (view old.store.disk) (view new.store.disk) (IsBeforeOrAfter old.kernel old.space call new.kernel)
 
-  -- Time after a reply of a lone caller that didn't fail. Of a checkpoint that is done which is due, but where memory is wanted
-  -- for it; only the store changes. On an honest disk, a stop at any moment of that time and after it leaves the state it had.
+  -- Time after a reply of a single-connection caller that didn't fail. What is due of a checkpoint is done, unless
+  -- memory runs out; only the store changes. On an honest disk, a crash at any moment of that time and after it leaves
+  -- the state it had.
   pub record RestsKept (old new : AloneValue D) : Type 0 where
     pub same : new ≡ record old { store = new.store }
     pub goes : GoesOn honest view CHECKPOINT_RECORDS old.kernel old.store.checkpoint old.store new.store ⊎ IsShortOf old new
     pub passes : honest → Passes (view old.store.disk) (view new.store.disk) (λ c. Recovered (as_written c) old.kernel)
     pub held : honest → IsHeld (view new.store.disk) new.kernel
 
-  -- Time after a reply that ends with a fault of the store: the device failed, or it did before. The caller is of no further
-  -- use; a stop at any moment of that time leaves the state it had.
+  -- Time after a reply that ends with a fault of the store: the device failed, or it did before. The caller can't be
+  -- used any more; a crash at any moment of that time leaves the state it had.
   pub record BreaksKept (old : AloneValue D) (fault : StoreFault) (new : AloneValue D) : Type 0 where
     pub failed : new.failed ≡ true
     pub device : old.failed ≡ false → fault ≡ Device

@@ -14,7 +14,8 @@ use Rattle.serving.specs.declared.service.ServeFault.{ServeFault}
 use Rattle.serving.specs.declared.service.ServeFault.TheVariants.{Wire, Store}
 use Rattle.wire.specs.Fault as wire
 
--- 0: the input was served to its end; 1: a fault, or the store's folder isn't locked; 2: the words are not one, or can't be read
+-- 0: the input was served to its end; 1: a fault, or the store's folder isn't locked; 2: the arguments are not exactly
+-- one, or can't be read
 abbrev pub status_of : LoneEnd → ℕ
 status_of Served = 0
 status_of CommandLine = 2
@@ -22,7 +23,7 @@ status_of InUse = 1
 status_of Unlockable = 1
 status_of (Fault fault) = 1
 
--- what stands on the line of errors behind the program's name; no line where all was served
+-- what follows the program's name on the line of errors; no line where all was served
 abbrev pub words_of : LoneEnd → List ℕ
 words_of Served = []
 words_of CommandLine = codes "command line\n"
@@ -64,7 +65,7 @@ module _ {D : Type 0} (honest : Type 0) (view : D → View) (input before : List
   abbrev pub IsRun : Result (Unit {0}) ServeFault → Type 0
   IsRun result = Unopened input before left written result ⊎ ServesOpened result
 
-  -- how the program ends for so many words, or for words that can't be read
+  -- how the program ends for this many arguments, or for arguments that can't be read
   abbrev pub EndsAlone : Option ℕ → LoneEnd → Type 0
   EndsAlone words CommandLine = (words ≢ Some 1) × (left ≡ Some input) × (written ≡ Some before)
   EndsAlone words InUse = (words ≡ Some 1) × (left ≡ Some input) × (written ≡ Some before)

@@ -1,5 +1,5 @@
--- What a stop leaves while a lone connection is served: the state after some first ones of the records that its calls made,
--- and nothing that was answered is missing.
+-- The post-crash contents while a single connection is served: they stand for the state after a prefix of the records
+-- that its calls made, and nothing that was answered is missing.
 use Rattle.std.specs.Prelude.{◌≡◌, ◌⊎◌, ℕ, ◌≤◌, List, [], ◌∷◌, ◌++◌, length, take, Option, None, Some, MatchBool}
 use Rattle.calls.specs.Requests.{Asks}
 use Rattle.calls.specs.declared.request.Request.{Request}
@@ -48,7 +48,7 @@ module _ {D : Type 0} (answers : AloneValue D → Call → Reply → AloneValue 
       ((asks : Request) × Asks content asks × MakesRequest old asks answer new records)
       ⊎ ((IsRefused old content answer new ⊎ LacksMemory old content answer new) × (records ≡ []))
 
-  -- the time after a frame makes no record
+  -- the same for frames one after another; the time after a frame makes no record
   abbrev pub MakesAll : (AloneValue D → AloneValue D → Type 0) → AloneValue D → Exchanges → AloneValue D → List Record → Type 0
   MakesAll rests old [] new records = (new ≡ old) × (records ≡ [])
   MakesAll rests old (exchange ∷ exchanges) new records =
@@ -63,7 +63,7 @@ pub record StandsWithin (old : State) (records : List Record) (c : Slots) : Type
   pub run : Run old (take first records) state
   pub stands : Recovered (as_written c) state
 
--- the calls that are asked for
+-- the calls that a request asks for
 abbrev pub given : Option Call → List Call
 given None = []
 given (Some c) = c ∷ []
@@ -82,8 +82,8 @@ abbrev pub AreOf : List Call → List Record → Type 0
 AreOf calls [] = Unit {0}
 AreOf calls (entry ∷ records) = IsAmong entry.call calls × AreOf calls records
 
--- Frames that were answered, with the time after each: a stop leaves the state after all the records that their calls made, and a stop at any moment
--- since the first of them the state after some first ones of these.
+-- Frames that were answered, with the time after each: a crash now leaves the state after all the records that their
+-- calls made, and a crash at any moment since the first frame leaves the state after a prefix of these.
 pub record IsStoredWhole {D : Type 0} (honest : Type 0) (view : D → View) (old : AloneValue D) (exchanges : Exchanges) (new : AloneValue D) : Type 0 where
   pub records : List Record
   pub made : MakesAll (AnswersKept honest view) (RestsKept honest view) old exchanges new records
@@ -95,8 +95,8 @@ AnsweredIsStored {D} honest view =
     (old : AloneValue D) (exchanges : Exchanges) (new : AloneValue D) → honest → IsHeld (view old.store.disk) old.kernel
     → Answers (AnswersKept honest view) (RestsKept honest view) old exchanges new → IsStoredWhole honest view old exchanges new
 
--- One frame that was answered, before any time is given: the last one of a connection whose reply couldn't be written, or
--- whose caller broke after it.
+-- One frame that was answered, before any time is given: the last one of a connection whose reply couldn't be written,
+-- or whose caller failed after it.
 pub record IsStoredFrame {D : Type 0} (honest : Type 0) (view : D → View) (old : AloneValue D) (content : List ℕ) (answer : Reply) (new : AloneValue D) : Type 0 where
   pub records : List Record
   pub made : Makes (AnswersKept honest view) old content answer new records
@@ -108,15 +108,16 @@ FrameIsStored {D} honest view =
     (old : AloneValue D) (content : List ℕ) (answer : Reply) (new : AloneValue D) → honest → IsHeld (view old.store.disk) old.kernel
     → IsAnswered (AnswersKept honest view) old content answer new → IsStoredFrame honest view old content answer new
 
--- A frame whose calls failed in the store: a stop at any moment since leaves the state before it, or the one after the first
--- of its calls.
+-- A frame whose calls failed in the store: a crash at any moment since it began leaves the state after some records,
+-- maybe none, each of which is of one of its calls.
 abbrev pub FailureLosesNothing : {D : Type 0} → Type 0 → (D → View) → Type 0
 FailureLosesNothing {D} honest view =
     (old : AloneValue D) (content : List ℕ) (fault : StoreFault) (new : AloneValue D) → honest → IsHeld (view old.store.disk) old.kernel
     → IsFailed (AnswersKept honest view) (FailsKept honest view) old content fault new → (c : Slots) → LeftSince (view new.store.disk) (view old.store.disk).moment c
     → (asks : Request) × Asks content asks × ((records : List Record) × AreOf (calls_of asks) records × StandsWithin old.kernel records c)
 
--- Time after a reply that ended with a fault of the store: a stop at any moment since it began leaves the state as it was.
+-- Time after a reply that ended with a fault of the store: a crash at any moment since it began leaves the state as it
+-- was.
 abbrev pub BreakingLosesNothing : {D : Type 0} → Type 0 → (D → View) → Type 0
 BreakingLosesNothing {D} honest view =
     (old : AloneValue D) (fault : StoreFault) (new : AloneValue D) → honest → IsHeld (view old.store.disk) old.kernel

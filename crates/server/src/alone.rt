@@ -24,7 +24,7 @@ use std::alloc::Global;
 use std::marker::Model;
 use system::{CallFault, Opened, System};
 
-/// The caller of a lone connection: the core over an opened store that nobody else uses.
+/// The caller of a single connection: the core over an opened store that nobody else uses.
 pub struct Alone<D: Disk> {
     alloc: Global,
     system: System<D>,
@@ -32,7 +32,7 @@ pub struct Alone<D: Disk> {
     failed: bool,
 }
 
-// Written out, as proofs above then know one function, and not the parts.
+// Written out, so that proofs above know one function and not its parts.
 impl<D: Disk + Drop> Drop for Alone<D> {
     fn drop(self) {
         let Alone {
@@ -62,13 +62,13 @@ impl<D: Disk> Model for Alone<D> {
 }
 
 impl<D: Disk> Alone<D> {
-    /// A caller that goes on from an opened store. It is attached to space 1.
+    /// A caller that continues from an opened store. It is attached to space 1.
     pub fn new(alloc: Global, opened: Opened<D>) -> Self
         ensures kernel { result.kernel ≡ opened.kernel }
         ensures store { result.store ≡ (first_system opened.kernel opened.disk opened.segment).store }
         ensures space { result.space ≡ 1 }
         ensures failed { result.failed ≡ false }
-        // A stop leaves the state that was opened.
+        // A crash leaves the state that was opened.
         ensures held { D.honest → IsHeld (D.view result.store.disk) result.kernel }
     {
         Alone {
@@ -82,7 +82,7 @@ impl<D: Disk> Alone<D> {
     /// The disk of the store, which is closed.
     pub fn into_disk(self) -> D
         ensures disk { result ≡ self.store.disk }
-        // Until a call fails, a stop leaves what was answered.
+        // Until a call fails, a crash leaves what was answered.
         ensures held { D.honest → self.failed ≡ false → IsHeld (D.view result) self.kernel }
     {
         let Alone {
@@ -104,26 +104,27 @@ impl<D: Disk> Caller for Alone<D> {
 
     ghost breaks = { BreaksKept D.honest D.view };
 
-    /// Makes a call. One that has a record is stored before it is answered. Its fault is `Device`. The caller is of no further use
-    /// then, and answers `Failed`: a call that was made and not stored is known to nobody. Want of memory or of room is a reply.
+    /// Makes a call. One that has a record is stored before it is answered. Its fault is `Device`. After that the
+    /// caller is of no further use, and answers `Failed`, so that no reply shows a call that was made and not stored.
+    /// Running out of memory or of room is a reply.
     ///
-    /// Where a state is recovered from the slots (`Recovered`), `recover::open` gives that state, and doesn't find them
+    /// If a state is recovered from the slots (`Recovered`), `recover::open` returns that state, and doesn't find them
     /// damaged or of another version.
     fn call(&mut self, call: Call) -> Result<Reply, StoreFault>
         ensures answers { IfOk result (λ reply. AnswersKept D.honest D.view self.old call reply self.new) }
         ensures fits { IfOk result (λ reply. length (reply_text reply) ≤ MAX_FRAME_CONTENT) }
         ensures fails { IfErr result (λ fault. FailsKept D.honest D.view self.old call fault self.new) }
         ensures failures { D.failed_calls self.new.store.disk ≡ counted result (D.failed_calls self.old.store.disk) }
-        // A stop at any moment from the beginning of the call to its end leaves the state before it or the state after
-        // it, also where the call fails.
+        // A crash at any moment from the beginning of the call to its end leaves the state before it or the state after
+        // it, also if the call fails.
         ensures any_moment { D.honest → self.old.failed ≡ false → (c : Slots) → LeftSince (D.view self.new.store.disk) (D.view self.old.store.disk).moment c
             → IsBeforeOrAfter self.old.kernel self.old.space call self.new.kernel c }
         ensures passes { D.honest → Passes (D.view self.old.store.disk) (D.view self.new.store.disk)
             (IsBeforeOrAfter self.old.kernel self.old.space call self.new.kernel) }
-        // A stop after the reply leaves the state after the call, so nothing that was answered is lost.
+        // A crash after the reply leaves the state after the call, so nothing that was answered is lost.
         ensures stored { D.honest → OnOk result (IsHeld (D.view self.new.store.disk) self.new.kernel) }
-        // A call without a record, refused or a read, changes neither the state nor the disk, and what attaches to no
-        // other space changes nothing at all.
+        // A call without a record, refused or a read, changes neither the state nor the disk. Unless it attaches to
+        // another space, it changes nothing at all.
         ensures unrecorded { IfOk result (λ reply. has_record call reply ≡ false → IsMoved self.old self.new) }
         ensures err { OnErr result (self.new.failed ≡ true) }
         ensures failed { self.old.failed ≡ true → (IsErrOf result StoreFault.Failed) × (self.new ≡ self.old) }
@@ -144,16 +145,16 @@ impl<D: Disk> Caller for Alone<D> {
         }
     }
 
-    /// Takes time after a reply: where the epoch's row has `CHECKPOINT_RECORDS` records a checkpoint is begun, and while one is
-    /// under way its image goes on by a step. Where memory is wanted for that, nothing changes, and it is tried again the next
-    /// time. Its faults are those of `call`.
+    /// Takes time after a reply: if the epoch log has `CHECKPOINT_RECORDS` records, a checkpoint is begun, and while
+    /// one is under way, one step of its image is done. If an allocation for that fails, nothing changes, and it is
+    /// tried again the next time. Its faults are those of `call`.
     fn rest(&mut self) -> Result<bool, StoreFault>
         ensures rests { OnOk result (RestsKept D.honest D.view self.old self.new) }
         ensures goes { IfOk result (λ is_done. MatchBool is_done
             (GoesOn D.honest D.view CHECKPOINT_RECORDS self.old.kernel self.old.store.checkpoint self.old.store self.new.store) (IsShortOf self.old self.new)) }
         ensures breaks { IfErr result (λ fault. BreaksKept D.honest D.view self.old fault self.new) }
         ensures failures { D.failed_calls self.new.store.disk ≡ counted result (D.failed_calls self.old.store.disk) }
-        // A stop at any moment from the beginning of that time to its end leaves the state as it was, also where it
+        // A crash at any moment from the beginning of that time to its end leaves the state as it was, also if it
         // fails.
         ensures any_moment { D.honest → self.old.failed ≡ false → (c : Slots) → LeftSince (D.view self.new.store.disk) (D.view self.old.store.disk).moment c
             → Recovered (as_written c) self.old.kernel }
@@ -175,14 +176,14 @@ impl<D: Disk> Caller for Alone<D> {
     }
 }
 
-/// The space that a caller is attached to after a call that was answered so.
+/// The space that a caller is attached to after a call with this reply.
 fn space_after(space: u32, attached: u32, reply: &Reply) -> u32
     ensures { (call : Call) → result ≡ (if succeeded call reply.now then attached else space) }
 {
     if reply.is_success() { attached } else { space }
 }
 
-/// Makes a call, and stores its record before it is answered. One that memory or room is wanted for isn't made.
+/// Makes a call, and stores its record before it is answered. If memory or room runs out, it isn't made.
 fn make_call<D: Disk>(
     alloc: Global,
     system: &mut System<D>,

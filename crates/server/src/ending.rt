@@ -11,7 +11,7 @@ use wire::{WireFault, write_bytes};
 /// How a run of the program for many connections ends.
 #[derive(Clone, Copy, Debug, PartialEq, Eq)]
 pub enum SocketEnd {
-    /// The path can't be bound, no thread can be made for the loops, or the output can't be written.
+    /// The path can't be bound, no thread can be started for the loops, or the output can't be written.
     Socket,
     /// Another server has the store.
     InUse,

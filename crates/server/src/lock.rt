@@ -13,7 +13,7 @@ use system::{Opened, open};
 
 /// An open file that can be locked against other processes. The lock goes with the file, and with the process.
 pub trait LockFile {
-    /// Takes the lock, and doesn't wait for it.
+    /// Takes the lock without waiting for it.
     fn try_lock_whole(&self) -> Result<(), TryLockError>;
 }
 
@@ -35,7 +35,7 @@ pub enum LockFault {
 }
 
 impl LockFault {
-    /// How a run for one connection ends that this befell.
+    /// How a run for one connection ends after this fault.
     pub fn lone_end(self) -> LoneEnd
         ensures { result ≡ unlocked_end self }
     {
@@ -46,7 +46,7 @@ impl LockFault {
         }
     }
 
-    /// How a run for many connections ends that this befell.
+    /// How a run for many connections ends after this fault.
     pub fn socket_end(self) -> SocketEnd
         ensures { result ≡ socket.unlocked_end self }
     {
@@ -58,9 +58,10 @@ impl LockFault {
     }
 }
 
-/// Locks a store's folder, so that it has one server at a time. The lock is held until the file is dropped, and no file is made for it.
+/// Locks a store's folder, so that it has one server at a time. The lock is held until the file is dropped, and no file
+/// is created for it.
 ///
-/// What a system answers no contract can say.
+/// No contract can say what the system answers.
 pub fn lock_folder<F: Files>(files: &F, folder: &str) -> Result<F::File, LockFault>
 where
     F::File: LockFile,
@@ -75,7 +76,7 @@ where
     }
 }
 
-/// Locks a store's folder and opens the store behind the lock. How a run for many connections ends where it can't: `InUse` and
+/// Locks a store's folder, and then opens the store. The error is how a run for many connections ends: `InUse` and
 /// `Unlockable`, and nothing of the store was read or written; or `Store`, and it can't be opened.
 pub fn open_locked<F: Files + Drop + Copy>(
     alloc: Global,

@@ -17,7 +17,7 @@ use wire::{WireFault, write_bytes};
 pub enum LoneEnd {
     /// The input was served to its end.
     Served,
-    /// The words are not one, or can't be read.
+    /// There isn't exactly one word, or the words can't be read.
     CommandLine,
     /// Another server has the store.
     InUse,
@@ -28,7 +28,8 @@ pub enum LoneEnd {
 }
 
 impl LoneEnd {
-    /// The status to end with: 0 without a fault, 1 after a fault, 2 where the words are not one or can't be read.
+    /// The status to end with: 0 without a fault, 1 after a fault, 2 if there isn't exactly one word or the words can't
+    /// be read.
     pub fn status(self) -> u8
         ensures { result ≡ status_of self }
     {
@@ -39,7 +40,7 @@ impl LoneEnd {
         }
     }
 
-    /// What stands on the line of errors behind the program's name: nothing where all was served.
+    /// What follows the program's name on the line of errors: nothing if all was served.
     pub fn words(self) -> &'static str
         ensures { result.now ≡ words_of self }
     {
@@ -53,8 +54,8 @@ impl LoneEnd {
         }
     }
 
-    /// Writes the line of errors, if there is one. `Device`: the writer failed, and some first bytes of the line may have
-    /// been written.
+    /// Writes the line of errors, if there is one. `Device`: the writer failed, and some first bytes of the line may
+    /// have been written.
     pub fn tell<E: Write>(self, errors: &mut E) -> Result<(), WireFault>
         ensures ok { OnOk result (Appends (E.contents errors.old) (E.contents errors.new) (line_of self)) }
         ensures part { OnErr result (AppendsPart (E.contents errors.old) (E.contents errors.new) (line_of self)) }
@@ -70,7 +71,7 @@ impl LoneEnd {
     }
 }
 
-/// Writes the program's name and these words behind it.
+/// Writes the program's name, followed by these words.
 fn write_line<E: Write>(errors: &mut E, words: &str) -> Result<(), WireFault>
     ensures ok { OnOk result (Appends (E.contents errors.old) (E.contents errors.new) (codes "machipcd: " ++ words.now)) }
     ensures part { OnErr result (AppendsPart (E.contents errors.old) (E.contents errors.new) (codes "machipcd: " ++ words.now)) }
@@ -80,11 +81,12 @@ fn write_line<E: Write>(errors: &mut E, words: &str) -> Result<(), WireFault>
     write_bytes(errors, words.as_bytes())
 }
 
-/// All of the program for one connection: the words of its command line, or none where they can't be read as text, its
-/// input, output and errors. It gives the status to end with.
+/// The whole program for one connection: the words of its command line, or none if they can't be read as text, its
+/// input, output and errors. It returns the status to end with.
 ///
-/// The one word is the store's folder, which is locked as long as the run lasts. 0: the input was served to its end. 1: after a
-/// fault, or where another process holds the lock or none can be taken, which is a line of errors. 2: the words are not one or can't be read, which is a line of errors too.
+/// The one word is the store's folder, which is locked as long as the run lasts. 0: the input was served to its end. 1:
+/// after a fault, or if another process holds the lock or it can't be taken, with a line of errors. 2: there isn't
+/// exactly one word or the words can't be read, with a line of errors too.
 pub fn lone<'a, F: Files, I: Read, O: Write, E: Write>(
     alloc: Global,
     files: &'a F,
@@ -95,7 +97,8 @@ pub fn lone<'a, F: Files, I: Read, O: Write, E: Write>(
 ) -> u8
 where
     F::File: LockFile,
-    // The status and the line of errors are those of how the run ended. A writer of errors that fails has a part of the line.
+    // The status and the line of errors are those of how the run ended. A writer of errors that fails has a part of the
+    // line.
     ensures ended { IfSome (I.remaining input.old) (λ bytes. IfSome (O.contents output.old) (λ before.
         (end : LoneEnd) × (result ≡ status_of end) × AppendsPart (E.contents errors.old) (E.contents errors.new) (line_of end)
         × EndsAlone ⟦<FileDisk<&'a F> as Disk>⟧.honest ⟦<FileDisk<&'a F> as Disk>⟧.view bytes before (I.remaining input.new) (O.contents output.new) (option_map (λ texts. length texts.now) words.entry) end)) }
@@ -105,7 +108,7 @@ where
     end.status()
 }
 
-/// What `lone` does but for its line of errors.
+/// What `lone` does except for its line of errors.
 pub fn run_alone<'a, F: Files, I: Read, O: Write>(
     alloc: Global,
     files: &'a F,
@@ -165,7 +168,7 @@ fn serve_folder<'a, F: Files, I: Read, O: Write>(
     serve_disk(alloc, disk, input, output)
 }
 
-/// Opens the store of a disk, and serves one connection on it.
+/// Opens the store on a disk, and serves one connection on it.
 fn serve_disk<D: Disk + Drop, I: Read, O: Write>(
     alloc: Global,
     disk: D,

@@ -1,4 +1,4 @@
-//! Events of a core, and what they answer as numbers.
+//! Events of a core, and their answers as numbers.
 use crate::store::Core;
 use codes::MAX_RECORDS;
 use ipc_model::Call;
@@ -6,10 +6,10 @@ use ipc_model::Call;
 /// No reply is given now.
 pub(crate) const NOT_NOW: u64 = 1 << 40;
 
-/// The row takes no more records.
+/// The epoch log takes no more records.
 pub(crate) const EPOCH_FULL: u64 = 2 << 40;
 
-/// Memory is wanted.
+/// Memory ran out.
 pub(crate) const NO_MEMORY: u64 = 3 << 40;
 
 /// A fault of the store has its number above this one.
@@ -34,8 +34,8 @@ pub(crate) enum Asked {
     Reply(u64),
 }
 
-/// An event, and what it answers: of a call its ticket's number, of a ticket what the reply tells, of any other 1 where it
-/// was done and 0 where it can't be.
+/// An event, and its answer: for a call its ticket's number, for a ticket what the reply says, for any other 1 if it
+/// was done and 0 if it can't be.
 pub(crate) type Row = (Asked, u64);
 
 /// What an event answers.
@@ -50,7 +50,7 @@ fn answered<C: Core>(core: &mut C, event: Asked) -> u64 {
     }
 }
 
-/// The first row that is answered otherwise: which it is, and the answer.
+/// The first row with another answer: which it is, and the answer.
 pub(crate) fn unlike<C: Core>(core: &mut C, rows: &[Row]) -> Option<(usize, u64)> {
     for (index, (event, wanted)) in rows.iter().enumerate() {
         let seen = answered(core, *event);
@@ -67,7 +67,7 @@ const SET_SEQNO: Call = Call::SetSeqno {
     seqno: 7,
 };
 
-/// Makes so many calls as a row takes. Whether each gets a ticket.
+/// Makes as many calls as an epoch log takes. Returns whether each gets a ticket.
 pub(crate) fn fill<C: Core>(core: &mut C) -> bool {
     if core.submit_call(&Call::Allocate { right: 1 }) >= NOT_NOW {
         return false;

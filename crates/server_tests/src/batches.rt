@@ -22,12 +22,12 @@ static TWO_IN_A_BATCH: [Row; 24] = [
     (Asked::Durable, 0),
     (Asked::Append, 1),
     (Asked::Append, 0),
-    // It is stored, but its receipt isn't handed in.
+    // It is stored, but its receipt isn't delivered.
     (Asked::Reply(1), NOT_NOW),
     (Asked::Take, 0),
     (Asked::Durable, 1),
     (Asked::Durable, 0),
-    // Each reply is given once, in any order, and none whose record waits.
+    // Each reply is given once, in any order, and none whose record still waits.
     (Asked::Reply(1), 0x101),
     (Asked::Reply(0), 0x100),
     (Asked::Reply(0), NOT_NOW),
@@ -36,7 +36,7 @@ static TWO_IN_A_BATCH: [Row; 24] = [
     (Asked::Append, 0),
 ];
 
-/// The first row that is answered otherwise on a new store, and the length of its segment.
+/// The first row with another answer on a new store, and the length of its segment.
 fn asked<S: Store + Drop>(alloc: Global, rows: &[Row]) -> Option<(Option<(usize, u64)>, u64)> {
     let (unlike, disk) = store::asked(alloc, S::empty(alloc), rows)?;
     Some((unlike, disk.length(Slot::Segment0)))

@@ -1,4 +1,4 @@
-//! The store of one port, of which one byte is another one: how it is opened, and that the lister tells the same of it and changes
+//! The store of one port, with one byte replaced: how it is opened, and that the lister reports the same and changes
 //! nothing.
 use crate::expect::{same, same_in_row};
 use crate::frames::{ALLOCATE, served};
@@ -10,8 +10,8 @@ use journal::StoreFault;
 use std::alloc::Global;
 use system::{Opened, open};
 
-/// Of how many bent stores the state is found, how many are damaged, and how many of another version; and of how many the lister
-/// tells otherwise, or changes them.
+/// How many corrupted stores can be opened, how many are damaged, and how many are of another version; and how many the
+/// lister reports differently, or changes.
 #[derive(Clone, Copy, Debug, PartialEq)]
 struct Counts {
     found: u32,
@@ -53,7 +53,7 @@ fn listed_when_opened<D: Disk + Drop>(alloc: Global, disk: D) -> Result<Vec<u8>,
     }
 }
 
-/// What the lister tells of a store, where that is what the store's opening tells too, and the lister changed nothing.
+/// What the lister reports of a store, if the store's opening reports the same and the lister changed nothing.
 fn told<S: Store + Drop>(alloc: Global, disk: S) -> Option<Result<Vec<u8>, ListFault>> {
     let mut disk = disk;
     let before = disk.copied(alloc)?;
@@ -104,8 +104,8 @@ fn counted<S: Store + Drop>(alloc: Global, slot: Slot, from: usize, end: usize) 
     Some(counts)
 }
 
-/// Places of a slot, and of how many of their bent stores the state is found, how many are damaged, and how many of another
-/// version.
+/// Places of a slot, and of their corrupted stores how many can be opened, how many are damaged, and how many are of
+/// another version.
 type Range = (Slot, usize, usize, u32, u32, u32);
 
 static RANGES: [Range; 14] = [

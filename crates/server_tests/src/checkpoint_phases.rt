@@ -1,6 +1,6 @@
-//! What the inspector prints in each phase of a checkpoint. What is wanted follows from docs/FORMATS.md: the state is that of the
-//! newest open image, of its epoch's segment, and of the next segment from its opening on; the epoch is that image's, and the
-//! records are those of these segments.
+//! What the inspector prints in each phase of a checkpoint. What is expected follows from docs/FORMATS.md: the state is
+//! that of the newest open image, of its epoch's segment, and of the next segment from its opening on; the epoch is
+//! that image's, and the records are those of these segments.
 use crate::expect::same_in_row;
 use crate::inspected::{are_alike, drawing_of, lines_of};
 use crate::lists::play_on;
@@ -12,7 +12,7 @@ use std::process::Abort;
 /// What the inspector prints of a store: its lines, and its drawing.
 type Printed = (&'static str, &'static str);
 
-/// A list of events, a letter each, and what is printed behind it.
+/// A list of events, one letter each, and what is printed after it.
 type Phase = (&'static [u8], Printed);
 
 const NEW: Printed = (
@@ -101,7 +101,8 @@ const TWO_NAMES_DRAWN: &str = r#"digraph ports {
 }
 "#;
 
-/// A receive right is stored and told, and a checkpoint made. It tells of the next epoch from its last step on the disk on.
+/// A receive right is stored and acknowledged, and a checkpoint made. The next epoch is printed once the checkpoint's
+/// last step is on the disk.
 static CHECKPOINT: [Phase; 13] = [
     (b"a", NEW),
     (b"ak", NEW),
@@ -140,8 +141,8 @@ static BESIDE: [Phase; 18] = [
     (b"akwd0clhoiakwd1pfd", ONE_RECORD_BEHIND_AN_IMAGE),
 ];
 
-/// Whether each event of a list was done, by the letters of what they answer: a ticket, a name, or that it was done. None of
-/// the tables' comes out of turn.
+/// Whether each event of a list was done, by the letters of the answers: a ticket, a name, or that it was done. None of
+/// the tables' events comes out of turn.
 fn are_done(answers: &[u8]) -> bool {
     for answer in answers {
         if !matches!(*answer, b'#' | b'+' | b'A'..=b'Z') {
@@ -151,7 +152,7 @@ fn are_done(answers: &[u8]) -> bool {
     true
 }
 
-/// The disk of a new store behind a list of events, as a read gives it, where all are done.
+/// The disk of a new store after a list of events, as a read returns it, if all are done.
 fn disk_after<S: Store + Drop>(alloc: Global, letters: &[u8]) -> Option<S> {
     let (answers, disk) = play_on(alloc, S::empty(alloc), letters)?;
     if are_done(&answers) { Some(disk) } else { None }
@@ -167,20 +168,20 @@ fn inspected<S: Store + Drop>(alloc: Global, disk: &mut S) -> Option<Inspected> 
     Some((lines, drawing, are_alike(&before, disk)))
 }
 
-/// The same of a new store behind a list of events.
+/// The same of a new store after a list of events.
 fn inspected_after<S: Store + Drop>(alloc: Global, letters: &[u8]) -> Option<Inspected> {
     let mut disk: S = disk_after(alloc, letters)?;
     inspected(alloc, &mut disk)
 }
 
-/// What is seen as texts. Nothing where a part isn't one.
+/// What is seen as texts. `None` if a part isn't one.
 fn texts(seen: &Option<Inspected>) -> Option<(&str, &str, bool)> {
     let (lines, drawing, is_same) = seen.as_ref()?;
     let lines = str::from_utf8(lines).ok()?;
     Some((lines, str::from_utf8(drawing).ok()?, *is_same))
 }
 
-/// Compares what is seen behind each of these phases with what is wanted.
+/// Compares what is seen after each of these phases with what is expected.
 fn check_phases<S: Store + Drop, A: Abort>(rt: &A, alloc: Global, phases: &[Phase]) {
     for (letters, (lines, drawing)) in phases {
         let seen = inspected_after::<S>(alloc, letters);

@@ -1,4 +1,4 @@
-//! Checkpoints as lists of events, and what a stop or a fault within them leaves.
+//! Checkpoints as lists of events, and what a crash or a fault within them leaves.
 use crate::expect::{same, same_in_row};
 use crate::lists::{FIRST_CALL, KINDS, Way, bounds, count_ports, play};
 use crate::store::{Store, failing, reopened};
@@ -8,9 +8,9 @@ use std::alloc::{AllocError, Global};
 /// A checkpoint of a store with one record, step by step.
 static CHECKPOINT: (&[u8], &[u8]) = (b"akwd0clhoipfd", b"#+++A++++++++");
 
-/// What isn't possible: each step before its time, a second cut before the receipt of the first one's image was handed in, the
-/// next segment's opening before the row of the one before is stored, a batch of the next epoch before its segment is open, an
-/// end before the last piece.
+/// What isn't possible: each step before its time, a second snapshot before the receipt of the first one's image was
+/// delivered, the next segment's opening before the previous epoch log is stored, a batch of the next epoch before its
+/// segment is open, an end before the last piece.
 static OUT_OF_TURN: (&[u8], &[u8]) = (
     b"lhoipfaclhcofpifkwdakwowdfppfcdc",
     b"------#+++----+-+++#+-+++-+-+-++",
@@ -22,10 +22,10 @@ static TWICE: (&[u8], &[u8]) = (
     b"#+++A++++++++#+++B++++++++#+++C",
 );
 
-/// A call of the next epoch is stored and told while the image is written.
+/// A call of the next epoch is stored and acknowledged while the image is written.
 static BESIDE: (&[u8], &[u8]) = (b"akwd0aclhkwodiakwd1d2pfd", b"#+++A#++++++++#+++B-C+++");
 
-// Whether a list of events answers this on a new store; and how long the second segment and image are then.
+// Whether a list of events has these answers on a new store; and how long the second segment and image are then.
 fn lengths<S: Store + Drop>(alloc: Global, list: (&[u8], &[u8])) -> Option<(bool, u64, u64)> {
     let (letters, wanted) = list;
     let (answers, disk) = play(alloc, S::empty(alloc), letters)?;
@@ -42,7 +42,7 @@ fn a_checkpoint_is_made_step_by_step(rt: HostRuntime) {
     same(&rt, seen, Some((true, 17, 118)));
 }
 
-// Whether a list of events answers this on a new store.
+// Whether a list of events has these answers on a new store.
 fn is_answered<S: Store + Drop>(alloc: Global, list: (&[u8], &[u8])) -> bool {
     matches!(lengths::<S>(alloc, list), Some((true, _, _)))
 }
@@ -63,8 +63,8 @@ fn ports<S: Store + Drop>(alloc: Global, disk: S) -> Option<u64> {
     Some(ports)
 }
 
-// Opens a store whose device fails from this call of the opening on; gives how many ports are found behind a stop then, and
-// whether it was opened.
+// Opens a store whose device fails from this call of the opening on. Returns how many ports are found after a crash
+// then, and whether it was opened.
 fn ports_behind_opening<S: Store + Drop>(
     alloc: Global,
     disk: &S,
@@ -77,7 +77,7 @@ fn ports_behind_opening<S: Store + Drop>(
     Some((ports(alloc, disk.stop()?)?, records.is_some()))
 }
 
-// Whether an opening is stopped by no call of the device in the end, where a stop at each leaves as many ports.
+// Whether a crash at each device call of an opening leaves as many ports, until none of its calls fails any more.
 fn openings_keep<S: Store + Drop>(alloc: Global, disk: &S, wanted: u64, torn: Torn) -> bool {
     for at in 1..60u64 {
         let Some((found, is_opened)) = ports_behind_opening(alloc, disk, at, torn) else {
@@ -93,8 +93,8 @@ fn openings_keep<S: Store + Drop>(alloc: Global, disk: &S, wanted: u64, torn: To
     false
 }
 
-// Whether this disk has no fewer ports than were told of and no more than were made, and so has what each opening of it leaves
-// that is stopped.
+// Whether this disk has no fewer ports than were acknowledged and no more than were made, and whether the same holds of
+// what is left of it when an opening is stopped at any of its calls.
 fn is_kept<S: Store + Drop>(
     alloc: Global,
     disk: &S,
@@ -106,7 +106,7 @@ fn is_kept<S: Store + Drop>(
     Some(told <= found && found <= applied && openings_keep(alloc, disk, found, torn))
 }
 
-// The same of what a list of events on this disk leaves; and whether one of its events met a fault.
+// The same for what a list of events on this disk leaves; and whether one of its events met a fault.
 fn is_bounded<S: Store + Drop>(
     alloc: Global,
     disk: S,
@@ -118,8 +118,8 @@ fn is_bounded<S: Store + Drop>(
     Some((is_kept == Some(true), answers.contains(&b'!')))
 }
 
-// How many calls of the device a list makes until none fails that is planned to, where whatever is left of each of them is
-// within its bounds.
+// How many device calls a list makes until none fails that is planned to, if what each failure leaves is within its
+// bounds.
 fn swept<S: Store + Drop>(alloc: Global, letters: &[u8], once: bool, torn: Torn) -> Option<u64> {
     for calls in 0..400u64 {
         let disk: S = failing(alloc, FIRST_CALL.saturating_add(calls), once, torn)?;
@@ -134,7 +134,7 @@ fn swept<S: Store + Drop>(alloc: Global, letters: &[u8], once: bool, torn: Torn)
     None
 }
 
-// The first way to fail in which a list isn't swept over as many calls of the device. (An append makes four; a checkpoint
+// The first way to fail in which a list isn't swept over as many device calls. (An append makes four; a checkpoint
 // sixteen in slots that were never used, and one to read a gate for each that was.)
 fn unswept<S: Store + Drop>(alloc: Global, letters: &[u8], calls: u64) -> Option<Way> {
     for torn in &KINDS {
@@ -154,8 +154,9 @@ fn a_stop_in_a_checkpoint_leaves_what_was_told(rt: HostRuntime) {
     same(&rt, unswept::<MemDisk>(rt.alloc(), BESIDE.0, 28), None);
 }
 
-// A hundred and twenty receive rights, which make an image of three pieces; a checkpoint is begun, its image closed and two
-// pieces of it written; a call of the next epoch is stored and told (its ticket is the 121st); and the checkpoint is finished.
+// A hundred and twenty receive rights, which make an image of three pieces; a checkpoint is begun, its image closed and
+// two pieces of it written; a call of the next epoch is stored and acknowledged (its ticket is the 121st); and the
+// checkpoint is finished.
 fn add_pieces(letters: &mut Vec<u8>) -> Result<(), AllocError> {
     for _ in 0..120 {
         letters.push(b'a')?;
@@ -169,7 +170,7 @@ fn of_three_pieces(alloc: Global) -> Option<Vec<u8>> {
     Some(letters)
 }
 
-// Whether these events are answered so behind the first ones, and the first way to fail in which they aren't swept.
+// Whether these events have these answers after the first ones, and the first way to fail in which they aren't swept.
 fn tried<S: Store + Drop>(alloc: Global, wanted: &[u8]) -> Option<(bool, Option<Way>)> {
     let letters = of_three_pieces(alloc)?;
     let (answers, _) = play(alloc, S::empty(alloc), &letters)?;

@@ -4,7 +4,7 @@ use crate::store::{Store, asked, failing, stored_records};
 use disk::{MemDisk, Torn};
 use std::alloc::Global;
 
-/// Opening a store makes thirteen calls of the device: four syncs, four reads of headers, two of the image, one of the
+/// Opening a store makes thirteen device calls: four syncs, four reads of headers, two of the image, one of the
 /// segment, and two that end it.
 const OPENING: u64 = 13;
 
@@ -30,7 +30,7 @@ static IS_STORED: [Row; 6] = [
     (Asked::Reply(1), 0x101),
 ];
 
-/// What may be left of the writes since the last sync; and how many records a stop behind the gate's write leaves so.
+/// What may be left of the writes since the last sync; and how many records a crash after the gate's write then leaves.
 static KINDS: [(Torn, u64); 6] = [
     (Torn::Old, 0),
     (Torn::New, 2),
@@ -40,7 +40,7 @@ static KINDS: [(Torn, u64); 6] = [
     (Torn::Fill(0xff), 0),
 ];
 
-/// The first row that is answered otherwise, and how many records are found again behind a stop, where the device fails at this
+/// The first row with another answer, and how many records are found again after a crash, if the device fails at this
 /// call of the first append, once or for good.
 fn left<S: Store + Drop>(
     alloc: Global,

@@ -1,5 +1,5 @@
-//! Frames that the tests send, and what serves them. No function has a clause, and all are over any disk and any caller, so that
-//! a test's proof carries nothing of a disk or of a core.
+//! Frames that the tests send, and what serves them. No function has a clause, and all are generic in the disk and the
+//! caller, so that a test's proof carries nothing of a disk or of a core.
 use disk::Disk;
 use server::{Alone, Caller, ServeFault, open, serve};
 use std::alloc::Global;
@@ -23,7 +23,7 @@ pub(crate) struct Run {
     pub(crate) end: Result<(), ServeFault>,
 }
 
-/// The caller of the store of a disk, or the disk where the store can't be opened.
+/// The caller of the store on a disk, or the disk if the store can't be opened.
 pub(crate) fn caller<D: Disk + Drop>(alloc: Global, disk: D) -> Result<Alone<D>, D> {
     match open(alloc, disk) {
         Ok(opened) => Ok(Alone::new(alloc, opened)),
@@ -39,7 +39,7 @@ pub(crate) fn serve_on<C: Caller>(alloc: Global, caller: &mut C, input: &[u8]) -
     Run { output, end }
 }
 
-/// Serves an input on the store of a disk, where it can be opened. The disk is what is left of it.
+/// Serves an input on the store of a disk, if it can be opened. The disk is what is left of it.
 pub(crate) fn served<D: Disk + Drop>(alloc: Global, disk: D, input: &[u8]) -> (Option<Run>, D) {
     match caller(alloc, disk) {
         Ok(mut caller) => {

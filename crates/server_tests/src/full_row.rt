@@ -6,7 +6,7 @@ use disk::MemDisk;
 
 static FULL: [Row; 12] = [
     (Asked::Allocate, EPOCH_FULL),
-    // Reads are answered as ever: they have no record.
+    // Reads are answered as before: they have no record.
     (Asked::Type(0x100), MAX_RECORDS),
     (Asked::Type(0x101), MAX_RECORDS + 1),
     (Asked::Reply(MAX_RECORDS), NOT_NOW),
@@ -17,7 +17,7 @@ static FULL: [Row; 12] = [
     (Asked::Take, 0),
     (Asked::Reply(0), 0x100),
     (Asked::Reply(MAX_RECORDS), 0x2_0000),
-    // KERN_INVALID_NAME: the call that was refused allocated nothing.
+    // `KERN_INVALID_NAME`: the call that was refused allocated nothing.
     (Asked::Reply(MAX_RECORDS + 1), 15),
 ];
 

@@ -1,5 +1,5 @@
-//! What inspectors print of the store on a disk. Nothing has a clause, and all is over any disk, so that a test's proof carries
-//! nothing of a disk or of what is printed.
+//! What inspectors print of the store on a disk. Nothing has a clause, and everything is generic in the disk, so that a
+//! test's proof carries nothing of a disk or of what is printed.
 
 use crate::store::Store;
 use disk::{Disk, Slot};

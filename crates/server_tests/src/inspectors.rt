@@ -10,7 +10,8 @@ use std::fs::Permissions;
 use std::os::unix::fs::PermissionsExt;
 use std::time::SystemTime;
 
-/// Runs the program that lists a store, or the one that draws it. It has no clause, so that a test's proof carries nothing of it.
+/// Runs the program that lists a store, or the one that draws it. It has no clause, so that a test's proof carries
+/// nothing of it.
 fn run(rt: &HostRuntime, words: Option<&[String]>, is_drawing: bool) -> Ended {
     let mut output = Vec::new(rt.alloc());
     let mut errors = Vec::new(rt.alloc());
@@ -29,7 +30,7 @@ fn run(rt: &HostRuntime, words: Option<&[String]>, is_drawing: bool) -> Ended {
 /// A status, and what is written to the output and to the errors.
 type End = (u8, &'static str, &'static str);
 
-/// Whether a run ends so.
+/// Whether a run ends in this way.
 fn ends(rt: &HostRuntime, words: Option<&[String]>, is_drawing: bool, end: End) -> bool {
     let (status, output, errors) = end;
     let ended = run(rt, words, is_drawing);
@@ -39,7 +40,7 @@ fn ends(rt: &HostRuntime, words: Option<&[String]>, is_drawing: bool, end: End) 
 /// The lines of an empty store.
 const LISTED: End = (0, "epoch 0 records 0\nspace 1\n", "");
 
-/// A path that is no folder, so often.
+/// A path that is no folder, `count` times.
 fn paths(rt: &HostRuntime, count: u32) -> Option<Vec<String>> {
     let mut words = Vec::new(rt.alloc());
     for _ in 0..count {
@@ -49,19 +50,19 @@ fn paths(rt: &HostRuntime, count: u32) -> Option<Vec<String>> {
     Some(words)
 }
 
-/// Whether a run with so many words that are no folders ends so.
+/// Whether a run with `count` words that are no folders ends in this way.
 fn ends_with(rt: &HostRuntime, count: u32, is_drawing: bool, end: End) -> Option<bool> {
     let words = paths(rt, count)?;
     Some(ends(rt, Some(&words), is_drawing, end))
 }
 
-/// How each program ends whose words can't be read, or are none, or two, or three.
+/// How each program ends if its words can't be read, or there are none, or two, or three.
 static NO_WORDS: [(bool, End); 2] = [
     (false, (2, "", "machls: command line\n")),
     (true, (2, "", "machmap: command line\n")),
 ];
 
-/// How the lister ends where its only word is no folder.
+/// How the lister ends if its only word is no folder.
 const NOWHERE: End = (1, "", "machls: store fault 1: device\n");
 
 #[test]
@@ -76,7 +77,7 @@ fn words_have_a_status_and_a_line(rt: HostRuntime) {
     same(&rt, ends_with(&rt, 1, false, NOWHERE), Some(true));
 }
 
-/// Whether an empty folder is listed, and whether it can be removed as one then.
+/// Whether an empty folder is listed, and whether it can then be removed as an empty one.
 fn lists_empty(rt: &HostRuntime, name: &str) -> Option<[bool; 2]> {
     let words = folder(rt, name)?;
     let is_listed = ends(rt, Some(&words), false, LISTED);
@@ -98,7 +99,7 @@ fn set_mode(rt: &HostRuntime, path: &str, mode: u32) -> Option<()> {
     fs::set_permissions(rt, path, Permissions::from_mode(mode)).ok()
 }
 
-/// The same of a file of a folder.
+/// The same for a file in a folder.
 fn set_mode_in(rt: &HostRuntime, folder: &str, name: &str, mode: u32) -> Option<()> {
     let path = format!(in rt.alloc(); "{folder}/{name}").ok()?;
     set_mode(rt, path.as_str(), mode)
@@ -131,14 +132,14 @@ fn seen(rt: &HostRuntime, folder: &str, name: &str) -> Option<Seen> {
     Some((bytes, file, parent))
 }
 
-/// The same of both files of a new store.
+/// The same for both files of a new store.
 fn seen_both(rt: &HostRuntime, folder: &str) -> Option<(Seen, Seen)> {
     let image = seen(rt, folder, "image0")?;
     let segment = seen(rt, folder, "segment0")?;
     Some((image, segment))
 }
 
-/// Whether a store's files are there, whether it is listed, and whether its files and its folder are then as before.
+/// Whether a store's files exist, whether it is listed, and whether its files and its folder are then as before.
 fn lists_unchanged(rt: &HostRuntime, words: &[String], path: &str) -> [bool; 3] {
     let before = seen_both(rt, path);
     let is_listed = ends(rt, Some(words), false, LISTED);
@@ -146,8 +147,8 @@ fn lists_unchanged(rt: &HostRuntime, words: &[String], path: &str) -> [bool; 3] 
     [before.is_some(), is_listed, before == after]
 }
 
-/// The same of a new store whose files and folder can only be read: whether it was made, by a server's run without a call, and
-/// they got their modes; and whether they got others behind that, and all was removed.
+/// The same for a new store whose files and folder can only be read: whether it was made, by a server's run without a
+/// call, and they got their modes; and whether they got others after that, and all was removed.
 type ReadOnly = (bool, Modes, [bool; 3], Modes, bool);
 
 fn lists_what_can_be_read(rt: &HostRuntime, words: &[String], path: &str) -> ReadOnly {
@@ -180,8 +181,8 @@ name 00000100 00020000 port 1 refs 0
 port 1 held 1 00000100 send 0 once 0 queue 0 of 5 seqno 0 mscount 0
 ";
 
-/// Whether a store is made in a folder, by a server's run of one call, behind a disk that was opened there before; whether that
-/// disk's lines are those of the store then; and whether all was removed.
+/// Whether a store is made in a folder, by a server's run of one call, after a disk that was opened there before;
+/// whether that disk's lines are those of the store then; and whether all was removed.
 fn lists_made_later(rt: &HostRuntime, name: &str) -> Option<[bool; 3]> {
     let words = folder(rt, name)?;
     let path = words.first()?.as_str();

@@ -1,5 +1,5 @@
-//! Tests of the core and of the service over it: events one by one and in lists, streams, faults, a row that is full, and stops
-//! between and within calls; and of what inspectors print of a store, and how they end.
+//! Tests of the core and of the service over it: events one by one and in lists, streams, faults, an epoch log that is
+//! full, and crashes between and within calls; and of what inspectors print of a store, and how they end.
 #![tactic(auto)]
 
 #[cfg(test)]

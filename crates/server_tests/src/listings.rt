@@ -7,7 +7,8 @@ use disk::{Disk, MemDisk};
 use inspect::{ListFault, list};
 use std::alloc::Global;
 
-/// A receive right is allocated, a send right made of it, a message of 28 bytes sent by a copy of that, and received.
+/// A receive right is allocated, a send right is made from it, and a message of 28 bytes is sent by a copy of that, and
+/// received.
 const FRAMES: [u8; 108] = [
     8, 0, 0, 0, 5, 0, 0, 0, 1, 0, 0, 0, // allocate
     16, 0, 0, 0, 17, 0, 0, 0, 0, 1, 0, 0, 0, 1, 0, 0, 20, 0, 0, 0, // insert_right
@@ -30,7 +31,7 @@ fn used<S: Store + Drop>(alloc: Global) -> S {
     disk
 }
 
-/// How the listing of a store ends to a writer with so much room, and whether that has these bytes then.
+/// How the listing of a store ends for a writer with this much room, and whether the writer then has these bytes.
 fn listed<D: Disk>(
     alloc: Global,
     disk: &mut D,
@@ -47,7 +48,7 @@ fn listed<D: Disk>(
     (end, writer.output.as_slice() == wanted)
 }
 
-/// The same of the store behind the frames.
+/// The same for the store after the frames.
 fn listed_when_used<S: Store + Drop>(
     alloc: Global,
     room: usize,
@@ -84,7 +85,7 @@ fn edges(drawing: &[u8]) -> usize {
     count
 }
 
-/// How many the drawing of the store has.
+/// How many edges the drawing of the store has.
 fn edges_when_used<S: Store + Drop>(alloc: Global) -> Option<usize> {
     let drawing = drawing_of(alloc, &mut used::<S>(alloc))?;
     Some(edges(&drawing))

@@ -1,4 +1,5 @@
-//! Lists of events, a letter each, and what they answer, a letter each; and what a stop or a fault within them leaves.
+//! Lists of events, one letter each, and their answers, one letter each; and what a crash or a fault within them
+//! leaves.
 use crate::expect::{same, same_in_row};
 use crate::store::{Store, failing, new_store, played, stored_records};
 use disk::{Disk, MemDisk, Slot, Torn};
@@ -6,7 +7,7 @@ use ipc_model::{Call, Reply, Sequence};
 use std::alloc::{AllocError, Global};
 use system::{Event, Outcome};
 
-/// A message of a header alone, by a send right made from the receive right 0x100.
+/// A message that is only a header, by a send right made from the receive right 0x100.
 static MESSAGE: [u8; 24] = [
     0x14, 0, 0, 0, 24, 0, 0, 0, 0, 1, 0, 0, 0, 0, 0, 0, 0, 0, 0, 0, 7, 0, 0, 0,
 ];
@@ -16,11 +17,11 @@ fn submit(call: Call) -> Event {
     Event::Submit { space: 1, call }
 }
 
-/// An event by its letter: a receive right is allocated (`a`), the message is sent to the first one (`s`), the status of that
-/// is asked for (`g`); what waits is taken (`k`), written (`w`), and the oldest receipt handed in (`d`); an epoch is cut (`c`),
-/// the next segment's slot closed (`l`), its header written (`h`), its gate opened (`o`); the next image's slot is closed
-/// (`i`), a piece of it written (`p`), and it is finished (`f`). Any other letter, from `0` on, asks for the reply of the ticket
-/// of its number.
+/// An event by its letter: a receive right is allocated (`a`), the message is sent to the first one (`s`), the status
+/// of that is asked for (`g`); what waits is taken (`k`), written (`w`), and the oldest receipt delivered (`d`); an
+/// epoch is ended with a snapshot (`c`), the next segment's slot closed (`l`), its header written (`h`), its gate
+/// opened (`o`); the next image's slot is closed (`i`), a piece of it written (`p`), and it is finished (`f`). Any
+/// other letter, from `0` on, asks for the reply of the ticket with its number.
 fn event_of(alloc: Global, letter: u8) -> Result<Event, AllocError> {
     Ok(match letter {
         b'a' => submit(Call::Allocate { right: 1 }),
@@ -44,7 +45,7 @@ fn event_of(alloc: Global, letter: u8) -> Result<Event, AllocError> {
     })
 }
 
-/// An outcome by its letter: a ticket, done, not now, a fault, or what a reply tells.
+/// An outcome by its letter: a ticket, done, not now, a fault, or what a reply says.
 fn letter_of(outcome: &Outcome) -> u8 {
     match outcome {
         Outcome::Ticket(_) => b'#',
@@ -60,8 +61,8 @@ fn letter_from(first: u8, number: u32) -> u8 {
     first.wrapping_add(u8::try_from(number).unwrap_or(0))
 }
 
-/// A reply by its letter: of an allocation the one from `A` on that has the number of its name, of a status the one from `a`
-/// on that has the number of its messages.
+/// A reply by its letter: for an allocation the one from `A` on that has the number of its name, for a status the one
+/// from `a` on that has the number of its messages.
 fn letter_of_reply(reply: &Reply) -> u8 {
     match reply {
         Reply::Allocate { name } => letter_from(b'A', name.wrapping_sub(0x100)),
@@ -91,7 +92,7 @@ fn add_letters(letters: &mut Vec<u8>, outcomes: &[Outcome]) -> Result<(), AllocE
     Ok(())
 }
 
-/// The letters of outcomes, if there are some.
+/// The letters of outcomes, if there are any.
 fn letters_of(alloc: Global, outcomes: Option<Vec<Outcome>>) -> Option<Vec<u8>> {
     let outcomes = outcomes?;
     let mut letters = Vec::new(alloc);
@@ -101,7 +102,7 @@ fn letters_of(alloc: Global, outcomes: Option<Vec<Outcome>>) -> Option<Vec<u8>> 
     Some(letters)
 }
 
-/// What a list of events answers on a disk, and the disk as a read then gives it.
+/// The answers to a list of events on a disk, and the disk as a read then returns it.
 pub(crate) fn play_on<D: Disk + Drop>(
     alloc: Global,
     disk: D,
@@ -114,7 +115,7 @@ pub(crate) fn play_on<D: Disk + Drop>(
     Some((letters_of(alloc, outcomes)?, disk))
 }
 
-/// The same, and the disk that a stop then leaves.
+/// The same, and the disk that a crash then leaves.
 pub(crate) fn play<S: Store + Drop>(
     alloc: Global,
     disk: S,
@@ -124,14 +125,14 @@ pub(crate) fn play<S: Store + Drop>(
     Some((answers, disk.stop()?))
 }
 
-/// Two calls are one batch. Their replies are given in any order, each once, as soon as its receipt is handed in; what isn't
-/// possible changes nothing.
+/// Two calls are one batch. Their replies are given in any order, each once, as soon as its receipt is delivered; what
+/// isn't possible changes nothing.
 static TWO_CALLS: (&[u8], &[u8]) = (b"kwd0aawk0kww1kdd1002", b"----##-+--+---+-BA--");
 
 /// A status that saw a send waits for the send's record.
 static SEND_SEEN: (&[u8], &[u8]) = (b"akwd0sg2k2w2d21", b"#+++A##-+-+-+b=");
 
-/// Whether a list of events answers this on a new store, and how long its segment is then.
+/// Whether a list of events has these answers on a new store, and how long its segment is then.
 fn answers<S: Store + Drop>(alloc: Global, list: (&[u8], &[u8])) -> Option<(bool, u64)> {
     let (letters, wanted) = list;
     let (answers, disk) = play(alloc, S::empty(alloc), letters)?;
@@ -183,8 +184,8 @@ fn letters_by(alloc: Global, seed: u64) -> Option<Vec<u8>> {
     Some(letters)
 }
 
-/// How many records were told of by what a list of events answered, and how many were applied, by way of how many each ticket
-/// saw. Who is answered that a batch is stored is told of its records, as is who gets a reply that saw them.
+/// How many records a list of events acknowledged by its answers, and how many were applied, by means of how many each
+/// ticket saw. The answer that a batch is stored acknowledges its records, and so does a reply that saw them.
 fn count_told(
     seen: &mut Vec<u64>,
     letters: &[u8],
@@ -206,7 +207,7 @@ fn count_told(
     Ok((told, applied))
 }
 
-/// How many records were told of by what a list of events answered, and how many were applied.
+/// How many records a list of events acknowledged by its answers, and how many were applied.
 pub(crate) fn bounds(alloc: Global, letters: &[u8], answers: &[u8]) -> Option<(u64, u64)> {
     let mut seen = Vec::new(alloc);
     count_told(&mut seen, letters, answers).ok()
@@ -238,7 +239,7 @@ fn allocations(letters: &[u8], answers: &[u8], records: u64) -> u64 {
     count
 }
 
-/// How many ports space 1 has, by the name of the next one, which is allocated and stored, and the disk behind it.
+/// How many ports space 1 has, by the name of the next one, which is allocated and stored, and the disk after it.
 pub(crate) fn count_ports<S: Store + Drop>(alloc: Global, disk: S) -> Option<(u64, S)> {
     let (answers, disk) = play(alloc, disk, b"akwd0")?;
     let last = answers.last().copied().unwrap_or(0);
@@ -252,8 +253,8 @@ fn found<S: Store + Drop>(alloc: Global, disk: S) -> Option<(u64, u64)> {
     Some((records, ports))
 }
 
-/// Whether a list of events on this disk leaves no fewer records than it told of and no more than it applied, and the state
-/// after them; and whether one of them met a fault.
+/// Whether a list of events on this disk leaves no fewer records than it acknowledged and no more than it applied, and
+/// the state after them; and whether one of them met a fault.
 fn is_bounded<S: Store + Drop>(alloc: Global, disk: S, letters: &[u8]) -> Option<(bool, bool)> {
     let (answers, disk) = play(alloc, disk, letters)?;
     let found = found(alloc, disk);
@@ -268,10 +269,10 @@ fn is_bounded<S: Store + Drop>(alloc: Global, disk: S, letters: &[u8]) -> Option
     Some((is, answers.contains(&b'!')))
 }
 
-/// Opening a store makes thirteen calls of the device, and each append four.
+/// Opening a store makes thirteen device calls, and each append four.
 pub(crate) const FIRST_CALL: u64 = 14;
 
-/// How many calls of the device a list makes behind those of the opening, by what it answers where none fails.
+/// How many device calls a list makes after those of the opening, by its answers if none fails.
 fn device_calls(letters: &[u8], answers: &[u8]) -> u64 {
     let mut calls = 0u64;
     for (letter, answer) in letters.iter().zip(answers) {
@@ -282,8 +283,8 @@ fn device_calls(letters: &[u8], answers: &[u8]) -> u64 {
     calls
 }
 
-/// How many calls of the device a list makes until none fails that is planned to, where whatever is left of each of them is
-/// within its bounds.
+/// How many device calls a list makes until none fails that is planned to, if what each failure leaves is within its
+/// bounds.
 fn swept<S: Store + Drop>(alloc: Global, letters: &[u8], once: bool, torn: Torn) -> Option<u64> {
     for calls in 0..400u64 {
         let disk: S = failing(alloc, FIRST_CALL.saturating_add(calls), once, torn)?;
@@ -307,16 +308,16 @@ pub(crate) static KINDS: [Torn; 6] = [
     Torn::Fill(0xff),
 ];
 
-/// A way to fail, and how many calls of the device were swept in it, if a list could be.
+/// A way to fail, and how many device calls were swept in it, if a list could be.
 pub(crate) type Way = (Torn, bool, Option<u64>);
 
-/// How many calls of the device a list makes on a new store.
+/// How many device calls a list makes on a new store.
 fn calls_of<S: Store + Drop>(alloc: Global, letters: &[u8]) -> Option<u64> {
     let (answers, _) = play(alloc, new_store::<S>(alloc)?, letters)?;
     Some(device_calls(letters, &answers))
 }
 
-/// The first way to fail in which a list isn't swept as far as it makes calls of the device.
+/// The first way to fail in which a list isn't swept over all its device calls.
 fn unswept<S: Store + Drop>(alloc: Global, letters: &[u8]) -> Option<Way> {
     let calls = calls_of::<S>(alloc, letters);
     for torn in &KINDS {

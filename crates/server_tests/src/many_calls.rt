@@ -1,4 +1,4 @@
-//! A connection that makes more calls than an epoch's row takes.
+//! A connection that makes more calls than an epoch log takes.
 use crate::expect::same;
 use crate::frames::{ALLOCATE, ALLOCATED, Run, caller, serve_on};
 use disk::{Disk, Slot};
@@ -21,7 +21,7 @@ fn add_copies(all: &mut Vec<u8>, bytes: &[u8], times: usize) -> Result<(), Alloc
     Ok(())
 }
 
-/// So many copies of bytes.
+/// Bytes, repeated `times` times.
 fn repeated(alloc: Global, bytes: &[u8], times: usize) -> Option<Vec<u8>> {
     let mut all = Vec::new(alloc);
     add_copies(&mut all, bytes, times).ok()?;
@@ -33,13 +33,13 @@ fn has_output(run: &Run, wanted: &[u8]) -> bool {
     run.end.is_ok() && run.output.as_slice() == wanted
 }
 
-/// Whether an input is answered so, to its end.
+/// Whether an input gets these answers, to its end.
 fn is_answered<C: Caller>(alloc: Global, caller: &mut C, input: &[u8], wanted: &[u8]) -> bool {
     let run = serve_on(alloc, caller, input);
     has_output(&run, wanted)
 }
 
-/// Whether an input is answered so as often as this.
+/// Whether an input gets these answers `times` times.
 fn are_answered<C: Caller>(
     alloc: Global,
     caller: &mut C,
@@ -55,15 +55,15 @@ fn are_answered<C: Caller>(
     true
 }
 
-/// Whether so many thousands of calls are each answered with code 0.
+/// Whether `thousands` thousands of calls are each answered with code 0.
 fn are_done<C: Caller>(alloc: Global, caller: &mut C, thousands: u32) -> Option<bool> {
     let input = repeated(alloc, &SET, AT_ONCE)?;
     let wanted = repeated(alloc, &SET_DONE, AT_ONCE)?;
     Some(are_answered(alloc, caller, &input, &wanted, thousands))
 }
 
-/// Whether the first call is done on a new store, and 70,000 behind it; then two epochs have ended, and the third one's segment,
-/// in the first one's slot, has the rest: its length.
+/// Whether the first call is done on a new store, and 70,000 after it; then two epochs have ended, and the third one's
+/// segment, in the first one's slot, has the rest: its length.
 fn go_on<D: Disk + Drop>(alloc: Global, disk: D) -> Option<(bool, Option<bool>, u64)> {
     let mut caller = caller(alloc, disk).ok()?;
     let is_begun = is_answered(alloc, &mut caller, &ALLOCATE, &ALLOCATED);

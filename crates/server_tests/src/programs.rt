@@ -9,7 +9,7 @@ use std::env::FillError;
 use std::rt::Env;
 use std::{env, fs, io};
 
-/// What a run of a program with some words gave.
+/// The outcome of a program's run with some words.
 #[derive(Drop)]
 pub(crate) struct Ended {
     pub(crate) status: u8,
@@ -37,7 +37,7 @@ pub(crate) fn has_ended(ended: &Ended, status: u8, output: &[u8], errors: &str) 
         && ended.errors.as_slice() == errors.as_bytes()
 }
 
-/// Whether a run with this input ends so.
+/// Whether a run with this input ends in this way.
 pub(crate) fn ends(
     rt: &HostRuntime,
     words: Option<&[String]>,
@@ -48,7 +48,7 @@ pub(crate) fn ends(
     has_ended(&run(rt, words, bytes), status, output, errors)
 }
 
-/// A path in the folder for what doesn't last.
+/// A path in the folder for temporary files.
 fn path_of(rt: &HostRuntime, name: &str) -> Option<String> {
     let mut folder = env::temp_dir(rt).ok()?;
     folder.push(name).ok()?;
@@ -141,7 +141,7 @@ fn file_of(rt: &HostRuntime, words: &[String], file: &str) -> Option<String> {
     format!(in rt.alloc(); "{folder}/{file}").ok()
 }
 
-/// A file of the folder gets these bytes.
+/// Writes these bytes to a file of the folder.
 fn write_file(rt: &HostRuntime, words: &[String], file: &str, bytes: &[u8]) -> Option<()> {
     let path = file_of(rt, words, file)?;
     fs::write(rt, path.as_str(), bytes).ok()
@@ -153,7 +153,7 @@ static DAMAGED: [u8; 48] = [
     0, 0, 0, 0, 0, 0, 0, 0, 0, 0, 0, 0, 0, 0, 0, 0, 0,
 ];
 
-/// Whether a store gets that image, what is told of it, and whether its folder could be removed.
+/// Whether a store gets that image, what is reported of it, and whether its folder could be removed.
 fn tells_damage_in(rt: &HostRuntime, name: &str) -> Option<(Option<()>, [bool; 2])> {
     let words = folder(rt, name)?;
     let written = write_file(rt, &words, "image0", &DAMAGED);
@@ -185,7 +185,7 @@ fn wire_faults_have_a_line(rt: HostRuntime) {
     same(&rt, seen, Some([true; 3]));
 }
 
-/// A run whose output takes so many bytes and then fails.
+/// A run whose output takes `room` bytes and then fails.
 fn run_into(rt: &HostRuntime, words: &[String], bytes: &[u8], room: usize) -> Ended {
     let seen = Seen::new();
     let mut input = bytes;
@@ -204,7 +204,7 @@ fn run_into(rt: &HostRuntime, words: &[String], bytes: &[u8], room: usize) -> En
     }
 }
 
-/// Whether calls whose replies aren't taken beyond so many bytes end with that fault's line.
+/// Whether calls whose replies aren't taken beyond `room` bytes end with that fault's line.
 fn tells_writer(
     rt: &HostRuntime,
     words: &[String],
@@ -217,8 +217,8 @@ fn tells_writer(
     has_ended(&run_into(rt, words, calls, room), 1, front, line)
 }
 
-/// The same for no byte of an allocation's reply and for twelve; whether another run knows the first name, since its call was
-/// stored; and the same for a second reply of which four bytes are taken.
+/// The same for no byte of an allocation's reply and for twelve; whether another run knows the first name, since its
+/// call was stored; and the same for a second reply of which four bytes are taken.
 fn tells_writers_in(rt: &HostRuntime, name: &str) -> Option<[bool; 5]> {
     let words = folder(rt, name)?;
     Some([

@@ -11,7 +11,7 @@ use std::alloc::Global;
 /// The answer to the second allocation: the name 0x101.
 const ALLOCATED_NEXT: [u8; 16] = [12, 0, 0, 0, 5, 0, 0, 0, 0, 0, 0, 0, 1, 1, 0, 0];
 
-/// A caller that breaks when it was given time as often as it can bear.
+/// A caller that takes time `bears` times, and breaks the next time.
 #[derive(Drop)]
 struct Tiring<C> {
     caller: C,
@@ -56,13 +56,13 @@ fn serve_tiring<C: Caller + Drop>(
     (Run { output, end }, rest.len())
 }
 
-/// Three calls on a new store, with time after so many replies.
+/// Three calls on a new store, whose caller takes time after `bears` replies.
 fn tired<S: Store + Drop>(alloc: Global, bears: u32) -> Option<(Run, usize)> {
     let caller = caller(alloc, S::empty(alloc)).ok()?;
     Some(serve_tiring(alloc, caller, bears, &three_calls()))
 }
 
-/// Whether the two allocations alone were answered.
+/// Whether only the two allocations were answered.
 fn has_two_replies(run: &Run) -> bool {
     match run.output.split_at_checked(16) {
         Some((first, second)) => first == ALLOCATED.as_slice()

@@ -13,8 +13,8 @@ fn behind_allocation(alloc: Global, tail: &[u8]) -> Option<Vec<u8>> {
     Some(input)
 }
 
-/// An allocation with these bytes behind it, served on a new store: whether its reply alone was written, how it ended, and the
-/// length of the segment.
+/// An allocation with these bytes after it, served on a new store: whether only its reply was written, how it ended,
+/// and the length of the segment.
 fn with_tail<S: Store + Drop>(
     alloc: Global,
     tail: &[u8],
@@ -73,9 +73,9 @@ fn on_failing_disk<S: Store + Drop>(
     Some((run.output.len(), run.end))
 }
 
-/// Which call of the disk fails, and how many bytes are written. Opening makes thirteen calls: four syncs, four reads of
-/// headers, two of the image, one of the segment, and two that end it. An append makes four, so the seventeenth call is the
-/// first append's last.
+/// Which device call fails, and how many bytes are written. Opening makes thirteen calls: four syncs, four reads of
+/// headers, two of the image, one of the segment, and two that end it. An append makes four, so the seventeenth call is
+/// the first append's last.
 static FAILING: [(u64, usize); 4] = [(14, 0), (17, 0), (18, 16), (21, 16)];
 
 #[test]

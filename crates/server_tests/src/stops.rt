@@ -26,7 +26,7 @@ fn known<D: Disk>(opened: &Opened<D>) -> Known {
     )
 }
 
-/// What a store knows, where it can be opened.
+/// What a store knows, if it can be opened.
 fn known_again<D: Disk + Drop>(alloc: Global, disk: D) -> Option<Known> {
     match open(alloc, disk) {
         Ok(opened) => {
@@ -38,8 +38,8 @@ fn known_again<D: Disk + Drop>(alloc: Global, disk: D) -> Option<Known> {
     }
 }
 
-/// Three calls on a new store, up to a planned stop: how many of them were answered, each with 16 bytes, and what a store that
-/// the stop left knows again.
+/// Three calls on a new store, up to a planned crash: how many of them were answered, each with 16 bytes, and what a
+/// store that the crash left knows again.
 fn stopped<S: Store + Drop>(alloc: Global, stop_at: u64, torn: Torn) -> (u64, Option<Known>) {
     let mut disk = S::empty(alloc);
     disk.plan_faults(Some(stop_at), None, torn);
@@ -55,7 +55,7 @@ fn stopped<S: Store + Drop>(alloc: Global, stop_at: u64, torn: Torn) -> (u64, Op
     }
 }
 
-/// Whether a stop at this call of the disk left what was answered.
+/// Whether a crash at this device call left what was answered.
 fn is_left(stop_at: u64, seen: (u64, Option<Known>)) -> bool {
     let (told, Some((found, port, set))) = seen else {
         return false;
@@ -67,7 +67,7 @@ fn is_left(stop_at: u64, seen: (u64, Option<Known>)) -> bool {
 
 #[test]
 fn a_stop_leaves_the_calls_that_were_answered(rt: HostRuntime) {
-    // A new store is made with 24 calls of the disk, and two appends make eight.
+    // A new store is made with 24 device calls, and two appends make eight.
     for torn in &KINDS {
         for stop_at in 1..34 {
             let seen = stopped::<MemDisk>(rt.alloc(), stop_at, *torn);

@@ -1,6 +1,6 @@
-//! Disks, the stores on them and their cores, as the tests see them. Nothing has a clause, and all is over any disk, so that a
-//! test's proof carries nothing of a disk or of a core: what is known of one would be written out at each exit of a function
-//! that owns it.
+//! Disks, the stores on them and their cores, as the tests see them. Nothing has a clause, and everything is generic in
+//! the disk, so that a test's proof carries nothing of a disk or of a core: what is known of one would be written out
+//! at each exit of a function that owns it.
 
 use crate::asking::{EPOCH_FULL, FAULT, NO_MEMORY, NOT_NOW, Row, fill, unlike};
 use disk::{Disk, MemDisk, Slot, Torn};
@@ -8,7 +8,7 @@ use ipc_model::{Call, Reply};
 use std::alloc::Global;
 use system::{Event, Opened, Outcome, SubmitFault, System, open};
 
-/// What makes calls, stores them and replies. Answers are numbers, as in a row.
+/// Makes calls, stores them and replies. Answers are numbers, as in a row.
 pub(crate) trait Core {
     /// Makes a call of space 1.
     fn submit_call(&mut self, call: &Call) -> u64;
@@ -17,16 +17,16 @@ pub(crate) trait Core {
 
     fn append_taken(&mut self) -> u64;
 
-    /// Hands in the oldest receipt.
+    /// Delivers the oldest receipt.
     fn hand_in(&mut self) -> bool;
 
     fn replied(&mut self, ticket: u64) -> u64;
 
-    /// Runs a list of events, where there is memory.
+    /// Runs a list of events, if there is memory.
     fn run_all(&mut self, alloc: Global, events: &[Event]) -> Option<Vec<Outcome>>;
 }
 
-/// What a reply tells: the new name, the type bits, or the code.
+/// What a reply says: the new name, the type bits, or the code.
 fn told(reply: &Reply) -> u64 {
     match reply {
         Reply::Allocate { name } => u64::from(*name),
@@ -72,9 +72,9 @@ impl<D: Disk> Core for System<D> {
     }
 }
 
-/// A disk that stops as it is planned to.
+/// A disk that crashes as planned.
 pub(crate) trait Store: Disk {
-    /// A disk with nothing.
+    /// An empty disk.
     fn empty(alloc: Global) -> Self;
 
     /// A disk whose slots hold what this one's do, all of it synced.
@@ -83,17 +83,17 @@ pub(crate) trait Store: Disk {
     /// The bytes of a slot.
     fn bytes(&self, slot: Slot) -> &[u8];
 
-    /// A disk whose slots hold what this one's do, but for one byte of a slot.
+    /// A disk whose slots hold what this one's do, except for one byte of a slot.
     fn bent(&self, alloc: Global, slot: Slot, at: usize, byte: u8) -> Option<Self>;
 
     /// Plans failures of calls, as `MemDisk::plan` does.
     fn plan_faults(&mut self, stop_at: Option<u64>, fail_at: Option<u64>, torn: Torn);
 
-    /// What a stop leaves.
+    /// What a crash leaves.
     fn stop(self) -> Option<Self>;
 }
 
-/// The one or the other.
+/// One or the other.
 fn either<'a>(is_one: bool, one: &'a [u8], other: &'a [u8]) -> &'a [u8] {
     if is_one { one } else { other }
 }
@@ -156,7 +156,7 @@ pub(crate) fn reopened<D: Disk + Drop>(alloc: Global, disk: D) -> (D, Option<u64
     }
 }
 
-/// The core of the store of a disk.
+/// The core of the store on a disk.
 fn core_on<D: Disk + Drop>(alloc: Global, disk: D) -> Option<System<D>> {
     match open(alloc, disk) {
         Ok(opened) => Some(System::new(alloc, opened)),
@@ -164,7 +164,7 @@ fn core_on<D: Disk + Drop>(alloc: Global, disk: D) -> Option<System<D>> {
     }
 }
 
-/// The first row that is answered otherwise by the core of a store, and the disk then.
+/// The first row that gets another answer from the core of a store, and the disk then.
 pub(crate) fn asked<D: Disk + Drop>(
     alloc: Global,
     disk: D,
@@ -175,7 +175,7 @@ pub(crate) fn asked<D: Disk + Drop>(
     Some((unlike, core.into_disk()))
 }
 
-/// The same where the epoch's row was filled before, and whether it could be.
+/// The same after the epoch log was filled, and whether it could be.
 pub(crate) fn asked_full<D: Disk + Drop>(
     alloc: Global,
     disk: D,
@@ -188,7 +188,7 @@ pub(crate) fn asked_full<D: Disk + Drop>(
     Some((is_full, unlike))
 }
 
-/// What a list of events gives on the core of a store, where there is memory, and the disk then.
+/// The answers to a list of events from the core of a store, if there is memory, and the disk then.
 pub(crate) fn played<D: Disk + Drop>(
     alloc: Global,
     disk: D,
@@ -206,7 +206,7 @@ pub(crate) fn new_store<S: Store + Drop>(alloc: Global) -> Option<S> {
     Some(disk)
 }
 
-/// A new store whose device fails from this call on or at this call alone.
+/// A new store whose device fails from this call on, or only at this call.
 pub(crate) fn failing<S: Store + Drop>(
     alloc: Global,
     at: u64,

@@ -15,7 +15,7 @@ use wire::WireFault;
 pub(crate) struct Seen {
     /// Bytes that were written since the last flush.
     unflushed: Cell<usize>,
-    /// How often a byte was asked for while a reply wasn't flushed.
+    /// How many times a byte was asked for while a reply wasn't flushed.
     early: Cell<usize>,
     /// How many bytes were read.
     read: Cell<usize>,
@@ -31,7 +31,7 @@ impl Seen {
     }
 }
 
-/// Gives one byte a read.
+/// Gives one byte per read.
 #[derive(Drop)]
 struct Dripping<'a> {
     rest: &'a [u8],
@@ -54,7 +54,7 @@ impl<'a> Read for Dripping<'a> {
     }
 }
 
-/// Takes one byte a write, up to some number of bytes, and fails from then on.
+/// Takes one byte per write, up to some number of bytes, and fails from then on.
 #[derive(Drop)]
 pub(crate) struct Filling<'a> {
     pub(crate) output: Vec<u8>,
@@ -83,7 +83,7 @@ impl<'a> Write for Filling<'a> {
     }
 }
 
-/// Serves an input byte by byte, to a writer with room for so many bytes.
+/// Serves an input byte by byte, to a writer with room for `room` bytes.
 fn drip<C: Caller>(alloc: Global, caller: &mut C, input: &[u8], room: usize, seen: &Seen) -> Run {
     let mut reader = Dripping { rest: input, seen };
     let mut writer = Filling {
@@ -121,7 +121,7 @@ fn whole<S: Store + Drop>(alloc: Global) -> Option<Run> {
     Some(run)
 }
 
-/// Whether three calls byte by byte end well, and give what they give at once; and how many bytes that is.
+/// Whether three calls byte by byte end well, and return what they return at once; and how many bytes that is.
 fn dripped_as_whole<S: Store + Drop>(alloc: Global, seen: &Seen) -> Option<(bool, usize)> {
     let all = whole::<S>(alloc)?;
     let (run, _) = dripped::<S>(alloc, 1000, seen)?;
@@ -139,7 +139,7 @@ fn how_a_stream_is_cut_changes_nothing(rt: HostRuntime) {
     same(&rt, counts, (36, 0, 0));
 }
 
-/// What a writer with room for so many bytes has: whether it is the first ones of all replies, how the connection ended, how
+/// What a writer with this much room has: whether it is the first bytes of all replies, how the connection ended, how
 /// many bytes were read, and the lowest byte of the name that the next allocation gives.
 type Written = (bool, Result<(), ServeFault>, usize, Option<u8>);
 
@@ -155,7 +155,7 @@ fn written<S: Store + Drop>(alloc: Global, all: &[u8], room: usize) -> Option<Wr
     ))
 }
 
-/// Nothing behind the call whose reply failed is read, and that call was made: the next allocation has the next name.
+/// Nothing after the call whose reply failed is read, and that call was made: the next allocation has the next name.
 fn wanted(room: usize) -> Written {
     let calls = (room / 16).saturating_add(1);
     (
@@ -166,7 +166,7 @@ fn wanted(room: usize) -> Written {
     )
 }
 
-/// The first room for which it isn't so.
+/// The first room for which this doesn't hold.
 fn unlike<S: Store + Drop>(alloc: Global) -> Option<Option<(usize, Option<Written>)>> {
     let all = whole::<S>(alloc)?;
     for room in 0..48usize {

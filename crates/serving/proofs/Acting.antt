@@ -1,4 +1,4 @@
--- What a connection did, and went on to do.
+-- What a connection did, and then did.
 use Rattle.std.proofs.Common.{◌≡◌, ◌+◌, ℕ, List, [], ◌∷◌, ◌++◌, length, Option, Some, refl, sym, ap, subst, ◌∙◌, arith, append_assoc, length-append}
 use Rattle.std.proofs.lemmas.List.{append-nil}
 use Rattle.ipc_model.specs.declared.call.Call.{Call}
@@ -28,7 +28,7 @@ module _ {C T : Type 0} (answer : T → Reply) (makes : C → Call → T → C �
   acted_both old mid new [] between left (told reply ∷ acts) more first second = absurd first
   acted_both old mid new (hand ∷ queue) between left (told reply ∷ acts) more first second = (first.0, first.1, acted_both first.0 mid new queue between left acts more first.2 second)
 
-  -- So far, and further.
+  -- So far, and then further.
   pub went_both : (old mid new : C) (queue between left : List (Hand T)) (input before rest sent further out : List ℕ) → Went answer makes lacks tells fails old queue mid input before rest sent between → Went answer makes lacks tells fails mid between new rest sent further out left
       → Went answer makes lacks tells fails old queue new input before further out left
   went_both old mid new queue between left input before rest sent further out first second = record {
@@ -47,7 +47,7 @@ module _ {C T : Type 0} (answer : T → Reply) (makes : C → Call → T → C �
   pub begun : (old : C) (queue : List (Hand T)) (input before : List ℕ) → Went answer makes lacks tells fails old queue old input before input before queue
   begun old queue input before = record { acts = []; acted = (refl, refl); read = refl; told_is = sym (append-nil before) }
 
-  -- The first in hand was told.
+  -- The first frame in hand was answered.
   pub one_told : (old new : C) (hand : Hand T) (hands : List (Hand T)) (reply : Reply) (input before sent : List ℕ) → IsTold answer makes lacks tells fails old hand reply new → sent ≡ before ++ frame_text (reply_text reply)
       → Went answer makes lacks tells fails old (hand ∷ hands) new input before input sent hands
   one_told old new hand hands reply input before sent is out = record {
@@ -57,7 +57,7 @@ module _ {C T : Type 0} (answer : T → Reply) (makes : C → Call → T → C �
     told_is = out ∙ ap (λ l. before ++ l) (sym (append-nil (frame_text (reply_text reply))));
   }
 
-  -- Frames were taken so far, and so many.
+  -- Frames were taken so far, this many.
   pub record Taking (old now : C) (hands : List (Hand T)) (input : List ℕ) (left : Option (List ℕ)) (count : ℕ) : Type 0 where
     pub acts : List (Act T)
     pub rest : List ℕ

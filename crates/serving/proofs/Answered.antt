@@ -55,13 +55,13 @@ short given answer is holds = subst IsShort (sym is) holds
 pub refused_fits : (n : ℕ) (code : KernReturn) → length (reply_text (reply.Refused n code)) ≤ MAX_FRAME_CONTENT
 refused_fits n code = let fits : IsShort (reply.Refused n code) = short_refusal n code in omega (arith, fits)
 
--- A shortage fits in a frame.
+-- The reply to a shortage fits in a frame.
 pub shortage_fits : (c : Call) (answer : Reply) → answer ≡ shortage_of c → length (reply_text answer) ≤ MAX_FRAME_CONTENT
 shortage_fits c answer is = let fits : IsShort answer = short (shortage_of c) answer is (short_shortage c) in omega (arith, fits)
 
 -- Answers.
 
--- what follows of the value
+-- what follows for the value
 pub if_ok : {T E : Type 0} {P Q : T → Type 0} (r : Result T E) → ((x : T) → P x → Q x) → IfOk r P → IfOk r Q
 if_ok (Ok x) f p = f x p
 if_ok (Err e) f p = tt

@@ -1,4 +1,4 @@
--- How a connection goes on.
+-- How a connection continues.
 use Rattle.std.proofs.Common.{◌≡◌, ℕ, Bool, true, false, cond, nat_lt, take, drop, List, [], ◌∷◌, ◌++◌, length, Option, Some, None, IfSome, refl, sym, ap, subst, ◌∙◌, ◌+◌, arith, append_assoc, length-append}
 use Rattle.std.proofs.lemmas.List.{append-nil}
 use Rattle.std.proofs.Math.Dec.{eqb-suc-zero}
@@ -58,7 +58,7 @@ module _ {C : Type 0} (answers : C → Call → Reply → C → Type 0) (rests :
   ended_whole old now input before left written after count so_far is =
       record { exchanges = so_far.exchanges; calls = so_far.calls; read = so_far.read ∙ ap (λ l. requests_text so_far.exchanges ++ l) is.0 ∙ append-nil (requests_text so_far.exchanges); all = is.1; replies = so_far.replies }
 
-  -- one frame more, and the time after it
+  -- one more frame, and the time after it
   pub goes_on : (old mid later new : C) (input before content after : List ℕ) (answer : Reply) (left now written sent : Option (List ℕ)) (count : ℕ) (so_far : Going old mid input before left written count) → so_far.rest ≡ frame_text content ++ after → now ≡ Some after → IsAnswered answers mid content answer later → rests later new
       → sent ≡ Some ((before ++ replies_text so_far.exchanges) ++ frame_text (reply_text answer)) → Going old new input before now sent (count + 1)
   goes_on old mid later new input before content after answer left now written sent count so_far frame now_is answered rested out =

@@ -1,4 +1,4 @@
--- What is in hand behind a send.
+-- What is in hand after a send.
 use Rattle.std.specs.Prelude.{◌≡◌, true}
 use Rattle.ipc_model.specs.calls.Step.{succeeded}
 use Rattle.ipc_model.specs.declared.call.Call.{Call}

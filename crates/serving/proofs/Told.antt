@@ -1,4 +1,4 @@
--- How the telling of the first in hand ends, exit by exit.
+-- How answering the first frame in hand ends, exit by exit.
 use Rattle.std.proofs.Common.{◌≡◌, inl, inr, List, ℕ, Option, Some, IfSome, Result, Ok, Err, refl, sym, subst}
 use Rattle.std.specs.Io.KnownBytes.{Appends, Keeps}
 use Rattle.ipc_model.specs.declared.call.Call.{Call}

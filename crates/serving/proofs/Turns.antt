@@ -1,4 +1,4 @@
--- How frames are taken and told, turn by turn.
+-- How frames are taken and answered, turn by turn.
 use Rattle.std.proofs.Common.{◌≡◌, ◌≤◌, ◌+◌, ◌-◌, ◌^◌, ℕ, Bool, true, false, inl, inr, List, [], ◌∷◌, ◌++◌, length, Option, None, Some, Result, Ok, Err, IfSome, refl, sym, ap, subst, ◌∙◌, arith}
 use Rattle.std.specs.Prelude.{IfErr}
 use Rattle.std.proofs.lemmas.List.{append-nil}
@@ -82,7 +82,7 @@ module _ {C T : Type 0} (answer : T → Reply) (makes : C → Call → T → C �
   is_left rest left (Ok false) is = inl (is.1 ∙ ap (λ (l : List ℕ). Some l) (sym is.0))
   is_left rest left (Err fault) is = inr (fault, is)
 
-  -- Telling goes on.
+  -- Answering goes on.
   pub tells_more : (old mid new : C) (queue hands rest : List (Hand T)) (hand : Hand T) (input before sent : List ℕ) (o written : Option (List ℕ)) → So old queue mid input before input sent hands → hands ≡ hand ∷ rest → o ≡ Some sent
       → IfSome o (λ b. EndsOne answer makes lacks tells fails mid hand new b written (Ok tt)) → (out : List ℕ) × So old queue new input before input out rest × (written ≡ Some out)
   tells_more old mid new queue hands rest hand input before sent o written so_far front is one =
@@ -93,7 +93,7 @@ module _ {C T : Type 0} (answer : T → Reply) (makes : C → Call → T → C �
         ends.2,
       )
 
-  -- Telling stops.
+  -- Answering stops.
   pub telling_stops : (old mid new : C) (queue hands rest : List (Hand T)) (hand : Hand T) (input before sent : List ℕ) (o left written : Option (List ℕ)) (fault : ServeFault) (result : Result (Unit {0}) ServeFault) → So old queue mid input before input sent hands → hands ≡ hand ∷ rest → o ≡ Some sent
       → IfSome o (λ b. EndsOne answer makes lacks tells fails mid hand new b written (Err fault)) → IsLeft input left → result ≡ Err fault → EndsTelling answer makes lacks tells fails old queue new input before left written result
   telling_stops old mid new queue hands rest hand input before sent o left written fault result so_far front is one unread result_is =
@@ -115,14 +115,14 @@ module _ {C T : Type 0} (answer : T → Reply) (makes : C → Call → T → C �
         written_is = same.1;
       })
 
-  -- All was told, and is flushed or not.
+  -- All frames were answered, and the replies are flushed or not.
   pub telling_ends : (old new : C) (queue hands : List (Hand T)) (input before sent : List ℕ) (left written : Option (List ℕ)) (result : Result (Unit {0}) ServeFault) → So old queue new input before input sent hands → hands ≡ [] → written ≡ Some sent
       → IfErr result (λ fault. fault ≡ Wire Device) → IsLeft input left → EndsTelling answer makes lacks tells fails old queue new input before left written result
   telling_ends old new queue hands input before sent left written (Ok done) so_far none is flushed unread = (sent, subst (λ q. So old queue new input before input sent q) none so_far, is)
   telling_ends old new queue hands input before sent left written (Err fault) so_far none is flushed unread =
       subst (λ (f : ServeFault). EndsTelling answer makes lacks tells fails old queue new input before left written (Err f)) (sym flushed) (inr (record { fault_is = refl; rest = input; sent = sent; hands = hands; went = so_far; unread = unread; written_is = is }))
 
-  -- What a turn comes to, by how its frames were taken and told.
+  -- How a turn ends, by how its frames were taken and answered.
   pub round_stops : (old mid new : C) (hands : List (Hand T)) (input before : List ℕ) (left written : Option (List ℕ)) (taken : Result Bool WireFault) (fault : ServeFault) (result : Result Bool ServeFault) → (taking : Took old mid hands input left taken)
       → ((rest : List ℕ) (l : Option (List ℕ)) → IsLeft rest l → EndsTelling answer makes lacks tells fails mid hands new rest before l written (Err fault)) → result ≡ Err fault
       → EndsRound answer makes lacks tells fails old [] new input before left written result
@@ -201,7 +201,7 @@ module _ {C T : Type 0} (answer : T → Reply) (makes : C → Call → T → C �
       let both = went_both answer makes lacks tells fails old mid new [] hands [] input before taking.rest before taking.rest t.0 (took_went old mid hands input before left (Ok false) taking) t.1 in
       record { sent = t.0; went = subst (λ r. So old [] new input before r t.0 []) taking.is_read.0 both; all = taking.is_read.1; written_is = t.2 }
 
-  -- The same of bytes that may be unknown.
+  -- The same for bytes that may be unknown.
   abbrev Tells : C → List (Hand T) → C → Option (List ℕ) → Result (Unit {0}) ServeFault → List ℕ → Type 0
   Tells mid hands new written told before = (rest : List ℕ) (l : Option (List ℕ)) → IsLeft rest l → EndsTelling answer makes lacks tells fails mid hands new rest before l written told
 
@@ -223,7 +223,7 @@ module _ {C T : Type 0} (answer : T → Reply) (makes : C → Call → T → C �
   goes old mid new hands o p left written more taking telling =
       both_facts o p (λ input. Took old mid hands input left (Ok more)) (Tells mid hands new written (Ok tt)) (Rounds old new left written (Ok more)) (λ input before t s. round_goes old mid new hands input before left written more t s) taking telling
 
-  -- Turns were taken so far, at least so many acts.
+  -- Turns were taken so far, with at least this many acts.
   pub record Turning (old now : C) (input before : List ℕ) (left written : Option (List ℕ)) (count : ℕ) : Type 0 where
     pub rest : List ℕ
     pub sent : List ℕ

@@ -1,4 +1,4 @@
--- A caller that may be asked for more before it tells what it was asked first: what becomes of a connection's frames.
+-- A caller that may be asked for more before it answers what it was asked first: what becomes of a connection's frames.
 use Rattle.std.specs.Prelude.{◌≡◌, ◌⊎◌, ℕ, ◌-◌, ◌^◌, ◌≤◌, Bool, true, false, zero, ⊤, ◌&&◌, ◌||◌, nat_le, nat_lt, List, [], ◌∷◌, ◌++◌, length, drop, Option, None, Some, Result, Ok, Err}
 use Rattle.byteorder.specs.Endian.{little_number}
 use Rattle.calls.specs.Requests.{Asks}
@@ -30,7 +30,7 @@ use Rattle.wire.specs.declared.fault.WireFault.{WireFault}
 use Rattle.wire.specs.declared.fault.WireFault.TheVariants.{Device, NoMemory}
 use Rattle.words.specs.Words.{frame_text}
 
--- Whether a call found nothing to do: no message was there, or no room in the queue.
+-- Whether a call found nothing to do: there was no message, or no room in the queue.
 abbrev pub is_timeout : KernReturn → Bool
 is_timeout SendTimedOut = true
 is_timeout RcvTimedOut = true
@@ -45,7 +45,7 @@ abbrev pub again : Call → Call
 again (call.Receive limit large name waited) = call.Receive limit large name true
 again c = c
 
--- whether a call of this bound may wait: it may where it has none, or one above 0
+-- whether a call with this bound may wait: it may if it has none, or one above 0
 abbrev pub is_patient : Option ℕ → Bool
 is_patient None = true
 is_patient (Some zero) = false
@@ -55,20 +55,20 @@ is_patient (Some milliseconds) = true
 abbrev pub left_of : Option Call → Option Call → Option ℕ → Option ℕ → MessageRequest
 left_of send receive send_timeout receive_timeout = record { send = send; receive = receive; send_timeout = send_timeout; receive_timeout = receive_timeout }
 
--- What a connection did: a frame of a content was taken in hand, or the reply of the first in hand was told.
+-- What a connection did: a frame with this content was taken in hand, or the first frame in hand was answered.
 pub data Act (T : Type 0) : Type 0 where
   took : List ℕ → Hand T → Act T
   told : Reply → Act T
 
--- An asked caller, by what it says of itself: the reply that a ticket keeps, that a call was made for a ticket, and that one wasn't
--- made since memory or room for its record is wanted.
+-- A caller that is asked, as it describes itself: the reply that a ticket keeps, that a call was made for a ticket, and
+-- that a call wasn't made because of a shortage of memory or of room for its record.
 module _ {C T : Type 0} (answer : T → Reply) (makes : C → Call → T → C → Type 0) (lacks : C → Call → C → Type 0) where
   -- A call was made once, or it wasn't made, and its reply is known.
   abbrev pub AsksOne : C → Call → Ready T → C → Type 0
   AsksOne old c (Made ticket) new = makes old c ticket new
   AsksOne old c (Known known) new = (known ≡ shortage_of c) × lacks old c new
 
-  -- The same of a call that may wait where this bound lets it: or it found nothing to do, and this is left.
+  -- The same of a call that may wait if this bound lets it: then it found nothing to do, and this is left.
   abbrev pub Tries : C → Call → Option ℕ → MessageRequest → Hand T → C → Type 0
   Tries old c bound left (Settled ready) new = AsksOne old c ready new
   Tries old c bound left (Waits rest) new = (rest ≡ left) × (is_patient bound ≡ true) × ((ticket : T) × makes old c ticket new × (timed_out (answer ticket) ≡ true))
@@ -78,7 +78,7 @@ module _ {C T : Type 0} (answer : T → Reply) (makes : C → Call → T → C �
   is_sent c (Settled (Made ticket)) = succeeded c (answer ticket)
   is_sent c hand = false
 
-  -- The calls of a mach_msg as far as they can be made now: a send, and behind a send that was done a receipt.
+  -- The calls of a mach_msg as far as they can be made now: a send, and after a send that was done a receive.
   abbrev pub Proceeds : C → MessageRequest → Option Call → Option Call → Hand T → C → Type 0
   Proceeds old m None None hand new = (hand ≡ Settled (Known (without_message Success 0 MACH_PORT_NULL))) × (new ≡ old)
   Proceeds old m (Some send) None hand new = Tries old send m.send_timeout (left_of (Some (again send)) m.receive m.send_timeout m.receive_timeout) hand new
@@ -88,7 +88,7 @@ module _ {C T : Type 0} (answer : T → Reply) (makes : C → Call → T → C �
       ⊎ ((ticket : T) × (mid : C) × makes old send ticket mid × (succeeded send (answer ticket) ≡ true)
       × Tries mid receive m.receive_timeout (left_of None (Some (again receive)) m.send_timeout m.receive_timeout) hand new)
 
-  -- What a frame asks for was done as far as it can be now. No other call waits.
+  -- What a frame asks for was done as far as it can be now. Only a mach_msg waits.
   abbrev pub TakesOne : C → Call → Hand T → C → Type 0
   TakesOne old c (Settled ready) new = AsksOne old c ready new
   TakesOne old c (Waits rest) new = ⊥
@@ -104,14 +104,14 @@ module _ {C T : Type 0} (answer : T → Reply) (makes : C → Call → T → C �
       ((asks : Request) × Asks content asks × TakesRequest old asks hand new)
       ⊎ ((known : Reply) × (hand ≡ Settled (Known known)) × (IsRefused old content known new ⊎ LacksMemory old content known new))
 
-  -- What waited went on, attempt after attempt, each with what the one before left.
+  -- What waited was tried again, attempt after attempt, each with what the one before left.
   abbrev pub GoesOn : C → MessageRequest → List MessageRequest → Ready T → C → Type 0
   GoesOn old m [] ready new = Proceeds old m m.send m.receive (Settled ready) new
   GoesOn old m (next ∷ more) ready new = (mid : C) × Proceeds old m m.send m.receive (Waits next) mid × GoesOn mid next more ready new
 
--- and further: that a ticket's reply was told, and that the store failed before
+-- and further: that a ticket's reply was given, and that the store failed before
 module _ {C T : Type 0} (answer : T → Reply) (makes : C → Call → T → C → Type 0) (lacks : C → Call → C → Type 0) (tells : C → T → C → Type 0) (fails : C → T → StoreFault → C → Type 0) where
-  -- what waits for nothing was told, or couldn't be
+  -- what waits for nothing was answered, or couldn't be
   abbrev pub IsGiven : C → Ready T → Reply → C → Type 0
   IsGiven old (Known known) said new = (said ≡ known) × (new ≡ old)
   IsGiven old (Made ticket) said new = (said ≡ answer ticket) × tells old ticket new
@@ -120,24 +120,25 @@ module _ {C T : Type 0} (answer : T → Reply) (makes : C → Call → T → C �
   IsUngiven old (Known known) fault new = ⊥
   IsUngiven old (Made ticket) fault new = fails old ticket fault new
 
-  -- What is in hand was told; what waited, behind its last attempt.
+  -- What is in hand was answered; what waited, after its last attempt.
   abbrev pub IsTold : C → Hand T → Reply → C → Type 0
   IsTold old (Settled ready) said new = IsGiven old ready said new
   IsTold old (Waits rest) said new = (more : List MessageRequest) × (ready : Ready T) × (mid : C) × GoesOn answer makes lacks old rest more ready mid × IsGiven mid ready said new
 
-  -- It couldn't be told, since the store failed.
+  -- It couldn't be answered, since the store failed.
   abbrev pub IsUntold : C → Hand T → StoreFault → C → Type 0
   IsUntold old (Settled ready) fault new = IsUngiven old ready fault new
   IsUntold old (Waits rest) fault new = (more : List MessageRequest) × (ready : Ready T) × (mid : C) × GoesOn answer makes lacks old rest more ready mid × IsUngiven mid ready fault new
 
-  -- Frames are told in the order in which they were taken. The first were in hand at the beginning, the others are at the end.
+  -- Frames are answered in the order in which they were taken. `hands` were in hand at the beginning, and `left` are at
+  -- the end.
   abbrev pub Acted : C → List (Hand T) → List (Act T) → List (Hand T) → C → Type 0
   Acted old hands [] left new = (left ≡ hands) × (new ≡ old)
   Acted old hands (took content hand ∷ acts) left new = (mid : C) × IsTaken answer makes lacks old content hand mid × Acted mid (hands ++ hand ∷ []) acts left new
   Acted old [] (told reply ∷ acts) left new = ⊥
   Acted old (hand ∷ hands) (told reply ∷ acts) left new = (mid : C) × IsTold old hand reply mid × Acted mid hands acts left new
 
--- the frames that were taken as they were read, and the replies that were told as they are written
+-- the frames that were taken, as they were read, and the replies that were given, as they are written
 abbrev pub frames_of : {T : Type 0} → List (Act T) → List ℕ
 frames_of [] = []
 frames_of (took content hand ∷ acts) = frame_text content ++ frames_of acts
@@ -153,30 +154,30 @@ abbrev pub IsLeft : List ℕ → Option (List ℕ) → Type 0
 IsLeft rest left = (left ≡ Some rest) ⊎ ((fault : WireFault) × IsReadOf rest (Err fault) left)
 
 module _ {C T : Type 0} (answer : T → Reply) (makes : C → Call → T → C → Type 0) (lacks : C → Call → C → Type 0) (tells : C → T → C → Type 0) (fails : C → T → StoreFault → C → Type 0) where
-  -- So far: of the input this rest isn't taken, and what was sent is the replies behind what was sent before.
+  -- So far: this rest of the input isn't taken, and what was sent is what was sent before and then the replies.
   pub record Went (old : C) (hands : List (Hand T)) (now : C) (input before rest sent : List ℕ) (left : List (Hand T)) : Type 0 where
     pub acts : List (Act T)
     pub acted : Acted answer makes lacks tells fails old hands acts left now
     pub read : input ≡ frames_of acts ++ rest
     pub told_is : sent ≡ before ++ replies_of acts
 
-  -- How a connection ends that has these in hand, by where it does.
+  -- How a connection that has these frames in hand ends, by where it does.
   module _ (old : C) (queue : List (Hand T)) (new : C) (input before : List ℕ) (left written : Option (List ℕ)) where
-    -- All of the input was taken and told.
+    -- All of the input was taken and answered.
     pub record TellsAll : Type 0 where
       pub sent : List ℕ
       pub went : Went old queue new input before [] sent []
       pub all : left ≡ Some []
       pub written_is : written ≡ Some sent
 
-    -- memory is wanted before anything is read
+    -- the process is out of memory before anything is read
     pub record NeverBegins (fault : WireFault) : Type 0 where
       pub fault_is : fault ≡ NoMemory
       pub same : new ≡ old
       pub unread : left ≡ Some input
       pub unwritten : written ≡ Some before
 
-    -- A frame can't be read. What was taken before is told, and nothing is called or written for what stands there.
+    -- A frame can't be read. What was taken before is answered, and nothing is called or written for what stands there.
     pub record StopsReading (fault : WireFault) : Type 0 where
       pub rest : List ℕ
       pub sent : List ℕ
@@ -184,7 +185,7 @@ module _ {C T : Type 0} (answer : T → Reply) (makes : C → Call → T → C �
       pub unreadable : IsReadOf rest (Err fault) left
       pub written_is : written ≡ Some sent
 
-    -- The store fails before the reply of the first in hand is told; nothing is written for it, and nothing more is read.
+    -- The store fails before the first frame in hand is answered; nothing is written for it, and nothing more is read.
     pub record StopsTelling (fault : StoreFault) : Type 0 where
       pub mid : C
       pub rest : List ℕ
@@ -196,7 +197,7 @@ module _ {C T : Type 0} (answer : T → Reply) (makes : C → Call → T → C �
       pub unread : IsLeft rest left
       pub written_is : written ≡ Some sent
 
-    -- the writer fails in the last reply, of which some first bytes are written
+    -- the writer fails in the last reply, of which a prefix is written
     pub record StopsWriting (fault : WireFault) : Type 0 where
       pub fault_is : fault ≡ Device
       pub mid : C
@@ -210,7 +211,7 @@ module _ {C T : Type 0} (answer : T → Reply) (makes : C → Call → T → C �
       pub unread : IsLeft rest left
       pub part : AppendsPart (Some sent) written (frame_text (reply_text reply))
 
-    -- what was told is written, and can't be flushed
+    -- the replies that were given are written, and can't be flushed
     pub record StopsFlushing (fault : WireFault) : Type 0 where
       pub fault_is : fault ≡ Device
       pub rest : List ℕ
@@ -236,7 +237,7 @@ module _ {C T : Type 0} (answer : T → Reply) (makes : C → Call → T → C �
     EndsAsked (Err (Wire fault)) = NeverBegins fault ⊎ (StopsReading fault ⊎ (StopsWriting fault ⊎ (StopsFlushing fault ⊎ StopsAtMost fault)))
     EndsAsked (Err (Store fault)) = StopsTelling fault
 
-    -- A turn is over, and the connection goes on.
+    -- A turn is over, and the connection continues.
     pub record GoesRound : Type 0 where
       pub rest : List ℕ
       pub sent : List ℕ
@@ -245,20 +246,20 @@ module _ {C T : Type 0} (answer : T → Reply) (makes : C → Call → T → C �
       pub unread : left ≡ Some rest
       pub written_is : written ≡ Some sent
 
-    -- How a turn ends: frames are taken, and told.
+    -- How a turn ends: frames are taken, and answered.
     abbrev pub EndsRound : Result Bool ServeFault → Type 0
     EndsRound (Ok true) = GoesRound
     EndsRound (Ok false) = TellsAll
     EndsRound (Err (Wire fault)) = StopsReading fault ⊎ (StopsWriting fault ⊎ StopsFlushing fault)
     EndsRound (Err (Store fault)) = StopsTelling fault
 
-    -- How the telling of all that is in hand ends.
+    -- How answering all that is in hand ends.
     abbrev pub EndsTelling : Result (Unit {0}) ServeFault → Type 0
     EndsTelling (Ok done) = (sent : List ℕ) × Went old queue new input before input sent [] × (written ≡ Some sent)
     EndsTelling (Err (Wire fault)) = StopsWriting fault ⊎ StopsFlushing fault
     EndsTelling (Err (Store fault)) = StopsTelling fault
 
-  -- How the telling of the first in hand ends.
+  -- How answering the first frame in hand ends.
   abbrev pub EndsOne : C → Hand T → C → List ℕ → Option (List ℕ) → Result (Unit {0}) ServeFault → Type 0
   EndsOne old hand new before written (Ok done) = (reply : Reply) × IsTold answer makes lacks tells fails old hand reply new × (written ≡ Some (before ++ frame_text (reply_text reply)))
   EndsOne old hand new before written (Err (Wire fault)) =
@@ -266,7 +267,7 @@ module _ {C T : Type 0} (answer : T → Reply) (makes : C → Call → T → C �
       ⊎ ((new ≡ old) × (written ≡ Some before)))
   EndsOne old hand new before written (Err (Store fault)) = IsUntold answer makes lacks tells fails old hand fault new × (written ≡ Some before)
 
-  -- Frames were taken in hand, as far as they were there: whether there may be more, or the next one can't be read.
+  -- Frames were taken in hand, as many as were there: whether there may be more, or the next one can't be read.
   abbrev pub IsRead : List ℕ → Option (List ℕ) → Result Bool WireFault → Type 0
   IsRead rest left (Ok true) = left ≡ Some rest
   IsRead rest left (Ok false) = (rest ≡ []) × (left ≡ Some [])
@@ -285,7 +286,7 @@ module _ {C T : Type 0} (answer : T → Reply) (makes : C → Call → T → C �
     pub some : IsSome (length acts) result
     pub is_read : IsRead rest left result
 
--- whether the bytes at the front are a whole frame, or a length that none has
+-- whether the bytes at the front are a whole frame, or a length that no frame has
 abbrev pub holds_frame : List ℕ → Bool
 holds_frame bytes =
     nat_le 4 (length bytes)

@@ -24,49 +24,49 @@ use Rattle.wire.specs.declared.fault.WireFault.{WireFault}
 use Rattle.wire.specs.declared.fault.WireFault.TheVariants.{Device, NoMemory}
 use Rattle.words.specs.Words.{word, frame_text}
 
--- how a call is refused where memory or room for its record is wanted
+-- how a call is refused where memory, or room for its record, runs out
 abbrev pub shortage_of : Call → Reply
 shortage_of (call.Send message) = without_message SendNoBuffer 0 MACH_PORT_NULL
 shortage_of (call.Receive limit large name waited) = without_message RcvHeaderErrorKernel 0 MACH_PORT_NULL
 shortage_of c = reply.Refused (number_of_call c) ResourceShortage
 
--- a step of the machine, or, where memory or room for a record is wanted, nothing but that refusal
+-- a step of the machine, or, where memory or room for a record runs out, nothing but that refusal
 abbrev pub StepOrShortage : State → ℕ → Call → Reply → State → Type 0
 StepOrShortage old space c answer new =
     Step old space c answer new ⊎ ((answer ≡ shortage_of c) × (new ≡ old))
 
--- A send, and where its code is 0 a receipt: two calls, of which the last that was made is answered.
+-- A send, and a receive if the send's code is 0: two calls, of which the last that was made is answered.
 abbrev pub AnswersBoth : {C : Type 0} → (C → Call → Reply → C → Type 0) → C → Call → Call → Reply → C → Type 0
 AnswersBoth {C} answers old send receive answer new =
     (sent : Reply) × (mid : C) × answers old send sent mid × MatchBool (succeeded send sent) (answers mid receive answer new) ((answer ≡ sent) × (new ≡ mid))
 
--- a mach_msg that asks for a send, a receipt, both or neither was answered so
+-- a mach_msg that asks for a send, a receive, both or neither got this answer
 abbrev pub AnswersMessage : {C : Type 0} → (C → Call → Reply → C → Type 0) → C → Option Call → Option Call → Reply → C → Type 0
 AnswersMessage answers old None None answer new = (answer ≡ without_message Success 0 MACH_PORT_NULL) × (new ≡ old)
 AnswersMessage answers old (Some send) None answer new = answers old send answer new
 AnswersMessage answers old None (Some receive) answer new = answers old receive answer new
 AnswersMessage answers old (Some send) (Some receive) answer new = AnswersBoth answers old send receive answer new
 
--- what a frame asks for was answered so
+-- what a frame asks for got this answer
 abbrev pub AnswersRequest : {C : Type 0} → (C → Call → Reply → C → Type 0) → C → Request → Reply → C → Type 0
 AnswersRequest answers old (request.One c) answer new = answers old c answer new
 AnswersRequest answers old (request.Message m) answer new = AnswersMessage answers old m.send m.receive answer new
 AnswersRequest answers old (request.Answered code) answer new = (answer ≡ without_message code 0 MACH_PORT_NULL) × (new ≡ old)
 
--- a frame whose content asks for something was answered so
+-- a frame whose content asks for something got this answer
 abbrev pub IsServed : {C : Type 0} → (C → Call → Reply → C → Type 0) → C → List ℕ → Reply → C → Type 0
 IsServed answers old content answer new = (asks : Request) × Asks content asks × AnswersRequest answers old asks answer new
 
--- a frame whose content asks for nothing is answered so, and nothing changes
+-- a frame whose content asks for nothing gets this answer, and nothing changes
 abbrev pub IsRefused : {C : Type 0} → C → List ℕ → Reply → C → Type 0
 IsRefused old content answer new = ((asks : Request) → Asks content asks → ⊥) × (answer ≡ refused_of (little_number 4 content) InvalidArgument) × (new ≡ old)
 
--- a send for whose message memory is wanted is answered so, and nothing changes
+-- a send for whose message there is no memory gets this answer, and nothing changes
 abbrev pub LacksMemory : {C : Type 0} → C → List ℕ → Reply → C → Type 0
 LacksMemory old content answer new =
     ((arguments : List ℕ) × (content ≡ word 19 ++ arguments) × IsSend arguments) × (answer ≡ without_message SendNoBuffer 0 MACH_PORT_NULL) × (new ≡ old)
 
--- A frame's content was answered so.
+-- A frame with this content got this answer.
 abbrev pub IsAnswered : {C : Type 0} → (C → Call → Reply → C → Type 0) → C → List ℕ → Reply → C → Type 0
 IsAnswered answers old content answer new = IsServed answers old content answer new ⊎ (IsRefused old content answer new ⊎ LacksMemory old content answer new)
 
@@ -74,7 +74,7 @@ IsAnswered answers old content answer new = IsServed answers old content answer 
 abbrev pub Exchanges : Type 0
 Exchanges = List (List ℕ × Reply)
 
--- the caller answered these, one after another, and was given time behind each
+-- the caller answered these, one after another, and was given time after each
 abbrev pub Answers : {C : Type 0} → (C → Call → Reply → C → Type 0) → (C → C → Type 0) → C → Exchanges → C → Type 0
 Answers answers rests old [] new = new ≡ old
 Answers {C} answers rests old (exchange ∷ exchanges) new =
@@ -89,8 +89,8 @@ abbrev pub replies_text : Exchanges → List ℕ
 replies_text [] = []
 replies_text (exchange ∷ exchanges) = frame_text (reply_text exchange.1) ++ replies_text exchanges
 
--- All of the input was served: it is the frames of these exchanges, nothing of it is left, and their replies
--- were written behind what was written before.
+-- All of the input was served: it is the frames of these exchanges, nothing of it is left, and their replies were
+-- written after what was written before.
 pub record ServesAll {C : Type 0} (answers : C → Call → Reply → C → Type 0) (rests : C → C → Type 0) (old new : C) (input before : List ℕ) (left written : Option (List ℕ)) : Type 0 where
   pub exchanges : Exchanges
   pub calls : Answers answers rests old exchanges new
@@ -98,8 +98,8 @@ pub record ServesAll {C : Type 0} (answers : C → Call → Reply → C → Type
   pub all : left ≡ Some []
   pub replies : written ≡ Some (before ++ replies_text exchanges)
 
--- How the calls that a frame asks for fail in the store: a call did, where the receipt of a mach_msg is called only after a
--- send whose code is 0.
+-- How the calls that a frame asks for fail in the store: one of them did. The receive of a mach_msg is called only
+-- after a send whose code is 0.
 abbrev pub FailsBoth : {C : Type 0} → (C → Call → Reply → C → Type 0) → (C → Call → StoreFault → C → Type 0) → C → Call → Call → StoreFault → C → Type 0
 FailsBoth {C} answers fails old send receive fault new =
     fails old send fault new ⊎ ((sent : Reply) × (mid : C) × answers old send sent mid × (succeeded send sent ≡ true) × fails mid receive fault new)
@@ -115,11 +115,11 @@ FailsRequest answers fails old (request.One c) fault new = fails old c fault new
 FailsRequest answers fails old (request.Message m) fault new = FailsMessage answers fails old m.send m.receive fault new
 FailsRequest answers fails old (request.Answered code) fault new = ⊥
 
--- what a frame's content asks for failed so in the store
+-- what a frame's content asks for failed in the store with this fault
 abbrev pub IsFailed : {C : Type 0} → (C → Call → Reply → C → Type 0) → (C → Call → StoreFault → C → Type 0) → C → List ℕ → StoreFault → C → Type 0
 IsFailed answers fails old content fault new = (asks : Request) × Asks content asks × FailsRequest answers fails old asks fault new
 
--- Some of the input was served: the frames of these exchanges stood at its front, the rest is behind them, and what was
+-- Some of the input was served: the frames of these exchanges stood at its front, followed by the rest, and what was
 -- written before and their replies is all that is sent.
 pub record Exchanged {C : Type 0} (answers : C → Call → Reply → C → Type 0) (rests : C → C → Type 0) (old now : C) (input before rest sent : List ℕ) : Type 0 where
   pub exchanges : Exchanges
@@ -127,16 +127,16 @@ pub record Exchanged {C : Type 0} (answers : C → Call → Reply → C → Type
   pub read : input ≡ requests_text exchanges ++ rest
   pub replies : sent ≡ before ++ replies_text exchanges
 
--- A connection that ends with a fault, by where it does.
+-- A connection that ends with a fault, by where it ends.
 module _ {C : Type 0} (answers : C → Call → Reply → C → Type 0) (fails : C → Call → StoreFault → C → Type 0) (rests : C → C → Type 0) (breaks : C → StoreFault → C → Type 0) (old new : C) (input before : List ℕ) (left written : Option (List ℕ)) where
-  -- memory for the replies is wanted before anything is read
+  -- there is no memory for the replies before anything is read
   pub record NeverBegins (fault : WireFault) : Type 0 where
     pub fault_is : fault ≡ NoMemory
     pub same : new ≡ old
     pub unread : left ≡ Some input
     pub unwritten : written ≡ Some before
 
-  -- behind some exchanges no frame can be read; nothing is called or written for what stands there
+  -- after some exchanges no frame can be read; nothing is called or written for what stands there
   pub record StopsReading (fault : WireFault) : Type 0 where
     pub rest : List ℕ
     pub sent : List ℕ
@@ -144,8 +144,8 @@ module _ {C : Type 0} (answers : C → Call → Reply → C → Type 0) (fails :
     pub unreadable : IsReadOf rest (Err fault) left
     pub written_is : written ≡ Some sent
 
-  -- behind some exchanges a frame is read whose calls fail in the store; nothing is written for it, and nothing behind it is
-  -- read
+  -- after some exchanges a frame is read whose calls fail in the store; nothing is written for it, and nothing after it
+  -- is read
   pub record StopsCalling (fault : StoreFault) : Type 0 where
     pub mid : C
     pub rest : List ℕ
@@ -158,8 +158,8 @@ module _ {C : Type 0} (answers : C → Call → Reply → C → Type 0) (fails :
     pub failed : IsFailed answers fails mid content fault new
     pub written_is : written ≡ Some sent
 
-  -- the writer fails in the last reply, of which some first bytes are written, or all and it can't be flushed; nothing
-  -- behind its frame is read
+  -- the writer fails in the last reply, of which a prefix is written, or all of it, and it can't be flushed; nothing
+  -- after its frame is read
   pub record StopsWriting (fault : WireFault) : Type 0 where
     pub fault_is : fault ≡ Device
     pub mid : C
@@ -174,8 +174,8 @@ module _ {C : Type 0} (answers : C → Call → Reply → C → Type 0) (fails :
     pub answered : IsAnswered answers mid content answer new
     pub part : AppendsPart (Some sent) written (frame_text (reply_text answer))
 
-  -- The caller fails in the store in the time after a reply, which was written whole; nothing behind its frame is read, and
-  -- nothing more is written.
+  -- The caller fails in the store in the time after a reply, which was written whole; nothing after its frame is read,
+  -- and nothing more is written.
   pub record StopsResting (fault : StoreFault) : Type 0 where
     pub mid : C
     pub rest : List ℕ

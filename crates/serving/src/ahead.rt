@@ -8,7 +8,8 @@ use words::take_word;
 
 /// A reader that reads ahead.
 pub trait Ahead: Read {
-    /// Whether the next frame was read ahead, so that taking it waits for nobody. One whose length is wrong counts as there.
+    /// Whether the next frame was read ahead, so that taking it waits for nothing. One whose length is wrong counts
+    /// too.
     fn has_frame(&self) -> bool;
 }
 

@@ -12,7 +12,7 @@ use calls::MessageRequest;
 use ipc_model::{Call, Reply};
 use journal::StoreFault;
 
-/// What a frame comes to whose calls were made.
+/// The outcome of a frame whose calls were made.
 #[derive(Drop)]
 pub enum Ready<T> {
     /// Its reply is known.
@@ -24,46 +24,46 @@ pub enum Ready<T> {
 /// A frame that was read and isn't answered yet.
 #[derive(Drop)]
 pub enum Hand<T> {
-    /// It only waits to be told.
+    /// It only waits to be acknowledged.
     Settled(Ready<T>),
     /// The first of these calls found nothing to do, and is made again after a wait.
     Waits(MessageRequest),
 }
 
-/// Who makes calls, and may be asked for more before it tells what it was asked first.
+/// Makes calls, and may be asked for more of them before it gives the reply to the first.
 pub trait Asker {
-    /// A call that was made, whose reply isn't told yet.
+    /// A call that was made, whose reply isn't given yet.
     type Ticket: Drop;
 
-    /// How long a call still waits.
+    /// How long a call may still wait.
     type Patience: Drop;
 
     /// The reply that a ticket keeps.
     ghost answer: { Self.Ticket → Reply };
 
-    /// What it is after a call for which it gave a ticket.
+    /// What it is after a call for which it returned a ticket.
     ghost makes: { Self → Call → Self.Ticket → Self → Type 0 };
 
-    /// What it is after a call that it didn't make, since memory or room for its record was wanted, or its task has gone.
+    /// What it is after a call that it didn't make, since memory or room for the record ran out, or its task has gone.
     ghost lacks: { Self → Call → Self → Type 0 };
 
-    /// What it is after a ticket's reply was told.
+    /// What it is after it gave a ticket's reply.
     ghost tells: { Self → Self.Ticket → Self → Type 0 };
 
-    /// How the store may fail before a ticket's reply is told, and what it is afterwards.
+    /// How the store may fail before a ticket's reply is given, and what it is afterwards.
     ghost fails: { Self → Self.Ticket → StoreFault → Self → Type 0 };
 
-    /// Makes a call. Where it finds nothing to do and may wait, its wait begins. `None`: memory or room for its record is wanted, or its
-    /// task has gone, and it isn't made.
+    /// Makes a call. If the call finds nothing to do and may wait, its wait begins. `None`: it isn't made, since memory
+    /// or room for its record ran out, or its task has gone.
     fn submit(&mut self, call: &Call, may_wait: bool) -> Option<Self::Ticket>
         ensures makes { IfSome result (λ ticket. makes self.old call.now ticket self.new) }
         ensures lacks { IfNone result (lacks self.old call.now self.new) };
 
-    /// Whether a ticket's call was done: its code is 0.
+    /// Whether a ticket's call was done, which is code 0.
     fn is_done(&self, ticket: &Self::Ticket) -> bool
         ensures { (call : Call) → result ≡ succeeded call (answer ticket.now) };
 
-    /// Whether a ticket's call found nothing to do: no message was there, or no room in the queue.
+    /// Whether a ticket's call found nothing to do: there was no message, or no room in the queue.
     fn is_timed_out(&self, ticket: &Self::Ticket) -> bool
         ensures { result ≡ timed_out (answer ticket.now) };
 
@@ -74,9 +74,10 @@ pub trait Asker {
         ensures fits { IfOk result (λ reply. length (reply_text reply) ≤ MAX_FRAME_CONTENT) }
         ensures fails { IfErr result (λ fault. fails self.old ticket fault self.new) };
 
-    /// What is left of a wait of so many milliseconds that begins now, or of one without a bound.
+    /// What is left of a wait that begins now, of this many milliseconds or without a bound.
     fn patience(&self, bound: Option<u32>) -> Self::Patience;
 
-    /// Waits until the call whose wait began last may find something to do. Says whether it may still wait afterwards.
+    /// Waits until the call whose wait began last may find something to do. Returns whether it may still wait
+    /// afterwards.
     fn wait(&self, patience: &Self::Patience) -> bool;
 }

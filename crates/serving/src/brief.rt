@@ -5,7 +5,7 @@ ghost use Rattle.ipc_model.specs.texts.Texts.{reply_text};
 use ipc_model::Reply;
 use std::marker::Model;
 
-/// A reply of a few words, which fits in a frame. It is what a call is answered that isn't made.
+/// A reply of a few words, which fits in a frame. It is the answer to a call that isn't made.
 #[derive(Drop)]
 pub struct Brief {
     reply: Reply,

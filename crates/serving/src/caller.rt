@@ -11,7 +11,7 @@ use ipc_model::{Call, Reply};
 use journal::StoreFault;
 use std::alloc::Global;
 
-/// Who makes the calls of a connection.
+/// Makes the calls of a connection.
 pub trait Caller {
     /// What it may answer to a call, and what it is afterwards.
     ghost answers: { Self → Call → Reply → Self → Type 0 };
@@ -25,21 +25,21 @@ pub trait Caller {
     /// How that may fail in the store, and what it is afterwards.
     ghost breaks: { Self → StoreFault → Self → Type 0 };
 
-    /// Makes a call. A reply is given only when all that it tells of is stored, and it
-    /// fits in a frame.
+    /// Makes a call. A reply is given only when all that it reports is stored, and it fits in a frame.
     fn call(&mut self, call: Call) -> Result<Reply, StoreFault>
         ensures answers { IfOk result (λ reply. answers self.old call reply self.new) }
         ensures fits { IfOk result (λ reply. length (reply_text reply) ≤ MAX_FRAME_CONTENT) }
         ensures fails { IfErr result (λ fault. fails self.old call fault self.new) };
 
-    /// Takes time after a frame's reply was written, for what no reply waits for. Answers whether memory was there for it.
+    /// Takes time after a frame's reply was written, for what no reply waits for. Returns whether there was memory for
+    /// it.
     fn rest(&mut self) -> Result<bool, StoreFault>
         ensures rests { OnOk result (rests self.old self.new) }
         ensures breaks { IfErr result (λ fault. breaks self.old fault self.new) };
 }
 
 #[tactic(auto, using(crate::proofs::Answered::message_fits, crate::proofs::Answered::refused_fits))]
-/// The answer to a call that memory or room for its record is wanted for. It takes no memory.
+/// The answer to a call for which memory or room for the record ran out. It takes no memory.
 pub fn shortage(alloc: Global, call: &Call) -> Reply
     ensures answer { result ≡ shortage_of call.now }
     ensures unrecorded { has_record call.now result ≡ false }

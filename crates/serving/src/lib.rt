@@ -1,4 +1,4 @@
-//! Frames in, each call made, replies out, over whoever makes the calls.
+//! Frames in, each call made, replies out, generic in what makes the calls.
 #![tactic(auto)]
 
 mod ahead;

@@ -21,15 +21,16 @@ use wire::{Frame, WireFault, read_frame, write_frame};
 /// How many frames of a connection are in hand at most.
 pub const MOST_IN_HAND: usize = 64;
 
-/// Serves one connection up to the end of its input. All frames that were read ahead are taken before the first of them is told,
-/// as far as `MOST_IN_HAND` and a call that has to wait let them; replies are written in the order of their frames.
+/// Serves one connection up to the end of its input. All frames that were read ahead are taken in hand before the first
+/// of them is answered, up to `MOST_IN_HAND` and up to a call that has to wait; replies are written in the order of
+/// their frames.
 pub fn serve_asked<R: Ahead, W: Write, A: Asker>(
     alloc: Global,
     reader: &mut R,
     writer: &mut W,
     asker: &mut A,
 ) -> Result<(), ServeFault>
-    // All that was read, called, told and written, by how it ended.
+    // All that was read, called, acknowledged and written, by how it ended.
     ensures ended { IfSome (R.remaining reader.old) (λ input. IfSome (W.contents writer.old) (λ before.
         EndsAsked A.answer A.makes A.lacks A.tells A.fails asker.old [] asker.new input before (R.remaining reader.new) (W.contents writer.new) result)) }
 {
@@ -48,7 +49,7 @@ pub fn serve_asked<R: Ahead, W: Write, A: Asker>(
     Err(ServeFault::Wire(WireFault::Device))
 }
 
-/// Takes the frames that were read ahead, or the next one, and tells them. Says whether the input goes on.
+/// Takes the frames that were read ahead, or the next one, and answers them. Returns whether the input goes on.
 fn serve_round<R: Ahead, W: Write, A: Asker>(
     alloc: Global,
     reader: &mut R,
@@ -71,7 +72,7 @@ fn serve_round<R: Ahead, W: Write, A: Asker>(
     Ok(taken?)
 }
 
-/// Takes the frames that were read ahead, or the next one. Says whether the input goes on.
+/// Takes the frames that were read ahead, or the next one. Returns whether the input goes on.
 fn take_frames<R: Ahead, A: Asker>(
     alloc: Global,
     reader: &mut R,
@@ -101,7 +102,7 @@ fn take_frames<R: Ahead, A: Asker>(
     Ok(true)
 }
 
-/// Whether what is in hand is to be made again after a wait.
+/// Whether a frame in hand has calls that are to be made again after a wait.
 fn waits<T>(hand: &Hand<T>) -> bool {
     match hand {
         Hand::Settled(_) => false,
@@ -109,7 +110,7 @@ fn waits<T>(hand: &Hand<T>) -> bool {
     }
 }
 
-/// Tells all that is in hand, in order, and flushes the writer.
+/// Answers all that is in hand, in order, and flushes the writer.
 fn tell_all<W: Write, A: Asker>(
     alloc: Global,
     writer: &mut W,
@@ -130,7 +131,7 @@ fn tell_all<W: Write, A: Asker>(
     flush(writer)
 }
 
-/// Tells the first in hand. What waits doesn't hold back what was told before.
+/// Answers the first frame in hand. A frame that waits doesn't hold back the replies before it.
 fn tell_one<W: Write, A: Asker>(
     alloc: Global,
     writer: &mut W,

@@ -44,8 +44,8 @@ impl From<StoreFault> for ServeFault {
     }
 }
 
-/// Serves one connection up to the end of its input: reads frame by frame, and writes the reply of each before
-/// the next is read. Behind each reply the caller is given time.
+/// Serves one connection up to the end of its input: reads frame by frame, and writes the reply of each before the next
+/// is read. After each reply the caller is given time.
 pub fn serve<R: Read, W: Write, C: Caller>(
     alloc: Global,
     reader: &mut R,
@@ -74,8 +74,8 @@ pub fn serve<R: Read, W: Write, C: Caller>(
     Err(ServeFault::Wire(WireFault::Device))
 }
 
-/// Makes the calls that a frame asks for, and writes the reply into the other frame. A frame that asks for nothing is
-/// answered so.
+/// Makes the calls that a frame asks for, and writes the reply into the other frame. A frame that asks for nothing gets
+/// the reply for that.
 fn answer<C: Caller>(
     alloc: Global,
     caller: &mut C,
@@ -142,7 +142,7 @@ fn answer_message<C: Caller>(
     }
 }
 
-/// Makes a send, and where it is done a receipt.
+/// Makes a send and, if it is done, a receive.
 fn send_and_receive<C: Caller>(
     caller: &mut C,
     send: Call,
@@ -169,7 +169,7 @@ pub(crate) fn no_call(alloc: Global, number: u32) -> Reply
     Reply::refused(alloc, number, KernReturn::InvalidArgument)
 }
 
-/// What `mach_msg` answers where no message is told of.
+/// The answer of `mach_msg` that reports no message.
 pub(crate) fn without_message(alloc: Global, code: KernReturn) -> Reply
     ensures answer { result ≡ receiving.without_message code 0 MACH_PORT_NULL }
     ensures fits { length (reply_text result) ≤ MAX_FRAME_CONTENT }

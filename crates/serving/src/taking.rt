@@ -17,7 +17,8 @@ use ipc_model::Call;
 use std::alloc::Global;
 use wire::Frame;
 
-/// Takes a frame in hand: makes its calls as far as they can be made now. A frame that asks for nothing is answered so.
+/// Takes a frame in hand: makes its calls as far as they can be made now. A frame that asks for nothing gets the reply
+/// for that.
 pub(crate) fn take_frame<A: Asker>(alloc: Global, asker: &mut A, request: &Frame) -> Hand<A::Ticket>
     ensures { IsTaken A.answer A.makes A.lacks asker.old request.now.content result asker.new }
 {
@@ -31,14 +32,14 @@ pub(crate) fn take_frame<A: Asker>(alloc: Global, asker: &mut A, request: &Frame
     }
 }
 
-/// The code alone that a `mach_msg` is answered where no message is told of.
+/// The answer of a `mach_msg` that has only a code and reports no message.
 fn known_code<T>(alloc: Global, code: KernReturn) -> Ready<T>
     ensures { result ≡ ready.Known (receiving.without_message code 0 MACH_PORT_NULL) }
 {
     Ready::Known(Brief::new(without_message(alloc, code)))
 }
 
-/// The answer to a call that memory or room for its record is wanted for.
+/// The answer to a call for which memory or room for the record ran out.
 fn lacking<T>(alloc: Global, call: &Call) -> Ready<T>
     ensures { result ≡ ready.Known (shortage_of call.now) }
 {
@@ -56,7 +57,7 @@ fn take_request<A: Asker>(alloc: Global, asker: &mut A, asked: Request) -> Hand<
     }
 }
 
-/// Makes a call that waits for nothing.
+/// Makes a call that doesn't wait.
 fn ask_one<A: Asker>(alloc: Global, asker: &mut A, call: &Call) -> Ready<A::Ticket>
     ensures { AsksOne A.answer A.makes A.lacks asker.old call.now result asker.new }
 {
@@ -66,8 +67,8 @@ fn ask_one<A: Asker>(alloc: Global, asker: &mut A, call: &Call) -> Ready<A::Tick
     }
 }
 
-/// Makes the calls of a `mach_msg` as far as they can be made now. One that finds nothing to do is left to be made again, where it
-/// may wait.
+/// Makes the calls of a `mach_msg` as far as they can be made now. One that finds nothing to do and may wait is left to
+/// be made again.
 pub(crate) fn proceed<A: Asker>(
     alloc: Global,
     asker: &mut A,
@@ -119,7 +120,7 @@ fn send_now<A: Asker>(
     }
 }
 
-/// Makes the receipt of a `mach_msg`.
+/// Makes the receive of a `mach_msg`.
 fn receive_now<A: Asker>(
     alloc: Global,
     asker: &mut A,
@@ -135,7 +136,7 @@ fn receive_now<A: Asker>(
     }
 }
 
-/// Makes the send of a `mach_msg`, and behind one that is done its receipt.
+/// Makes the send of a `mach_msg` and, if it is done, the receive.
 fn send_and_receive<A: Asker>(
     alloc: Global,
     asker: &mut A,
@@ -184,7 +185,7 @@ pub(crate) fn make_last<A: Asker>(
     }
 }
 
-/// Makes a send, and behind one that is done a receipt, none of which waits.
+/// Makes a send and, if it is done, a receive; neither waits.
 fn make_both<A: Asker>(
     alloc: Global,
     asker: &mut A,
@@ -225,7 +226,7 @@ fn left<T>(send: Option<Call>, receive: Option<Call>, bounds: Bounds) -> Hand<T>
     })
 }
 
-/// Makes a call. One that finds nothing to do, and may wait, comes back as it is to be made again.
+/// Makes a call. If it finds nothing to do and may wait, it comes back to be made again.
 fn try_call<A: Asker>(
     alloc: Global,
     asker: &mut A,
@@ -251,7 +252,7 @@ fn try_call<A: Asker>(
     Err(again(call))
 }
 
-/// Whether a call of this bound may wait.
+/// Whether a call with this bound may wait.
 fn is_patient(bound: Option<u32>) -> bool
     ensures { result ≡ is_patient bound }
 {

@@ -11,8 +11,8 @@ use ipc_model::Reply;
 use journal::StoreFault;
 use std::alloc::Global;
 
-/// The reply to what is in hand, once it can be told. What waits is made again until it finds something to do, or may wait no
-/// longer.
+/// The reply to a frame in hand, once it can be given. A call that waits is made again until it finds something to do,
+/// or may wait no longer.
 pub(crate) fn tell<A: Asker>(
     alloc: Global,
     asker: &mut A,
@@ -31,7 +31,7 @@ pub(crate) fn tell<A: Asker>(
     }
 }
 
-/// The reply to what waits for nothing.
+/// The reply to a frame that waits for nothing.
 fn give<A: Asker>(asker: &mut A, ready: Ready<A::Ticket>) -> Result<Reply, StoreFault>
     ensures given { IfOk result (λ reply. IsGiven A.answer A.makes A.lacks A.tells A.fails asker.old ready reply asker.new) }
     ensures ungiven { IfErr result (λ fault. IsUngiven A.answer A.makes A.lacks A.tells A.fails asker.old ready fault asker.new) }
@@ -43,7 +43,8 @@ fn give<A: Asker>(asker: &mut A, ready: Ready<A::Ticket>) -> Result<Reply, Store
     }
 }
 
-/// Makes what waits again and again, until it finds something to do or may wait no longer. A send's wait and its receipt's are two.
+/// Makes waiting calls again and again, until they find something to do or may wait no longer. A send's wait and its
+/// receive's are two.
 fn go_on<A: Asker>(alloc: Global, asker: &mut A, message: MessageRequest) -> Ready<A::Ticket>
     ensures { (more : List MessageRequest) × GoesOn A.answer A.makes A.lacks asker.old message more result asker.new }
 {
@@ -65,7 +66,7 @@ fn go_on<A: Asker>(alloc: Global, asker: &mut A, message: MessageRequest) -> Rea
     make_last(alloc, asker, rest)
 }
 
-/// What is left of a wait behind an attempt: a receipt's begins anew behind its send's.
+/// What is left of a wait after an attempt: a receive's wait begins anew after its send's.
 fn patience_behind<A: Asker>(
     asker: &A,
     patience: A::Patience,

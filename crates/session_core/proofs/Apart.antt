@@ -1,4 +1,4 @@
--- No place belongs to two sessions of other numbers.
+-- No place belongs to two sessions with different numbers.
 use Rattle.std.proofs.Common.{◌≡◌, ◌≢◌, ◌⊎◌, ℕ, zero, suc, ◌+◌, ◌<◌, ◌≤◌, List, [], ◌∷◌, ◌++◌, length, Some, refl, sym, subst, ◌∙◌, inl, inr, arith}
 use Rattle.std.specs.Prelude.{AllPairs, option_map, slice_get, slice_index_or}
 use Rattle.std.proofs.lemmas.List.{append-nil}
@@ -39,7 +39,7 @@ got_of_two (x ∷ xs) ys (suc k) place at = go (got_of_two xs ys k place at)
 abbrev pub AreForeign : List Entry → ℕ → List ℕ → Type 0
 AreForeign entries number places = (k place : ℕ) → slice_get places k ≡ Some place → option_map (λ e. e.session) (slice_get entries place) ≡ Some number → ⊥
 
--- A session's places beside those of others.
+-- A session's places and those of others.
 pub apart_beside : (entries : List Entry) (number least end : ℕ) (places others : List ℕ) → RiseWithin least end places → AreOwn entries number places → AreForeign entries number others → AllPairs (λ one other. one ≢ other) others
     → AllPairs (λ one other. one ≢ other) (places ++ others)
 apart_beside entries number least end [] others rise own foreign apart = apart
@@ -53,7 +53,7 @@ apart_beside entries number least end (place ∷ places) others rise own foreign
 pub none_apart : AllPairs (λ (one : ℕ) (other : ℕ). one ≢ other) []
 none_apart i j d before within = absurd (omega (arith, within))
 
--- places of a session of another number
+-- places of a session with another number
 pub foreign_to : (entries : List Entry) (number other : ℕ) (places : List ℕ) → number ≢ other → AreOwn entries other places → AreForeign entries number places
 foreign_to entries number other places differ own k place at there = differ (some_is number other (sym there ∙ own k place at))
 
@@ -65,7 +65,7 @@ two_apart entries number other least end lower upper one two differ rise own ris
     apart_beside entries number least end one.places (two.places ++ []) rise own
     (subst (AreForeign entries number) (sym (append-nil two.places)) (foreign_to entries number other two.places differ own_too)) second
 
--- places of several sessions of other numbers
+-- places of several sessions with other numbers
 pub none_foreign : (entries : List Entry) (number : ℕ) → AreForeign entries number []
 none_foreign entries number k place at there = cc at
 

@@ -34,7 +34,7 @@ module _ (base : State) (old new : KernelValue) (entries : List Entry) (opened e
   more = subst (Grows base opened earlier taken taken (records_of entries) older old.older old new) (sym (records_after entries number space c ticket))
       (grown base opened earlier taken taken (records_of entries) older old.older old new core.applied core.counts core.waits space c ticket gives (has_record c ticket.answer) refl)
 
-  -- what is kept stays so
+  -- the core stays valid
   pub core_after : IsCore base new after opened earlier taken older
   core_after = record {
     applied = more.all;

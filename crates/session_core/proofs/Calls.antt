@@ -1,4 +1,4 @@
--- What a call makes of its session.
+-- How a call changes its session.
 use Rattle.std.proofs.Common.{◌≡◌, ℕ, ◌+◌, ◌<◌, ◌≤◌, Bool, true, false, List, [], ◌∷◌, ◌++◌, length, take, Some, refl, sym, ap, subst, ◌∙◌, inl, inr, arith, length-append}
 use Rattle.std.specs.Prelude.{if◌then◌else◌, option_map, slice_get}
 use Rattle.std.proofs.lemmas.List.{append-nil}
@@ -50,7 +50,7 @@ module _ (base : State) (old : SessionValue) (c : Call) (ticket : TicketValue) (
   there : has_record c ticket.answer ≡ true → slice_get past.entries old_made ≡ Some (entry_by old.number old.task.space c ticket.answer)
   there is = (λ i. slice_get (grew_by true is i) (did.old_counted i)) ∙ got_pushed did.before (entry_by old.number old.task.space c ticket.answer)
 
-  -- one with a record
+  -- a call with a record
   pub recorded_did : old_made < length past.entries → Did base old (called c ticket.answer) (calling old past old.task.space (old.task.places ++ old_made ∷ []))
   recorded_did grew =
       let is = is_recorded (has_record c ticket.answer) refl grew in
@@ -75,7 +75,7 @@ module _ (base : State) (old : SessionValue) (c : Call) (ticket : TicketValue) (
   recorded_own grew own =
       own_more past.entries old.number old.task.places old_made (ap (option_map (λ (e : Entry). e.session)) (there (is_recorded (has_record c ticket.answer) refl grew))) (own_further old.past.entries past.entries old.number old.task.places begins own)
 
-  -- and one without
+  -- and a call without a record
   pub answered_did : length past.entries ≤ old_made → Did base old (called c ticket.answer) (calling old past (space_after old.task.space c ticket.answer) old.task.places)
   answered_did none =
       let is = not_recorded (has_record c ticket.answer) refl none in
@@ -116,7 +116,7 @@ module _ (base : State) (old : SessionValue) (c : Call) (ticket : TicketValue) (
     | inr same ↦ answered same ∙ counted ∙ sym (answered_count same)
   ]
 
-  -- Its session is one still, in the space and with the places that its card has then.
+  -- Its session is still a session, in the space and with the places that its card then has.
   pub called_session : (amount number space told more : ℕ) (tickets places : List ℕ) → number ≡ old.number → told ≡ old.task.told → tickets ≡ old.task.tickets ++ length past.entries ∷ [] → (old_made < length past.entries → (space ≡ old.task.space) × (places ≡ old.task.places ++ old_made ∷ []) × (more ≡ amount + 1))
       → (length past.entries ≤ old_made → (space ≡ space_after old.task.space c ticket.answer) × (places ≡ old.task.places) × (more ≡ amount)) → IsSession base old amount
       → IsSession base (session_of number space told tickets places past) more × Did base old (called c ticket.answer) (session_of number space told tickets places past)

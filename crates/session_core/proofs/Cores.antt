@@ -1,4 +1,4 @@
--- What is kept under the lock of the kernel, as it changes.
+-- What the lock of the kernel protects, as it changes.
 use Rattle.std.proofs.Common.{◌≡◌, ◌⊎◌, ℕ, ◌≤◌, Bool, true, false, List, [], ◌∷◌, length, Option, None, Some, refl, sym, ap, subst, ◌∙◌, inl, inr, arith}
 use Rattle.std.specs.Prelude.{Result, Ok, Err, IfOk, OnOk, OnErr, MatchOption, max, option_map, ◌++◌, if◌then◌else◌}
 use Rattle.std.proofs.lemmas.List.{append-nil, length-map}
@@ -36,7 +36,7 @@ kept_some P past kept is holds = kept_entries P past kept.entries (ap (option_ma
 pub core_history : (base : State) (half : KernelValue) (entries : List Entry) (opened earlier taken older : ℕ) → IsCore base half entries opened earlier taken older → IsHistory base entries
 core_history base half entries opened earlier taken older core = record { state = half.kernel; run = core.applied.run }
 
--- the history once more
+-- the history is kept once more
 pub again_history : {E : Type 0} (base : State) (past : PastValue) (r : Result PastValue E) → IsHistory base past.entries → IfOk r (λ p. p ≡ record past { read = 0 }) → IfOk r (λ p. IsHistory base p.entries)
 again_history base past (Ok p) history is = subst (λ (v : PastValue). IsHistory base v.entries) (sym is) history
 again_history base past (Err e) history is = tt
@@ -112,7 +112,7 @@ applied_call base old new kept opened earlier taken older number space c core (O
     subst (λ (n : ℕ). Applies base number space seen c ticket mine n new.row.made) counted (applies base old new kept opened earlier taken older number space c ticket core gives seen mine begins (same ∙ is))
 applied_call base old new kept opened earlier taken older number space c core (Err fault) seen after mine made counted gives is same begins = tt
 
--- One that wasn't made changes nothing, but what its session has seen.
+-- A call that wasn't made changes nothing except what its session has seen.
 pub unapplied_call : {E : Type 0} (base : State) (old new : KernelValue) (past : Option PastValue) (kept after : PastValue) (opened earlier taken older : ℕ) (now : CoreValue) → IsCore base old kept.entries opened earlier taken older → past ≡ Some kept
     → record { half = old; past = past; opened = opened; earlier = earlier; taken = taken; older = older } ≡ now → (r : Result TicketValue E) (seen mine : List Entry) → IsHistory base seen → Begins seen mine
     → OnErr r ((new ≡ old) × (after ≡ kept) × ((mine ≡ seen) ⊎ (mine ≡ kept.entries))) → OnErr r (Learns base seen mine × (record { half = new; past = Some after; opened = opened; earlier = earlier; taken = taken; older = older } ≡ now))
@@ -128,12 +128,12 @@ unapplied_call base old new past kept after opened earlier taken older now core 
   (λ i. record { half = err.0 i; past = (ap Some err.1 ∙ sym there) i; opened = opened; earlier = earlier; taken = taken; older = older }) ∙ view,
 )
 
--- What it is to redeem a ticket whose reply saw no more than the session has seen.
+-- The operation of redeeming a ticket whose reply saw no more than the session has seen.
 redeems : (base : State) (history : List Record) (old new : Session) (seen : ℕ) (own : Bool) → has_ticket old seen ≡ own → IsTold old seen new → Leads base history old (if own then redeemed seen else redeemed_for_another seen) new
 redeems base history old new seen true is told = (is, told)
 redeems base history old new seen false is told = told
 
--- A session whose task was told of so many records, which it has seen.
+-- A session to which this many records were acknowledged, which it has seen.
 pub told_session : (base : State) (old : SessionValue) (seen amount : ℕ) → seen ≤ length old.past.entries → IsSession base old amount → IsSession base (record old { task = record old.task { told = max old.task.told seen } }) amount
 told_session base old seen amount within is =
     did_session base old (redemption old.task seen) (record old { task = record old.task { told = max old.task.told seen } }) amount amount is.history is (record {

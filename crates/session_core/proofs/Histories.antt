@@ -80,7 +80,7 @@ looks base old past amount history is begins =
 pub same_long : (short long : List Entry) → Begins short long → length long ≡ length short → long ≡ short
 same_long short long begins same = sym (take-length long) ∙ ap (λ (n : ℕ). take n long) same ∙ begins
 
--- One that has read more is the same otherwise.
+-- A session that has read more is otherwise the same.
 pub has_read : (base : State) (old : SessionValue) (past : PastValue) (amount count : ℕ) → past ≡ record old.past { read = count } → IsSession base old amount → IsSession base (looking old past) amount
 has_read base old past amount count is session =
     let same : past.entries ≡ old.past.entries = ap (λ (p : PastValue). p.entries) is in

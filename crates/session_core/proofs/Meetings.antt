@@ -13,7 +13,7 @@ use Rattle.session_core.specs.Tokens.{SessionValue, IsBehind, IsHistory, IsSessi
 use Rattle.session_core.proofs.Apart.{two_apart}
 use Rattle.session_core.proofs.Histories.{looking, looks, own_further, same_long}
 
--- What one that is behind has seen once it has learned, or has not.
+-- What a session that is behind has seen, once it has learned or failed to.
 abbrev pub Caught : PastValue → PastValue → PastValue → Type 0
 Caught old ahead new = (new.entries ≡ ahead.entries) × Begins old.entries ahead.entries
 
@@ -35,7 +35,7 @@ module _ (old ahead new : PastValue) where
   caught_or_same (Ok done) behind ok begins moved err = inl (caught (Ok done) refl behind ok begins moved)
   caught_or_same (Err fault) behind ok begins moved err = inr err
 
--- It is a session all the same.
+-- It is still a session.
 pub learned : (base : State) (old : SessionValue) (ahead new : PastValue) (amount : ℕ) → IsSession base old amount → IsHistory base ahead.entries → Caught old.past ahead new ⊎ (new ≡ old.past) → IsSession base (looking old new) amount
 learned base old ahead new amount is history (inl caught) =
     looks base old new amount (subst (IsHistory base) (sym caught.0) history) is (subst (Begins old.past.entries) (sym caught.0) caught.1)

@@ -32,7 +32,7 @@ empty_of : (n : ℕ) (records : List Record) (batch : BatchValue) → Holds n re
 empty_of n [] batch holds none = λ i. record { count = sym holds.counted i; body = sym holds.text i }
 empty_of n (r ∷ records) batch holds none = absurd (omega (arith, none))
 
--- what a batch of the epoch before has, and what one of the row
+-- what a batch of the epoch before has, and what a batch of the epoch log has
 abbrev pub HasOlder : KernelValue → TakenValue → KernelValue → Type 0
 HasOlder old taken new = (taken.epoch + 1 ≡ old.epoch) × (taken.batch ≡ old.older) × (new ≡ record old { older = empty_batch; is_out = true })
 
@@ -40,7 +40,7 @@ abbrev pub HasRow : KernelValue → TakenValue → KernelValue → Type 0
 HasRow old taken new =
     (old.older.count ≡ 0) × (taken.epoch ≡ old.epoch) × (taken.batch ≡ old.row.waiting) × (new ≡ record old { row = record old.row { waiting = empty_batch }; is_out = true })
 
--- What was taken is a load, and what is kept stays so.
+-- What was taken is a load, and the core stays valid.
 pub record IsTaken (base : State) (new : KernelValue) (entries : List Entry) (opened earlier taken older number : ℕ) (load : TakenValue) : Type 0 where
   pub is_load : IsLoad base (record { epoch = load.epoch; batch = load.batch; entries = entries; first = taken; number = number })
   pub core : IsCore base new entries opened earlier (taken + load.batch.count) older
@@ -120,7 +120,7 @@ module _ (base : State) (half new : KernelValue) (entries : List Entry) (opened 
         });
       }
 
-  -- Either way: what its first number keeps to, and what it makes.
+  -- Either way: what its first number has to be, and what it makes.
 
   none_before : HasRow half load new → earlier ≤ taken
   none_before is = omega (arith, before_long, core.waits.before_is.counted, is.0)

@@ -11,22 +11,23 @@ use Rattle.session_core.specs.Tokens.{SessionValue, IsHistory, IsSession}
 abbrev pub tasks_of : List SessionValue → List Session
 tasks_of sessions = map (λ s. s.task) sessions
 
--- A session belongs to a history of which so many records are stored: it has seen a beginning of it, and was told of no more
--- than is stored. Its number is greater than the last one's.
+-- A session belongs to a history of which this many records are stored: it has seen a prefix of it, and no more than is
+-- stored was acknowledged to it. Its number is greater than the last one's.
 pub record Belongs (base : State) (entries : List Entry) (stored last : ℕ) (session : SessionValue) : Type 0 where
   pub rises : last < session.number
   pub begins : Begins session.past.entries entries
   pub told : session.task.told ≤ stored
   pub is : IsSession base session (length session.task.places)
 
--- It is seen to do so, where the history is in the row that the session saw last.
+-- This is recognized where the history is still in the entry block that the session saw last, and no shorter than what
+-- it saw.
 pub record CanBelong (past : PastValue) (stored last : ℕ) (session : SessionValue) : Type 0 where
   pub rises : last < session.number
   pub same : session.past.rows ≡ past.rows
   pub within : length session.past.entries ≤ length past.entries
   pub told : session.task.told ≤ stored
 
--- Each of these sessions does, and their numbers rise.
+-- Each of these sessions does, and their numbers ascend.
 abbrev pub AllBelong : State → List Entry → ℕ → ℕ → List SessionValue → Type 0
 AllBelong base entries stored last [] = Unit {0}
 AllBelong base entries stored last (session ∷ sessions) = Belongs base entries stored last session × AllBelong base entries stored session.number sessions
@@ -35,8 +36,9 @@ abbrev pub AllCanBelong : PastValue → ℕ → ℕ → List SessionValue → Ty
 AllCanBelong past stored last [] = Unit {0}
 AllCanBelong past stored last (session ∷ sessions) = CanBelong past stored last session × AllCanBelong past stored session.number sessions
 
--- What both halves and the sessions that are handed in have in common: one history, which begins with what the store's half knows,
--- and to which all of these sessions belong. If they are all that were made, its records are as many as their places.
+-- What both halves and the sessions that are handed in have in common: one history, which begins with what the store's
+-- half knows, and to which all of these sessions belong. If they are all that were made, it has as many records as they
+-- have places.
 pub record Match (base : State) (known entries : List Entry) (stored made : ℕ) (sessions : List SessionValue) : Type 0 where
   pub history : IsHistory base entries
   pub begins : Begins known entries

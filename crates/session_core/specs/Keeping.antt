@@ -13,9 +13,9 @@ use Rattle.storer.specs.Storing.{EndValue, LoadValue}
 use Rattle.system.specs.Core.{Counts, IsApplied, Wait}
 use Rattle.system.specs.Halves.{Cuts, Gives, KernelValue, TakesBatch, TicketValue, first_half, kernel_code}
 
--- The half that makes calls, and the history (none while a call is being made). Of the records that were made since the store
--- was opened, `earlier` were made before this epoch, whose row began with `opened` ones, and `taken` were taken to be stored; the
--- row of the epoch before has `older` records.
+-- The half that makes calls, and the history (none while a call is being made). Of the records that were made since the
+-- store was opened, `earlier` were made before this epoch, whose log began with `opened` ones, and `taken` were taken
+-- to be stored; the log of the epoch before has `older` records.
 pub record CoreValue : Type 0 where
   pub half : KernelValue
   pub past : Option PastValue
@@ -29,13 +29,14 @@ core_code =
     code_by (KernelValue × (Option PastValue × (ℕ × (ℕ × (ℕ × ℕ))))) (coded× kernel_code (coded× (coded_option past_code) (coded× coded_ℕ (coded× coded_ℕ (coded× coded_ℕ coded_ℕ)))))
     (λ c. (c.half, (c.past, (c.opened, (c.earlier, (c.taken, c.older)))))) (λ p. record { half = p.0; past = p.1.0; opened = p.1.1.0; earlier = p.1.1.1.0; taken = p.1.1.1.1.0; older = p.1.1.1.1.1 }) (λ _. refl)
 
--- The history is what was applied: it runs from the base to the kernel's state, and its records that weren't taken wait.
+-- The history is what was applied: it runs from the base to the kernel's state, and those of its records that weren't
+-- taken wait.
 pub record IsCore (base : State) (half : KernelValue) (entries : List Entry) (opened earlier taken older : ℕ) : Type 0 where
   pub applied : IsApplied base (records_of entries) half.kernel half.row.made
   pub counts : Counts opened earlier taken taken (length (records_of entries)) older half.row.length
   pub waits : Wait opened earlier taken (records_of entries) older half.older half.row.waiting
 
--- what goes on from a state in an epoch, whose row has so many records, with a history that begins there
+-- what continues from a state in an epoch, whose log has this many records, with a history that begins there
 abbrev pub first_core : State → ℕ → ℕ → PastValue → CoreValue
 first_core kernel epoch records past = record { half = first_half kernel epoch records; past = Some past; opened = records; earlier = 0; taken = 0; older = 0 }
 
@@ -51,7 +52,7 @@ keeper_code = code_by (CoreValue × ℕ) (coded× core_code coded_ℕ) (λ k. (k
 abbrev pub entries_in : CoreValue → Option (List Entry)
 entries_in core = option_map (λ p. p.entries) core.past
 
--- The number in its epoch of the first record that wasn't taken: in the epoch before, or in this one.
+-- The number, in its epoch, of the first record that wasn't taken: in the epoch before, or in this one.
 abbrev pub first_number : ℕ → ℕ → ℕ → ℕ → Bool → ℕ
 first_number opened earlier older taken is_older = if is_older then older - (earlier - taken) else opened + (taken - earlier)
 
@@ -71,12 +72,12 @@ both_learned old space c answer = record {
   mine = with_entry old.mine (entry_by old.number space c answer);
 }
 
--- what the history has more where a call was made
+-- what a call adds to the history
 abbrev pub entries_of_call : ℕ → ℕ → Call → TicketValue → List Entry
 entries_of_call number space c ticket = if has_record c ticket.answer then entry_by number space c ticket.answer ∷ [] else []
 
--- A call was made in the state after all of the history, of which its session had seen a beginning. The session has then seen
--- all, with the call's record, if it has one.
+-- A call was made in the state after all of the history, of which its session had seen a prefix. The session has then
+-- seen all of it, with the call's record, if there is one.
 pub record Applies (base : State) (number space : ℕ) (seen : List Entry) (c : Call) (ticket : TicketValue) (after : List Entry) (old_made new_made : ℕ) : Type 0 where
   pub before : List Entry
   pub begins : Begins seen before
@@ -95,7 +96,8 @@ pub record Learns (base : State) (seen after : List Entry) : Type 0 where
   pub begins : Begins seen after
   pub history : IsHistory base after
 
--- What a session has seen of the history can't be told to be a beginning of what is kept: it is in another row, or longer.
+-- What a session has seen can't be recognized as a prefix of the history that is kept: it is in another entry block, or
+-- longer.
 abbrev pub IsApart : Option PastValue → PastValue → Type 0
 IsApart None seen = ⊥
 IsApart (Some kept) seen = (seen.rows ≢ kept.rows) ⊎ (length kept.entries < length seen.entries)
@@ -106,14 +108,15 @@ pub record Makes (old : CoreValue) (number space : ℕ) (c : Call) (ticket : Tic
   pub entries : entries_in new ≡ option_map (λ l. l ++ entries_of_call number space c ticket) (entries_in old)
   pub rest : new ≡ record old { half = new.half; past = new.past }
 
--- Records that waited were taken to be stored, with the history up to them: the ones behind those that were taken before.
+-- Records that waited were taken to be stored, with the history up to them: the ones after those that were taken
+-- before.
 pub record Loads (old : CoreValue) (load : LoadValue) (new : CoreValue) : Type 0 where
   pub takes : TakesBatch old.half (record { epoch = load.epoch; batch = load.batch }) new.half
   pub entries : entries_in old ≡ Some load.entries
   pub first : load.first ≡ old.taken
   pub rest : new ≡ record old { half = new.half; taken = old.taken + load.batch.count }
 
--- Nothing changed, but the row in which the history goes on.
+-- Nothing changed except the entry block in which the history continues.
 pub record IsSame (old new : CoreValue) : Type 0 where
   pub entries : entries_in new ≡ entries_in old
   pub rest : new ≡ record old { past = new.past }

@@ -10,16 +10,16 @@ use Rattle.ipc_model.specs.declared.call.Reply.{Reply}
 use Rattle.ipc_model.specs.history.History.{Session, Operation, After, Legal, Meet}
 use Rattle.ipc_model.specs.state.State.{State}
 
--- the entry of a session's call that was answered so
+-- the entry of a session's call with this reply
 abbrev pub entry_by : ℕ → ℕ → Call → Reply → Entry
 entry_by number space c answer = record { session = number; «record» = record { space = space; call = c; reply = answer } }
 
--- a past with an entry more
+-- a past with one more entry
 abbrev pub with_entry : PastValue → Entry → PastValue
 with_entry past e = record past { entries = past.entries ++ e ∷ [] }
 
--- A session as a token: its number, the beginning of the history that it has seen, and what it is in the history. It has seen
--- all that it knows.
+-- A session as a token: its number, the prefix of the history that it has seen, and what it is in the history. It has
+-- seen all that it knows.
 pub record SessionValue : Type 0 where
   pub number : ℕ
   pub past : PastValue
@@ -43,8 +43,8 @@ pub record IsHistory (base : State) (entries : List Entry) : Type 0 where
   pub state : State
   pub run : Run base (records_of entries) state
 
--- What holds of each session: what it has seen is a history, in which some operations made it of a new one; its own entries
--- stand at its places, of which there are so many.
+-- What holds of each session: what it has seen is a history, in which some operations lead to it from a new session;
+-- its own entries stand at its places, of which there are this many.
 pub record IsSession (base : State) (session : SessionValue) (amount : ℕ) : Type 0 where
   pub history : IsHistory base session.past.entries
   pub operations : List Operation
@@ -59,11 +59,12 @@ pub record Did (base : State) (old : SessionValue) (operation : Operation) (new 
   pub begins : Begins old.past.entries new.past.entries
   pub same : new.number ≡ old.number
 
--- A session that has read so many records of its row is the same otherwise.
+-- A session that has read this many records of its entry block is otherwise the same.
 abbrev pub HasRead : SessionValue → ℕ → SessionValue → Type 0
 HasRead old count new = new ≡ record old { past = record old.past { read = count } }
 
--- Two sessions met: both have then seen the same, with which what either had seen begins, and no place belongs to both.
+-- Two sessions met. Both have then seen the same, of which what either had seen is a prefix, and no place belongs to
+-- both.
 pub record Meets (one other one_after other_after : SessionValue) : Type 0 where
   pub meet : Meet one.task other.task one_after.task other_after.task
   pub same : one_after.past.entries ≡ other_after.past.entries
@@ -72,6 +73,6 @@ pub record Meets (one other one_after other_after : SessionValue) : Type 0 where
   pub number : one_after.number ≡ one.number
   pub number_too : other_after.number ≡ other.number
 
--- A past is behind another: in an earlier row, or in the same with no more entries.
+-- A past is behind another: in an earlier entry block, or in the same one with no more entries.
 abbrev pub IsBehind : PastValue → PastValue → Type 0
 IsBehind past other = (past.rows < other.rows) ⊎ ((past.rows ≡ other.rows) × (length past.entries ≤ length other.entries))

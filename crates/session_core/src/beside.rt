@@ -8,8 +8,8 @@ use std::alloc::{AllocError, Global};
 use std::marker::Model;
 use system::Witness;
 
-/// The two that learn of a record before its call is kept: who keeps the kernel, and the session that makes the call. Both
-/// know as much.
+/// The two that learn of a record before its call is committed: the keeper of the kernel, and the session that makes
+/// the call. Both know the same.
 #[derive(Drop)]
 pub(crate) struct Beside<L: Founding> {
     pub(crate) alloc: Global,
@@ -46,7 +46,7 @@ impl<L: Founding> Witness for Beside<L> {
     }
 }
 
-/// Adds an entry behind all that both have, or changes nothing. A cell that is taken is answered as want of memory.
+/// Adds an entry after all that both have, or changes nothing. If the cell is taken, the answer is out of memory.
 fn add_to_both<L: Founding>(
     kept: &mut Past<L>,
     mine: &mut Past<L>,

@@ -3,7 +3,7 @@ ghost use Rattle.std.specs.Prelude.{◌≡◌, IfOk};
 use ipc_model::{Call, Record, Reply, Sequence};
 use std::alloc::{AllocError, Global};
 
-/// The record of a call of a task of this space that was answered so.
+/// The record of a call of a task of this space with this reply.
 pub(crate) fn copy_record(
     alloc: Global,
     space: u32,

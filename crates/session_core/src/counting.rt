@@ -12,11 +12,11 @@ use std::sync::ledger;
 use std::sync::ledger::Share;
 
 impl<L: Founding> Keeper<L> {
-    /// The history and how many sessions were made, if the beginning of it that the store's half knows and all of these sessions,
-    /// by their numbers, belong to it. It takes no memory.
+    /// The history and how many sessions were made, if the prefix of it that the store's half knows and all of these
+    /// sessions, by their numbers, belong to it. It takes no memory.
     ///
-    /// None: the numbers don't rise; a session or the store's half is ahead, or isn't seen to be in a beginning of the history; or
-    /// a session was told of more than is stored.
+    /// `None`: the numbers don't ascend; a session or the store's half is ahead, or isn't seen to be in a prefix of the
+    /// history; or more was acknowledged to a session than is stored.
     pub fn into_matched(
         self,
         known: Past<L>,
@@ -31,8 +31,8 @@ impl<L: Founding> Keeper<L> {
     }
 }
 
-/// The whole history, how many sessions were made, the book that counts its records, and a share of the ledger: what no session
-/// got, and those of the sessions that were counted.
+/// The whole history, how many sessions were made, the book that counts its records, and a share of the ledger: what no
+/// session got, and those of the sessions that were counted.
 #[derive(Drop)]
 pub(crate) struct Tally<L: Founding> {
     pub(crate) past: Past<L>,
@@ -75,7 +75,7 @@ fn match_all<L: Founding>(
     Some((past, made))
 }
 
-/// Says how a share stands to its ledger. It does nothing when it runs.
+/// Says how a share relates to its ledger. It does nothing when it runs.
 fn audit<L: Founding>(book: ledger::Book<L>, share: Share<L>)
     ensures within { share.parts ≤ L.parts }
     ensures whole { share.parts ≡ L.parts → share.amount ≡ book.total }
@@ -87,7 +87,7 @@ fn audit<L: Founding>(book: ledger::Book<L>, share: Share<L>)
     book.audit(&mut share);
 }
 
-/// Whether one beginning of the history is seen to begin another.
+/// Whether one prefix of the history is seen to begin another.
 fn begins<L: Founding>(short: &mut Past<L>, long: &mut Past<L>) -> bool
     ensures same { (short.new ≡ short.old) × (long.new ≡ long.old) }
     ensures begins { result ≡ true → Begins short.old.entries long.old.entries }
@@ -99,7 +99,7 @@ fn begins<L: Founding>(short: &mut Past<L>, long: &mut Past<L>) -> bool
     short.agree(long)
 }
 
-/// Whether all of these sessions belong to a history, of which so many records are stored. Their shares are then added.
+/// Whether all of these sessions belong to a history of which `stored` records are stored. Their shares are then added.
 fn count_all<L: Founding>(
     sessions: Vec<Session<L>>,
     stored: u64,
@@ -123,8 +123,8 @@ fn count_all<L: Founding>(
     true
 }
 
-/// Whether a session belongs to a history, of which so many records are stored, and its number is greater than the last one's. Its
-/// share is then added.
+/// Whether a session belongs to a history of which `stored` records are stored, and its number is greater than the last
+/// one's. Its share is then added.
 fn count<L: Founding>(
     session: Session<L>,
     stored: u64,

@@ -3,7 +3,7 @@ use std::alloc::AllocError;
 /// Why a session wasn't made.
 #[derive(Clone, Copy, Debug, PartialEq, Eq)]
 pub enum SessionFault {
-    /// A growth was refused.
+    /// An allocation failed.
     NoMemory = 1,
     /// No number is left.
     Spent = 2,

@@ -33,15 +33,15 @@ use waiting::Places;
 /// How many sessions one history gives at most.
 pub const MOST_SESSIONS: u32 = u32::MAX;
 
-/// What lies under the lock of the kernel: the half that makes calls beside the history, the book that counts all sessions' records,
-/// and the sessions' numbers.
+/// What lies under the lock of the kernel: the half that makes calls together with the history, the book that counts
+/// all sessions' records, and the sessions' numbers.
 pub struct Keeper<L: Founding> {
     core: Core<L>,
     book: Book<L>,
     numbers: Numbers<L>,
 }
 
-// Written out, as proofs above then know one function, and not the parts.
+// Written out, so that proofs above know one function and not its parts.
 impl<L: Founding> Drop for Keeper<L> {
     fn drop(self) {
         let Keeper {
@@ -69,7 +69,7 @@ impl<L: Founding> Model for Keeper<L> {
 }
 
 impl<L: Founding> Keeper<L> {
-    /// Goes on from a state in an epoch, whose segment holds so many records, with the history that begins here.
+    /// Continues from a state in an epoch whose segment holds `records` records, with the history that begins here.
     pub fn new(
         alloc: Global,
         kernel: Kernel,
@@ -91,13 +91,13 @@ impl<L: Founding> Keeper<L> {
         }
     }
 
-    /// Makes a call of a session. Its session has then seen all of the history; also where the call isn't made, it may have seen
-    /// more.
+    /// Makes a call of a session. The session has then seen all of the history; even if the call isn't made, it may
+    /// have seen more than before.
     ///
-    /// It names the places at which the call may have given one that waits something to do: no wake-up is lost.
+    /// It names the places at which the call may have given a waiting call something to do: no wake-up is lost.
     ///
-    /// `NoMemory`: a growth was refused. `EpochFull`: no room is left for the call's record, or the session isn't known to be in
-    /// the history that is kept here: it has seen more, or is in a row of which that can't be told.
+    /// `NoMemory`: an allocation failed. `EpochFull`: no room is left for the call's record, or the session isn't known
+    /// to be in the history that is kept here: it has seen more, or is in an entry block for which that isn't known.
     pub fn submit(
         &mut self,
         session: Session<L>,
@@ -125,16 +125,16 @@ impl<L: Founding> Keeper<L> {
 }
 
 impl<L: Founding> Keeper<L> {
-    /// The places where a call of a session waits that finds nothing to do. `None`: an allocation failed, or it is a send that is refused
-    /// whatever its names stand for.
+    /// The places where a call of a session waits if it finds nothing to do. `None`: an allocation failed, or it is a
+    /// send that is refused whatever its names stand for.
     pub fn places_of_call(&self, session: &Session<L>, call: &Call) -> Option<Vec<u128>>
         ensures { IfSome result (λ places. places.items ≡ places_of_call self.now.core.half.kernel session.now.task.space call.now) }
     {
         self.core.kernel().places_of_call(session.card.space, call)
     }
 
-    /// A new session, of a task that is attached to space 1. It has seen all of the history. `NoMemory`: a growth was refused.
-    /// `Spent`: no number is left.
+    /// A new session, of a task that is attached to space 1. It has seen all of the history. `NoMemory`: an allocation
+    /// failed. `Spent`: no number is left.
     pub fn session(&mut self) -> Result<Session<L>, SessionFault>
         ensures new { IfOk result (λ session. (session.task.space ≡ FIRST_SPACE) × (session.task.told ≡ 0) × (session.task.tickets ≡ []) × (session.task.places ≡ [])) }
         ensures next { IfOk result (λ session. (session.number ≡ self.old.given + 1) × (entries_in self.old.core ≡ Some session.past.entries) × (self.new ≡ record self.old { given = self.old.given + 1 })) }
@@ -203,8 +203,8 @@ impl<L: Founding> Keeper<L> {
         }
     }
 
-    /// Takes records that wait to be stored, with the history up to them. There is none while a load is out, or where no record
-    /// waits. Where memory is wanted nothing changed.
+    /// Takes records that wait to be stored, with the history up to them. `None` while a load is out, or if no record
+    /// waits. If an allocation fails, nothing changed.
     pub fn take(&mut self) -> Result<Option<Load<L>>, AllocError>
         ensures taken { IfOk result (λ load. IfSome load (λ load. Loads self.old.core load self.new.core × (self.new.given ≡ self.old.given))) }
         ensures none { IfOk result (λ load. IfNone load (CannotTake self.old.core.half × (self.new ≡ self.old))) }
@@ -221,9 +221,9 @@ impl<L: Founding> Keeper<L> {
         self.core.durable(receipt);
     }
 
-    /// Begins the next epoch, whose entries come into this row, with a copy of the state. There is none while a checkpoint is under
-    /// way, or records of the epoch before wait, and in the last epoch; then, and where memory is wanted, no call is undone and none
-    /// is lost, but the history may go on in the row.
+    /// Begins the next epoch, whose entries go into this entry block, with a snapshot of the state. `None` while a
+    /// checkpoint is under way or records of the previous epoch wait, and in the last epoch; then, and if an allocation
+    /// fails, no call is undone and none is lost, but the history may go on in the block.
     pub fn cut(&mut self, row: Arc<Row, Global>) -> Result<Option<End<L>>, AllocError>
         ensures cut { IfOk result (λ end. IfSome end (λ end. Ends self.old.core end self.new.core)) }
         ensures not_now { IfOk result (λ end. IfNone end ((CanCut self.old.core.half → ⊥) × IsSame self.old.core self.new.core)) }
@@ -247,7 +247,7 @@ impl<L: Founding> Keeper<L> {
         self.core.made()
     }
 
-    /// How many records are stored, as receipts tell.
+    /// How many records are stored, according to receipts.
     pub fn handed(&self) -> u64
         ensures { result ≡ self.now.core.half.handed }
     {
@@ -261,7 +261,7 @@ impl<L: Founding> Keeper<L> {
         self.core.is_waiting()
     }
 
-    /// How many records the epoch's row has.
+    /// How many records the epoch log has.
     pub fn row_length(&self) -> u64
         ensures { result ≡ self.now.core.half.row.length }
     {
@@ -269,8 +269,8 @@ impl<L: Founding> Keeper<L> {
     }
 }
 
-/// Notes on a session's card that it made a call, after which there are so many records, all of which its ticket's reply saw: one
-/// of its own, which the book counts, or none.
+/// Notes on a session's card that it made a call, after which there are `after` records, all of which its ticket's
+/// reply saw: one of its own, which the book counts, or none.
 fn note_call<L: Founding>(
     card: &mut Card<L>,
     book: &mut Book<L>,
@@ -298,7 +298,7 @@ fn note_call<L: Founding>(
     }
 }
 
-/// A ghost list of numbers with one more. It does nothing when it runs.
+/// Adds one number to a ghost list of numbers. It does nothing when it runs.
 fn with_place(places: Tag, place: u64) -> Tag
     ensures { result.numbers ≡ places.numbers ++ place ∷ [] }
 {
@@ -311,7 +311,7 @@ fn with_place(places: Tag, place: u64) -> Tag
     tag
 }
 
-/// Numbers and one more.
+/// Numbers, and one more.
 struct Placing {
     places: Tag,
     place: u64,

@@ -1,5 +1,5 @@
-//! Sessions of one history, and what is kept under the lock of the kernel: the half that makes calls beside the history of what it
-//! made, and the ledger that counts each session's records. There is no thread and no lock here.
+//! Sessions of one history, and what is kept under the lock of the kernel: the half that makes calls together with the
+//! history of what it made, and the ledger that counts each session's records. There is no thread and no lock here.
 #![tactic(auto)]
 
 mod beside;

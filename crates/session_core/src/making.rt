@@ -21,17 +21,17 @@ use storing::{Finished, Receipt};
 use system::{Kernel, KernelHalf, SubmitFault, Ticket};
 use waiting::Places;
 
-/// The half that makes calls, beside the history of what it made.
+/// The half that makes calls, together with the history of what it made.
 #[derive(Drop)]
 pub(crate) struct Core<L: Founding> {
     alloc: Global,
     half: KernelHalf,
 
-    // None while a call is being made.
+    // `None` while a call is being made.
     past: Option<Past<L>>,
 
-    // Of the records that were made: how many were in the row when it was begun, were made before the epoch, were taken to be
-    // stored, and are stored as receipts tell; and how many the row of the epoch before has.
+    // Numbers of records: how many were in the epoch log when it was begun, were made before the epoch, were taken to
+    // be stored, and are stored according to receipts; and how many the log of the previous epoch has.
     opened: u64,
     earlier: u64,
     taken: u64,
@@ -54,7 +54,7 @@ impl<L: Founding> Model for Core<L> {
 }
 
 impl<L: Founding> Core<L> {
-    /// Goes on from a state in an epoch, whose segment holds so many records, with the history that begins here.
+    /// Continues from a state in an epoch whose segment holds `records` records, with the history that begins here.
     pub(crate) fn new(
         alloc: Global,
         kernel: Kernel,
@@ -92,8 +92,8 @@ impl<L: Founding> Core<L> {
         self.half.made()
     }
 
-    /// Makes a call of a session of this number, whose task is attached to this space. The session has then seen all of the
-    /// history.
+    /// Makes a call of the session with this number, whose task is attached to this space. The session has then seen
+    /// all of the history.
     pub(crate) fn apply(
         &mut self,
         number: u32,
@@ -126,7 +126,7 @@ impl<L: Founding> Core<L> {
         (mine, made)
     }
 
-    /// Takes records that wait to be stored, with the history up to them. There is none while a load is out, or where no record
+    /// Takes records that wait to be stored, with the history up to them. `None` while a load is out, or if no record
     /// waits.
     pub(crate) fn take(&mut self) -> Result<Option<Load<L>>, AllocError>
         ensures taken { IfOk result (λ load. IfSome load (λ load. Loads self.old load self.new)) }
@@ -135,7 +135,7 @@ impl<L: Founding> Core<L> {
     {
         let past = self.again()?;
         let epoch = self.half.epoch();
-        // No number below passes these.
+        // No number below exceeds these.
         let _ = self.half.row_length();
         let _ = past.len();
         let Some(taken) = self.half.take() else {
@@ -165,7 +165,7 @@ impl<L: Founding> Core<L> {
         ensures unknown { self.old.taken < receipt + self.old.half.handed → self.new ≡ self.old }
     {
         let count = u64::from(receipt.count());
-        // No receipt is of more than was taken.
+        // No receipt is for more than was taken.
         if count <= self.taken - self.handed {
             self.handed += count;
             self.half.durable(receipt);
@@ -179,7 +179,7 @@ impl<L: Founding> Core<L> {
         self.half.finished(receipt);
     }
 
-    /// How many records are stored, as receipts tell.
+    /// How many records are stored, according to receipts.
     pub(crate) fn handed(&self) -> u64
         ensures { result ≡ self.now.half.handed }
     {
@@ -193,15 +193,15 @@ impl<L: Founding> Core<L> {
         self.taken < self.half.made()
     }
 
-    /// How many records the epoch's row has.
+    /// How many records the epoch log has.
     pub(crate) fn row_length(&self) -> u64
         ensures { result ≡ self.now.half.row.length }
     {
         self.half.row_length()
     }
 
-    /// Begins the next epoch, whose entries come into this row, with a copy of the state. There is none while a checkpoint is
-    /// under way, or records of the epoch before wait.
+    /// Begins the next epoch, whose entries go into this entry block, with a snapshot of the state. `None` while a
+    /// checkpoint is under way, or records of the previous epoch wait.
     pub(crate) fn cut(&mut self, row: Arc<Row, Global>) -> Result<Option<End<L>>, AllocError>
         ensures cut { IfOk result (λ end. IfSome end (λ end. Ends self.old end self.new)) }
         ensures not_now { IfOk result (λ end. IfNone end ((CanCut self.old.half → ⊥) × IsSame self.old self.new)) }
@@ -233,7 +233,7 @@ impl<L: Founding> Core<L> {
         }))
     }
 
-    /// Goes on in another row, unless the one in use has no entry yet.
+    /// Goes on in another entry block, unless the one in use has no entry yet.
     fn begin_row(&mut self, row: Arc<Row, Global>) -> Result<(), AllocError>
         ensures { IsSame self.old self.new }
     {
@@ -246,7 +246,7 @@ impl<L: Founding> Core<L> {
         past.begin_row(row).or(Err(AllocError))
     }
 
-    /// The reply that a ticket keeps, where all that it saw is stored; else the ticket comes back.
+    /// The reply that a ticket keeps, if all that it saw is stored; else the ticket comes back.
     pub(crate) fn reply(&self, ticket: Ticket) -> Result<Reply, Ticket>
         ensures ok { IfOk result (λ reply. (ticket.seen ≤ self.now.half.handed) × (reply ≡ ticket.answer)) }
         ensures fits { IfOk result (λ reply. length (reply_text reply) ≤ MAX_FRAME_CONTENT) }
@@ -276,7 +276,7 @@ impl<L: Founding> Core<L> {
         past
     }
 
-    /// The history once more.
+    /// The history again.
     pub(crate) fn again(&mut self) -> Result<Past<L>, AllocError>
         ensures same { self.new ≡ self.old }
         ensures history { IfOk result (λ past. IsHistory L.base past.entries) }
@@ -289,8 +289,8 @@ impl<L: Founding> Core<L> {
     }
 }
 
-/// Makes a call of a session of this number, whose task is attached to this space, beside what is kept of the history and what the
-/// session has seen of it, which is then all.
+/// Makes a call of the session with this number, whose task is attached to this space, together with what is kept of
+/// the history and what the session has seen of it, which is then all.
 fn apply_beside<L: Founding>(
     alloc: Global,
     half: &mut KernelHalf,
@@ -331,7 +331,8 @@ fn apply_beside<L: Founding>(
     (kept, mine, made)
 }
 
-/// The number in its epoch of the first record that wasn't taken, of which so many were: in the epoch before, or in this one.
+/// The number in its epoch of the first record that wasn't taken, after `taken` that were: in the previous epoch, or in
+/// this one.
 fn first_number(opened: u64, earlier: u64, older: u64, taken: u64, is_older: bool) -> u64
     requires { MatchBool is_older ((taken ≤ earlier) × (earlier - taken ≤ older)) ((earlier ≤ taken) × (opened + (taken - earlier) < 2 ^ 64)) }
     ensures { result ≡ first_number opened earlier older taken is_older }
@@ -343,7 +344,8 @@ fn first_number(opened: u64, earlier: u64, older: u64, taken: u64, is_older: boo
     }
 }
 
-/// Has a session learn all of the history. `EpochFull` where it can't, since it is ahead, or in a row of which that can't be told.
+/// Makes a session learn all of the history. `EpochFull` if it can't, since it is ahead, or in an entry block for which
+/// that isn't known.
 fn level<L: Founding>(mine: &mut Past<L>, kept: &mut Past<L>) -> Result<(), SubmitFault>
     ensures same { kept.new ≡ kept.old }
     ensures rows { OnOk result (mine.new.rows ≡ kept.old.rows) }

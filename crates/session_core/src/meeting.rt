@@ -13,8 +13,9 @@ pub struct Unmet<L: Founding> {
 
 /// Two sessions meet: both have then seen what either had, and no place belongs to both. It takes no lock.
 ///
-/// With `Unmet` they come back as they were, where a growth was refused. It also comes for two of one number, and where one isn't
-/// seen to be in a beginning of what the other has seen; sessions of one `Shared` are neither, which no clause says.
+/// With `Unmet` they come back as they were, because an allocation failed. It also comes for two with one number, and
+/// if one isn't seen to be in a prefix of what the other has seen; neither holds for sessions of one `Shared`, which no
+/// clause says.
 pub fn meet<L: Founding>(
     one: Session<L>,
     other: Session<L>,
@@ -31,7 +32,7 @@ pub fn meet<L: Founding>(
 }
 
 impl<L: Founding> Session<L> {
-    /// The one that is behind learns what the other has seen. Says whether it did; else nothing changed.
+    /// The one that is behind learns what the other has seen. Returns whether it did; else nothing changed.
     fn learn_both(&mut self, other: &mut Session<L>) -> bool
         requires { self.old.number ≡ other.old.number → ⊥ }
         ensures met { result ≡ true → Meets self.old other.old self.new other.new }
@@ -55,7 +56,7 @@ impl<L: Founding> Session<L> {
         own < theirs
     }
 
-    /// Learns what another has seen, behind which it is. Says whether it did; else nothing changed.
+    /// Learns what another session has seen, which is no less. Returns whether it did; else nothing changed.
     fn learn(&mut self, other: &mut Session<L>) -> bool
         requires behind { IsBehind self.old.past other.old.past }
         requires differ { self.old.number ≡ other.old.number → ⊥ }

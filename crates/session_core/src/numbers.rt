@@ -6,8 +6,8 @@ use history::Founding;
 use std::marker::Model;
 use std::sync::ledger::Share;
 
-/// The numbers of sessions: how many were given and how many are left, for each of which there is a part of the ledger. Contracts
-/// see how many were given.
+/// The numbers of sessions: how many were given and how many are left, each of which has a part of the ledger.
+/// Contracts see how many were given.
 #[derive(Drop)]
 pub(crate) struct Numbers<L: Founding> {
     given: u32,
@@ -27,7 +27,7 @@ impl<L: Founding> Model for Numbers<L> {
 }
 
 impl<L: Founding> Numbers<L> {
-    /// All numbers, of which none is given.
+    /// All numbers, none of them given.
     pub(crate) fn new(rest: Share<L>) -> Self
         requires whole { (rest.parts ≡ L.parts) × (L.parts ≡ MOST_SESSIONS) }
         requires none { rest.amount ≡ 0 }

@@ -16,15 +16,15 @@ pub(crate) struct Card<L: Founding> {
     pub(crate) space: u32,
     pub(crate) told: u64,
 
-    // Ghost: of each ticket that its calls were given how many records its reply saw, and where its own records stand. The
-    // share's amount counts these.
+    // Ghost: for each ticket that its calls were given, how many records its reply saw, and where its own records
+    // stand. The share's amount counts these.
     pub(crate) tickets: Tag,
     pub(crate) places: Tag,
     pub(crate) share: Share<L>,
 }
 
-/// A session: the token of all that its task has seen of the history. It is used up by each call, and comes back with what was
-/// seen.
+/// A session: the token of all that its task has seen of the history. Each call consumes it and returns it with what
+/// was seen.
 #[derive(Drop)]
 pub struct Session<L: Founding> {
     pub(crate) card: Card<L>,
@@ -66,21 +66,22 @@ impl<L: Founding> Session<L> {
         self.past.len()
     }
 
-    /// Of how many records of the history its task was told: the most that a redeemed reply saw.
+    /// How many records of the history were acknowledged to its task: the most that a redeemed reply saw.
     pub fn told(&self) -> u64
         ensures { result ≡ self.now.task.told }
     {
         self.card.told
     }
 
-    /// A session that has seen no more has looked. It does nothing but show it.
+    /// Shows that a session that has seen no more has looked. It does nothing else.
     pub fn show_looked(&self)
         ensures { Did L.base self.now looked self.now }
     {
         let _ = &self.card;
     }
 
-    /// Reads the records of the row that it saw last. It takes no lock. Where memory is wanted, what was read stays.
+    /// Reads the records of the entry block that it saw last. It takes no lock. If an allocation fails, what was read
+    /// stays.
     pub fn read(&mut self) -> Result<(), AllocError>
         ensures ok { OnOk result (HasRead self.old (length self.old.past.entries - self.old.past.start) self.new) }
         ensures err { OnErr result (HasRead self.old self.new.past.read self.new × (self.old.past.read ≤ self.new.past.read)) }
@@ -88,7 +89,7 @@ impl<L: Founding> Session<L> {
         self.past.read()
     }
 
-    /// The record at a place of the row that it saw last, if it was read. It takes neither lock nor memory.
+    /// The record at a place of the entry block that it saw last, if it was read. It takes neither lock nor memory.
     pub fn record(&self, at: usize) -> Option<&Record>
         ensures { MatchOption result (self.now.past.read ≤ at)
             (λ r. (at < self.now.past.read) × (option_map (λ e. e.record) (slice_get self.now.past.entries (self.now.past.start + at)) ≡ Some r.now)) }

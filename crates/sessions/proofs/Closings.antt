@@ -26,7 +26,7 @@ module _ (base : State) (entries : List Entry) (stored : ℕ) where
   all_of P holds last (s ∷ sessions) belong zero d within = holds last s belong.0
   all_of P holds last (s ∷ sessions) belong (suc k) d within = all_of P holds s.number sessions belong.1 k d (omega (arith, within))
 
-  -- The numbers rise.
+  -- The numbers ascend.
   greater : (last : ℕ) (sessions : List SessionValue) → AllBelong base entries stored last sessions → All (λ s. last < s.number) sessions
   greater last [] belong k d within = absurd (omega (arith, within))
   greater last (s ∷ sessions) belong zero d within = belong.0.rises
@@ -83,11 +83,11 @@ module _ (base : State) (entries : List Entry) (stored : ℕ) where
         };
       }
 
--- The records are as many as the places of all.
+-- There are as many records as places of all sessions.
 pub are_all : (entries : List Entry) (sessions : List SessionValue) → length (places_of (tasks_of sessions)) ≡ length entries → AreAll (records_of entries) (tasks_of sessions)
 are_all entries sessions same = omega (arith, same, counted entries)
 
--- What stood for the state after some records of a beginning stands for it still.
+-- What stood for the state after some records of a prefix still stands for it.
 pub stands_in : (base : State) (known entries : List Entry) (stored : ℕ) (c : Slots) → Begins known entries → StandsFor base stored (records_of known) c → StandsFor base stored (records_of entries) c
 stands_in base known entries stored c begins (k, more, within, (state, run, stands)) =
     let front : take k (records_of entries) ≡ take k (records_of known) =

@@ -1,4 +1,4 @@
--- What is left of sessions of one history once both halves are closed.
+-- What remains of sessions of one history once both halves are closed.
 use Rattle.std.specs.Prelude.{◌≡◌, ℕ, List, map}
 use Rattle.disk.specs.Moments.{View, MayLeave}
 use Rattle.disk.specs.Slots.{Slots}
@@ -10,13 +10,13 @@ use Rattle.session_core.specs.Belonging.{tasks_of}
 use Rattle.session_core.specs.Tokens.{SessionValue, IsHistory}
 use Rattle.storer.specs.Storing.{StandsFor}
 
--- Operations made each of these sessions in one legal history.
+-- Operations led to each of these sessions, in one legal history.
 pub record AreLegal (base : State) (entries : List Entry) (sessions : List SessionValue) : Type 0 where
   pub each : Sessions
   pub theirs : map (λ s. s.1) each ≡ tasks_of sessions
   pub legal : IsLegalHistory base (records_of entries) each
 
--- A stop leaves the state after some first records of a history, and no fewer than are stored.
+-- A crash leaves the state after a prefix of a history's records, no fewer than are stored.
 pub record IsLeft (base : State) (stored : ℕ) (view : View) : Type 0 where
   pub entries : List Entry
   pub history : IsHistory base entries

@@ -12,7 +12,7 @@ use storer::NotBegun;
 use storing::Finished;
 
 impl<L: Founding, D: Disk, G: Gate> Shared<L, D, G> {
-    /// Makes an image each time that the epoch's row has `records` records, until it is told to stop or the store fails.
+    /// Makes an image each time that the epoch log has `records` records, until it is told to stop or the store fails.
     pub fn checkpointer<R: Wait + Clock>(&self, rt: &R, records: u64) {
         self.desk.lock(rt).begin_images(records);
         for _ in rt.forever() {
@@ -25,7 +25,7 @@ impl<L: Founding, D: Disk, G: Gate> Shared<L, D, G> {
         }
     }
 
-    /// The end of an epoch, once its row is long enough. None where the loop is to end.
+    /// The end of an epoch, once its log is long enough. `None` if the loop is to end.
     fn next_end<R: Wait + Clock>(&self, rt: &R, records: u64) -> Option<End<L>> {
         for _ in rt.forever() {
             if !self.await_records(rt, records) {
@@ -40,7 +40,7 @@ impl<L: Founding, D: Disk, G: Gate> Shared<L, D, G> {
         None
     }
 
-    /// Waits until the row has so many records. Answers whether the loop is to go on.
+    /// Waits until the epoch log has `records` records. Returns whether the loop is to go on.
     fn await_records<R: Wait>(&self, rt: &R, records: u64) -> bool {
         let desk = self
             .images
@@ -48,7 +48,7 @@ impl<L: Founding, D: Disk, G: Gate> Shared<L, D, G> {
         !desk.is_ending()
     }
 
-    /// Ends the epoch, where memory is there for it.
+    /// Ends the epoch, if there is memory for it.
     fn cut<R: Wait>(&self, rt: &R) -> Option<End<L>> {
         let row = Row::new(self.alloc, MAX_RECORDS as usize).ok()?;
         let row = Arc::new(self.alloc, row).ok()?;
@@ -57,7 +57,7 @@ impl<L: Founding, D: Disk, G: Gate> Shared<L, D, G> {
         cut.ok()?
     }
 
-    /// Makes a checkpoint, and tells the calls of it. Answers whether it was made.
+    /// Makes a checkpoint, and notifies the waiting calls. Returns whether it was made.
     fn checkpoint<R: Wait + Clock>(&self, rt: &R, end: End<L>) -> bool {
         match self.do_steps(rt, end) {
             Ok(finished) => {
@@ -80,7 +80,7 @@ impl<L: Founding, D: Disk, G: Gate> Shared<L, D, G> {
         self.image(rt)
     }
 
-    /// Brings the state to the store.
+    /// Passes the state to the store.
     fn begin<R: Wait + Clock>(&self, rt: &R, end: End<L>) -> Result<(), StoreFault> {
         let mut end = end;
         for _ in rt.forever() {
@@ -93,7 +93,7 @@ impl<L: Founding, D: Disk, G: Gate> Shared<L, D, G> {
         Err(StoreFault::Failed)
     }
 
-    /// Brings the state to the store, unless memory is short: the end comes back then.
+    /// Passes the state to the store. If memory is short, the end comes back.
     fn try_to_begin<R: Wait>(&self, rt: &R, end: End<L>) -> Result<Option<End<L>>, StoreFault> {
         match self.storer.lock(rt).begin(end) {
             Ok(()) => Ok(None),
@@ -146,7 +146,7 @@ impl<L: Founding, D: Disk, G: Gate> Shared<L, D, G> {
         finished.ok_or(StoreFault::Failed)
     }
 
-    /// Closes the image's slot, once memory is there for its text.
+    /// Closes the image's slot, once there is memory for its encoding.
     fn close_image<R: Wait + Clock>(&self, rt: &R) -> Result<(), StoreFault> {
         for _ in rt.forever() {
             self.gate.pass(rt, Step::ImageClose);

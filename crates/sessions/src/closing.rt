@@ -14,8 +14,8 @@ use disk::Disk;
 use session_core::{Founding, Keeper, Past, Session};
 use storer::Storer;
 
-/// What is left once both halves are closed: the disk, how many records of the history are stored there, how many sessions were
-/// made, and the history itself, with the rows that are left of it.
+/// What is left once both halves are closed: the disk, how many records of the history are stored there, how many
+/// sessions were made, and the history itself, with the entry blocks that are left of it.
 #[derive(Drop)]
 pub struct Book<L: Founding, D: Disk> {
     pub disk: D,
@@ -24,18 +24,19 @@ pub struct Book<L: Founding, D: Disk> {
     pub past: Past<L>,
 }
 
-/// The disk, with how many records are stored there, where what is known of the history couldn't be told to be of one.
+/// The disk, with how many records are stored there, if what is known of the history couldn't be shown to be of one
+/// history.
 #[derive(Drop)]
 pub struct Unmatched<D: Disk> {
     pub disk: D,
     pub stored: u64,
 }
 
-/// Closes both halves, and compares what they and these sessions know of the history. It takes no lock and no memory. The sessions
-/// are to be handed in by their numbers, the least one first.
+/// Closes both halves, and compares what they and these sessions know of the history. It takes no lock and no memory.
+/// The sessions must be in the order of their numbers, the least first.
 ///
-/// `Unmatched`: the numbers don't rise; a session or the store's half is ahead of the kernel's half, or isn't seen to be in a
-/// beginning of its history; or a session was told of more than is stored.
+/// `Unmatched`: the numbers don't ascend; a session or the store's half is ahead of the kernel's half, or isn't seen to
+/// be in a prefix of its history; or more was acknowledged to a session than is stored.
 pub fn close<L: Founding, D: Disk, G: Drop>(
     shared: Shared<L, D, G>,
     sessions: Vec<Session<L>>,
@@ -65,7 +66,7 @@ pub fn close<L: Founding, D: Disk, G: Drop>(
     })
 }
 
-/// What stands under the two locks.
+/// What lies under the two locks.
 fn into_halves<L: Founding, D: Disk, G: Drop>(
     shared: Shared<L, D, G>,
 ) -> (Keeper<L>, Storer<L, D>) {

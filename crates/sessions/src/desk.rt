@@ -13,7 +13,7 @@ use std::alloc::Global;
 use system::{SubmitFault, Ticket};
 use waiting::Places;
 
-/// How many records are few, so that one more in their batch is worth a wait.
+/// Up to this many records are few, so that one more in their batch is worth a wait.
 const FEW_RECORDS: u64 = 4;
 
 /// How a wait for a turn ended.
@@ -32,7 +32,7 @@ pub enum Waited {
 pub(crate) struct Desk<L: Founding> {
     pub(crate) keeper: Keeper<L>,
 
-    // How many records were made since some were taken.
+    // How many records were made since some were last taken.
     fresh: u64,
 
     // The places that the last call named, and the calls that wait at places.
@@ -43,14 +43,14 @@ pub(crate) struct Desk<L: Founding> {
     fault: Option<StoreFault>,
     is_stopping: bool,
 
-    // Whether nothing is stored any more; and how many records a row has when a loop makes an image, so that a full row is followed
-    // by another.
+    // Whether nothing is stored any more; and, if a loop makes images, how many records an epoch log has when it does,
+    // so that a full log is followed by another.
     is_ended: bool,
     image_records: Option<u64>,
 }
 
 impl<L: Founding> Desk<L> {
-    /// With no loop yet.
+    /// Begins with no loop.
     pub(crate) fn new(alloc: Global, keeper: Keeper<L>) -> Self {
         Desk {
             keeper,
@@ -64,8 +64,8 @@ impl<L: Founding> Desk<L> {
         }
     }
 
-    /// Makes a call of a session, as `Keeper::submit` does, and gives their turn to those that wait and may find something to do now. One
-    /// that finds nothing is in line from then on, where it has a bell.
+    /// Makes a call of a session, as `Keeper::submit` does, and gives their turn to waiting calls that may find
+    /// something to do now. A call that finds nothing is in line from then on, if it has a bell.
     pub(crate) fn submit(
         &mut self,
         session: Session<L>,
@@ -76,7 +76,7 @@ impl<L: Founding> Desk<L> {
         ensures err { OnErr result.1 (Did L.base session looked result.0) }
     {
         let waiter = self.waiters.take(session.number());
-        // Where nobody waits no place need be looked for.
+        // If no call waits, no place needs to be looked for.
         if self.waiters.are_none() {
             self.places.add_all();
         } else {
@@ -96,7 +96,8 @@ impl<L: Founding> Desk<L> {
         (session, made)
     }
 
-    /// Has a session's call wait for its turn: where it stood before, if it did. Where an allocation fails it is in no line.
+    /// Puts a session's call in line for its turn: where it stood before, if it did. If an allocation fails, it is in
+    /// no line.
     fn put_in_line(
         &mut self,
         session: &Session<L>,
@@ -121,12 +122,12 @@ impl<L: Founding> Desk<L> {
         self.waiters.pass_on(waiter);
     }
 
-    /// Gives a session's call that waits its turn.
+    /// Gives a session's waiting call its turn.
     pub(crate) fn give_turn(&mut self, session: u32) {
         self.waiters.give_turn(session);
     }
 
-    /// Takes the records that wait to be stored, as `Keeper::take` does. None where memory is wanted too.
+    /// Takes the records that wait to be stored, as `Keeper::take` does. `None` also if an allocation fails.
     pub(crate) fn take(&mut self) -> Option<Load<L>> {
         self.fresh = 0;
         self.keeper.take().ok().flatten()
@@ -152,7 +153,7 @@ impl<L: Founding> Desk<L> {
         !self.is_closed() && self.waiters.is_in_line(session)
     }
 
-    /// How a wait for its turn ends of a session's call.
+    /// How the wait of a session's call for its turn ends.
     pub(crate) fn waited(&self, session: u32) -> Waited {
         if self.is_closed() {
             return Waited::Ended;
@@ -169,7 +170,7 @@ impl<L: Founding> Desk<L> {
         self.fault.is_some() || self.is_ended
     }
 
-    /// Whether a ticket that saw so many records waits, and may be told one day.
+    /// Whether a ticket that saw `seen` records waits, and may be redeemed one day.
     pub(crate) fn is_awaited(&self, seen: u64) -> bool {
         !self.is_closed() && self.keeper.handed() < seen
     }
@@ -186,12 +187,12 @@ impl<L: Founding> Desk<L> {
         !self.is_stopping && self.fault.is_none() && !self.keeper.is_waiting()
     }
 
-    /// Whether the loop that stores is to end: behind a fault, or once nothing waits any more.
+    /// Whether the loop that stores is to end: after a fault, or once nothing waits any more.
     pub(crate) fn is_over(&self) -> bool {
         self.fault.is_some() || (self.is_stopping && !self.keeper.is_waiting())
     }
 
-    /// Whether the epoch's row has fewer records than these, and the loops go on.
+    /// Whether the epoch log has fewer records than these, and the loops go on.
     pub(crate) fn is_short(&self, records: u64) -> bool {
         !self.is_ending() && self.keeper.row_length() < records
     }
@@ -209,12 +210,12 @@ impl<L: Founding> Desk<L> {
         self.fault.is_some() || self.is_stopping
     }
 
-    /// Whether the epoch's row is full, and the next epoch will begin.
+    /// Whether the epoch log is full, and the next epoch will begin.
     pub(crate) fn awaits_epoch(&self) -> bool {
         self.image_records.is_some() && !self.is_ending() && self.keeper.row_length() >= MAX_RECORDS
     }
 
-    /// A loop makes images from now on, each once a row has so many records.
+    /// A loop makes images from now on, each once an epoch log has this many records.
     pub(crate) fn begin_images(&mut self, records: u64) {
         self.image_records = Some(records);
     }

@@ -8,12 +8,13 @@ use std::sync::Wait;
 use std::time::{Clock, Duration};
 use storer::NotStored;
 
-/// For how many microseconds a few records wait for those that a turn was given to, so that one batch has what these record.
+/// For how many microseconds a few records wait for calls that were just given their turn, so that these calls' records
+/// are in the same batch.
 const TURN_MICROSECONDS: u64 = 200;
 
 impl<L: Founding, D: Disk, G: Gate> Shared<L, D, G> {
-    /// Stores what calls make, batch by batch, until it is told to stop and nothing waits, or the store fails. It is for one
-    /// thread. No reply is told of a call that is made after it ended.
+    /// Stores what calls make, batch by batch, until it is told to stop and nothing waits, or the store fails. It is
+    /// for one thread. No call that is made after it ended is acknowledged.
     pub fn flusher<R: Wait + Clock>(&self, rt: &R) {
         for _ in rt.forever() {
             let Some(load) = self.next_load(rt) else {
@@ -26,7 +27,7 @@ impl<L: Founding, D: Disk, G: Gate> Shared<L, D, G> {
         self.end(rt);
     }
 
-    /// The records that wait, once there are some. None where the loop is to end.
+    /// The records that wait, once there are some. `None` if the loop is to end.
     fn next_load<R: Wait + Clock>(&self, rt: &R) -> Option<Load<L>> {
         for _ in rt.forever() {
             let desk = self
@@ -46,7 +47,7 @@ impl<L: Founding, D: Disk, G: Gate> Shared<L, D, G> {
             if let Some(load) = self.take_load(rt) {
                 return Some(load);
             }
-            // Memory is wanted, or a load is out, as only a second loop of this kind meets.
+            // Memory is short, or a load is out, which only a second loop of this kind meets.
             self.pause(rt);
         }
         None
@@ -58,7 +59,8 @@ impl<L: Founding, D: Disk, G: Gate> Shared<L, D, G> {
         self.desk.lock(rt).take()
     }
 
-    /// Stores a load, and hands its receipt in. Says whether it did: else the store failed, which all are told.
+    /// Stores a load, and delivers its receipt. Returns whether it did: else the store failed, and all waiting threads
+    /// are notified.
     fn store<R: Wait + Clock>(&self, rt: &R, load: Load<L>) -> bool {
         let mut load = load;
         for _ in rt.forever() {
@@ -87,7 +89,8 @@ impl<L: Founding, D: Disk, G: Gate> Shared<L, D, G> {
         }
     }
 
-    /// Gives a load that wasn't stored back, once that may be tried again; or tells all that the store failed.
+    /// Returns a load that wasn't stored, once it may be tried again; or notifies all waiting threads that the store
+    /// failed.
     fn put_off<R: Wait + Clock>(
         &self,
         rt: &R,
@@ -115,7 +118,7 @@ impl<L: Founding, D: Disk, G: Gate> Shared<L, D, G> {
         Err(load)
     }
 
-    /// Waits until the segment of an epoch is open, or a while.
+    /// Waits until the segment of an epoch is open, or for a while.
     fn await_segment<R: Wait + Clock>(&self, rt: &R, epoch: u64) {
         let _ = self.stored.wait_timeout_while(
             rt,

@@ -27,13 +27,13 @@ pub enum Step {
     Finished,
 }
 
-/// Who may hold a loop up between its steps, as tests do.
+/// May hold a loop up between its steps, as tests do.
 pub trait Gate: Drop {
     /// Is called with no lock held, just before a step.
     fn pass<R: Wait>(&self, rt: &R, step: Step);
 }
 
-/// A gate that holds nobody up.
+/// A gate that holds no loop up.
 #[derive(Clone, Copy)]
 pub struct OpenGate;
 

@@ -1,4 +1,5 @@
-//! Sessions of one history under two locks: calls by many threads, stored in batches, each session with its own history proved.
+//! Sessions of one history under two locks: calls by many threads, stored in batches, each session with its own history
+//! proved.
 #![tactic(auto)]
 
 mod checkpointing;

@@ -1,4 +1,4 @@
-//! Lines of those that wait, one at each place, each in the order of their coming.
+//! Lines of waiting calls, one at each place, each in the order of arrival.
 
 use std::alloc::{AllocError, Global};
 use std::collections::BTreeMap;
@@ -11,14 +11,14 @@ pub(crate) struct Lines {
 }
 
 impl Lines {
-    /// Lines in which nobody stands.
+    /// Empty lines.
     pub(crate) fn none(alloc: Global) -> Self {
         Lines {
             sessions: BTreeMap::new(alloc),
         }
     }
 
-    /// Whether nobody stands in line.
+    /// Whether no call stands in line.
     pub(crate) fn are_empty(&self) -> bool {
         self.sessions.is_empty()
     }
@@ -43,7 +43,7 @@ impl Lines {
         }
     }
 
-    /// Takes who began to wait then out of the line.
+    /// Removes from the line the call that began to wait then.
     pub(crate) fn remove(&mut self, place: u128, order: u64) {
         let _ = self.sessions.remove(&(place, order));
     }

@@ -1,25 +1,26 @@
-//! Where a session's call waits, and for whom.
+//! Where a session's call waits, and for which task.
 
 use std::alloc::{AllocError, Global};
 use std::sync::{Arc, Condvar};
 
 /// The task that a session's calls are made for.
 pub trait Peer: Drop {
-    /// Whether it has gone, so that nobody will read a reply.
+    /// Whether it has gone, so that no one will read a reply.
     fn is_gone(&self) -> bool;
 
-    /// Whether a call of it that waits is given its turn as soon as it goes, so that it needn't be looked at meanwhile.
+    /// Whether a waiting call of it is given its turn as soon as it goes, so that it needn't be checked meanwhile.
     fn is_watched(&self) -> bool;
 }
 
-/// What is rung when the turn of a call that waits has come. It is made once for a session, so that a wait asks for no memory for it.
+/// What is rung when the turn of a waiting call has come. It is made once for a session, so that a wait takes no memory
+/// for it.
 #[derive(Drop)]
 pub(crate) struct Bell {
     condvar: Arc<Condvar, Global>,
 }
 
 impl Bell {
-    /// The same bell, in the hand of another.
+    /// Another handle to the same bell.
     pub(crate) fn again(&self) -> Result<Bell, AllocError> {
         let condvar = Arc::try_clone(&self.condvar)?;
         Ok(Bell { condvar })
@@ -39,7 +40,7 @@ pub struct Seat<P> {
 }
 
 impl<P> Seat<P> {
-    /// A seat at which nobody waits.
+    /// A seat at which no call waits.
     pub fn new(alloc: Global, peer: P) -> Result<Self, AllocError>
     where
         P: Drop,

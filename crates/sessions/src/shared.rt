@@ -20,7 +20,7 @@ use std::time::{Clock, Duration};
 use storer::Storer;
 use system::{Opened, SubmitFault, Ticket};
 
-/// For how many milliseconds who lacks memory waits before it tries again.
+/// How many milliseconds a thread waits before it tries again after it ran out of memory.
 pub(crate) const PATIENCE_MILLISECONDS: u64 = 10;
 
 /// Why a call wasn't made. Nothing changed.
@@ -28,12 +28,12 @@ pub(crate) const PATIENCE_MILLISECONDS: u64 = 10;
 pub enum NotMade {
     /// As `submit` says.
     Fault(SubmitFault),
-    /// Its task has gone, and would have received for nobody.
+    /// Its task has gone, and no one would get the message.
     Gone,
 }
 
-/// The two halves of the core, each under a lock of its own, for any number of sessions, one thread that stores their calls and one
-/// that makes images. No lock is taken within the other.
+/// The two halves of the core, each under a lock of its own, for any number of sessions, one thread that stores their
+/// calls and one that makes images. No lock is taken within the other.
 #[derive(Drop)]
 pub struct Shared<L: Founding, D: Disk, G> {
     pub(crate) alloc: Global,
@@ -41,8 +41,9 @@ pub struct Shared<L: Founding, D: Disk, G> {
     pub(crate) desk: Mutex<Desk<L>>,
     pub(crate) storer: Mutex<Storer<L, D>>,
 
-    // Waited on under the kernel's lock: that there is something to do for the loop that stores, that no turn is due that it waits for,
-    // and that there is something to do for the loop that makes images; and that replies can be told, or an epoch has begun.
+    // Waited on under the kernel's lock: that there is something to do for the loop that stores; that no turn is due
+    // that it waits for; that there is something to do for the loop that makes images; and that replies can be given,
+    // or an epoch has begun.
     pub(crate) calls: Condvar,
     pub(crate) turns: Condvar,
     pub(crate) images: Condvar,
@@ -53,7 +54,8 @@ pub struct Shared<L: Founding, D: Disk, G> {
 }
 
 impl<L: Founding, D: Disk, G: Drop> Shared<L, D, G> {
-    /// Shares an opened store. The history begins in its state, with this row. Where memory is wanted the disk comes back.
+    /// Shares an opened store. The history begins in its state, with this entry block. If an allocation fails, the disk
+    /// comes back.
     pub fn new(
         alloc: Global,
         opened: Opened<D>,
@@ -99,11 +101,12 @@ impl<L: Founding, D: Disk, G: Drop> Shared<L, D, G> {
         self.desk.lock(rt).keeper.session()
     }
 
-    /// Makes a call of a session, whose ticket keeps its reply. Also where it isn't made, the session may have seen more.
+    /// Makes a call of a session, whose ticket keeps its reply. Even if it isn't made, the session may have seen more
+    /// than before.
     ///
-    /// Where the epoch's row is full and a loop makes images, it waits for the next epoch. `NoMemory`: a growth was refused.
-    /// `EpochFull`: no room is left for its record, and no next epoch comes; or the session isn't known to be in the history of
-    /// this server (`Keeper::submit`).
+    /// If the epoch log is full and a loop makes images, it waits for the next epoch. `NoMemory`: an allocation failed.
+    /// `EpochFull`: no room is left for its record, and no next epoch comes; or the session isn't known to be in the
+    /// history of this server (`Keeper::submit`).
     pub fn submit<R: Wait>(
         &self,
         rt: &R,
@@ -117,11 +120,12 @@ impl<L: Founding, D: Disk, G: Drop> Shared<L, D, G> {
         self.make(desk, session, call, None)
     }
 
-    /// Makes a call of a session as `submit` does, for the task of this seat. A receive isn't made for one that has gone: a message
-    /// that was sent behind its end stays.
+    /// Makes a call of a session as `submit` does, for the task of this seat. A receive isn't made for a task that has
+    /// gone: a message that was sent after its end stays.
     ///
-    /// Where it may wait, a send that finds no room, or a receive that finds no message, is in line from then on, until a call of the
-    /// session is made again or not made for this reason. Whose turn comes is woken; a turn that ends without a record is passed on.
+    /// If it may wait, a send that finds no room, or a receive that finds no message, is in line from then on, until a
+    /// call of the session is made again, or isn't made because its task has gone. A call whose turn comes is woken; a
+    /// turn that ends without a record is passed on.
     pub fn submit_for<R: Wait, P: Peer>(
         &self,
         rt: &R,
@@ -134,7 +138,7 @@ impl<L: Founding, D: Disk, G: Drop> Shared<L, D, G> {
         ensures err { OnErr result.1 (Did L.base session looked result.0) }
     {
         let mut desk = self.lock_desk(rt);
-        // With the lock held, as whatever is sent now is sent behind this look.
+        // With the lock held, since whatever is sent now is sent after this check.
         if is_receive(call) && seat.peer().is_gone() {
             desk.leave_line(session.number());
             drop(desk);
@@ -152,7 +156,7 @@ impl<L: Founding, D: Disk, G: Drop> Shared<L, D, G> {
             .wait_while(rt, self.desk.lock(rt), |desk| desk.awaits_epoch())
     }
 
-    /// Makes a call, and tells the loops what they have to do.
+    /// Makes a call, and notifies the loops of what they have to do.
     fn make(
         &self,
         desk: MutexGuard<'_, Desk<L>>,
@@ -183,8 +187,8 @@ impl<L: Founding, D: Disk, G: Drop> Shared<L, D, G> {
         made
     }
 
-    /// Waits at a session's seat until the turn of its call has come, or this time is over, or nothing is stored any more. Where its call
-    /// is in no line, as an allocation failed, it is its turn after a while.
+    /// Waits at a session's seat until the turn of its call has come, or this time is over, or nothing is stored any
+    /// more. If its call is in no line, because an allocation failed, its turn comes after a while.
     pub fn wait<R: Wait + Clock, P: Peer>(
         &self,
         rt: &R,
@@ -220,15 +224,15 @@ impl<L: Founding, D: Disk, G: Drop> Shared<L, D, G> {
         thread::sleep(rt, Duration::from_millis(PATIENCE_MILLISECONDS));
     }
 
-    /// Gives the call of the session of this number its turn, if it waits: for who knows that its task has gone.
+    /// Gives the waiting call of the session with this number its turn: for a caller that knows that its task has gone.
     pub fn give_turn(&self, rt: &impl Wait, session: u32) {
         self.desk.lock(rt).give_turn(session);
     }
 
     /// The reply that a ticket of this session keeps, once all that its call saw is stored; until then it waits.
     ///
-    /// A fault is one that a loop met, which stores nothing more then; or `Failed`: the loop that stores has ended, or the ticket
-    /// isn't of this session.
+    /// A fault is one that a loop met, and then nothing more is stored; or `Failed`: the loop that stores has ended, or
+    /// the ticket isn't of this session.
     pub fn redeem<R: Wait>(
         &self,
         rt: &R,
@@ -251,12 +255,12 @@ impl<L: Founding, D: Disk, G: Drop> Shared<L, D, G> {
         }
     }
 
-    /// The fault that a loop met, if one did: nothing more is stored then.
+    /// The fault that a loop met, if one did: then nothing more is stored.
     pub fn fault(&self, rt: &impl Wait) -> Option<StoreFault> {
         self.desk.lock(rt).fault()
     }
 
-    /// Tells both loops to end, behind what was called until now.
+    /// Tells both loops to end, after what was called until now.
     pub fn stop(&self, rt: &impl Wait) {
         self.desk.lock(rt).stop();
         self.calls.notify_all();
@@ -264,13 +268,13 @@ impl<L: Founding, D: Disk, G: Drop> Shared<L, D, G> {
         self.news.notify_all();
     }
 
-    /// The loop that stores ends: it tells all who wait.
+    /// The loop that stores ends: all waiting threads are notified.
     pub(crate) fn end(&self, rt: &impl Wait) {
         self.desk.lock(rt).end();
         self.news.notify_all();
     }
 
-    /// A loop met a fault: it tells all who wait.
+    /// A loop met a fault: all waiting threads are notified.
     pub(crate) fn fail(&self, rt: &impl Wait, fault: StoreFault) {
         self.desk.lock(rt).fail(fault);
         self.news.notify_all();

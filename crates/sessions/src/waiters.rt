@@ -6,7 +6,7 @@ use std::alloc::{AllocError, Global};
 use std::collections::BTreeMap;
 use waiting::{Places, is_place_of_port};
 
-/// A call that waits. While its turn hasn't come it stands in line at each of its places.
+/// A call that waits. Until its turn has come, it stands in line at each of its places.
 #[derive(Drop)]
 pub(crate) struct Waiter {
     places: Vec<u128>,
@@ -18,7 +18,8 @@ pub(crate) struct Waiter {
     has_turn: bool,
 }
 
-/// The calls that wait, one of a session at most. Sends and receives stand in lines of their own, each in the order of their coming.
+/// The calls that wait, at most one for each session. Sends and receives stand in lines of their own, each in the order
+/// of arrival.
 #[derive(Drop)]
 pub(crate) struct Waiters {
     alloc: Global,
@@ -26,13 +27,13 @@ pub(crate) struct Waiters {
     sends: Lines,
     receives: Lines,
 
-    // How many waits began, and how many of those whose turn has come weren't made again since.
+    // How many waits began, and how many calls whose turn has come weren't made again since.
     begun: u64,
     due: u64,
 }
 
 impl Waiters {
-    /// With none.
+    /// Begins with no call.
     pub(crate) fn none(alloc: Global) -> Self {
         Waiters {
             alloc,
@@ -44,7 +45,7 @@ impl Waiters {
         }
     }
 
-    /// Whether nobody stands in line.
+    /// Whether no call stands in line.
     pub(crate) fn are_none(&self) -> bool {
         self.sends.are_empty() && self.receives.are_empty()
     }
@@ -67,7 +68,7 @@ impl Waiters {
         self.by_session.contains_key(&session)
     }
 
-    /// A session's call waits no longer, or is made again. Its turn, where it has come, is in the caller's hand.
+    /// A session's call waits no longer, or is made again. If its turn has come, the caller takes it over.
     pub(crate) fn take(&mut self, session: u32) -> Option<Waiter> {
         let waiter = self.by_session.remove(&session)?;
         if waiter.has_turn {
@@ -114,7 +115,7 @@ impl Waiters {
         self.put(session, waiter)
     }
 
-    /// Puts a call in line. Where an allocation fails it doesn't wait here.
+    /// Puts a call in line. If an allocation fails, it doesn't wait here.
     fn put(&mut self, session: u32, waiter: Waiter) -> Result<(), AllocError> {
         let lines = lines_of(&mut self.sends, &mut self.receives, waiter.is_send);
         for place in waiter.places.iter() {
@@ -136,7 +137,8 @@ impl Waiters {
 }
 
 impl Waiters {
-    /// Gives a turn to each that waits where a step named a change, and to the first in line where it named a place that is ready.
+    /// Gives a turn to each call that waits where a step named a change, and to the first in line where it named a
+    /// place that is ready.
     pub(crate) fn wake(&mut self, places: &Places) {
         if places.are_all() {
             self.wake_all();
@@ -148,7 +150,7 @@ impl Waiters {
         self.wake_firsts(places.ready());
     }
 
-    /// Gives the turn of who waits no longer, if it had come, to the next in line.
+    /// Passes the turn of a call that waits no longer, if it had come, to the next in line.
     pub(crate) fn pass_on(&mut self, waiter: Option<Waiter>) {
         let Some(waiter) = waiter else {
             return;
@@ -163,7 +165,7 @@ impl Waiters {
         drop(waiter);
     }
 
-    /// Gives all their turn.
+    /// Gives all calls their turn.
     pub(crate) fn wake_all(&mut self) {
         for _ in 0..self.by_session.len() {
             let Some(session) = self.sends.first().or(self.receives.first()) else {
@@ -173,7 +175,7 @@ impl Waiters {
         }
     }
 
-    /// Gives all that wait at a place their turn.
+    /// Gives all calls that wait at a place their turn.
     fn wake_line(&mut self, place: u128) {
         for _ in 0..self.by_session.len() {
             let first = self.sends.first_at(place);
@@ -184,7 +186,7 @@ impl Waiters {
         }
     }
 
-    /// Gives the first in line at each of these places its turn, once where a place is listed twice.
+    /// Gives the first in line at each of these places its turn, once if a place is listed twice.
     fn wake_firsts(&mut self, places: &[u128]) {
         for place in places {
             if let Some(session) = self.first_in_line(*place) {
@@ -207,13 +209,13 @@ impl Waiters {
         }
     }
 
-    /// Gives a session's call that waits its turn, if it doesn't have it.
+    /// Gives a session's waiting call its turn, if it doesn't have it.
     pub(crate) fn give_turn(&mut self, session: u32) {
         self.ring(session);
         self.step_out(session);
     }
 
-    /// Wakes a session's call that waits, if its turn hasn't come before.
+    /// Wakes a session's waiting call, if its turn hadn't come before.
     fn ring(&mut self, session: u32) {
         let Some(waiter) = self.by_session.get_mut(&session) else {
             return;

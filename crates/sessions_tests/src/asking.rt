@@ -1,4 +1,4 @@
-//! Calls of a session, and what they answer.
+//! Calls of a session, and their answers.
 
 use crate::service::Service;
 use ipc_model::{Call, Reply};
@@ -18,7 +18,7 @@ pub(crate) fn told<S: Service, R: Wait>(
     }
 }
 
-/// Makes a call, and waits for its reply. None where it wasn't made or the store failed.
+/// Makes a call, and waits for its reply. `None` if it wasn't made or the store failed.
 pub(crate) fn asked<S: Service, R: Wait>(
     rt: &R,
     service: &S,
@@ -37,7 +37,7 @@ pub(crate) fn name_in(reply: Option<Reply>) -> Option<u32> {
     }
 }
 
-/// The type bits that a reply tells.
+/// The type bits that a reply gives.
 pub(crate) fn bits_in(reply: Option<Reply>) -> Option<u32> {
     match reply {
         Some(Reply::Type { bits }) => Some(bits),
@@ -45,7 +45,7 @@ pub(crate) fn bits_in(reply: Option<Reply>) -> Option<u32> {
     }
 }
 
-/// Allocates a receive right, and asks for the type of its name: whether that is a receive right.
+/// Allocates a receive right, and asks for the type of its name. Returns whether that is a receive right.
 fn allocates<S: Service, R: Wait>(rt: &R, service: &S, session: S::Session) -> (S::Session, bool) {
     let (session, reply) = asked(rt, service, session, &Call::Allocate { right: 1 });
     let Some(name) = name_in(reply) else {
@@ -55,7 +55,7 @@ fn allocates<S: Service, R: Wait>(rt: &R, service: &S, session: S::Session) -> (
     (session, bits_in(reply) == Some(0x2_0000))
 }
 
-/// Allocates so many receive rights, and asks for the type of each. How many were answered as they have to be.
+/// Allocates `count` receive rights, and asks for the type of each. Returns how many got the expected answer.
 pub(crate) fn allocates_many<S: Service, R: Wait>(
     rt: &R,
     service: &S,

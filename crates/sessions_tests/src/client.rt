@@ -1,5 +1,5 @@
-//! A server on a socket, its clients, and what they write and read. Nothing has a clause, so that a test's proof carries nothing of
-//! a server.
+//! A server on a socket, its clients, and what they write and read. Nothing has a clause, so that a test's proof
+//! carries nothing of a server.
 
 use connections::serve_opened;
 use disk::MemDisk;
@@ -29,15 +29,15 @@ pub(crate) const SEND: [u8; 52] = [
     0, 0, 0, 1, 0, 0, 0, 0, 0, 0, 0, 0, 0, 0, 7, 0, 0, 0, 0x11, 0x22, 0x33, 0x44,
 ];
 
-/// A receipt of at most 28 bytes from the port 0x100, which waits as long as it takes.
+/// A receive of at most 28 bytes from the port 0x100, which waits as long as it takes.
 pub(crate) const RECEIVE: [u8; 24] = [
     20, 0, 0, 0, 19, 0, 0, 0, 2, 0, 0, 0, 28, 0, 0, 0, 0, 1, 0, 0, 0, 0, 0, 0,
 ];
 
-/// For how many milliseconds the next one waits.
+/// How many milliseconds the next one waits.
 pub(crate) const BOUND: u8 = 50;
 
-/// The same receipt, which waits no longer than that.
+/// The same receive, which waits no longer than that.
 pub(crate) const RECEIVE_WITHIN: [u8; 24] = [
     20, 0, 0, 0, 19, 0, 0, 0, 2, 1, 0, 0, 28, 0, 0, 0, 0, 1, 0, 0, BOUND, 0, 0, 0,
 ];
@@ -50,12 +50,12 @@ pub(crate) const NEXT_NAME: [u8; 16] = [12, 0, 0, 0, 5, 0, 0, 0, 0, 0, 0, 0, 1, 
 /// The answer to a send.
 pub(crate) const SENT: [u8; 20] = [16, 0, 0, 0, 19, 0, 0, 0, 0, 0, 0, 0, 0, 0, 0, 0, 0, 0, 0, 0];
 
-/// The answer to a receipt that found no message: 0x10004003.
+/// The answer to a receive that found no message: 0x10004003.
 pub(crate) const NO_MESSAGE: [u8; 20] = [
     16, 0, 0, 0, 19, 0, 0, 0, 3, 0x40, 0, 0x10, 0, 0, 0, 0, 0, 0, 0, 0,
 ];
 
-/// The answer to a receipt that found the first message.
+/// The answer to a receive that found the first message.
 pub(crate) const MESSAGE: [u8; 48] = [
     44, 0, 0, 0, 19, 0, 0, 0, 0, 0, 0, 0, 28, 0, 0, 0, 0, 1, 0, 0, 0, 0x11, 0, 0, 28, 0, 0, 0, 0,
     0, 0, 0, 0, 1, 0, 0, 0, 0, 0, 0, 7, 0, 0, 0, 0x11, 0x22, 0x33, 0x44,
@@ -99,7 +99,7 @@ fn connect<R: Net + Clock>(rt: &R, path: &str) -> Option<UnixStream> {
     None
 }
 
-/// Two connections to a server that will soon be at a path, whose file is removed then.
+/// Two connections to a server that will soon be at a path, whose file is then removed.
 pub(crate) fn two_clients<R: Net + Files + Clock>(
     rt: &R,
     path: &str,
@@ -110,7 +110,7 @@ pub(crate) fn two_clients<R: Net + Files + Clock>(
     Some((one, other))
 }
 
-/// The next bytes that are written to a client, if so many come in time.
+/// The next bytes that are written to a client, if that many come in time.
 pub(crate) fn read<const N: usize>(stream: &UnixStream) -> Option<[u8; N]> {
     let limit = Duration::from_millis(REPLY_MILLISECONDS);
     stream.set_read_timeout(Some(limit)).ok()?;
@@ -120,7 +120,7 @@ pub(crate) fn read<const N: usize>(stream: &UnixStream) -> Option<[u8; N]> {
     Some(bytes)
 }
 
-/// Whether a byte is written to a client within so many milliseconds, which it takes then.
+/// Whether a byte is written to a client within this many milliseconds; then it is taken.
 pub(crate) fn reads_within(stream: &UnixStream, milliseconds: u64) -> bool {
     let limit = Duration::from_millis(milliseconds);
     if stream.set_read_timeout(Some(limit)).is_err() {
@@ -130,7 +130,7 @@ pub(crate) fn reads_within(stream: &UnixStream, milliseconds: u64) -> bool {
     reader.read(&mut [0; 1]).is_ok()
 }
 
-/// Writes bytes at once. Says whether it could.
+/// Writes bytes at once. Returns whether it could.
 pub(crate) fn write(stream: &UnixStream, bytes: &[u8]) -> bool {
     let mut writer = stream;
     writer.write_all(bytes).is_ok()

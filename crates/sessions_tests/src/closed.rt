@@ -1,4 +1,4 @@
-//! Sessions that are handed in once both loops have ended.
+//! Sessions that are closed after both loops have ended.
 ghost use Rattle.std.specs.Prelude.{◌≡◌};
 ghost use Rattle.std.specs.Arc.{arc_value};
 
@@ -14,10 +14,10 @@ use std::sync::Wait;
 use std::thread::{Threads, join};
 use std::time::Clock;
 
-/// How many records a checkpoint is begun at.
+/// At how many records a checkpoint is begun.
 const RECORDS: u32 = 4;
 
-/// One session makes a few calls, and then another makes many, behind which epochs end.
+/// One session makes a few calls, and then another makes many, after which epochs end.
 fn call_in_two<S: Service, R: Wait>(rt: &R, service: &S) -> Option<(S::Session, S::Session)> {
     let one = service.begin(rt)?;
     let other = service.begin(rt)?;
@@ -26,7 +26,7 @@ fn call_in_two<S: Service, R: Wait>(rt: &R, service: &S) -> Option<(S::Session, 
     Some((one, other))
 }
 
-/// The same, behind which the loops are told to end.
+/// The same, after which the loops are told to end.
 fn call_and_end<S: Service, R: Wait>(rt: &R, service: &S) -> Option<(S::Session, S::Session)> {
     let called = call_in_two(rt, service);
     service.end(rt);
@@ -52,7 +52,7 @@ fn in_order<T: Drop>(alloc: Global, first: T, second: T) -> Result<Vec<T>, Alloc
     Ok(both)
 }
 
-/// What is left of a service whose sessions are handed in by their numbers, or the other way round.
+/// What is left of a service whose sessions are given in the order of their numbers, or in reverse.
 fn closed<S: Service + Sync + Drop, R: Threads + Wait + Clock + Sync>(
     rt: &R,
     alloc: Global,
@@ -82,7 +82,8 @@ fn closed_on<L: Founding + Send + Sync, D: Disk + Drop + Send, R: Threads + Wait
     closed(rt, alloc, shared, is_turned)
 }
 
-/// What is left of a service on a disk without a store, if it can be closed so. None where no store can be made.
+/// What is left of a service on a disk without a store, if it can be closed in this way. `None` if no store can be
+/// made.
 fn closed_on_new<D: Disk + Drop + Send, R: Threads + Wait + Clock + Sync>(
     rt: &R,
     alloc: Global,

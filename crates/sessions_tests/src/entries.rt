@@ -1,4 +1,4 @@
-//! Entries and rows of a history, for tests.
+//! Entries and entry blocks of a history, for tests.
 
 use history::{AddFault, Entry, FirstRow, Past, Row};
 use ipc_model::{Call, Record, Reply};
@@ -20,7 +20,7 @@ pub(crate) fn add<L: FirstRow>(past: &mut Past<L>, space: u32) -> Result<(), Add
     past.add(entry_of(space))
 }
 
-/// Adds an entry to two that have as many in as many rows.
+/// Adds an entry to two that have as many in as many entry blocks.
 pub(crate) fn add_to_both<L: FirstRow>(
     past: &mut Past<L>,
     other: &mut Past<L>,
@@ -35,17 +35,17 @@ pub(crate) fn add_to_both<L: FirstRow>(
     Some(past.add_to_both(other, entry_of(space)))
 }
 
-/// The space of the call at a place of the row, if it was read.
+/// The space of the call at a place of the entry block, if it was read.
 pub(crate) fn space_at<L: FirstRow>(past: &Past<L>, at: usize) -> Option<u32> {
     Some(past.record(at)?.space)
 }
 
-/// A row of so many cells.
+/// An entry block of `capacity` cells.
 pub(crate) fn row_of(alloc: Global, capacity: usize) -> Result<Arc<Row, Global>, AllocError> {
     Ok(Arc::new(alloc, Row::new(alloc, capacity)?)?)
 }
 
-/// Goes on in a new row.
+/// Goes on in a new entry block.
 pub(crate) fn begin_row<L: FirstRow>(
     alloc: Global,
     past: &mut Past<L>,

@@ -28,7 +28,7 @@ impl Flag {
         self.is_set.load(Ordering::SeqCst)
     }
 
-    /// Waits until it is set. Says whether it was, before so many turns were over.
+    /// Waits until it is set. Returns whether it was, before `turns` turns were over.
     pub(crate) fn comes_within<R: Clock>(&self, rt: &R, turns: u32) -> bool {
         for _ in 0..turns {
             if self.is_set() {
@@ -39,7 +39,7 @@ impl Flag {
         false
     }
 
-    /// Waits until it is set, which has to come. Says whether it did.
+    /// Waits until it is set, which has to happen. Returns whether it was.
     pub(crate) fn comes<R: Clock>(&self, rt: &R) -> bool {
         self.comes_within(rt, MOST_TURNS)
     }

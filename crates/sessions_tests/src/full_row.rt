@@ -1,4 +1,4 @@
-//! A call that finds its epoch's row full while a checkpoint is held up.
+//! A call that finds its epoch log full while a checkpoint is held up.
 ghost use Rattle.std.specs.Prelude.{◌≡◌};
 ghost use Rattle.std.specs.Arc.{arc_value};
 
@@ -20,17 +20,17 @@ use std::thread::{Threads, join};
 use std::time::Clock;
 use system::Ticket;
 
-/// How many records a checkpoint is begun at.
+/// At how many records a checkpoint is begun.
 const RECORDS: u32 = 4;
 
-/// For how many turns of a millisecond a loop is held up at most: the row fills slowly where a run is watched.
+/// For how many turns of a millisecond a loop is held up at most: the log fills slowly if a run is watched.
 const MOST_TURNS: u32 = 60_000;
 
 #[derive(Debug, Drop, PartialEq)]
 struct Seen {
-    /// Whether a checkpoint was about to write a piece, and was held up until the row was full.
+    /// Whether a checkpoint was about to write a piece, and was held up until the log was full.
     was_held: bool,
-    /// How many calls filled the row, and whether the last of them was answered.
+    /// How many calls filled the log, and whether the last of them was answered.
     count: u64,
     is_told: bool,
     /// Whether the next call was answered while the checkpoint was held up.
@@ -39,7 +39,8 @@ struct Seen {
     name: Option<u32>,
 }
 
-/// A gate that holds up a checkpoint before its first piece, and meanwhile the loop that stores, each until it may go on.
+/// A gate that holds up a checkpoint before its first piece, and meanwhile the loop that stores, each until it may go
+/// on.
 #[derive(Drop)]
 struct Pause<'a, C> {
     rt: &'a C,
@@ -61,7 +62,8 @@ impl<'a, C: Clock> Gate for Pause<'a, C> {
     }
 }
 
-/// Makes so many calls, each with a record, and waits for no reply. The last one's ticket, and how many were made.
+/// Makes `count` calls, each with a record, and waits for no reply. Returns the last one's ticket, and how many were
+/// made.
 fn make_many<S: Service, R: Wait>(
     rt: &R,
     service: &S,
@@ -86,7 +88,7 @@ fn make_many<S: Service, R: Wait>(
     (session, last, done)
 }
 
-/// Asks for a right, and tells when the reply has come.
+/// Asks for a right, and notes when the reply has come.
 fn asked_and_noted<S: Service, R: Wait>(
     rt: &R,
     service: &S,
@@ -98,7 +100,7 @@ fn asked_and_noted<S: Service, R: Wait>(
     reply
 }
 
-/// The same, beside who watches for the reply.
+/// The same, while another thread watches for the reply.
 fn watched<S: Service + Sync, R: Threads + Wait + Clock + Sync>(
     rt: &R,
     service: &S,
@@ -114,7 +116,7 @@ fn watched<S: Service + Sync, R: Threads + Wait + Clock + Sync>(
     )
 }
 
-/// Fills the row behind the one of which a checkpoint is made, and makes one more call.
+/// Fills the epoch log after the one of which a checkpoint is made, and makes one more call.
 fn fill<S: Service + Sync, R: Threads + Wait + Clock + Sync>(
     rt: &R,
     service: &S,
@@ -137,7 +139,7 @@ fn fill<S: Service + Sync, R: Threads + Wait + Clock + Sync>(
     }
 }
 
-/// The same in a new session, behind which the loops are told to end.
+/// The same in a new session, after which the loops are told to end.
 fn fill_and_end<S: Service + Sync, R: Threads + Wait + Clock + Sync>(
     rt: &R,
     service: &S,
@@ -166,7 +168,7 @@ fn fill_beside_both_loops<S: Service + Sync, R: Threads + Wait + Clock + Sync>(
     seen
 }
 
-/// What is seen on a new store, whose checkpoint is held up so.
+/// What is seen on a new store, whose checkpoint is held up in this way.
 fn seen_on<
     L: Founding + Send + Sync,
     D: Disk + Drop + Send,
@@ -181,7 +183,7 @@ fn seen_on<
     fill_beside_both_loops(rt, &shared, stay, may_store)
 }
 
-/// What is seen on a disk without a store. None where none can be made.
+/// What is seen on a disk without a store. `None` if none can be made.
 fn seen_on_new<D: Disk + Drop + Send, G: Gate + Send + Sync, R: Threads + Wait + Clock + Sync>(
     rt: &R,
     alloc: Global,

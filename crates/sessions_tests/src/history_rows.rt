@@ -1,4 +1,4 @@
-//! The rows of a history: that each call that takes memory is done where there is enough. The rest is proved.
+//! The entry blocks of a history: each call that takes memory is done if there is enough. The rest is proved.
 ghost use Rattle.std.specs.Prelude.{◌≡◌};
 ghost use Rattle.std.specs.Arc.{arc_value};
 
@@ -9,18 +9,19 @@ use std::alloc::{AllocError, Global};
 use std::marker::Brand;
 use std::sync::Arc;
 
-/// What is seen of one beginning that goes on in a second row, and of another that was left behind.
+/// What is seen of one prefix that goes on in a second entry block, and of another that was left behind.
 #[derive(Debug, Drop, PartialEq)]
 struct Seen {
-    /// What became of an entry more, of one more than there is room for, of the second row and of an entry there.
+    /// What became of one more entry, of one more than there is room for, of the second entry block and of an entry
+    /// there.
     added: [Result<(), AddFault>; 4],
     agreed: bool,
     caught_up: Result<(), CatchUpFault>,
-    /// What became of an entry that was added to both then.
+    /// What became of an entry that was then added to both.
     both: Option<Result<(), AddFault>>,
-    /// How many entries the one that was left behind has then, and how many came before its row.
+    /// How many entries the one that was left behind has then, and how many came before its entry block.
     places: [usize; 2],
-    /// The spaces of the first two calls of that row, before and after it reads them.
+    /// The spaces of the first two calls of that entry block, before and after it reads them.
     spaces: [Option<u32>; 4],
 }
 
@@ -55,7 +56,7 @@ fn see<L: FirstRow>(alloc: Global, past: &mut Past<L>, late: &mut Past<L>) -> Se
     }
 }
 
-/// Both have the first entry of a row of two.
+/// Both have the first entry of an entry block of two.
 fn see_from<L: FirstRow>(alloc: Global, row: Arc<Row, Global>) -> Result<Seen, AllocError>
     requires { arc_value row ≡ L.first }
 {
@@ -67,7 +68,7 @@ fn see_from<L: FirstRow>(alloc: Global, row: Arc<Row, Global>) -> Result<Seen, A
     Ok(seen)
 }
 
-/// What is seen where both begin in a new row.
+/// What is seen if both begin in a new entry block.
 fn seen_on_new(alloc: Global) -> Option<Seen> {
     let row = row_of(alloc, 2).ok()?;
     see_from::<Brand>(alloc, row).ok()

@@ -1,4 +1,4 @@
-//! Two threads and a history: that one of them sets a cell.
+//! Two threads and a history: one of them sets a cell.
 ghost use Rattle.std.specs.Prelude.{◌≡◌};
 ghost use Rattle.std.specs.Arc.{arc_value};
 
@@ -36,7 +36,8 @@ fn read_by_the_other<L: FirstRow>(
     }
 }
 
-/// Two threads add an entry to the same row. Says whether just one did, and the other learns what it added.
+/// Two threads add an entry to the same entry block. Returns whether exactly one did, and the other learns what it
+/// added.
 fn raced<L: FirstRow + Send + Sync, R: Threads + Sync>(
     rt: &R,
     alloc: Global,
@@ -56,7 +57,7 @@ fn raced<L: FirstRow + Send + Sync, R: Threads + Sync>(
     Ok(first != second && space == Some(wanted))
 }
 
-/// The same in a new row.
+/// The same in a new entry block.
 fn raced_on_new<R: Threads + Sync>(rt: &R, alloc: Global) -> Option<bool> {
     let row = row_of(alloc, 2).ok()?;
     raced::<Brand, R>(rt, alloc, row).ok()

@@ -1,4 +1,4 @@
-//! Tests of sessions in threads of their own, beside the loops, and of the history that they share.
+//! Tests of sessions in threads of their own, alongside the loops, and of the history that they share.
 #![tactic(auto)]
 
 #[cfg(test)]

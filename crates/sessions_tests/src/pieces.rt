@@ -16,7 +16,7 @@ use std::sync::Wait;
 use std::thread::{Threads, join};
 use std::time::Clock;
 
-/// How many records a checkpoint is begun at: as many receive rights make an image of three pieces.
+/// At how many records a checkpoint is begun: as many receive rights make an image of three pieces.
 const RECORDS: u32 = 120;
 
 #[derive(Debug, Drop, PartialEq)]
@@ -53,7 +53,7 @@ fn call_beside_a_checkpoint<S: Service, R: Wait + Clock>(
     }
 }
 
-/// The same in a new session, behind which the loops are told to end.
+/// The same in a new session, after which the loops are told to end.
 fn call_and_end<S: Service, R: Wait + Clock>(rt: &R, service: &S, stay: &Stay) -> Option<Seen> {
     let seen = match service.begin(rt) {
         Some(session) => Some(call_beside_a_checkpoint(rt, service, session, stay)),
@@ -76,7 +76,7 @@ fn call_beside_both_loops<S: Service + Sync, R: Threads + Wait + Clock + Sync>(
     seen
 }
 
-/// What is seen on a new store, whose checkpoint is held up so.
+/// What is seen on a new store, whose checkpoint is held up in this way.
 fn seen_on<
     L: Founding + Send + Sync,
     D: Disk + Drop + Send,
@@ -91,7 +91,7 @@ fn seen_on<
     call_beside_both_loops(rt, &shared, stay)
 }
 
-/// What is seen on a disk without a store. None where none can be made.
+/// What is seen on a disk without a store. `None` if none can be made.
 fn seen_on_new<D: Disk + Drop + Send, G: Gate + Send + Sync, R: Threads + Wait + Clock + Sync>(
     rt: &R,
     alloc: Global,

@@ -1,5 +1,5 @@
-//! Sessions of one history and their loops, as the tests see them. Nothing has a clause, so that a test's proof carries nothing
-//! of a session: what is known of one would be written out at each exit of a function that owns it.
+//! Sessions of one history and their loops, as the tests see them. Nothing has a clause, so that a test's proof carries
+//! nothing of a session: what is known of one would be written out at each exit of a function that owns it.
 
 use disk::Disk;
 use ipc_model::{Call, Reply};
@@ -9,13 +9,13 @@ use std::thread::{Threads, join};
 use std::time::Clock;
 use system::Ticket;
 
-/// What gives sessions, makes their calls, and has loops.
+/// Gives sessions, makes their calls, and has loops.
 pub(crate) trait Service {
     type Session: Drop + Send;
 
     fn begin<R: Wait>(&self, rt: &R) -> Option<Self::Session>;
 
-    /// Makes a call. Its ticket, where it was made.
+    /// Makes a call. Returns its ticket, if it was made.
     fn make<R: Wait>(
         &self,
         rt: &R,
@@ -23,7 +23,7 @@ pub(crate) trait Service {
         call: &Call,
     ) -> (Self::Session, Option<Ticket>);
 
-    /// Waits for a reply. None where the store failed.
+    /// Waits for a reply. `None` if the store failed.
     fn tell<R: Wait>(
         &self,
         rt: &R,
@@ -31,24 +31,24 @@ pub(crate) trait Service {
         ticket: Ticket,
     ) -> (Self::Session, Option<Reply>);
 
-    /// The name that the allocation at a place of the row gave, as a session reads it. None where memory is wanted, where it hasn't
-    /// seen that place, or where another call's record stands there.
+    /// The name that the allocation at a place of the entry block gave, as a session reads it. `None` if an allocation
+    /// fails, if it hasn't seen that place, or if another call's record stands there.
     fn name_read(session: &mut Self::Session, at: usize) -> Option<u32>;
 
-    /// How many records two sessions have seen once they met. None where they couldn't.
+    /// How many records two sessions have seen once they met. `None` if they couldn't.
     fn seen_together(one: Self::Session, other: Self::Session) -> Option<[usize; 2]>;
 
     /// The loop that stores calls.
     fn store_calls<R: Wait + Clock>(&self, rt: &R);
 
-    /// The loop that makes an image each time that so many records were made.
+    /// The loop that makes an image each time that this many records were made.
     fn make_images<R: Wait + Clock>(&self, rt: &R, records: u64);
 
     /// Tells the loops to end.
     fn end<R: Wait>(&self, rt: &R);
 
-    /// How many sessions were made, how many records they made, and how many of these are stored, once all is closed. None where
-    /// the sessions that are handed in don't match.
+    /// How many sessions were made, how many records they made, and how many of these are stored, once all is closed.
+    /// `None` if these sessions don't match.
     fn counts_closed(self, sessions: Vec<Self::Session>) -> Option<[u64; 3]>;
 }
 

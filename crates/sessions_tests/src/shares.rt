@@ -11,7 +11,7 @@ use std::sync::Arc;
 use std::sync::ledger::Blank;
 use system::{Opened, open};
 
-/// What a history begins with: an opened store, its first row, and a ledger for its sessions.
+/// What a history begins with: an opened store, its first entry block, and a ledger for its sessions.
 #[derive(Drop)]
 pub(crate) struct Start<D: Disk> {
     pub(crate) opened: Opened<D>,
@@ -25,7 +25,7 @@ fn first_row(alloc: Global) -> Option<Arc<Row, Global>> {
     Arc::new(alloc, row).ok()
 }
 
-/// The beginning on a disk. None where its store can't be opened.
+/// The beginning on a disk. `None` if its store can't be opened.
 pub(crate) fn start_on<D: Disk + Drop>(alloc: Global, disk: D) -> Option<Start<D>> {
     let row = first_row(alloc)?;
     match open(alloc, disk) {
@@ -38,7 +38,7 @@ pub(crate) fn start_on<D: Disk + Drop>(alloc: Global, disk: D) -> Option<Start<D
     }
 }
 
-/// The history that begins so, shared. None where memory is wanted.
+/// The history that begins there, shared. `None` if memory runs out.
 pub(crate) fn shared_from<L: Founding, D: Disk + Drop, G: Gate>(
     alloc: Global,
     start: Start<D>,

@@ -17,7 +17,7 @@ use std::sync::Wait;
 use std::thread::{Threads, join};
 use std::time::Clock;
 
-/// A disk whose sync is held, once that is wanted.
+/// A disk whose sync is held once that is asked for.
 #[derive(Drop)]
 struct SlowDisk<'a, D, R> {
     disk: D,
@@ -93,7 +93,7 @@ fn call_twice<S: Service, R: Wait + Clock>(
     }
 }
 
-/// The same in a session of its own, behind which the loops are told to end.
+/// The same in a session of its own, after which the loops are told to end.
 fn call_and_end<S: Service, R: Wait + Clock>(
     rt: &R,
     service: &S,
@@ -122,7 +122,7 @@ fn call_beside_the_loop<S: Service + Sync, R: Threads + Wait + Clock + Sync>(
     seen
 }
 
-/// What is seen on a new store, whose disk is held so.
+/// What is seen on a new store, whose disk is held in this way.
 fn seen_on<L: Founding + Send + Sync, D: Disk + Drop + Send, R: Threads + Wait + Clock + Sync>(
     rt: &R,
     alloc: Global,
@@ -138,7 +138,7 @@ fn seen_on<L: Founding + Send + Sync, D: Disk + Drop + Send, R: Threads + Wait +
     call_beside_the_loop(rt, &shared, is_wanted, stay)
 }
 
-/// What is seen on such a disk without a store. None where none can be made.
+/// What is seen on such a disk without a store. `None` if none can be made.
 fn seen_on_new<D: Disk + Drop + Send, R: Threads + Wait + Clock + Sync>(
     rt: &R,
     alloc: Global,

@@ -29,7 +29,7 @@ impl Stay {
         }
     }
 
-    /// Holds the loop up until it may go.
+    /// Holds the loop up until it may go on.
     pub(crate) fn hold<R: Clock>(&self, rt: &R) {
         self.has_come.set();
         if !self.may_go.comes(rt) {
@@ -37,7 +37,8 @@ impl Stay {
         }
     }
 
-    /// Watches for a reply while the loop is held up, and lets it go. Whether it was held up, and the reply came nevertheless.
+    /// Watches for a reply while the loop is held up, and lets it go. Returns whether it was held up, and whether the
+    /// reply came nevertheless.
     pub(crate) fn watch<R: Clock>(&self, rt: &R, has_answered: &Flag) -> (bool, bool) {
         let has_come = self.has_come.comes(rt);
         let came_early = has_answered.comes_within(rt, TURNS);
@@ -47,7 +48,7 @@ impl Stay {
     }
 }
 
-/// A gate that holds up whoever comes to a step, until it may go.
+/// A gate that holds up any thread that comes to a step, until it may go on.
 #[derive(Drop)]
 pub(crate) struct Stop<'a, R> {
     pub(crate) rt: &'a R,

@@ -1,4 +1,4 @@
-//! Four sessions at once beside the loop that stores their calls, and what they made together once all is closed.
+//! Four sessions at once alongside the loop that stores their calls, and what they made together once all is closed.
 ghost use Rattle.std.specs.Prelude.{◌≡◌};
 ghost use Rattle.std.specs.Arc.{arc_value};
 
@@ -17,8 +17,8 @@ use std::time::Clock;
 /// How many rights each session allocates.
 const COUNT: u32 = 500;
 
-/// How many rights each session was given as it has to be; and how many sessions were made, how many records they made, and how
-/// many of these are stored.
+/// How many rights each session was given as expected; and how many sessions were made, how many records they made, and
+/// how many of these are stored.
 type Totals = ([u32; 4], [u64; 3]);
 
 fn begin_two<S: Service, R: Wait>(rt: &R, service: &S) -> Option<(S::Session, S::Session)> {
@@ -51,7 +51,7 @@ fn in_order<T: Drop>(alloc: Global, front: (T, T), back: (T, T)) -> Result<Vec<T
     Ok(all)
 }
 
-/// Allocates in four sessions at once. The sessions by their numbers, and how many rights each was given.
+/// Allocates in four sessions at once. Returns the sessions by their numbers, and how many rights each was given.
 fn count_four<S: Service + Sync, R: Threads + Wait + Sync>(
     rt: &R,
     alloc: Global,
@@ -68,7 +68,7 @@ fn count_four<S: Service + Sync, R: Threads + Wait + Sync>(
     Some((sessions, [one.0, one.1, other.0, other.1]))
 }
 
-/// The same, behind which the loop is told to end.
+/// The same, after which the loop is told to end.
 fn count_and_end<S: Service + Sync, R: Threads + Wait + Sync>(
     rt: &R,
     alloc: Global,
@@ -116,7 +116,7 @@ fn totals_on<L: Founding + Send + Sync, D: Disk + Drop + Send, R: Threads + Wait
     totals(rt, alloc, shared)
 }
 
-/// The totals on a disk without a store. None where none can be made, or the sessions aren't of one history.
+/// The totals on a disk without a store. `None` if none can be made, or the sessions aren't of one history.
 fn totals_on_new<D: Disk + Drop + Send, R: Threads + Wait + Clock + Sync>(
     rt: &R,
     alloc: Global,

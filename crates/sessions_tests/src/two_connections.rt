@@ -1,4 +1,4 @@
-//! Connections to a server on a socket: one that waits holds no other back, and waits no longer than it says.
+//! Connections to a server on a socket: one that waits holds no other back, and waits no longer than it asked for.
 
 use crate::client::{
     ALLOCATE, BOUND, FIRST_NAME, MESSAGE, NEXT_NAME, NO_MESSAGE, RECEIVE, RECEIVE_WITHIN, SEND,
@@ -67,13 +67,13 @@ fn a_message_comes_to_who_waits_for_it(rt: HostRuntime) -> Result<(), Fail> {
     Ok(())
 }
 
-/// What frames that are written at once are answered.
+/// The answers to frames that are written at once.
 #[derive(Debug, Drop, PartialEq)]
 struct Answered {
     name: Option<[u8; 16]>,
     none: Option<[u8; 20]>,
 
-    // Whether the receipt waited before that.
+    // Whether the receive waited before that.
     has_waited: bool,
     sent: Option<[u8; 20]>,
     message: Option<[u8; 48]>,
@@ -83,7 +83,7 @@ struct Answered {
 /// Frames that are written at once.
 static AT_ONCE: [&[u8]; 5] = [&ALLOCATE, &RECEIVE_WITHIN, &SEND, &RECEIVE, &ALLOCATE];
 
-/// These frames, one behind the other.
+/// These frames, one after the other.
 fn frames(alloc: Global) -> Option<Vec<u8>> {
     let mut bytes = Vec::new(alloc);
     for frame in &AT_ONCE {

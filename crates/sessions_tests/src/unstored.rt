@@ -24,7 +24,7 @@ struct Seen {
     was_held: bool,
     /// Whether the second call's reply came while the loop was held up.
     came_early: bool,
-    /// What both calls were answered.
+    /// The answers to both calls.
     name: Option<u32>,
     bits: Option<u32>,
     /// The names in the two records that there are then, and in one more, as the second session reads them.
@@ -33,7 +33,7 @@ struct Seen {
     together: Option<[usize; 2]>,
 }
 
-/// Waits for a reply, and tells when it has come.
+/// Waits for a reply, and notes when it has come.
 fn told_and_noted<S: Service, R: Wait>(
     rt: &R,
     service: &S,
@@ -46,7 +46,7 @@ fn told_and_noted<S: Service, R: Wait>(
     told
 }
 
-/// Waits for a reply, beside who watches for it.
+/// Waits for a reply, while another thread watches for it.
 fn watched<S: Service + Sync, R: Threads + Wait + Clock + Sync>(
     rt: &R,
     service: &S,
@@ -63,7 +63,8 @@ fn watched<S: Service + Sync, R: Threads + Wait + Clock + Sync>(
     )
 }
 
-/// One session allocates a right, and another asks for the type of its name. They meet once the other made a record more.
+/// One session allocates a right, and another asks for the type of its name. They meet once the other made one more
+/// record.
 fn call_in_both<S: Service + Sync, R: Threads + Wait + Clock + Sync>(
     rt: &R,
     service: &S,
@@ -99,7 +100,7 @@ fn call_in_new<S: Service + Sync, R: Threads + Wait + Clock + Sync>(
     Some(call_in_both(rt, service, one, other, stay))
 }
 
-/// The same, behind which the loops are told to end.
+/// The same, after which the loops are told to end.
 fn call_and_end<S: Service + Sync, R: Threads + Wait + Clock + Sync>(
     rt: &R,
     service: &S,
@@ -123,7 +124,7 @@ fn call_beside_the_loop<S: Service + Sync, R: Threads + Wait + Clock + Sync>(
     seen
 }
 
-/// What is seen on a new store, whose loop is held up so.
+/// What is seen on a new store, whose loop is held up in this way.
 fn seen_on<
     L: Founding + Send + Sync,
     D: Disk + Drop + Send,
@@ -138,7 +139,7 @@ fn seen_on<
     call_beside_the_loop(rt, &shared, stay)
 }
 
-/// What is seen on a disk without a store. None where none can be made.
+/// What is seen on a disk without a store. `None` if none can be made.
 fn seen_on_new<D: Disk + Drop + Send, G: Gate + Send + Sync, R: Threads + Wait + Clock + Sync>(
     rt: &R,
     alloc: Global,

@@ -78,7 +78,7 @@ stopped_reading r own peer own_mid peer_mid left n well lines = at_any r (record
   part = ([], inl refl, ([], [], refl, Appends-nil own_mid.written));
 })
 
--- one line more
+-- one more line
 pub goes_on : (own peer own_mid peer_mid own_new peer_new : Side) (n : ℕ) (well now all : Bool) (taken line : List ℕ) → Talk own peer n well own_mid peer_mid → Consumes own_mid.left own_new.left taken → StopsAt taken 10
     → line ≡ strip_last 10 taken → Does (n + 1) line peer_mid peer_new own_mid.written own_new.written now → own_new.waiting ≡ [] → all ≡ (well && now) → Talk own peer (n + 1) all own_new peer_new
 goes_on own peer own_mid peer_mid own_new peer_new n well now all taken line so_far read one stripped does flushed is =

@@ -1,4 +1,4 @@
--- Replies by the content of their frames.
+-- Replies, read from the content of their frames.
 use Rattle.std.specs.Prelude.{◌≡◌, ◌≢◌, ℕ, List}
 use Rattle.codes.specs.declared.kern_return.KernReturn.TheVariants.{Success}
 use Rattle.ipc_model.specs.declared.call.ReceiveStatus.{ReceiveStatus}
@@ -16,7 +16,7 @@ abbrev pub IsRefusal : Reply → Type 0
 IsRefusal (reply.Refused number code) = code ≢ Success
 IsRefusal answer = Unit {0}
 
--- A frame's content is this reply to a call of this number: one that has a line behind the call.
+-- A frame's content is this reply to a call of this number, and the reply can be written after the call on a line.
 pub record IsReplyTo (number : ℕ) (content : List ℕ) (answer : Reply) : Type 0 where
   pub text : content ≡ reply_text answer
   pub fits : FitsReply answer

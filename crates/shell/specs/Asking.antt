@@ -26,7 +26,7 @@ abbrev pub unless_alone : Result Call LineFault → Result Asked LineFault → R
 unless_alone (Ok c) other = Ok (asked.Call c)
 unless_alone (Err fault) other = other
 
--- a call alone, or else a line of a script: then with the answer that it is to have
+-- only a call, or else a line of a script, with the expected answer
 abbrev pub asked_read : List ℕ → Result Asked LineFault
 asked_read line = unless_alone (request_read line) (answered_read line)
 
@@ -58,6 +58,6 @@ call_of asked.Nothing = None
 call_of (asked.Call c) = Some c
 call_of (asked.Exchange x) = Some x.call
 
--- a frame can have content of so many bytes
+-- a frame can have content of this many bytes
 abbrev pub is_content_length : ℕ → Bool
 is_content_length n = nat_le MIN_FRAME_CONTENT n && nat_le n MAX_FRAME_CONTENT

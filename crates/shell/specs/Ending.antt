@@ -7,7 +7,8 @@ use Rattle.relay.specs.Ending.{line_of as end_line, status_of as end_status}
 use Rattle.shell.specs.Turns.{Stops, TalksAll}
 use Rattle.wire.specs.declared.fault.WireFault.TheVariants.{NoMemory}
 
--- 0: all lines were read, and nothing was wrong or another; 1: something was, or a fault came
+-- 0: all lines were read, none was wrong, and no answer differed; 1: a line was wrong or an answer differed; where
+-- reading ended early, the status of that end
 abbrev pub status_of : Result Bool RelayEnd → ℕ
 status_of (Ok true) = 0
 status_of (Ok false) = 1

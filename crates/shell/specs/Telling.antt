@@ -31,15 +31,15 @@ column_text column = codes ", column " ++ decimal column
 unfoldable pub expected_text : Expected → List ℕ
 expected_text what = codes ": expected " ++ (expected_words what ++ 10 ∷ [])
 
--- a line can't be read: behind so many bytes something else was expected
+-- a line can't be read: after this many bytes something else was expected
 abbrev pub wrong_line : ℕ → ℕ → Expected → List ℕ
 wrong_line number column what = place_text number ++ (column_text column ++ expected_text what)
 
--- no frame is long enough for its call
+-- the line's call doesn't fit a frame
 abbrev pub long_line : ℕ → List ℕ
 long_line number = place_text number ++ codes ": a message that is too long for a frame\n"
 
--- what came isn't a reply to its call
+-- what came isn't a reply to the line's call
 abbrev pub strange_line : ℕ → List ℕ
 strange_line number = place_text number ++ codes ": a reply that isn't one of this call\n"
 
@@ -50,7 +50,7 @@ answered_line c answer = call_line c ++ (reply_line answer ++ 10 ∷ [])
 unfoldable pub expected_place : ℕ → List ℕ
 expected_place number = place_text number ++ codes ", expected: "
 
--- the answer that the line has, where it is another
+-- the answer that the line has, if it differs
 abbrev pub difference_line : ℕ → Call → Reply → List ℕ
 difference_line number c wanted = expected_place number ++ answered_line c wanted
 

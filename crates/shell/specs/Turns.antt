@@ -1,4 +1,4 @@
--- What a line makes the shell send, hear and print.
+-- What a line makes the shell send, receive and print.
 use Rattle.std.specs.Prelude.{◌≡◌, ◌⊎◌, ℕ, ◌+◌, Bool, true, false, List, [], ◌++◌, Option, None, Some, Result, Ok, Err, if◌then◌else◌, ◌&&◌}
 use Rattle.std.specs.Io.{StopsAt}
 use Rattle.std.specs.Io.BufRead.{strip_last}
@@ -18,11 +18,11 @@ use Rattle.shell.specs.Answers.{IsReplyTo}
 use Rattle.shell.specs.Asking.{asked_read, attempt_text, call_of}
 use Rattle.shell.specs.Telling.{answered_line, difference_line, is_same_reply, long_line, strange_line, wrong_line}
 
--- what is said where the answer isn't the one that is wanted
+-- what is printed if the answer isn't the expected one
 abbrev pub difference_text : ℕ → Exchange → Reply → List ℕ
 difference_text number x answer = if is_same_reply answer x.reply then [] else difference_line number x.call x.reply
 
--- what is printed for a line whose call was answered so
+-- what is printed for a line whose call got this answer
 abbrev pub said_text : ℕ → Asked → Reply → List ℕ
 said_text number asked.Nothing answer = []
 said_text number (asked.Call c) answer = answered_line c answer
@@ -40,7 +40,8 @@ Tells number c a content text well =
     ((text ≡ strange_line number) × (well ≡ false))
     ⊎ ((answer : Reply) × IsReplyTo (number_of_call c) content answer × (text ≡ said_text number a answer) × (well ≡ said_well a answer))
 
--- The frame of the call was sent and the reply's read, which is what is printed; or the call is too long, and nothing was sent.
+-- The frame of the call was sent and its reply was read, which determines what is printed; or the call is too long, and
+-- nothing was sent.
 abbrev pub AsksCall : ℕ → Call → Asked → Side → Side → List ℕ → Bool → Type 0
 AsksCall number c a peer peer_new text well =
     ((text ≡ long_line number) × (well ≡ false) × (peer_new ≡ peer))
@@ -50,13 +51,13 @@ abbrev pub HearsAsked : ℕ → Asked → Option Call → Side → Side → List
 HearsAsked number a None peer peer_new text well = (text ≡ []) × (well ≡ true) × (peer_new ≡ peer)
 HearsAsked number a (Some c) peer peer_new text well = AsksCall number c a peer peer_new text well
 
--- What was sent, heard and is printed for the line of a number that asks for this.
+-- What was sent, received and is printed for the line with this number, which asks for this.
 abbrev pub Hears : ℕ → Result Asked LineFault → Side → Side → List ℕ → Bool → Type 0
 Hears number (Ok a) peer peer_new text well = HearsAsked number a (call_of a) peer peer_new text well
 Hears number (Err (line_fault.Unreadable column what)) peer peer_new text well = (text ≡ wrong_line number column what) × (well ≡ false) × (peer_new ≡ peer)
 Hears number (Err line_fault.NoMemory) peer peer_new text well = ⊥
 
--- What the line of a number makes was done: its text is written.
+-- The line with this number was done: its text is written.
 abbrev pub Does : ℕ → List ℕ → Side → Side → Option (List ℕ) → Option (List ℕ) → Bool → Type 0
 Does number line peer peer_new written written_new well = (text : List ℕ) × Appends written written_new text × Hears number (asked_read line) peer peer_new text well
 
@@ -64,11 +65,11 @@ Does number line peer peer_new written written_new well = (text : List ℕ) × A
 abbrev pub IsLast : ℕ → Side → List ℕ → Type 0
 IsLast number peer text = (text ≡ []) ⊎ ((line : List ℕ) × (peer_new : Side) × (well : Bool) × Hears number (asked_read line) peer peer_new text well)
 
--- Some first bytes at most of a line's text were written.
+-- At most a prefix of a line's text was written.
 abbrev pub DoesPart : ℕ → Side → Option (List ℕ) → Option (List ℕ) → Type 0
 DoesPart number peer written written_new = (text : List ℕ) × IsLast number peer text × AppendsPart written written_new text
 
--- A line was read from the front of the input, and what it makes was done: all of it, with its text written and flushed.
+-- A line was read from the front of the input, and was done as a whole: its text was written and flushed.
 pub record IsTurn (number : ℕ) (own peer own_new peer_new : Side) (well : Bool) : Type 0 where
   pub taken : List ℕ
   pub read : Consumes own.left own_new.left taken
@@ -76,7 +77,8 @@ pub record IsTurn (number : ℕ) (own peer own_new peer_new : Side) (well : Bool
   pub done : Does number (strip_last 10 taken) peer peer_new own.written own_new.written well
   pub flushed : own_new.waiting ≡ []
 
--- So many lines were read from the input and done, one after another; well, where none was wrong and no answer another.
+-- This many lines were read from the input and done, one after another. `well` says that none was wrong and no answer
+-- differed.
 pub data Talk (own peer : Side) : ℕ → Bool → Side → Side → Type 0 where
   begun : Talk own peer 0 true own peer
   one_more : (n : ℕ) (well now : Bool) (own_mid peer_mid own_new peer_new : Side) → Talk own peer n well own_mid peer_mid
@@ -89,7 +91,7 @@ pub record TalksAll (own peer own_new peer_new : Side) (well : Bool) : Type 0 wh
   pub lines : Talk own peer count well (as_left left own_new) peer_new
   pub all : TakesAll left own_new.left
 
--- Behind some lines a fault came: of the text of the next one some first bytes at most were written.
+-- After some lines a fault came: at most a prefix of the text of the next line was written.
 pub record Stops (own peer own_new : Side) : Type 0 where
   pub count : ℕ
   pub well : Bool

@@ -12,13 +12,13 @@ pub enum Asked {
     Nothing,
     /// A call, whatever its answer.
     Call(Call),
-    /// A call, and the answer that it is to have.
+    /// A call, and the answer that it is expected to have.
     Exchange(Exchange),
 }
 
-/// What a line asks for. A call with no answer behind it is asked for whatever its answer, also where a script's line of that
-/// kind says that it was done. `Unreadable`: the line is neither such a call nor a line of a script. `NoMemory`: no memory for
-/// what it holds.
+/// What a line asks for. A call with no answer after it is asked for whatever its answer, even though such a line of a
+/// script says that it was done. `Unreadable`: the line is neither such a call nor a line of a script. `NoMemory`: out
+/// of memory for what it holds.
 pub fn read_asked(alloc: Global, line: &[u8]) -> Result<Asked, LineFault>
     ensures { UnlessMemory result (asked_read line.now) }
 {
@@ -29,7 +29,7 @@ pub fn read_asked(alloc: Global, line: &[u8]) -> Result<Asked, LineFault>
     }
 }
 
-/// What a line asks for that isn't a call alone.
+/// What a line asks for that isn't just a call.
 fn read_answered(alloc: Global, line: &[u8]) -> Result<Asked, LineFault>
     ensures { UnlessMemory result (answered_read line.now) }
 {

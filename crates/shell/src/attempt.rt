@@ -8,7 +8,7 @@ use ipc_model::Call;
 use std::alloc::AllocError;
 use words::push_word;
 
-/// The options of a receive: one attempt (a timeout, of 0), unless it may wait.
+/// The options of a receive: one attempt (a timeout of 0), unless it may wait.
 fn receive_options(large: bool, waits: bool) -> u32
     ensures { result ≡ receive_options large waits }
 {
@@ -44,8 +44,8 @@ fn push_message(
     out.extend_from_slice(message)
 }
 
-/// Adds the content of the frame that asks for a call: a send and a receive as one attempt, which doesn't wait, and a receive
-/// that has `waited` as one that may. An `Err` may have added some of it.
+/// Adds the content of the frame that asks for a call: a send and a receive as one attempt, which doesn't wait, and a
+/// receive that has `waited` as one that may. An `Err` may have added some of it.
 pub fn push_attempt(out: &mut Vec<u8>, call: &Call) -> Result<(), AllocError>
     ensures { OnOk result (out.new.items ≡ out.old.items ++ attempt_text call.now) }
 {

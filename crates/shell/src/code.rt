@@ -3,7 +3,7 @@ ghost use Rattle.codes.specs.KernReturn.{number_of};
 
 use codes::KernReturn;
 
-/// The return code of a number.
+/// The return code with a number.
 pub(crate) fn code_of_number(number: u32) -> Option<KernReturn>
     ensures { IfSome result (λ code. number_of code ≡ number) }
 {
@@ -32,7 +32,7 @@ pub(crate) fn code_of_number(number: u32) -> Option<KernReturn>
     }
 }
 
-/// The return code of a number of the kernel interfaces (`KERN_..`).
+/// The return code with a number of the kernel interfaces (`KERN_..`).
 fn kernel_code(number: u32) -> Option<KernReturn>
     ensures { IfSome result (λ code. number_of code ≡ number) }
 {

@@ -17,7 +17,7 @@ use std::alloc::{AllocError, Global};
 use words::take_word;
 
 #[tactic(auto, unfolding(ipc_model::specs::texts::Texts::reply_text))]
-/// The names of a space, behind their count.
+/// The names of a space, after their number.
 fn read_name_row(alloc: Global, results: &[u8]) -> Result<Option<Reply>, AllocError>
     ensures { IfOk result (λ found. IfSome found (IsReplyTo MACH_PORT_NAMES (done_text MACH_PORT_NAMES results.now))) }
 {
@@ -36,7 +36,7 @@ fn read_name_row(alloc: Global, results: &[u8]) -> Result<Option<Reply>, AllocEr
 }
 
 #[tactic(auto, unfolding(ipc_model::specs::texts::Texts::reply_text))]
-/// The members of a set, behind their count.
+/// The members of a set, after their number.
 fn read_member_row(alloc: Global, results: &[u8]) -> Result<Option<Reply>, AllocError>
     ensures { IfOk result (λ found. IfSome found (IsReplyTo MACH_PORT_GET_SET_STATUS (done_text MACH_PORT_GET_SET_STATUS results.now))) }
 {
@@ -55,7 +55,7 @@ fn read_member_row(alloc: Global, results: &[u8]) -> Result<Option<Reply>, Alloc
 }
 
 #[tactic(auto, unfolding(ipc_model::specs::texts::Texts::reply_text))]
-/// The reply to a call of this number that was done and has one number or two, or nothing, for its results.
+/// The reply to a call with this number that was done and has one number or two, or nothing, as its results.
 fn read_plain(number: u32, results: &[u8]) -> Option<Reply>
     requires { number ≢ MACH_MSG }
     ensures { IfSome result (IsReplyTo number (done_text number results.now)) }
@@ -95,7 +95,7 @@ fn read_plain(number: u32, results: &[u8]) -> Option<Reply>
     }
 }
 
-/// Whether a call of this number that was done has no results.
+/// Whether a call with this number that was done has no results.
 fn has_no_results(number: u32) -> bool
     ensures { result ≡ not (has_results number || number == 19) }
 {
@@ -103,7 +103,7 @@ fn has_no_results(number: u32) -> bool
 }
 
 #[tactic(auto, unfolding(ipc_model::specs::texts::Texts::reply_text))]
-/// The reply to a call of this number that was done and has no results.
+/// The reply to a call with this number that was done and has no results.
 fn read_done(number: u32, results: &[u8]) -> Option<Reply>
     ensures { IfSome result (IsReplyTo number (done_text number results.now)) }
 {
@@ -114,7 +114,7 @@ fn read_done(number: u32, results: &[u8]) -> Option<Reply>
 }
 
 #[tactic(auto, unfolding(ipc_model::specs::texts::Texts::reply_text))]
-/// The reply to a call of this number that was refused.
+/// The reply to a call with this number that was refused.
 fn read_refusal(number: u32, code: KernReturn, results: &[u8]) -> Option<Reply>
     requires number { number ≢ MACH_MSG }
     requires code { code ≢ KernReturn.Success }
@@ -135,7 +135,7 @@ fn keep(alloc: Global, message: &[u8]) -> Result<Sequence<u8>, AllocError>
 }
 
 #[tactic(auto, unfolding(ipc_model::specs::texts::Texts::reply_text))]
-/// The reply to a `mach_msg`, behind its code.
+/// The reply to a `mach_msg`, after its code.
 fn read_message(
     alloc: Global,
     code: KernReturn,
@@ -158,7 +158,7 @@ fn read_message(
     }))
 }
 
-/// The reply to a call of this number that was done.
+/// The reply to a call with this number that was done.
 fn read_results(alloc: Global, number: u32, results: &[u8]) -> Result<Option<Reply>, AllocError>
     requires { number ≢ MACH_MSG }
     ensures { IfOk result (λ found. IfSome found (IsReplyTo number (done_text number results.now))) }
@@ -170,7 +170,7 @@ fn read_results(alloc: Global, number: u32, results: &[u8]) -> Result<Option<Rep
     }
 }
 
-/// The reply to a call of this number, of which this is the code and what stands behind it.
+/// The reply to a call with this number, from its code and what stands after it.
 fn read_answer(
     alloc: Global,
     number: u32,
@@ -188,7 +188,7 @@ fn read_answer(
     Ok(read_refusal(number, code, results))
 }
 
-/// The reply to a call of this number that the content of a frame is, if it is one that has a line behind the call.
+/// The reply to a call with this number that is a frame's content, if it is one that has a line after the call.
 pub fn read_reply(alloc: Global, number: u32, content: &[u8]) -> Result<Option<Reply>, AllocError>
     ensures found { IfOk result (λ found. IfSome found (IsReplyTo number content.now)) }
 {

@@ -27,7 +27,7 @@ pub(crate) fn two_words(bytes: &[u8]) -> Option<(u32, u32)>
     Some((a, b))
 }
 
-/// A name with its type in front, and what stands behind them.
+/// A name with its type in front, and what stands after them.
 fn take_named(bytes: &[u8]) -> Option<(NamedType, &[u8])>
     ensures found { IfSome result (λ r. bytes.now ≡ word r.0.name ++ (word r.0.bits ++ r.1.now)) }
     ensures fits { IfSome result (λ r. (r.0.name < 2 ^ 32) × (r.0.bits < 2 ^ 32)) }
@@ -71,7 +71,7 @@ pub(crate) fn read_members(alloc: Global, bytes: &[u8]) -> Result<Option<Vec<u32
     Ok(None)
 }
 
-/// A yes or no in front.
+/// A flag in front.
 fn take_flag(bytes: &[u8]) -> Option<(bool, &[u8])>
     ensures { IfSome result (λ r. bytes.now ≡ word (number_of_bool r.0) ++ r.1.now) }
 {
@@ -83,7 +83,7 @@ fn take_flag(bytes: &[u8]) -> Option<(bool, &[u8])>
     }
 }
 
-/// Three numbers in front, and what stands behind them.
+/// Three numbers in front, and what stands after them.
 fn take_three(bytes: &[u8]) -> Option<(u32, u32, u32, &[u8])>
     ensures found { IfSome result (λ r. bytes.now ≡ word r.0 ++ (word r.1 ++ (word r.2 ++ r.3.now))) }
     ensures fits { IfSome result (λ r. (r.0 < 2 ^ 32) × (r.1 < 2 ^ 32) × (r.2 < 2 ^ 32)) }

@@ -28,9 +28,9 @@ pub fn script_socket(words: Option<&[String]>) -> Option<&str>
     }
 }
 
-/// All of the shell, over the socket of a server. It gives the status to end with: 0 where all lines were read and none was wrong
-/// and no answer another than its line's; 1 where one was; 1 with a line of errors after a fault, or where the socket can't be
-/// connected to.
+/// The whole shell, over the socket of a server. It returns the status to end with: 0 if all lines were read, none was
+/// wrong, and each answer was its line's; 1 if one was wrong or different; 1 with a line of errors after a fault, or if
+/// the socket can't be connected to.
 pub fn run_shell<N: Net, I: BufRead, O: Write + Drop, E: Write>(
     alloc: Global,
     net: &N,
@@ -70,7 +70,7 @@ fn tell<E: Write>(end: Result<bool, RelayEnd>, errors: &mut E)
     }
 }
 
-/// Talks to the server of a socket.
+/// Talks to the server at a socket.
 fn talk<N: Net, I: BufRead, O: Write + Drop, E: Write>(
     alloc: Global,
     net: &N,

@@ -16,14 +16,14 @@ use wire::{WireFault, write_bytes};
 /// What became of a line.
 #[derive(Clone, Copy)]
 pub struct Turn {
-    /// Whether the line could be read, and its answer is the one that it has, if it has one.
+    /// Whether the line could be read, and its answer is the one that it gives, if it gives one.
     pub is_well: bool,
     /// The space that the task is attached to from here on.
     pub space: u32,
 }
 
-/// The next line of the input, with its end if it has one, or `None` at the end of the input. `NoMemory`: no memory for it.
-/// `Device`: the reader failed within it, and it is lost.
+/// The next line of the input, with its end if it has one, or `None` at the end of the input. `NoMemory`: out of memory
+/// for it. `Device`: the reader failed within it, and it is lost.
 fn next_line<I: BufRead>(alloc: Global, input: &mut I) -> Result<Option<Vec<u8>>, WireFault>
     ensures line { IfOk result (λ found. IfSome found (λ line. Consumes (I.remaining input.old) (I.remaining input.new) line.items)) }
     ensures one { IfOk result (λ found. IfSome found (λ line. StopsAt line.items 10)) }
@@ -69,8 +69,8 @@ fn say<W: Write + Drop>(output: &mut BufWriter<W>, text: &[u8]) -> Result<(), Wi
     Ok(())
 }
 
-/// Does what a line makes: its call is made, and what is printed for it is written and flushed. The faults are those of `hear`,
-/// and `Device` where the output can't be written.
+/// Does what a line asks for: its call is made, and what is printed for it is written and flushed. The faults are those
+/// of `hear`, and `Device` if the output can't be written.
 pub fn take_turn<O: Write + Drop, P: Read, S: Write + Drop>(
     alloc: Global,
     place: Place,
@@ -99,7 +99,7 @@ fn both(a: bool, b: bool) -> bool
     a && b
 }
 
-/// Writes the prompt of a space, if one is wanted. A prompt that can't be written is left out.
+/// Writes the prompt of a space, if asked to. A prompt that can't be written is left out.
 fn prompt<E: Write>(alloc: Global, errors: &mut E, is_prompting: bool, space: u32)
     ensures quiet { is_prompting ≡ false → E.contents errors.new ≡ E.contents errors.old }
 {
@@ -112,9 +112,9 @@ fn prompt<E: Write>(alloc: Global, errors: &mut E, is_prompting: bool, space: u3
     }
 }
 
-/// Does what each line of the input makes, one after another. It tells whether each could be read, and no answer was another
-/// than the line's. Where a prompt is wanted, one with the space that the task is attached to is written in front of each line, on
-/// `errors`: the output stays a script.
+/// Does what each line of the input asks for, one after another. Returns whether each could be read, and each answer
+/// was its line's. If a prompt is asked for, one with the space that the task is attached to is written on `errors` in
+/// front of each line: the output stays a script.
 pub fn converse<I: BufRead, O: Write + Drop, P: Read, S: Write + Drop, E: Write>(
     alloc: Global,
     input: &mut I,

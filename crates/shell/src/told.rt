@@ -101,7 +101,7 @@ pub fn push_long(out: &mut Vec<u8>, number: u64) -> Result<(), AllocError>
     push_comment(out, number, b": a message that is too long for a frame\n")
 }
 
-/// Adds the comment on a line whose call has an answer that isn't one of it. An `Err` may have added some of it.
+/// Adds the comment on a line whose call got an answer that isn't one to it. An `Err` may have added some of it.
 pub fn push_strange(out: &mut Vec<u8>, number: u64) -> Result<(), AllocError>
     ensures { OnOk result (out.new.items ≡ out.old.items ++ strange_line number) }
 {
@@ -119,14 +119,14 @@ pub fn push_answered(out: &mut Vec<u8>, call: &Call, reply: &Reply) -> Result<()
 }
 
 #[tactic(auto, unfolding(crate::specs::Telling::expected_place))]
-/// Adds the beginning of the comment on a line that has another answer.
+/// Adds the beginning of the comment on a line that gives another answer.
 fn push_expected_place(out: &mut Vec<u8>, number: u64) -> Result<(), AllocError>
     ensures { OnOk result (out.new.items ≡ out.old.items ++ expected_place number) }
 {
     push_comment(out, number, b", expected: ")
 }
 
-/// Adds the comment on a line that has another answer than its call got. An `Err` may have added some of it.
+/// Adds the comment on a line that gives another answer than its call got. An `Err` may have added some of it.
 pub fn push_difference(
     out: &mut Vec<u8>,
     number: u64,
@@ -139,7 +139,7 @@ pub fn push_difference(
     push_answered(out, call, wanted)
 }
 
-/// Whether two replies have one line.
+/// Whether two replies are written as the same line.
 pub fn is_same_reply(alloc: Global, reply: &Reply, wanted: &Reply) -> Result<bool, AllocError>
     ensures { IfOk result (λ same. same ≡ is_same_reply reply.now wanted.now) }
 {

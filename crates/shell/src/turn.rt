@@ -38,7 +38,7 @@ pub struct Place {
 pub struct Told {
     /// The text, with its ends of lines.
     pub text: Vec<u8>,
-    /// Whether the line could be read, and its answer is the one that it has, if it has one.
+    /// Whether the line could be read, and its answer is the one that it gives, if it gives one.
     pub is_well: bool,
     /// The space that the task is attached to from here on.
     pub space: u32,
@@ -55,7 +55,7 @@ fn call_of(asked: &Asked) -> Option<&Call>
     }
 }
 
-/// The space that a task of this space is attached to behind a call that was answered so.
+/// The space that a task of this space is attached to after a call with this reply.
 fn space_behind(space: u32, call: &Call, reply: &Reply) -> u32
     ensures { result ≡ (if succeeded call.now reply.now then attached_by space call.now else space) }
 {
@@ -66,7 +66,7 @@ fn space_behind(space: u32, call: &Call, reply: &Reply) -> u32
     }
 }
 
-/// Adds what is said where another answer is wanted.
+/// Adds the comment that another answer was expected, if it was.
 fn push_unless_same(
     text: &mut Vec<u8>,
     number: u64,
@@ -81,7 +81,8 @@ fn push_unless_same(
     push_difference(text, number, &exchange.call, &exchange.reply)
 }
 
-/// Adds the line of a call and its answer, and what is said where another is wanted. Whether none is.
+/// Adds the line of a call and its answer, and a comment if another was expected. Returns whether it is the expected
+/// one.
 fn push_compared(
     alloc: Global,
     text: &mut Vec<u8>,
@@ -98,7 +99,8 @@ fn push_compared(
     Ok(is_same)
 }
 
-/// Adds what is printed for a line whose call was answered so. Whether its answer is the one that it has, if it has one.
+/// Adds what is printed for a line whose call got this reply. Returns whether it is the answer that the line gives, if
+/// it gives one.
 fn push_said(
     alloc: Global,
     text: &mut Vec<u8>,
@@ -119,7 +121,7 @@ fn push_said(
     }
 }
 
-/// What is printed for a line whose call was answered so.
+/// What is printed for a line whose call got this reply.
 fn tell_reply(
     alloc: Global,
     place: Place,
@@ -140,7 +142,7 @@ fn tell_reply(
     })
 }
 
-/// What is printed for a line whose call is answered by what is no reply to it.
+/// What is printed for a line whose call got an answer that is no reply to it.
 fn tell_strange(alloc: Global, place: Place) -> Result<Told, AllocError>
     ensures text { IfOk result (λ told. told.text.items ≡ strange_line place.number) }
     ensures well { IfOk result (λ told. told.is_well ≡ false) }
@@ -154,7 +156,7 @@ fn tell_strange(alloc: Global, place: Place) -> Result<Told, AllocError>
     })
 }
 
-/// What is printed for a line whose call is answered by a frame of this content.
+/// What is printed for a line whose call is answered by a frame with this content.
 fn tell_content(
     alloc: Global,
     place: Place,
@@ -216,14 +218,14 @@ fn content_of(alloc: Global, call: &Call) -> Result<Vec<u8>, AllocError>
     Ok(content)
 }
 
-/// Whether a frame can have content of so many bytes.
+/// Whether a frame can have this many bytes of content.
 fn is_content_length(length: usize) -> bool
     ensures { result ≡ is_content_length length }
 {
     length >= MIN_FRAME_CONTENT as usize && length <= MAX_FRAME_CONTENT as usize
 }
 
-/// Sends a frame of this content to the server, and reads the reply.
+/// Sends a frame with this content to the server, and reads the reply.
 fn exchange<P: Read, S: Write + Drop>(
     alloc: Global,
     content: &[u8],
@@ -239,7 +241,7 @@ fn exchange<P: Read, S: Write + Drop>(
     next_reply(alloc, replies)
 }
 
-/// Sends the frame of a line's call, and makes of the reply what is printed.
+/// Sends the frame of a line's call, and makes what is printed from the reply.
 fn ask_call<P: Read, S: Write + Drop>(
     alloc: Global,
     place: Place,
@@ -282,10 +284,10 @@ fn ask<P: Read, S: Write + Drop>(
     }
 }
 
-/// Makes the call of a line, if it has one, and tells what is printed for the line.
+/// Makes the call of a line, if it has one, and returns what is printed for the line.
 ///
-/// `NoMemory`: no memory for what the line or the reply holds, or for the text. `Short`: the server ended before the reply. The
-/// other faults are those of the streams.
+/// `NoMemory`: out of memory for what the line or the reply holds, or for the text. `Short`: the server ended before
+/// the reply. The other faults are those of the streams.
 pub fn hear<P: Read, S: Write + Drop>(
     alloc: Global,
     place: Place,

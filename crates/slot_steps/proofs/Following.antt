@@ -1,4 +1,4 @@
--- What a stop may leave of one slot, whatever it might have left of the others before.
+-- What a crash may leave of one slot, whatever it might have left of the others before.
 use Rattle.std.proofs.Common.{◌≡◌, inl, inr, ℕ, zero, suc, ◌<◌, List, [], ◌∷◌, take, get_or, sym, ap, subst, ◌∙◌, arith, Result, Ok, Err, OnOk}
 use Rattle.disk.specs.declared.slot.Slot.{Slot}
 use Rattle.disk.specs.Moments.{View, MayLeave, Passes, Follows, IsSynced}
@@ -7,11 +7,11 @@ use Rattle.ipc_model.specs.store.Store.{IsClosed}
 use Rattle.slot_steps.specs.Steps.{IsShut, IsStillClosed}
 use Rattle.slot_steps.proofs.Moments.{left_now, left_before, passes_then, passes_as, with_own, with_twice}
 
--- what a stop might have left before, where that is a step
+-- what a crash might have left before, if that is a step
 pub follows_self : (slot : Slot) (old : View) (step : List ℕ → List ℕ → Type 0) (c : Slots) → MayLeave old c → step (slot_of c slot) (slot_of c slot) → Follows old slot step c
 follows_self slot old step c left is = (c, left, is, sym (with_own slot c))
 
--- other words for what a step does to what a stop might have left
+-- another description of how a step changes what a crash might have left
 pub follows_as : (slot : Slot) (old new : View) (P R : List ℕ → List ℕ → Type 0) → Passes old new (Follows old slot P)
     → ((d : Slots) (after : List ℕ) → MayLeave old d → P (slot_of d slot) after → R (slot_of d slot) after) → Passes old new (Follows old slot R)
 follows_as slot old new P R time less =
@@ -56,7 +56,7 @@ still_then slot old mid new P same first second =
     passes_then old mid new (MayLeave old) (Follows mid slot P) (Follows old slot P) first second (λ c left. follows_self slot old P c left (same (slot_of c slot)))
     (λ c made. (made.0, left_before old mid first made.0 made.1, made.2, made.3))
 
--- behind a gate that isn't open
+-- after a gate that isn't open
 
 -- the first byte, of those that stay as they were
 pub still_closed : (n : ℕ) (before after : List ℕ) → 0 < n → take n after ≡ take n before → IsClosed before → IsClosed after
@@ -80,7 +80,7 @@ shut_kept slot old new shut time c left = elim (left_now old new (Follows old sl
 pub synced_shut : (slot : Slot) (disk : View) → IsSynced disk slot → IsClosed (slot_of disk.seen slot) → IsShut disk slot
 synced_shut slot disk synced closed c left = subst IsClosed (sym (synced c left)) closed
 
--- The other slots are left as they might have been before.
+-- A crash leaves the other slots as it might have left them before.
 pub others_stay : (slot : Slot) (old new : View) (step : List ℕ → List ℕ → Type 0) → Passes old new (Follows old slot step) → (c : Slots) → MayLeave new c → (d : Slots) × MayLeave old d × (c ≡ with_slot d slot (slot_of c slot))
 others_stay slot old new step time c left = elim (left_now old new (Follows old slot step) time c left) [
   | inl before ↦ (c, before, sym (with_own slot c))
@@ -91,7 +91,7 @@ others_stay slot old new step time c left = elim (left_now old new (Follows old 
 pub always_ok : {T E P : Type 0} (r : Result T E) → P → OnOk r P
 always_ok r p = elim r as (λ v. OnOk v _) [ Ok x ↦ p | Err e ↦ tt ]
 
--- one call after another behind a gate that isn't open
+-- one call after another, after a gate that isn't open
 pub closed_then : (slot : Slot) (old mid new : View) → Passes old mid (Follows old slot IsStillClosed) → Passes mid new (Follows mid slot IsStillClosed) → Passes old new (Follows old slot IsStillClosed)
 closed_then slot old mid new first second =
     follows_then slot old mid new IsStillClosed IsStillClosed IsStillClosed first second (λ d after left shut. shut) (λ d after left shut. shut) (λ d between after left early late. late)

@@ -9,7 +9,7 @@ use Rattle.ipc_model.specs.store.Store.{IsClosed, open_gate}
 use Rattle.slot_steps.specs.Steps.{HasSomeGate, IsClosing, IsRemade, IsStillClosed}
 use Rattle.slot_steps.proofs.Following.{follows_as, follows_then}
 
--- an open gate, and what stands behind it
+-- an open gate, and what stands after it
 pub gate_apart : (slot : List ℕ) → take 1 slot ≡ open_gate ∷ [] → slot ≡ open_gate ∷ drop 1 slot
 gate_apart [] is = absurd (cc is)
 gate_apart (gate ∷ rest) is = ap (λ (l : List ℕ). get_or l 0 0 ∷ rest) is
@@ -24,7 +24,7 @@ closed_or_open (gate ∷ rest) = elim (cases_lt gate open_gate) [
   ]
 ]
 
--- what begins with no open gate
+-- bytes that don't begin with an open gate
 pub no_open_gate : (slot : List ℕ) → IsClosed slot → take 1 slot ≡ open_gate ∷ [] → ⊥
 no_open_gate [] shut is = absurd (cc is)
 no_open_gate (gate ∷ rest) shut is = shut (ap (λ (l : List ℕ). get_or l 0 0) is)
@@ -49,25 +49,25 @@ gate_closing header before after some needs gate = elim needs [
   ]
 ]
 
--- what stands behind the first byte of a slot
+-- what stands after the first byte of a slot
 pub behind_first : (slot text : List ℕ) → 0 < length slot → drop 1 (take 1 slot ++ text) ≡ text
 behind_first [] text some = absurd (omega (arith, some))
 behind_first (gate ∷ rest) text some = refl
 
--- a gate that is being opened: it isn't open, or all that stood behind it stands there
+-- a gate that is being opened: it isn't open, or all that stood after it stands there
 pub gate_opened : (behind shut after : List ℕ) → drop 1 shut ≡ behind → HasSomeGate shut after → IsClosed after ⊎ (after ≡ open_gate ∷ behind)
 gate_opened behind shut after is gate = elim (closed_or_open after) [
   | inl still ↦ inl still
   | inr whole ↦ inr (whole ∙ ap (λ (l : List ℕ). open_gate ∷ l) (gate.behind ∙ is))
 ]
 
--- a slot is closed, and then written behind its gate
+-- a slot is closed, and then written after its gate
 pub closing_then : (slot : Slot) (old mid new : View) (header : ℕ) → Passes old mid (Follows old slot (IsClosing header)) → Passes mid new (Follows mid slot IsStillClosed) → Passes old new (Follows old slot (IsClosing header))
 closing_then slot old mid new header first second =
     follows_then slot old mid new (IsClosing header) IsStillClosed (IsClosing header) first second (λ d after left closing. closing)
     (λ d after left shut. inr (closed_not_open header after shut)) (λ d between after left early late. inr (closed_not_open header after late))
 
--- and then its gate is opened before what stands behind it
+-- and then its gate is opened before what stands after it
 pub opening_then : (slot : Slot) (old mid new : View) (behind : List ℕ) → IsSynced mid slot → drop 1 (slot_of mid.seen slot) ≡ behind → Passes old mid (Follows old slot IsStillClosed) → Passes mid new (Follows mid slot HasSomeGate)
     → Passes old new (Follows old slot (λ before after. IsClosed after ⊎ (after ≡ open_gate ∷ behind)))
 opening_then slot old mid new behind synced is first second =
@@ -77,7 +77,7 @@ opening_then slot old mid new behind synced is first second =
     follows_then slot old mid new IsStillClosed (λ (before after : List ℕ). IsClosed after ⊎ (after ≡ open_gate ∷ behind)) (λ (before after : List ℕ). IsClosed after ⊎ (after ≡ open_gate ∷ behind)) first opening
     (λ d after left shut. inl shut) (λ d after left opened. opened) (λ d between after left early late. late)
 
--- a slot gets a new content: it is closed, and then the content stands there or its gate isn't open
+-- a slot gets new content: it is closed, and then the content stands there or its gate isn't open
 pub closing_remade : (slot : Slot) (old new : View) (header : ℕ) (content : List ℕ) → Passes old new (Follows old slot (IsClosing header)) → Passes old new (Follows old slot (IsRemade header content))
 closing_remade slot old new header content time = follows_as slot old new (IsClosing header) (IsRemade header content) time (λ d after left closing. inl closing)
 

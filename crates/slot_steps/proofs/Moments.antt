@@ -9,7 +9,7 @@ use Rattle.disk.specs.Slots.{Slots, slot_of, with_slot}
 later_or_now : (m n : ℕ) → m ≤ n → (m < n) ⊎ (n ≡ m)
 later_or_now m n le = elim (cases_lt m n) [ inl later ↦ inl later | inr now ↦ inr (omega arith) ]
 
--- what a stop may leave now it might have left before, or it came since
+-- what a crash may leave now it might have left before, or that came about since
 pub left_now : (old new : View) (P : Slots → Type 0) → Passes old new P → (c : Slots) → MayLeave new c → MayLeave old c ⊎ P c
 left_now old new P time c left = elim (later_or_now old.moment new.moment time.later) [
   | inl later ↦ inr (time.since new.moment c later (omega arith) left)

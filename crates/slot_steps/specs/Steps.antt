@@ -1,4 +1,5 @@
--- What is done to one slot of a store: its gate is closed, what stands behind the gate is written, and the gate is opened.
+-- What is done to one slot of a store: its gate is closed, what stands after the gate is written, and the gate is
+-- opened.
 use Rattle.std.specs.Prelude.{◌≡◌, ◌⊎◌, ℕ, ◌≤◌, ◌%◌, ◌==◌, max, List, length, drop, if◌then◌else◌}
 use Rattle.disk.specs.declared.slot.Slot.{Slot}
 use Rattle.disk.specs.declared.slot.Slot.TheVariants.{Image0, Image1, Segment0, Segment1}
@@ -14,16 +15,16 @@ image_slot epoch = if epoch % 2 == 0 then Image0 else Image1
 abbrev pub segment_slot : ℕ → Slot
 segment_slot epoch = if epoch % 2 == 0 then Segment0 else Segment1
 
--- a stop leaves no open gate in this slot
+-- a crash leaves no open gate in this slot
 abbrev pub IsShut : View → Slot → Type 0
 IsShut disk slot = (c : Slots) → MayLeave disk c → IsClosed (slot_of c slot)
 
--- Something was written behind a gate that isn't open, and a stop cut that short.
+-- Something was written after a gate that isn't open, and a crash interrupted that.
 abbrev pub IsStillClosed : List ℕ → List ℕ → Type 0
 IsStillClosed before after = IsClosed after
 
--- A slot's gate was written, and a stop cut that short: any byte stands in its place, or none where the slot was empty.
--- What stood behind it stands there still.
+-- A slot's gate was written, and a crash interrupted that: any byte stands in its place, or none where the slot was
+-- empty. What stood after it still stands there.
 pub record HasSomeGate (before after : List ℕ) : Type 0 where
   pub behind : drop 1 after ≡ drop 1 before
   pub no_shorter : length before ≤ length after
@@ -33,6 +34,6 @@ pub record HasSomeGate (before after : List ℕ) : Type 0 where
 abbrev pub IsClosing : ℕ → List ℕ → List ℕ → Type 0
 IsClosing header before after = (after ≡ before) ⊎ (¬ IsOpen header after)
 
--- a slot that gets a new content is as it was, or it isn't open, or all of that content stands there
+-- a slot that gets new content is as it was, or it isn't open, or it holds all of that content
 abbrev pub IsRemade : ℕ → List ℕ → List ℕ → List ℕ → Type 0
 IsRemade header content before after = IsClosing header before after ⊎ (after ≡ content)

@@ -1,4 +1,5 @@
-//! What is done to one slot of a store: its gate is closed, what stands behind the gate is written, and the gate is opened.
+//! What is done to one slot of a store: its gate is closed, what stands after the gate is written, and the gate is
+//! opened.
 #![tactic(auto)]
 
 mod slots;

@@ -3,13 +3,14 @@ ghost use Rattle.slot_steps.specs.Steps.{image_slot as slot_of_image, segment_sl
 
 use disk::Slot;
 
-/// A gate with this byte is open: what stands behind it counts.
+/// A gate with this byte is open: what stands after it counts.
 pub const OPEN_GATE: u8 = 0x5a;
 
 /// A closed gate.
 pub const CLOSED_GATE: u8 = 0;
 
-/// How many bytes an image slot has before its text: the gate, the version, six zero bytes, the epoch and the text's length.
+/// How many bytes an image slot has before its encoded state: the gate, the version, six zero bytes, the epoch and the
+/// length of that encoding.
 pub const IMAGE_HEADER: usize = 24;
 
 /// How many bytes a segment slot has before its first batch: the gate, the version, six zero bytes and the epoch.

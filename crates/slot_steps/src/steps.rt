@@ -1,4 +1,4 @@
-// Each says what a stop at any moment of it may leave, whatever a stop before might have left of the other slots.
+// Each says what a crash at any moment of it may leave, whatever a crash before might have left of the other slots.
 ghost use Rattle.std.specs.Prelude.{◌≡◌, ◌↔◌, ◌⊎◌, ◌≤◌, ◌<◌, ◌∷◌, [], length, take, drop, IsTrue, OnOk, IfOk};
 ghost use Rattle.disk.specs.Slots.{slot_of, with_slot, written_at};
 ghost use Rattle.disk.specs.Moments.{CountsFailure, Follows, IsSynced, MayLeave, Passes};
@@ -20,7 +20,7 @@ pub fn write_gate<D: Disk>(disk: &mut D, slot: Slot, gate: u8) -> Result<(), Dis
     disk.sync(slot)
 }
 
-/// Whether a slot has its gate open, or not even its whole header.
+/// Whether a slot's gate is open, or its header isn't whole.
 fn needs_closing<D: Disk>(disk: &mut D, slot: Slot, header: usize) -> Result<bool, DiskFault>
     requires { 1 < header }
     ensures needs { D.honest → IfOk result (λ needs. IsTrue needs ↔ ((length (slot_of (D.view disk.old).seen slot) < header)
@@ -37,8 +37,8 @@ fn needs_closing<D: Disk>(disk: &mut D, slot: Slot, header: usize) -> Result<boo
     Ok(gate[0] == OPEN_GATE)
 }
 
-/// Has a closed gate stand at the front of a slot, on the disk. It isn't written over a closed gate with a whole
-/// header: a stop within that write could leave an open gate before an old header.
+/// Makes sure that a closed gate stands at the front of a slot, on the disk. A closed gate with a whole header isn't
+/// written over: a crash within that write could leave an open gate before an old header.
 pub fn close_slot<D: Disk>(disk: &mut D, slot: Slot, header: usize) -> Result<(), DiskFault>
     requires { 1 < header }
     ensures begun { D.honest → OnOk result (0 < length (slot_of (D.view disk.new).seen slot)) }
@@ -55,7 +55,7 @@ pub fn close_slot<D: Disk>(disk: &mut D, slot: Slot, header: usize) -> Result<()
     disk.sync(slot)
 }
 
-/// Writes behind a slot's gate.
+/// Writes after a slot's gate.
 pub fn write_behind<D: Disk>(
     disk: &mut D,
     slot: Slot,
@@ -74,7 +74,7 @@ pub fn write_behind<D: Disk>(
     disk.write_at(slot, at, bytes)
 }
 
-/// Cuts a slot behind its gate.
+/// Truncates a slot after its gate.
 pub fn cut_behind<D: Disk>(disk: &mut D, slot: Slot, len: u64) -> Result<(), DiskFault>
     requires behind { 0 < len }
     requires inside { D.honest → len ≤ length (slot_of (D.view disk.old).seen slot) }
@@ -88,7 +88,7 @@ pub fn cut_behind<D: Disk>(disk: &mut D, slot: Slot, len: u64) -> Result<(), Dis
     disk.cut(slot, len)
 }
 
-/// Syncs what stands behind a slot's gate.
+/// Syncs what stands after a slot's gate.
 pub fn sync_behind<D: Disk>(disk: &mut D, slot: Slot) -> Result<(), DiskFault>
     ensures seen { D.honest → (D.view disk.new).seen ≡ (D.view disk.old).seen }
     ensures synced { D.honest → OnOk result (IsSynced (D.view disk.new) slot) }

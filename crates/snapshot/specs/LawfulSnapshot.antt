@@ -6,8 +6,7 @@ use Rattle.ipc_model.specs.state.State.{State}
 use Rattle.snapshot.specs.Snapshots.{snapshot_of}
 use Rattle.snapshot.specs.declared.rows.Snapshot.{Snapshot}
 
--- A lawful snapshot is that of a lawful state in which no ports carry one another in a circle, and whose queues are short
--- enough to count.
+-- A lawful snapshot is that of a lawful and acyclic state, whose queues are short enough to count.
 pub record IsLawfulSnapshot (snapshot : Snapshot) : Type 0 where
   pub state : State
   pub same : snapshot ≡ snapshot_of state

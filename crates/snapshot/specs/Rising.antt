@@ -1,10 +1,10 @@
--- Rows whose numbers rise.
+-- Rows whose numbers ascend.
 use Rattle.std.specs.Prelude.{ℕ, ◌+◌, ◌≤◌, List, [], ◌∷◌}
 use Rattle.snapshot.specs.declared.rows.LivePort.{LivePort}
 use Rattle.snapshot.specs.declared.rows.NamedEntry.{NamedEntry}
 use Rattle.snapshot.specs.declared.rows.Space.{Space}
 
--- numbers that rise, the first of them at least this one
+-- ascending numbers, the first of them at least this one
 abbrev pub RisesFrom : ℕ → List ℕ → Type 0
 RisesFrom at [] = Unit {0}
 RisesFrom at (n ∷ rest) = (at ≤ n) × RisesFrom (n + 1) rest

@@ -51,7 +51,7 @@ module _ {X : Type 0} where
   AreUnder at [] = Unit {0}
   AreUnder at (e ∷ es) = (e.0 < at) × AreUnder at es
 
-  -- a key above all goes to the end
+  -- a key above all others goes to the end
   put_last : (k : ℕ) (v : X) (es : List (ℕ × X)) → AreUnder k es → put nat_cmp k v es ≡ es ++ (k, v) ∷ []
   put_last k v [] under = refl
   put_last k v (e ∷ es) under =
@@ -66,7 +66,7 @@ module _ {X : Type 0} where
   under_last at k v [] le under = (omega arith, tt)
   under_last at k v (e ∷ es) le under = (omega (arith, le, under.0), under_last at k v es le under.1)
 
-  -- rising entries put behind those that are there
+  -- ascending entries put after those that are there
   pub all_put : (es : List (ℕ × X)) (m : FinMap {K = ℕ} nat_cmp X) (at : ℕ) → AreUnder at (entries m) → RisesFrom at (map key_of es) → entries (put_all es m) ≡ entries m ++ es
   all_put [] m at under rises = sym (append-nil (entries m))
   all_put (e ∷ es) m at under rises =
@@ -75,14 +75,14 @@ module _ {X : Type 0} where
       ∙ ap (λ (xs : List (ℕ × X)). xs ++ es) put
       ∙ append_assoc (entries m) (e ∷ []) es
 
-  -- the map of rising entries
+  -- the map of ascending entries
   abbrev pub map_of : List (ℕ × X) → FinMap {K = ℕ} nat_cmp X
   map_of es = put_all es empty
 
   pub entries_of : (es : List (ℕ × X)) (at : ℕ) → RisesFrom at (map key_of es) → entries (map_of es) ≡ es
   entries_of es at rises = all_put es empty at (subst (AreUnder at) (sym entries_none) tt) rises ∙ ap (λ (xs : List (ℕ × X)). xs ++ es) entries_none
 
-  -- what is found behind a key is above it
+  -- what is found after a key is above it
   pub over : (low k : ℕ) (v : X) (es : List (ℕ × X)) → T (below_all nat_cmp low es) → find nat_cmp k es ≡ Some v → low + 1 ≤ k
   over low k v [] below there = absurd (cc there)
   over low k v (e ∷ es) below there =
@@ -91,7 +91,7 @@ module _ {X : Type 0} where
         | false ↦ λ (_ : _) (later : _). over low k v es (back_of (is_lt (nat_cmp low e.0)) (below_all nat_cmp low es) below) later
       ] refl there
 
-  -- a key of rising entries is no less than the least
+  -- a key of ascending entries is no less than the least
   found_from : (at : ℕ) (es : List (ℕ × X)) (k : ℕ) (v : X) → RisesFrom at (map key_of es) → find nat_cmp k es ≡ Some v → at ≤ k
   found_from at [] k v rises there = absurd (cc there)
   found_from at (e ∷ es) k v rises there =
@@ -103,7 +103,7 @@ module _ {X : Type 0} where
   pub rising_keys : (at : ℕ) (m : FinMap {K = ℕ} nat_cmp X) (k : ℕ) (v : X) → RisesFrom at (map key_of (entries m)) → get m k ≡ Some v → at ≤ k
   rising_keys at m k v rises there = found_from at (entries m) k v rises (sym (get-entries m k) ∙ there)
 
-  -- the entries of a map rise
+  -- the entries of a map ascend
   risen : (at : ℕ) (es : List (ℕ × X)) → ((k : ℕ) (v : X) → find nat_cmp k es ≡ Some v → at ≤ k) → T (is_sorted nat_cmp es) → RisesFrom at (map key_of es)
   risen at [] from sorted = tt
   risen at (e ∷ es) from sorted =
@@ -114,7 +114,7 @@ module _ {X : Type 0} where
   pub entries_rise : (at : ℕ) (m : FinMap {K = ℕ} nat_cmp X) → ((k : ℕ) (v : X) → get m k ≡ Some v → at ≤ k) → RisesFrom at (map key_of (entries m))
   entries_rise at m from = risen at (entries m) (λ k v there. from k v (get-entries m k ∙ there)) (entries_sorted m)
 
-  -- what holds of all that a map has holds of its entries, and the other way round
+  -- what holds of all that a map has holds of its entries, and conversely
   all_of : (P : ℕ × X → Type 0) (es : List (ℕ × X)) → T (is_sorted nat_cmp es) → ((k : ℕ) (x : X) → find nat_cmp k es ≡ Some x → P (k, x)) → All P es
   all_of P [] sorted each = All-nil P
   all_of P (e ∷ es) sorted each =
@@ -178,17 +178,17 @@ rows_of_names rows at rises =
     ap (map named_row) (entries_of (map entry_of rows) at (subst (RisesFrom at) (sym (map_map key_of entry_of rows)) rises))
     ∙ map_map named_row entry_of rows ∙ map_same_id (λ (r : NamedEntry). r) rows (λ k d less. refl)
 
--- each space's names rise
+-- each space's names ascend
 abbrev pub NamesRise : Space → Type 0
 NamesRise row = RisesFrom 1 (map name_of row.names)
 
--- A snapshot whose rows rise.
+-- A snapshot whose rows ascend.
 pub record Rises (snapshot : Snapshot) : Type 0 where
   pub spaces : RisesFrom 1 (map number_of snapshot.spaces)
   pub names : All NamesRise snapshot.spaces
   pub ports : RisesFrom 1 (map serial_of snapshot.ports)
 
--- It is that of the state of its rows.
+-- Such a snapshot is that of the state of its rows.
 pub is_of_rows : (snapshot : Snapshot) → Rises snapshot → snapshot ≡ snapshot_of (state_of_rows snapshot)
 unfolding snapshot_of
 is_of_rows snapshot rises = λ i. record { next_serial = snapshot.next_serial; spaces = sym spaces i; ports = sym ports i }

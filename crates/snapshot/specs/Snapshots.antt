@@ -5,11 +5,11 @@ use Rattle.ipc_model.specs.state.State.{Names, State}
 use Rattle.snapshot.specs.declared.rows.NamedEntry.{NamedEntry}
 use Rattle.snapshot.specs.declared.rows.Snapshot.{Snapshot}
 
--- the names of a space, rising
+-- the names of a space, ascending
 abbrev pub names_of : Names → List NamedEntry
 names_of names = map (λ e. record { name = e.0; entry = e.1 }) (finmap.entries names)
 
--- the snapshot of a state: its spaces, each with its names, and its live ports, each list rising
+-- the snapshot of a state: its spaces, each with its names, and its live ports, each list ascending
 unfoldable pub snapshot_of : State → Snapshot
 snapshot_of state = record {
   next_serial = state.next;

@@ -42,7 +42,7 @@ impl Numbered for LivePort {
     }
 }
 
-/// Whether the numbers of rows rise, the first of them at least this one.
+/// Whether the numbers of rows ascend, beginning with at least this one.
 pub fn rises<T: Numbered>(rows: &[T], from: u64) -> bool
     ensures { IsTrue result ↔ RisesFrom from (map T.number rows.now) }
 {

@@ -12,7 +12,7 @@ pub struct NamedEntry {
 pub struct Space {
     /// The space's number.
     pub number: u32,
-    /// Its names, rising.
+    /// Its names, in ascending order.
     pub names: Sequence<NamedEntry>,
 }
 
@@ -21,7 +21,7 @@ pub struct Space {
 pub struct LivePort {
     /// The port's serial number.
     pub serial: u64,
-    /// What it keeps, its queue among it.
+    /// What the port has, including its queue.
     pub state: PortState,
 }
 
@@ -30,8 +30,8 @@ pub struct LivePort {
 pub struct Snapshot {
     /// The serial that the next port gets.
     pub next_serial: u64,
-    /// The spaces, rising by number.
+    /// The spaces, in ascending order of numbers.
     pub spaces: Sequence<Space>,
-    /// The live ports, rising by serial.
+    /// The live ports, in ascending order of serials.
     pub ports: Sequence<LivePort>,
 }

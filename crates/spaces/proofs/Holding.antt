@@ -37,7 +37,7 @@ second_is : (a b : Bool) → b ≡ true → (a || b) ≡ true
 second_is true b p = refl
 second_is false b p = p
 
--- the lesser of the first places at which the one and the other stands is the first at which either does
+-- the lesser of the two first places, one for each kind of name, is the first place of either kind
 module _ (spaces : SpaceMap) (port from : ℕ) where
   named : (q : ℕ) → is_number (at_place port_named spaces q) port ≡ (is_number (at_place port_shared spaces q) port || is_number (at_place received_port spaces q) port)
   named q = either port (entry_in spaces (q / 2 ^ 32) (q % 2 ^ 32))
@@ -55,7 +55,8 @@ module _ (spaces : SpaceMap) (port from : ℕ) where
         (s.0, s.1, named first ∙ first_is _ _ s.2, λ q after before. named q ∙ neither _ _ (s.3 q after before) (r.3 q after (omega (arith, before, less))))
   ] refl
 
-  -- the lesser of the first places at which a name stands for it and a request has it as target is the first that has to do with it
+  -- the lesser of the first place at which a name stands for it and the first at which a request has it as target is
+  -- the first that has to do with it
   pub first_mention : (holder requester first : ℕ) → IsNextAt port_named spaces port from (Some holder) → IsNextAt request_of spaces port from (Some requester) → first ≡ min holder requester → IsNextMention port spaces from (Some first)
   first_mention holder requester first h r is = (
     omega (arith, is, h.0, r.0),

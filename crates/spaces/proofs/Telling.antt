@@ -1,4 +1,4 @@
--- The dead-name notices of a port's death, as the names are worked off.
+-- The dead-name notices of a port's death, as the names are processed.
 use Rattle.std.proofs.Common.{◌≡◌, ℕ, ◌+◌, ◌^◌, ◌<◌, ◌≤◌, ◌/◌, ◌%◌, false, List, [], ◌++◌, Option, None, Some, option_and_then, append_assoc, append-nil, ap, sym, ◌∙◌, arith}
 use Rattle.ipc_model.specs.declared.entry.Entry.{Entry}
 use Rattle.ipc_model.specs.effects.Effects.{Effect, dead_name_of_entry}
@@ -17,7 +17,7 @@ module _ (port : ℕ) (before spaces : SpaceMap) (at : ℕ) (buried : Buried por
   apart_before : (q : ℕ) → at ≤ q → StandsApart port spaces q → is_number (at_place port_named before q) port ≡ false
   apart_before q le apart = ap (λ (o : Option Entry). is_number (option_and_then port_named o) port) (sym (as_before q le)) ∙ apart.0
 
-  -- the notice of one place, and those of the places behind it
+  -- the notice of one place, and those of the places after it
   pub one_told : (number next : ℕ) (effects added whole : List Effect) → AreSmall before → next ≡ number + 1 → at ≤ number → number < 2 ^ 64 → ((q : ℕ) → at ≤ q → q < number → StandsApart port spaces q)
       → added ≡ effects ++ notice_of port spaces number → effects ++ notices_from port before at ≡ whole → added ++ notices_from port before next ≡ whole
   one_told number next effects added whole small after le fits apart is had =

@@ -1,4 +1,4 @@
--- A slot that goes as what changes by itself is kept or given up.
+-- A slot that is removed as its changes are committed or rolled back.
 use Rattle.std.proofs.Common.{◌≡◌, ℕ, Bool, false, cond, Option, None, Some, is_some, sym, ◌∙◌, ap}
 use Rattle.std.specs.Ordering.{nat_cmp}
 use Rattle.std.specs.FinMap.{FinMap, get, insert, remove}

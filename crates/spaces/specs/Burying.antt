@@ -1,4 +1,4 @@
--- The names once a port has died, worked off place by place.
+-- The names once a port has died, changed place by place.
 use Rattle.std.proofs.Common.{◌≡◌, ℕ, ◌+◌, ◌^◌, ◌<◌, ◌≤◌, ◌==◌, ◌/◌, ◌%◌, Bool, true, false, cond, ◌&&◌, nat_lt, Option, None, Some, MatchOption, is_some, option_map, option_and_then, refl, sym, ◌∙◌, ap, subst, arith}
 use Rattle.std.proofs.lemmas.Bool.{ltb-false, ltb-true}
 use Rattle.std.specs.Cmp.{nat_cmp_total}
@@ -22,7 +22,7 @@ pub record Buried (port : ℕ) (before spaces : SpaceMap) (at : ℕ) : Type 0 wh
   pub done : (space name : ℕ) → name < 2 ^ 32 → place space name < at → entry_in spaces space name ≡ option_map (entry_after_death port) (entry_in before space name)
   pub left : (space name : ℕ) → name < 2 ^ 32 → at ≤ place space name → entry_in spaces space name ≡ entry_in before space name
 
--- whether a name has to do with the port: it stands for a right to it, or its request has it for its target
+-- whether a name has to do with the port: it stands for a right to the port, or its request has the port as target
 abbrev pub StandsApart : ℕ → SpaceMap → ℕ → Type 0
 StandsApart port spaces number = (is_number (at_place port_named spaces number) port ≡ false) × (is_number (at_place request_of spaces number) port ≡ false)
 
@@ -155,12 +155,12 @@ one_buried port before spaces space name entry fits at buried = record {
     waiting s n small from true first false second = buried.left s n small (omega (arith, from))
     waiting s n small from false first b second = buried.left s n small (omega (arith, from))
 
--- the first place from one on that has to do with the port
+-- the first place, from a given one on, that has to do with the port
 abbrev pub IsNextMention : ℕ → SpaceMap → ℕ → Option ℕ → Type 0
 IsNextMention port spaces from found = MatchOption found ((q : ℕ) → from ≤ q → q < 2 ^ 64 → StandsApart port spaces q)
     (λ first. (from ≤ first) × (first < 2 ^ 64) × ((q : ℕ) → from ≤ q → q < first → StandsApart port spaces q))
 
--- what a name becomes has few references
+-- what a name becomes keeps the bound of references
 pub few_after_death : (serial : ℕ) (entry : Entry) → AreFewReferences entry → AreFewReferences (entry_after_death serial entry)
 few_after_death serial (Port rights) few =
     elim (rights.port == serial) as (λ (b : Bool). AreFewReferences (cond b (Dead (rights.send + one_more_if rights.dead_name_target)) (Port (record rights { dead_name_target = without_target serial rights.dead_name_target })))) [

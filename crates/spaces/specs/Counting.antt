@@ -32,8 +32,8 @@ AreWords (Some (SendOnce port target)) = (port < 2 ^ 64) × IsWordIfSome target
 AreWords (Some Set) = Unit {0}
 AreWords (Some (Dead references)) = Unit {0}
 
--- the counts with the target of a request, a send right where there are references, and what a name stands for, or
--- without them
+-- the counts with, or without: the target of a request, a send right where there are references, and what a name stands
+-- for
 abbrev pub target_more : Counts → Option ℕ → Counts
 target_more counts None = counts
 target_more counts (Some serial) = right_more counts kind.SendOnce serial
@@ -91,7 +91,7 @@ module _ (f : Weight → ℕ) (counts : Counts) where
   receive_discounted true port small are = counted_fewer f counts kind.Receive port small are
   receive_discounted false port small are = counted_same (λ w. f w + 0) f counts (λ w. omega arith) are
 
--- what a name stands for counted, or not any more
+-- what a name stands for is counted, or no longer counted
 pub entry_counted : (f : Weight → ℕ) (counts : Counts) (entry : Option Entry) → AreWords entry → AreCounted f counts → AreCounted (λ w. f w + under w entry) (entry_more counts entry)
 entry_counted f counts None small are = counted_same f (λ w. f w + 0) counts (λ w. omega arith) are
 entry_counted f counts (Some (Port rights)) small are =
@@ -149,7 +149,7 @@ moved_counted spaces old new space name names change o there each small other is
     (counted_same (λ w. spaces_weigh w spaces + under w o) (λ w. spaces_weigh w (names_changed spaces space change) + under w (get names name)) (entry_more old o) (λ w. moved_weight w spaces space name names change o there each)
     (entry_counted (λ w. spaces_weigh w spaces) old o other are)))
 
--- counts of nothing
+-- nothing is counted
 no_names : (w : Weight) → names_weigh w empty ≡ 0
 no_names w = ap (weigh (λ (e : ℕ × Entry). entry_weigh w e.1)) entries_none
 
@@ -168,7 +168,7 @@ nothing_counted spaces counts none nothing = record {
     weighs_none : (w : Weight) → spaces_weigh w spaces ≡ 0
     weighs_none w = ap (spaces_weigh w) none ∙ no_spaces w
 
--- a space without names counts nothing, there or not
+-- a space without names counts nothing, whether it exists or not
 pub opened_counted : (spaces : SpaceMap) (space : ℕ) (counts : Counts) → get spaces space ≡ None → SpacesAreCounted spaces counts → SpacesAreCounted (insert spaces space empty) counts
 opened_counted spaces space counts none are =
     counted_same (λ w. spaces_weigh w spaces) (λ w. spaces_weigh w (insert spaces space empty)) counts (λ w. omega (arith, total-new (λ (s : ℕ) (ns : Names). names_weigh w ns) spaces space empty none, no_names w)) are

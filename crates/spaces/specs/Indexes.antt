@@ -1,4 +1,5 @@
--- The names by the ports whose receive rights they hold, that they stand for other rights to, and that their requests have as targets.
+-- The names indexed by the ports whose receive rights they hold, by those that they stand for other rights to, and by
+-- those that their requests have as targets.
 use Rattle.std.proofs.Common.{nat_lt, if◌then◌else◌, ◌≡◌, ℕ, ◌^◌, ◌<◌, ◌≤◌, ◌/◌, ◌%◌, Bool, true, false, cond, [], ◌∷◌, ◌++◌, Option, None, Some, MatchOption, is_some, option_map, option_and_then, refl, sym, ◌∙◌, ap, subst, arith}
 use Rattle.std.specs.Cmp.{nat_cmp_total}
 use Rattle.std.specs.Ordering.{nat_cmp, eq_by_cmp}
@@ -16,7 +17,7 @@ use Rattle.spaces.specs.Looking.{entry_in, port_shared, place, at_place, place_c
 use Rattle.spaces.specs.Slots.{SpaceMap, names_changed}
 use Rattle.tracked_map.specs.Tracked.{at_rest}
 
--- the names are those of words, in spaces whose numbers are words
+-- names are words, and so are the numbers of spaces
 abbrev pub AreSmall : SpaceMap → Type 0
 AreSmall spaces = (space name : ℕ) → is_some (entry_in spaces space name) ≡ true → (space < 2 ^ 32) × (name < 2 ^ 32)
 
@@ -116,7 +117,7 @@ same_indexed spaces other sharers requesters receivers counts alike counted are 
   small = λ s n some. are.small s n (ap is_some (alike s n) ∙ some);
 }
 
--- what was is indexed as before
+-- the former spaces are indexed as before
 pub indexed_before : (old new : NameIndexes) (spaces after : SpaceMap) → after ≡ spaces → SameBefore old new → AreIndexed spaces old.sharers.before old.requesters.before old.receivers.before old.counts.before → AreIndexed after new.sharers.before new.requesters.before new.receivers.before new.counts.before
 indexed_before old new spaces after same before are =
     subst (λ (s : SpaceMap). AreIndexed s new.sharers.before new.requesters.before new.receivers.before new.counts.before) (sym same)
@@ -128,7 +129,7 @@ indexed_before old new spaces after same before are =
       small = are.small;
     })
 
--- one name of a space that is there has changed
+-- one name of an existing space has changed
 pub indexed_after : (old new : NameIndexes) (spaces after : SpaceMap) (space name : ℕ) (change : Names → Names) (o : Option Entry) → name < 2 ^ 32 → space < 2 ^ 32 → is_some (get spaces space) ≡ true
     → ((names : Names) (n : ℕ) → get (change names) n ≡ cond (eq_by_cmp nat_cmp n name) o (get names n)) → after ≡ names_changed spaces space change → IsMoved old new (place space name) (entry_in spaces space name) o
     → AreIndexed spaces old.sharers.current old.requesters.current old.receivers.current old.counts.current → AreIndexed after new.sharers.current new.requesters.current new.receivers.current new.counts.current
@@ -141,7 +142,7 @@ indexed_after old new spaces after space name change o small few there changed i
         subst (λ (s : SpaceMap). AreIndexed s new.sharers.current new.requesters.current new.receivers.current new.counts.current) (sym is)
         (moved_indexed spaces old new space name names change o small few at (changed names) are (subst (λ (f : Option Entry). IsMoved old new (place space name) f o) stood done))
 
--- the first place from one on at which a look gives the number
+-- the first place, from a given one on, at which a look gives the number
 abbrev pub IsNextAt : (Entry → Option ℕ) → SpaceMap → ℕ → ℕ → Option ℕ → Type 0
 IsNextAt look spaces number from found = MatchOption found ((place : ℕ) → from ≤ place → place < 2 ^ 64 → is_number (at_place look spaces place) number ≡ false)
     (λ first. (from ≤ first) × (first < 2 ^ 64) × (is_number (at_place look spaces first) number ≡ true) × ((place : ℕ) → from ≤ place → place < first → is_number (at_place look spaces place) number ≡ false))
@@ -155,7 +156,7 @@ next_at look spaces places number from (Some first) indexed is = (
   λ place after before. sym (indexed number place (omega (arith, before, is.1))) ∙ is.3 place after before,
 )
 
--- a space without names holds nothing, there or not
+-- a space without names holds nothing, whether it exists or not
 pub opened_alike : (spaces : SpaceMap) (space : ℕ) → get spaces space ≡ None → (s name : ℕ) → entry_in spaces s name ≡ entry_in (insert spaces space empty) s name
 opened_alike spaces space none s name = sym (ap (option_and_then (λ (names : Names). get names name)) (get-insert nat_cmp_total spaces space empty s) ∙ go (eq_by_cmp nat_cmp s space) refl)
   where
@@ -174,7 +175,7 @@ closed_alike spaces space none s name = sym (ap (option_and_then (λ (names : Na
     go true same = nothing (get spaces space) refl ∙ sym (ap (λ (k : ℕ). option_and_then (λ (names : Names). get names name) (get spaces k)) (key_is s space same))
     go false _ = refl
 
--- the lesser of two numbers, where there are two
+-- the lesser of two numbers, if there are two
 abbrev pub lesser : Option ℕ → Option ℕ → Option ℕ
 lesser None other = other
 lesser (Some one) None = Some one

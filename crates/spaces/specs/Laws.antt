@@ -1,4 +1,4 @@
--- What the spaces are once a slot has changed.
+-- The spaces once a slot has changed.
 use Rattle.std.proofs.Common.{◌≡◌, ℕ, zero, suc, ◌<◌, ◌+◌, ◌-◌, Bool, true, false, cond, List, [], ◌∷◌, ◌++◌, Option, None, Some, is_some, option_map, option_and_then, refl, sym, ◌∙◌, ap, subst, arith}
 use Rattle.std.specs.Cmp.{nat_cmp_total}
 use Rattle.std.specs.Ordering.{nat_cmp, eq_by_cmp}
@@ -32,7 +32,7 @@ get_names_changed spaces space change q None at =
 get_names_changed spaces space change q (Some names) at =
     ap (λ (o : Option Names). get (elim o as (λ _. SpaceMap) [ None ↦ spaces | Some names ↦ insert spaces space (change names) ]) q) at ∙ get-insert nat_cmp_total spaces space (change names) q
 
--- the spaces once the names of one have changed, where it is there, and where it isn't
+-- the spaces once the names of one have changed, if that one exists, and if it doesn't
 pub changed_there : (spaces : SpaceMap) (space : ℕ) (change : Names → Names) (names : Names) → get spaces space ≡ Some names → names_changed spaces space change ≡ insert spaces space (change names)
 changed_there spaces space change names at = ap (λ (o : Option Names). elim o as (λ _. SpaceMap) [ None ↦ spaces | Some n ↦ insert spaces space (change n) ]) at
 
@@ -103,7 +103,7 @@ opened_touched slots touched longer key more are = subst (AreTouched was is (slo
     go None = put_touched was is slots (touched ++ key ∷ []) key _ (last_is_touched was is touched key) whole
     go (Some slot) = put_touched was is slots (touched ++ key ∷ []) key _ (last_is_touched was is touched key) whole
 
--- a space made
+-- a space is made
 pub opened_is : (slots : SpaceSlots) (key : ℕ) → picked is (slot_opened slots key) ≡ insert (picked is slots) key empty
 opened_is slots key = alike _ _ (λ q.
     get_picked is (slot_opened slots key) q ∙ ap (option_and_then is) (go q (get slots key) refl) ∙ one q (eq_by_cmp nat_cmp q key)
@@ -144,7 +144,7 @@ as_many spaces space change = go (get spaces space) refl
     go None at = refl
     go (Some names) at = len-insert nat_cmp_total spaces space (change names) ∙ ap (λ (o : Option Names). cond (is_some o) (len spaces) (len spaces + 1)) at
 
--- the same spaces are there once the names of one have changed
+-- the same spaces exist once the names of one have changed
 pub same_numbers : (spaces : SpaceMap) (space : ℕ) (change : Names → Names) (q : ℕ) → is_some (get (names_changed spaces space change) q) ≡ is_some (get spaces q)
 same_numbers spaces space change q = ap is_some (get_names_changed spaces space change q (get spaces space) refl) ∙ go (eq_by_cmp nat_cmp q space) refl
   where
@@ -185,7 +185,7 @@ new_rest slots touched none new = kept_rest slots touched empty none (subst (λ 
     nothing : picked is empty ≡ empty
     nothing = alike _ _ (λ q. get_picked is empty q ∙ ap (option_and_then is) (get-empty nat_cmp q) ∙ sym (get-empty nat_cmp q))
 
--- a slot given up, among those that may have changed or not
+-- a slot is rolled back, whether it is among those that may have changed or not
 pub given_touched : (slots : SpaceSlots) (touched : List ℕ) (key : ℕ) → AreTouched was is slots touched → AreTouched was is (slot_changed slots key given_slot) touched
 given_touched slots touched key are q slot at off = go (eq_by_cmp nat_cmp q key) refl (sym (get_changed slots key given_slot q (get slots key) refl) ∙ at)
   where
@@ -204,7 +204,7 @@ given_touched slots touched key are q slot at off = go (eq_by_cmp nat_cmp q key)
 pub slot_is : (slots : SpaceSlots) (key : ℕ) (slot : SpaceSlot) (o : Option Names) → get (picked is slots) key ≡ o → get slots key ≡ Some slot → slot.current ≡ o
 slot_is slots key slot o seen at = sym (ap (option_and_then is) at) ∙ sym (get_picked is slots key) ∙ seen
 
--- a space that isn't there doesn't go
+-- removing a space that doesn't exist changes nothing
 pub none_gone : (spaces : SpaceMap) (space : ℕ) → is_some (get spaces space) ≡ false → spaces ≡ remove spaces space
 none_gone spaces space none = alike _ _ (λ q. go q (eq_by_cmp nat_cmp q space) refl ∙ sym (get-remove nat_cmp_total spaces space q))
   where
@@ -216,7 +216,7 @@ none_gone spaces space none = alike _ _ (λ q. go q (eq_by_cmp nat_cmp q space) 
     go q true same = ap (get spaces) (key_is q space same) ∙ gone (get spaces space) none
     go q false _ = refl
 
--- where a space is there, there are some
+-- if a space exists, the count of spaces isn't 0
 pub some_counted : (spaces : SpaceMap) (space : ℕ) → is_some (get spaces space) ≡ true → 0 < len spaces
 some_counted spaces space some = elim (len spaces) as (λ (n : ℕ). len spaces ≡ n → 0 < n) [
   | zero ↦ λ (none : _). absurd (cc (sym some ∙ ap is_some (ap (λ (m : SpaceMap). get m space) (empty_of_len spaces none) ∙ get-empty nat_cmp space)))

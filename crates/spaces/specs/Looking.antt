@@ -30,7 +30,7 @@ port_named (SendOnce port target) = Some port
 port_named Set = None
 port_named (Dead references) = None
 
--- the port that a name stands for a right to, where it doesn't hold the receive right
+-- the port that a name stands for a right to, if it doesn't hold the receive right
 abbrev pub port_shared : Entry → Option ℕ
 port_shared (Port rights) = if rights.receive then None else Some rights.port
 port_shared (SendOnce port target) = Some port

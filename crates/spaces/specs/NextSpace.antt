@@ -1,16 +1,16 @@
--- The spaces walked one by one, by the least number from one on.
+-- A walk over the spaces, one by one: each step takes the least number from a given one on.
 use Rattle.std.proofs.Common.{◌≡◌, ℕ, ◌+◌, ◌^◌, ◌<◌, ◌≤◌, true, false, Option, None, Some, MatchOption, is_some, option_and_then, refl, ◌∙◌, ap, arith}
 use Rattle.std.specs.FinMap.{get}
 use Rattle.spaces.specs.Burying.{less_or_not}
 use Rattle.spaces.specs.Slots.{SpaceMap, SpaceSlots, is}
 use Rattle.tracked_map.specs.Slots.{picked, get_picked}
 
--- the least number from one on that a space has, among the numbers of 32 bits
+-- the least number, from a given one on, that a space has, among the numbers of 32 bits
 abbrev pub IsNextSpace : SpaceMap → ℕ → Option ℕ → Type 0
 IsNextSpace spaces from found = MatchOption found ((number : ℕ) → from ≤ number → number < 2 ^ 32 → get spaces number ≡ None)
     (λ next. (from ≤ next) × (is_some (get spaces next) ≡ true) × ((number : ℕ) → from ≤ number → number < next → get spaces number ≡ None))
 
--- no space has a number from one on that is below another
+-- no space has a number from `from` on that is below `at`
 abbrev pub ArePassed : SpaceMap → ℕ → ℕ → Type 0
 ArePassed spaces from at = (number : ℕ) → from ≤ number → number < at → get spaces number ≡ None
 

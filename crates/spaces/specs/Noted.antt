@@ -27,11 +27,11 @@ or_false false false e = (refl, refl)
 pub none_noted : (before current : SpaceMap) (places : List ℕ) → current ≡ before → AreNoted before current places
 none_noted before current places same number off = ap (λ (s : SpaceMap). entry_at_place s number) same
 
--- the names look alike
+-- names that look alike
 pub alike_noted : (before current after : SpaceMap) (places : List ℕ) → ((space name : ℕ) → entry_in current space name ≡ entry_in after space name) → AreNoted before current places → AreNoted before after places
 alike_noted before current after places alike are number off = sym (alike (number / 2 ^ 32) (number % 2 ^ 32)) ∙ are number off
 
--- what was before is another map
+-- the map from before is replaced by an equal one
 pub before_noted : (before other current : SpaceMap) (places : List ℕ) → other ≡ before → AreNoted before current places → AreNoted other current places
 before_noted before other current places same are number off = are number off ∙ ap (λ (s : SpaceMap). entry_at_place s number) (sym same)
 

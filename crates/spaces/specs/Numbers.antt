@@ -16,13 +16,13 @@ use Rattle.spaces.specs.declared.numbers.Numbers.{Numbers}
 abbrev pub place_at : Numbers → ℕ → ℕ
 place_at numbers k = bit_at (get_or numbers.words (k / 64) 0) (k % 64)
 
--- the first free place, or how many places there are
+-- the first free place, or the number of places if none is free
 pub record IsFirstFree (numbers : Numbers) (found : ℕ) : Type 0 where
   pub few : found ≤ 256
   pub free : found < 256 → place_at numbers found ≡ 0
   pub taken : (k : ℕ) → k < found → place_at numbers k ≡ 1
 
--- a place is taken where a space has the number behind it
+-- a place is taken if a space has the number after it
 pub record AreTaken (numbers : Numbers) (spaces : SpaceMap) : Type 0 where
   pub each : (k : ℕ) → k < 256 → place_at numbers k ≡ cond {A = ℕ} (is_some (get spaces (k + 1))) 1 0
 
@@ -40,7 +40,7 @@ none_taken numbers free = record { each = λ k few. free k ∙ sym (ap (λ (o : 
 pub same_taken : (numbers : Numbers) (spaces other : SpaceMap) → ((q : ℕ) → is_some (get other q) ≡ is_some (get spaces q)) → AreTaken numbers spaces → AreTaken numbers other
 same_taken numbers spaces other same taken = record { each = λ k few. taken.each k few ∙ ap (λ (b : Bool). cond {A = ℕ} b 1 0) (sym (same (k + 1))) }
 
--- another number is another place
+-- different numbers have different places
 apart : (k number place : ℕ) → number ≡ place + 1 → eq_by_cmp nat_cmp (k + 1) number ≡ false → k ≢ place
 apart k number place at other same = absurd (cc (sym other ∙ ap (λ (q : ℕ). eq_by_cmp nat_cmp q number) (omega (arith, same, at)) ∙ same_key number))
 
@@ -82,7 +82,7 @@ module _ (numbers : Numbers) (number : ℕ) (outside : (k : ℕ) → k < 256 →
     each = λ k few. taken.each k few ∙ sym (ap (λ (o : Option Names). cond {A = ℕ} (is_some o) 1 0) (get-remove nat_cmp_total spaces number (k + 1) ∙ ap (λ (b : Bool). cond b None (get spaces (k + 1))) (other_place k few)));
   }
 
--- the places of the words behind one
+-- the places of the words after one
 pub word_taken : (numbers : Numbers) (words word k : ℕ) → word ≡ get_or numbers.words words 0 → ((i : ℕ) → i < 64 → bit_at word i ≡ 1) → ((q : ℕ) → q < 64 * words → place_at numbers q ≡ 1) → k < 64 * words + 64 → place_at numbers k ≡ 1
 word_taken numbers words word k is all before less = elim (nat_lt k (64 * words)) as (λ (b : Bool). nat_lt k (64 * words) ≡ b → place_at numbers k ≡ 1) [
   | true ↦ λ (e : _). before k (ltb-true k (64 * words) e)
@@ -108,7 +108,7 @@ found_free numbers words word bit found few is at first before = record {
     in_word : (k i : ℕ) → k / 64 ≡ words → k % 64 ≡ i → place_at numbers k ≡ bit_at word i
     in_word k i here there = ap (λ (w : ℕ). bit_at (get_or numbers.words w 0) (k % 64)) here ∙ ap (λ (w : ℕ). bit_at w (k % 64)) (sym is) ∙ ap (bit_at word) there
 
--- the number behind the first free place
+-- the number after the first free place
 pub free_is : (numbers : Numbers) (spaces : SpaceMap) (found : ℕ) → AreTaken numbers spaces → IsFirstFree numbers found → len spaces < MAX_SPACES → IsFreeNumber spaces (found + 1)
 free_is numbers spaces found taken free room = record {
   first = omega arith;

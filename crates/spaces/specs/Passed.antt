@@ -1,4 +1,4 @@
--- What the crates above take from the libraries below, so that they name one of them.
+-- What the crates above use of the libraries below, so that they name only one of them.
 pub use Rattle.pair_counts.specs.Rights.{right_weight}
 pub use Rattle.place_index.specs.Indexed.{IsIndexed, alike_indexed, nothing_indexed, place_moved}
 pub use Rattle.place_index.specs.Places.{IsNext, Numbers, moved, stands_at}

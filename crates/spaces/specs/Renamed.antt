@@ -57,7 +57,7 @@ none_removed spaces space name nothing = go (get spaces space) refl
         let here : get names name ≡ None = sym (ap (option_and_then (λ (n : Names). get n name)) at) ∙ nothing in
         changed_there spaces space (λ names. remove names name) names at ∙ ap (insert spaces space) (nothing_removed names name here) ∙ insert-same spaces space names at
 
--- Where a name is taken out of use, there is room for another.
+-- If a name is taken out of use, there is room for another.
 pub room_left : (spaces : SpaceMap) (space from : ℕ) (entry : Entry) (names : Names) → entry_in spaces space from ≡ Some entry → get (names_changed spaces space (λ ns. remove ns from)) space ≡ Some names
     → len (names_of spaces space) ≤ MAX_NAMES → len names < MAX_NAMES
 room_left spaces space from entry names stood there few = go (get spaces space) refl

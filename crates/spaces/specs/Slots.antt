@@ -1,4 +1,4 @@
--- The spaces, each in a slot with its names as they were when its changes were last kept or given up, and as they are.
+-- The spaces, each in a slot with its names as of the last commit or rollback, and the current ones.
 use Rattle.std.specs.Prelude.{ℕ, Option, None, Some, option_and_then, refl}
 use Rattle.std.specs.Coded.{Coded, code_by, coded×, coded_ℕ, coded_option}
 use Rattle.std.specs.Ordering.{nat_cmp}
@@ -10,7 +10,7 @@ use Rattle.ipc_model.specs.state.State.{Names}
 abbrev pub names_code : Coded Names
 names_code = map.code coded_ℕ entry.the_row.coded
 
--- the names of a space, if it was there, and if it is
+-- the names of a space, if it existed, and if it exists
 pub record SpaceSlot : Type 0 where
   pub before : Option Names
   pub current : Option Names
@@ -18,7 +18,7 @@ pub record SpaceSlot : Type 0 where
 abbrev pub slot_code : Coded SpaceSlot
 slot_code = code_by (Option Names × Option Names) (coded× (coded_option names_code) (coded_option names_code)) (λ s. (s.before, s.current)) (λ p. record { before = p.0; current = p.1 }) (λ _. refl)
 
--- a slot without changes to keep or to give up
+-- a slot without changes to commit or roll back
 abbrev pub slot_at_rest : Option Names → SpaceSlot
 slot_at_rest names = record { before = names; current = names }
 
@@ -26,7 +26,7 @@ slot_at_rest names = record { before = names; current = names }
 abbrev pub SpaceMap : Type 0
 SpaceMap = map.FinMap {K = ℕ} nat_cmp Names
 
--- the spaces as they were when their changes were last kept or given up, and as they are
+-- the spaces as of the last commit or rollback, and the current ones
 pub record TrackedSpaces : Type 0 where
   pub before : SpaceMap
   pub current : SpaceMap
@@ -61,13 +61,13 @@ stood_at slots space name = option_and_then (λ (slot : SpaceSlot). option_and_t
 abbrev pub slot_changed : SpaceSlots → ℕ → (SpaceSlot → SpaceSlot) → SpaceSlots
 slot_changed slots key change = elim (map.get slots key) as (λ _. SpaceSlots) [ None ↦ slots | Some slot ↦ map.insert slots key (change slot) ]
 
--- a space without names made
+-- a space without names is made
 abbrev pub slot_opened : SpaceSlots → ℕ → SpaceSlots
 slot_opened slots key = elim (map.get slots key) as (λ _. SpaceSlots) [
   | None ↦ map.insert slots key (record { before = None; current = Some map.empty })
   | Some slot ↦ map.insert slots key (record slot { current = Some map.empty })
 ]
 
--- the names of one space changed, if it is there
+-- the names of one space changed, if it exists
 abbrev pub names_changed : SpaceMap → ℕ → (Names → Names) → SpaceMap
 names_changed spaces space change = elim (map.get spaces space) as (λ _. SpaceMap) [ None ↦ spaces | Some names ↦ map.insert spaces space (change names) ]

@@ -1,4 +1,4 @@
--- The names of a space, or of a port, worked off one by one.
+-- The names of a space, or of a port, processed one by one.
 use Rattle.std.proofs.Common.{◌≡◌, ℕ, ◌+◌, ◌^◌, ◌<◌, ◌≤◌, ◌/◌, ◌%◌, Bool, true, false, cond, List, [], ◌++◌, Option, None, Some, is_some, option_and_then, append-nil, refl, sym, ◌∙◌, ap, arith}
 use Rattle.std.specs.Prelude.{flat_map}
 use Rattle.std.specs.Cmp.{nat_cmp_total}
@@ -18,7 +18,7 @@ use Rattle.spaces.specs.Looking.{entry_in, port_named, place, at_place, parts, p
 use Rattle.spaces.specs.Reading.{names_of}
 use Rattle.spaces.specs.Slots.{SpaceMap, names_changed}
 
--- what the names of a space are, by a look at each
+-- the names of a space, by a look at each
 pub named_in : (spaces : SpaceMap) (space name : ℕ) → get (names_of spaces space) name ≡ entry_in spaces space name
 named_in spaces space name = go (get spaces space)
   where
@@ -26,7 +26,7 @@ named_in spaces space name = go (get spaces space)
     go None = get-empty nat_cmp name
     go (Some names) = refl
 
--- Below a name a space has none any more, and the other spaces are as they were.
+-- A space has no names below `at` any more, and the other spaces are as they were.
 pub record Emptied (before spaces : SpaceMap) (space at : ℕ) : Type 0 where
   pub others : remove spaces space ≡ remove before space
   pub gone : (name : ℕ) → name < at → entry_in spaces space name ≡ None
@@ -201,7 +201,7 @@ notices_step port spaces at number small next = go (get spaces (number / 2 ^ 32)
     go None none = absurd (cc (sym next.2 ∙ ap (λ (o : Option Names). is_number (option_and_then port_named (option_and_then (λ (m : Names). get m (number % 2 ^ 32)) o)) port) none))
     go (Some names) there = inner names there (get names (number % 2 ^ 32)) refl
 
--- what the name of a place adds, where it stands for a right to the port
+-- what the name of a place adds, if it stands for a right to the port
 abbrev pub notice_of : ℕ → SpaceMap → ℕ → List Effect
 notice_of port spaces number = elim (entry_in spaces (number / 2 ^ 32) (number % 2 ^ 32)) as (λ _. List Effect) [ None ↦ [] | Some entry ↦ dead_name_of_entry port (number % 2 ^ 32) entry ]
 

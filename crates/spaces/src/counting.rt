@@ -6,7 +6,7 @@ use ipc_model::{Entry, RightKind};
 use pair_counts::PairCounts;
 use std::alloc::AllocError;
 
-/// Counts what a name stands for in place of what it stood for.
+/// Counts what a name stands for, and no longer what it stood for.
 pub(crate) fn count_anew(
     counts: &mut PairCounts,
     former: Option<Entry>,
@@ -45,7 +45,7 @@ fn count(counts: &mut PairCounts, entry: Option<Entry>) -> Result<(), AllocError
     }
 }
 
-/// Counts the rights that a name stood for, and the target of its request, no more.
+/// Uncounts the rights that a name stood for, and the target of its request.
 fn discount(counts: &mut PairCounts, entry: Option<Entry>) -> Result<(), AllocError>
     ensures ok { OnOk result (counts.new.current ≡ entry_fewer counts.old.current entry) }
     ensures before { counts.new.before ≡ counts.old.before }
@@ -70,7 +70,7 @@ fn discount(counts: &mut PairCounts, entry: Option<Entry>) -> Result<(), AllocEr
     }
 }
 
-/// The serials in a name's entry are words. It does nothing but show it.
+/// Shows that the serials in a name's entry are words. It does nothing else.
 pub(crate) fn are_words(entry: Option<Entry>)
     ensures { AreWords entry }
 {

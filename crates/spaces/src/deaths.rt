@@ -1,4 +1,4 @@
-// What becomes of names as a port dies.
+// What becomes of names when a port dies.
 ghost use Rattle.std.specs.Prelude.{◌≡◌, ◌<◌, ◌-◌, ◌+◌, ◌^◌, ◌%◌, ◌/◌, ◌++◌, Some, None, OnOk, OnErr, MatchOption, flat_map};
 ghost use Rattle.std.specs.FinMap as map;
 ghost use Rattle.ipc_model.specs.effects.Effects.{dead_name_of_entry, entry_after_death, is_name_of, map_values, one_more_if, without_target};
@@ -17,8 +17,9 @@ use ipc_model::{Entry, PortRights};
 use std::alloc::AllocError;
 
 impl Spaces {
-    /// A port dies: names that stand for rights to it become dead names, each with a notice to its dead-name request, by
-    /// space and name; and dead-name requests that were to tell it go. Where memory is wanted the changes are given up.
+    /// A port dies: names that stand for rights to it become dead names, each with a notice for its dead-name request,
+    /// by space and name; and dead-name requests whose target it is are removed. If an allocation fails, the changes
+    /// are rolled back.
     pub fn bury(&mut self, port: u64, effects: &mut Effects) -> Result<(), AllocError>
         ensures ok { OnOk result (self.new ≡ record self.old { current = map_values (map_values (entry_after_death port)) self.old.current }) }
         ensures told { OnOk result (effects.new ≡ effects.old ++ flat_map (λ s. flat_map (λ e. dead_name_of_entry port e.0 e.1) (map.entries s.1)) (map.entries self.old.current)) }
@@ -38,14 +39,14 @@ impl Spaces {
         Ok(())
     }
 
-    /// Names and the numbers of spaces are words. It does nothing but show it.
+    /// Shows that names and the numbers of spaces are words. It does nothing else.
     pub fn are_small(&self)
         ensures { AreSmall self.now.current }
     {
         let _ = &self.table;
     }
 
-    /// The first place from one on that has to do with a port.
+    /// The first place from `from` on that has to do with a port.
     fn next_mention(&self, port: u64, from: u64) -> Option<u64>
         ensures { IsNextMention port self.now.current from result }
     {
@@ -59,7 +60,7 @@ impl Spaces {
         }
     }
 
-    /// The name of a place becomes what it is after the death of a port, and its request is told.
+    /// The name at a place becomes what it is after the death of a port, and the notice for its request is added.
     fn bury_at(&mut self, port: u64, number: u64, effects: &mut Effects) -> Result<(), AllocError>
         ensures ok { OnOk result (MatchOption (entry_in self.old.current (number / 2 ^ 32) (number % 2 ^ 32)) (self.new ≡ self.old)
             (λ entry. self.new ≡ record self.old { current = names_changed self.old.current (number / 2 ^ 32) (λ names. map.insert names (number % 2 ^ 32) (entry_after_death port entry)) })) }
@@ -80,7 +81,7 @@ impl Spaces {
     }
 }
 
-/// Tells the dead-name request of a name that stands for a right to a port, where it has one.
+/// Adds the notice for the dead-name request of a name that stands for a right to a port, if it has one.
 fn tell_of(entry: Entry, port: u64, name: u32, effects: &mut Effects) -> Result<(), AllocError>
     ensures { OnOk result (effects.new ≡ effects.old ++ dead_name_of_entry port name entry) }
 {
@@ -102,7 +103,7 @@ fn is_name_of(entry: Entry, port: u64) -> bool
     }
 }
 
-/// What a name becomes as a port dies.
+/// What a name becomes when a port dies.
 #[tactic(auto, using(crate::specs::Burying::few_after_death))]
 fn after_death(entry: Entry, port: u64) -> Entry
     requires few { AreFewReferences entry }

@@ -12,9 +12,9 @@ use pair_counts::PairCounts;
 use place_index::PlaceIndex;
 use std::alloc::{AllocError, Global};
 
-/// The places of names, each a space's number and the name as one number: by the port whose receive right a name holds, by
-/// the port that any other name stands for a right to, and by the target of its dead-name request; how many send and
-/// send-once rights names stand for; and which places were changed since changes were last kept or given up.
+/// The places of names, each a space's number and the name as one number: by the port whose receive right a name holds,
+/// by the port that any other name stands for a right to, and by the target of its dead-name request; how many send and
+/// send-once rights names stand for; and which places were changed since the last commit or rollback.
 #[derive(Drop)]
 pub(crate) struct NameIndexes {
     pub(crate) sharers: PlaceIndex,
@@ -25,7 +25,7 @@ pub(crate) struct NameIndexes {
 }
 
 impl NameIndexes {
-    /// Indexes of nothing. They take no memory.
+    /// Empty indexes. It takes no memory.
     pub(crate) fn new(alloc: Global) -> Self
         ensures held { result.sharers ≡ at_rest map.empty }
         ensures requested { result.requesters ≡ at_rest map.empty }
@@ -42,7 +42,7 @@ impl NameIndexes {
         }
     }
 
-    /// What stands at a place is replaced. Where memory is wanted the changes are to be given up.
+    /// Replaces what stands at a place. If an allocation fails, the changes must be rolled back.
     pub(crate) fn change(
         &mut self,
         place: u64,
@@ -65,7 +65,7 @@ impl NameIndexes {
         Ok(())
     }
 
-    /// Keeps the changes. It takes no memory.
+    /// Commits the changes. It takes no memory.
     pub(crate) fn keep(&mut self)
         ensures { AreKept self.old self.new }
     {
@@ -76,7 +76,7 @@ impl NameIndexes {
         self.changed.clear();
     }
 
-    /// Gives the changes up. It takes no memory.
+    /// Rolls the changes back. It takes no memory.
     pub(crate) fn give_up(&mut self)
         ensures { AreGivenUp self.old self.new }
     {
@@ -88,7 +88,7 @@ impl NameIndexes {
     }
 }
 
-/// The port that a name stands for a right to, where it doesn't hold the receive right.
+/// The port that a name stands for a right to, unless it holds the receive right.
 fn shared_of(entry: Option<Entry>) -> Option<u64>
     ensures { result ≡ option_and_then port_shared entry }
 {

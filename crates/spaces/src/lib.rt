@@ -1,4 +1,4 @@
-//! The spaces with their names, whose changes are kept or given up.
+//! The spaces with their names, whose changes are committed or rolled back.
 #![tactic(auto)]
 
 mod counting;

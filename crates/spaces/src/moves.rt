@@ -12,8 +12,8 @@ use ipc_model::Entry;
 use std::alloc::AllocError;
 
 impl Spaces {
-    /// Has what stands under one name of a space, if anything does, stand under another, and gives it. Where memory is wanted
-    /// the changes are given up.
+    /// Makes what stands under one name of a space, if anything does, stand under another, and returns it. If an
+    /// allocation fails, the changes are rolled back.
     pub fn rename(&mut self, space: u32, from: u32, to: u32) -> Result<Option<Entry>, AllocError>
         requires unused { entry_in self.old.current space to ≡ None }
         ensures entry { IfOk result (λ entry. entry ≡ entry_in self.old.current space from) }
@@ -29,7 +29,7 @@ impl Spaces {
         Ok(Some(entry))
     }
 
-    /// A space has at most `MAX_NAMES` names. It does nothing but show it.
+    /// Shows that a space has at most `MAX_NAMES` names. It does nothing else.
     fn are_few(&self, space: u32)
         ensures { map.len (names_of self.now.current space) ≤ MAX_NAMES }
     {
@@ -38,7 +38,7 @@ impl Spaces {
         }
     }
 
-    /// Takes a space out with all its names, if it is there. Where memory is wanted the changes are given up.
+    /// Removes a space with all its names, if it exists. If an allocation fails, the changes are rolled back.
     pub fn remove(&mut self, space: u32) -> Result<(), AllocError>
         ensures ok { OnOk result (self.new ≡ record self.old { current = map.remove self.old.current space }) }
         ensures err { OnErr result (self.new ≡ spaces_at_rest self.old.before) }

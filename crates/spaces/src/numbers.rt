@@ -1,4 +1,4 @@
-//! The numbers that spaces have, as bits, so that the least that none has is found without a look at each space.
+//! The numbers that spaces have, as bits, so that the least free number is found without a look at each space.
 ghost use Rattle.std.specs.Prelude.{◌≡◌, ◌≢◌, ℕ, ◌+◌, ◌<◌, MatchOption};
 ghost use Rattle.std.specs.FinMap as map;
 ghost use Rattle.std.specs.Int.{bit_at};
@@ -7,15 +7,15 @@ ghost use Rattle.spaces.specs.Slots.{SpaceMap};
 
 use codes::MAX_SPACES;
 
-/// Which of the numbers from 1 to `MAX_SPACES` spaces have: a bit for each, 64 in a word. It is copied whole to be kept
-/// or given up.
+/// Which of the numbers from 1 to `MAX_SPACES` spaces have: a bit for each, 64 in a word. It is copied whole at a
+/// commit or rollback.
 #[derive(Clone, Copy)]
 pub(crate) struct Numbers {
     pub(crate) words: [u64; 4],
 }
 
 impl Numbers {
-    /// The numbers of no spaces.
+    /// The numbers when there are no spaces.
     pub(crate) fn new() -> Self
         ensures { AreTaken result map.empty }
     {
@@ -50,7 +50,7 @@ impl Numbers {
         self.words[at] = with_bit(self.words[at], place % 64);
     }
 
-    /// Leaves a place.
+    /// Frees a place.
     fn leave(&mut self, place: u32)
         requires { place < 256 }
         ensures free { place_at self.new place ≡ 0 }

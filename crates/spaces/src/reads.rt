@@ -7,7 +7,7 @@ ghost use Rattle.spaces.specs.Reading.{names_of};
 use crate::Spaces;
 use codes::{FIRST_NAME, MACH_PORT_DEAD, MACH_PORT_NULL};
 
-/// What is asked of the names of one space. A space that isn't there has none.
+/// Queries on the names of one space. A space that doesn't exist has none.
 impl Spaces {
     /// How many names a space has in use.
     pub fn name_count(&self, space: u32) -> usize
@@ -39,7 +39,8 @@ impl Spaces {
         }
     }
 
-    /// Whether a name may be handed out in a space: it is neither `MACH_PORT_NULL` nor `MACH_PORT_DEAD`, and not in use.
+    /// Whether a name may be given out in a space: it is neither `MACH_PORT_NULL` nor `MACH_PORT_DEAD`, and isn't in
+    /// use.
     pub fn is_unused(&self, space: u32, name: u32) -> bool
         ensures { IsTrue result ↔ IsUnused (names_of self.now.current space) name }
     {

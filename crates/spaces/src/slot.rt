@@ -10,7 +10,7 @@ use port_space::PortSpace;
 use std::alloc::{AllocError, Global};
 use std::marker::Model;
 
-/// A slot for a space, which may be there or not, whose changes are kept or given up.
+/// A slot, which may hold a space or not, whose changes are committed or rolled back.
 #[derive(Drop)]
 pub(crate) struct Space {
     names: PortSpace,
@@ -32,7 +32,7 @@ impl Model for Space {
       current = if s.is_there then Some s.names.current else None;
     } };
 
-    // A space that isn't there has no names.
+    // A space that doesn't exist has no names.
     ghost invariant = { λ s. (s.was_there ≡ false → s.names.before ≡ map.empty) × (s.is_there ≡ false → s.names.current ≡ map.empty) };
 }
 
@@ -48,28 +48,28 @@ impl Space {
         }
     }
 
-    /// The names of the space, if it is there.
+    /// The names of the space, if it exists.
     pub(crate) fn names(&self) -> Option<&PortSpace>
         ensures { option_map (λ names. names.current) (option_copied result) ≡ self.now.current }
     {
         self.is_there.then_some(&self.names)
     }
 
-    /// Whether the space is there.
+    /// Whether the space exists.
     pub(crate) fn is_there(&self) -> bool
         ensures { result ≡ is_some self.now.current }
     {
         self.is_there
     }
 
-    /// Whether the space was there.
+    /// Whether the space existed before.
     pub(crate) fn was_there(&self) -> bool
         ensures { result ≡ is_some self.now.before }
     {
         self.was_there
     }
 
-    /// Makes a space without names, where none is there.
+    /// Makes a space without names, if there is none.
     pub(crate) fn open(&mut self)
         requires { self.old.current ≡ None }
         ensures { self.new ≡ record self.old { current = Some map.empty } }
@@ -77,7 +77,7 @@ impl Space {
         self.is_there = true;
     }
 
-    /// The space, which has no names, goes.
+    /// Removes the space, which has no names.
     pub(crate) fn close(&mut self)
         requires { (names : Names) → self.old.current ≡ Some names → names ≡ map.empty }
         ensures { self.new ≡ record self.old { current = None } }
@@ -85,8 +85,8 @@ impl Space {
         self.is_there = false;
     }
 
-    /// Has a name stand for this, where the space is there, and gives what it stood for. Where memory is wanted the changes
-    /// are given up.
+    /// Makes a name stand for this, if the space exists, and returns what it stood for. If an allocation fails, the
+    /// changes are rolled back.
     pub(crate) fn put(&mut self, name: u32, entry: Entry) -> Result<Option<Entry>, AllocError>
         requires room { (names : Names) → self.old.current ≡ Some names → map.get names name ≡ None → map.len names < MAX_NAMES }
         requires few { AreFewReferences entry }
@@ -106,7 +106,7 @@ impl Space {
         }
     }
 
-    /// Takes a name out of use, and gives what it stood for. Where memory is wanted the changes are given up.
+    /// Takes a name out of use, and returns what it stood for. If an allocation fails, the changes are rolled back.
     pub(crate) fn remove(&mut self, name: u32) -> Result<Option<Entry>, AllocError>
         ensures former { IfOk result (λ former. former ≡ option_and_then (λ names. map.get names name) self.old.current) }
         ensures few { IfOk result (λ former. IfSome former AreFewReferences) }
@@ -125,7 +125,7 @@ impl Space {
         }
     }
 
-    /// Keeps the changes. It takes no memory.
+    /// Commits the changes. It takes no memory.
     pub(crate) fn keep(&mut self)
         ensures { self.new ≡ slot_at_rest self.old.current }
     {
@@ -133,7 +133,7 @@ impl Space {
         self.was_there = self.is_there;
     }
 
-    /// Gives the changes up. It takes no memory.
+    /// Rolls the changes back. It takes no memory.
     pub(crate) fn give_up(&mut self)
         ensures { self.new ≡ slot_at_rest self.old.before }
     {

@@ -13,7 +13,7 @@ use ipc_model::Entry;
 use number_table::NumberTable;
 use std::alloc::{AllocError, Global};
 
-/// Makes a space without names where none is there.
+/// Makes a space without names if there is none.
 pub(crate) fn open_at(
     alloc: Global,
     slots: &mut NumberTable<Space>,
@@ -33,7 +33,7 @@ pub(crate) fn open_at(
     Ok(())
 }
 
-/// A space without names goes.
+/// Removes a space without names.
 pub(crate) fn close_at(slots: &mut NumberTable<Space>, space: u32)
     requires empty { (slot : SpaceSlot) → map.get slots.old space ≡ Some slot → (names : Names) → slot.current ≡ Some names → names ≡ map.empty }
     ensures { slots.new ≡ slot_changed slots.old space (λ slot. record slot { current = None }) }
@@ -43,8 +43,8 @@ pub(crate) fn close_at(slots: &mut NumberTable<Space>, space: u32)
     }
 }
 
-/// Has a name of a space stand for this, and gives what it stood for. Where memory is wanted the changes of the space are
-/// given up.
+/// Makes a name of a space stand for this, and returns what it stood for. If an allocation fails, the changes of the
+/// space are rolled back.
 pub(crate) fn put_at(
     slots: &mut NumberTable<Space>,
     space: u32,
@@ -63,8 +63,8 @@ pub(crate) fn put_at(
     }
 }
 
-/// Takes a name of a space out of use, and gives what it stood for. Where memory is wanted the changes of the space are given
-/// up.
+/// Takes a name of a space out of use, and returns what it stood for. If an allocation fails, the changes of the space
+/// are rolled back.
 pub(crate) fn remove_at(
     slots: &mut NumberTable<Space>,
     space: u32,
@@ -81,7 +81,7 @@ pub(crate) fn remove_at(
     }
 }
 
-/// Keeps the changes of the slots of these keys.
+/// Commits the changes of the slots with these keys.
 pub(crate) fn keep_slots(slots: &mut NumberTable<Space>, touched: &[u32])
     requires { AreTouched was is slots.old touched.now }
     ensures shown { picked is slots.new ≡ picked is slots.old }
@@ -107,7 +107,7 @@ fn keep_slot(slots: &mut NumberTable<Space>, key: u32)
     drop(slots.remove(key));
 }
 
-/// Gives the changes of the slots of these keys up.
+/// Rolls back the changes of the slots with these keys.
 pub(crate) fn give_slots_up(slots: &mut NumberTable<Space>, touched: &[u32])
     requires { AreTouched is was slots.old touched.now }
     ensures shown { picked was slots.new ≡ picked was slots.old }

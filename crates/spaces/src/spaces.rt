@@ -19,9 +19,9 @@ use ipc_model::Entry;
 use std::alloc::{AllocError, Global};
 use std::marker::Model;
 
-/// The spaces with their names, whose changes are kept or given up, and for each port the names that have to do with it.
-/// Contracts see the spaces as they were when they last were, and as they are. A change for which memory is wanted gives
-/// all changes up.
+/// The spaces with their names, and for each port the names that have to do with it. Changes are committed or rolled
+/// back. Contracts see the spaces as they were at the last commit or rollback, and as they are. A change whose
+/// allocation fails rolls all changes back.
 #[derive(Drop)]
 pub struct Spaces {
     pub(crate) table: SpaceTable,
@@ -63,14 +63,14 @@ impl Spaces {
         self.table.len()
     }
 
-    /// Whether a space is there.
+    /// Whether a space exists.
     pub fn contains(&self, space: u32) -> bool
         ensures { result ≡ is_some (map.get self.now.current space) }
     {
         self.table.contains(space)
     }
 
-    /// The least number that no space has. There is one while there are fewer spaces than may be.
+    /// The least number that no space has. There is one while there are fewer spaces than allowed.
     pub fn free_number(&self) -> u32
         requires room { map.len self.now.current < MAX_SPACES }
         ensures { IsFreeNumber self.now.current result }
@@ -86,8 +86,8 @@ impl Spaces {
         entry_of(&self.table, space, name)
     }
 
-    /// Has a name of a space stand for this, where the space is there, and gives what it stood for. Where memory is wanted
-    /// the changes are given up.
+    /// Makes a name of a space stand for this, if the space exists, and returns what it stood for. If an allocation
+    /// fails, the changes are rolled back.
     pub fn put_name(
         &mut self,
         space: u32,
@@ -113,7 +113,8 @@ impl Spaces {
         }
     }
 
-    /// Takes a name of a space out of use, and gives what it stood for. Where memory is wanted the changes are given up.
+    /// Takes a name of a space out of use, and returns what it stood for. If an allocation fails, the changes are
+    /// rolled back.
     pub fn remove_name(&mut self, space: u32, name: u32) -> Result<Option<Entry>, AllocError>
         ensures former { IfOk result (λ former. former ≡ entry_in self.old.current space name) }
         ensures few { IfOk result (λ former. IfSome former AreFewReferences) }
@@ -133,7 +134,8 @@ impl Spaces {
         }
     }
 
-    /// Makes a space without names under a number that no space has. Where memory is wanted the changes are given up.
+    /// Makes a space without names under a number that no space has. If an allocation fails, the changes are rolled
+    /// back.
     pub fn add(&mut self, space: u32) -> Result<(), AllocError>
         requires absent { map.get self.old.current space ≡ None }
         requires room { map.len self.old.current < 2 ^ 32 }
@@ -149,7 +151,7 @@ impl Spaces {
         }
     }
 
-    /// A space without names goes, if it is there. Where memory is wanted the changes are given up.
+    /// Removes a space without names, if it exists. If an allocation fails, the changes are rolled back.
     pub fn close(&mut self, space: u32) -> Result<(), AllocError>
         requires empty { (names : Names) → map.get self.old.current space ≡ Some names → names ≡ map.empty }
         ensures ok { OnOk result (self.new ≡ record self.old { current = map.remove self.old.current space }) }
@@ -164,28 +166,28 @@ impl Spaces {
         }
     }
 
-    /// The first place from one on whose name stands for a right to a port.
+    /// The first place from `from` on whose name stands for a right to a port.
     pub fn next_holder(&self, port: u64, from: u64) -> Option<u64>
         ensures { IsNextAt port_named self.now.current port from result }
     {
         lesser(self.next_sharer(port, from), self.next_receiver(port, from))
     }
 
-    /// The first place from one on whose name stands for a right to a port, and not for the receive right.
+    /// The first place from `from` on whose name stands for a right to a port other than the receive right.
     fn next_sharer(&self, port: u64, from: u64) -> Option<u64>
         ensures { IsNextAt port_shared self.now.current port from result }
     {
         self.indexes.sharers.next(port, from)
     }
 
-    /// The first place from one on whose name's dead-name request has a port for its target.
+    /// The first place from `from` on whose name's dead-name request has a port for its target.
     pub fn next_requester(&self, port: u64, from: u64) -> Option<u64>
         ensures { IsNextAt request_of self.now.current port from result }
     {
         self.indexes.requesters.next(port, from)
     }
 
-    /// The first place from one on whose name holds the receive right of a port.
+    /// The first place from `from` on whose name holds the receive right of a port.
     pub fn next_receiver(&self, port: u64, from: u64) -> Option<u64>
         ensures { IsNextAt received_port self.now.current port from result }
     {
@@ -208,8 +210,8 @@ impl Spaces {
         self.indexes.counts.send_onces(port)
     }
 
-    /// The places of the names that may have changed since changes were last kept or given up. Each other name stands for what it
-    /// stood for then.
+    /// The places of the names that may have changed since the last commit or rollback. Every other name stands for
+    /// what it stood for then.
     pub fn changed_places(&self) -> &[u64]
         ensures noted { AreNoted self.now.before self.now.current result.now }
         ensures small { AreSmall self.now.before × AreSmall self.now.current }
@@ -217,7 +219,7 @@ impl Spaces {
         self.indexes.changed.as_slice()
     }
 
-    /// Keeps the changes. It takes no memory.
+    /// Commits the changes. It takes no memory.
     pub fn keep(&mut self)
         ensures { self.new ≡ spaces_at_rest self.old.current }
     {
@@ -225,7 +227,7 @@ impl Spaces {
         self.indexes.keep();
     }
 
-    /// Gives the changes up. It takes no memory.
+    /// Rolls the changes back. It takes no memory.
     pub fn give_up(&mut self)
         ensures { self.new ≡ spaces_at_rest self.old.before }
     {
@@ -234,7 +236,7 @@ impl Spaces {
     }
 }
 
-/// The lesser of two numbers, where there are two.
+/// The lesser of two numbers, if there are two; else the one that there is.
 fn lesser(one: Option<u64>, other: Option<u64>) -> Option<u64>
     ensures { result ≡ lesser one other }
 {
@@ -263,7 +265,7 @@ fn entry_of(table: &SpaceTable, space: u32, name: u32) -> Option<Entry>
     }
 }
 
-/// Has a name stand for this, and gives what it stood for.
+/// Makes a name stand for this, and returns what it stood for.
 fn put_in_both(
     table: &mut SpaceTable,
     indexes: &mut NameIndexes,
@@ -284,7 +286,7 @@ fn put_in_both(
     Ok(former)
 }
 
-/// Takes a name out of use, and gives what it stood for.
+/// Takes a name out of use, and returns what it stood for.
 fn remove_from_both(
     table: &mut SpaceTable,
     indexes: &mut NameIndexes,

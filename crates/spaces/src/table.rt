@@ -16,8 +16,8 @@ use port_space::PortSpace;
 use std::alloc::{AllocError, Global};
 use std::marker::Model;
 
-/// The spaces with their names, whose changes are kept or given up. Contracts see the spaces as they were when they last
-/// were, and as they are. A change for which memory is wanted gives all changes up.
+/// The spaces with their names, whose changes are committed or rolled back. Contracts see the spaces as they were at
+/// the last commit or rollback, and as they are. A change whose allocation fails rolls all changes back.
 #[derive(Drop)]
 pub struct SpaceTable {
     alloc: Global,
@@ -72,14 +72,14 @@ impl SpaceTable {
         self.count
     }
 
-    /// Whether a space is there.
+    /// Whether a space exists.
     pub fn contains(&self, space: u32) -> bool
         ensures { result ≡ is_some (map.get self.now.current space) }
     {
         self.names(space).is_some()
     }
 
-    /// The names of a space, if it is there.
+    /// The names of a space, if it exists.
     pub fn names(&self, space: u32) -> Option<&PortSpace>
         ensures { option_map (λ names. names.current) (option_copied result) ≡ map.get self.now.current space }
     {
@@ -89,7 +89,7 @@ impl SpaceTable {
         }
     }
 
-    /// The least number that no space has. There is one while there are fewer spaces than may be.
+    /// The least number that no space has. There is one while there are fewer spaces than allowed.
     pub fn free_number(&self) -> u32
         requires room { map.len self.now.current < MAX_SPACES }
         ensures { IsFreeNumber self.now.current result }
@@ -97,7 +97,8 @@ impl SpaceTable {
         self.numbers.first_free() + 1
     }
 
-    /// Makes a space without names under a number that no space has. Where memory is wanted the changes are given up.
+    /// Makes a space without names under a number that no space has. If an allocation fails, the changes are rolled
+    /// back.
     pub fn add(&mut self, space: u32) -> Result<(), AllocError>
         requires absent { map.get self.old.current space ≡ None }
         requires room { map.len self.old.current < 2 ^ 32 }
@@ -122,8 +123,8 @@ impl SpaceTable {
         }
     }
 
-    /// Has a name of a space stand for this, where the space is there, and gives what it stood for. Where memory is wanted
-    /// the changes are given up.
+    /// Makes a name of a space stand for this, if the space exists, and returns what it stood for. If an allocation
+    /// fails, the changes are rolled back.
     pub fn put(&mut self, space: u32, name: u32, entry: Entry) -> Result<Option<Entry>, AllocError>
         requires room { (names : Names) → map.get self.old.current space ≡ Some names → map.get names name ≡ None → map.len names < MAX_NAMES }
         requires few { AreFewReferences entry }
@@ -150,7 +151,8 @@ impl SpaceTable {
         }
     }
 
-    /// Takes a name of a space out of use, and gives what it stood for. Where memory is wanted the changes are given up.
+    /// Takes a name of a space out of use, and returns what it stood for. If an allocation fails, the changes are
+    /// rolled back.
     pub fn remove(&mut self, space: u32, name: u32) -> Result<Option<Entry>, AllocError>
         ensures former { IfOk result (λ former. former ≡ entry_in self.old.current space name) }
         ensures few { IfOk result (λ former. IfSome former AreFewReferences) }
@@ -176,7 +178,7 @@ impl SpaceTable {
         }
     }
 
-    /// A space without names goes, if it is there. Where memory is wanted the changes are given up.
+    /// Removes a space without names, if it exists. If an allocation fails, the changes are rolled back.
     pub fn close(&mut self, space: u32) -> Result<(), AllocError>
         requires empty { (names : Names) → map.get self.old.current space ≡ Some names → names ≡ map.empty }
         ensures ok { OnOk result (self.new ≡ record self.old { current = map.remove self.old.current space }) }
@@ -195,7 +197,7 @@ impl SpaceTable {
         Ok(())
     }
 
-    /// Keeps the changes. It takes no memory.
+    /// Commits the changes. It takes no memory.
     pub fn keep(&mut self)
         ensures { self.new ≡ spaces_at_rest self.old.current }
     {
@@ -205,7 +207,7 @@ impl SpaceTable {
         self.numbers_before = self.numbers;
     }
 
-    /// Gives the changes up. It takes no memory.
+    /// Rolls the changes back. It takes no memory.
     pub fn give_up(&mut self)
         ensures { self.new ≡ spaces_at_rest self.old.before }
     {

@@ -7,7 +7,7 @@ use Rattle.ipc_laws.specs.StoreLaws.{all_records-push, are_records-join, batches
 use Rattle.ipc_model.specs.declared.record.Record.{Record}
 use Rattle.ipc_model.specs.store.Store.{AreRecords, IsClosed, IsInUse, IsMidAppend, SpellsBatches, SpellsSegment, batch_text, batches_text, closed_gate, open_gate, segment_header, with_batch}
 
--- one batch more
+-- one more batch
 batch_more : (content : List ℕ) (records : List Record) (s : SpellsBatches content records) (batch : List Record) (rest : List ℕ) → AreRecords batch → 0 < length batch → length records + length batch ≤ MAX_RECORDS → IsClosed rest
     → SpellsBatches (batches_text 0 s.batches ++ (open_gate ∷ (batch_text (length records) batch ++ rest))) (records ++ batch)
 batch_more content records s batch rest are some room closed =

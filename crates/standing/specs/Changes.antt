@@ -1,4 +1,4 @@
--- What the steps of a checkpoint make of a store in use, one slot at a time.
+-- How the steps of a checkpoint change a store in use, one slot at a time.
 use Rattle.std.specs.Prelude.{ℕ, ◌+◌, ◌%◌, ◌^◌, ◌<◌, List, refl}
 use Rattle.std.proofs.Common.{sym, ◌∙◌, ap, subst, inl, inr, arith}
 use Rattle.disk.specs.Slots.{Slots, slot_of, with_slot}
@@ -22,7 +22,7 @@ one_segment_changed s e base records more x old spelled = let others = beside_se
   other_segment = subst (IsPassedSegment e) (sym others.2) old.other_segment;
 }
 
--- the next segment's slot is passed over still
+-- the next segment's slot is still passed over
 pub one_next_segment_changed : (s : Slots) (e : ℕ) (base : State) (records : List Record) (x : List ℕ) → InOne s e base records → IsPassedSegment e x → InOne (with_slot s (segment_slot (e + 1)) x) e base records
 one_next_segment_changed s e base records x old passed = let others = beside_next_segment s x e in record {
   fits = old.fits;
@@ -42,7 +42,7 @@ one_opened s e base records next x old fits spelled = let others = beside_next_s
   next_segment = subst (λ l. SpellsSegment (e + 1) l next) (sym (own_segment s x (e + 1))) spelled;
 }
 
--- the next image's slot is passed over still
+-- the next image's slot is still passed over
 pub one_image_changed : (s : Slots) (e : ℕ) (base : State) (records : List Record) (x : List ℕ) → InOne s e base records → IsPassedImage e x → InOne (with_slot s (image_slot (e + 1)) x) e base records
 one_image_changed s e base records x old passed = let others = beside_image s x e in record {
   fits = old.fits;
@@ -88,7 +88,7 @@ two_finished s e base mid first next x old image =
           (inr (e, omega arith, record { rest = old.segment.content; text = old.segment.text; fits = fits; of_number = refl }));
     }
 
--- A slot that is being closed, or isn't open, is passed over still.
+-- A slot that is being closed, or isn't open, is still passed over.
 
 pub closing_image : (e : ℕ) (before after : List ℕ) → IsClosing 24 before after → IsPassedImage e before → IsPassedImage e after
 closing_image e before after closing passed = elim closing as (λ _. IsPassedImage e after) [ inl same ↦ subst (IsPassedImage e) (sym same) passed | inr shut ↦ inl shut ]

@@ -8,7 +8,7 @@ use Rattle.disk.specs.Slots.{Slots, slot_of, with_slot}
 use Rattle.slot_steps.specs.Steps.{image_slot, segment_slot}
 use Rattle.standing.specs.Standing.{as_written}
 
--- an epoch is even, and the next one odd, or the other way round
+-- an epoch is even and the next one odd, or conversely
 parity : (e : ℕ) → ((e % 2 ≡ 0) × ((e + 1) % 2 ≡ 1)) ⊎ ((e % 2 ≡ 1) × ((e + 1) % 2 ≡ 0))
 parity e = elim (cases_eq (e % 2) 0) as (λ _. ((e % 2 ≡ 0) × ((e + 1) % 2 ≡ 1)) ⊎ ((e % 2 ≡ 1) × ((e + 1) % 2 ≡ 0))) [
   | inl even ↦ inl (even, omega arith)
@@ -58,13 +58,13 @@ own_image s x = by_parity (λ a b c d. slot_of (with_slot s a x) a ≡ x) refl r
 pub own_segment : (s : Slots) (x : List ℕ) (e : ℕ) → slot_of (with_slot s (segment_slot e) x) (segment_slot e) ≡ x
 own_segment s x = by_parity (λ a b c d. slot_of (with_slot s c x) c ≡ x) refl refl
 
--- what an image's slot leaves as it was
+-- what a change of an image's slot leaves as it was
 pub beside_image : (s : Slots) (x : List ℕ) (e : ℕ) → (slot_of (with_slot s (image_slot (e + 1)) x) (image_slot e) ≡ slot_of s (image_slot e))
     × (slot_of (with_slot s (image_slot (e + 1)) x) (segment_slot e) ≡ slot_of s (segment_slot e))
     × (slot_of (with_slot s (image_slot (e + 1)) x) (segment_slot (e + 1)) ≡ slot_of s (segment_slot (e + 1)))
 beside_image s x = by_parity (λ a b c d. (slot_of (with_slot s b x) a ≡ slot_of s a) × (slot_of (with_slot s b x) c ≡ slot_of s c) × (slot_of (with_slot s b x) d ≡ slot_of s d)) (refl, refl, refl) (refl, refl, refl)
 
--- what a segment's slot leaves as it was
+-- what a change of a segment's slot leaves as it was
 pub beside_segment : (s : Slots) (x : List ℕ) (e : ℕ) → (slot_of (with_slot s (segment_slot e) x) (image_slot e) ≡ slot_of s (image_slot e))
     × (slot_of (with_slot s (segment_slot e) x) (image_slot (e + 1)) ≡ slot_of s (image_slot (e + 1)))
     × (slot_of (with_slot s (segment_slot e) x) (segment_slot (e + 1)) ≡ slot_of s (segment_slot (e + 1)))

@@ -1,4 +1,4 @@
--- What a store in use spells.
+-- What a store in use encodes.
 use Rattle.std.specs.Prelude.{◌≡◌, ℕ, ◌+◌, ◌%◌, ◌^◌, ◌<◌, ◌≤◌, List, [], ◌++◌, refl}
 use Rattle.std.proofs.Common.{sym, ◌∙◌, subst, inl, inr, arith}
 use Rattle.std.proofs.lemmas.List.{append-nil}
@@ -12,14 +12,15 @@ use Rattle.slot_steps.specs.Steps.{image_slot, segment_slot}
 use Rattle.standing.specs.Standing.{as_written, IsPassedImage, IsPassedSegment, InOne, InTwo}
 use Rattle.standing.specs.Slots.{image_at, segment_at, one_of_two}
 
--- the header of a segment that spells records
+-- the header of a segment that encodes records
 pub segment_header_is : (e : ℕ) (slot : List ℕ) (records : List Record) → e < 2 ^ 64 → SpellsSegment e slot records → IsOfEpoch (e % 2) e slot
 segment_header_is e slot records fits spelled = record { rest = spelled.content; text = spelled.text; fits = fits; of_number = refl }
 
 with_number : (m n e : ℕ) (slot : List ℕ) → n ≡ m → IsOfEpoch m e slot → IsOfEpoch n e slot
 with_number m n e slot same is = record { rest = is.rest; text = is.text; fits = is.fits; of_number = is.of_number ∙ sym same }
 
--- What is known of the slots beside one another: the image of an epoch and its segment are open, and the other image is passed over.
+-- What is known of all slots together: the image of an epoch and its segment are open, and the other image is passed
+-- over.
 module _ (s : Slots) (e : ℕ) (base : State) (first : List Record) (fits : e < 2 ^ 64) (image : HoldsImage e (slot_of s (image_slot e)) base) (segment : SpellsSegment e (slot_of s (segment_slot e)) first)
     (other_image : IsPassedImage e (slot_of s (image_slot (e + 1)))) where
   own_image_header : HasHeader image_header (e % 2) ((as_written s).image (e % 2))

@@ -8,22 +8,23 @@ use Rattle.ipc_model.specs.store.Recovery.{HoldsImage, IsOfEpoch, IsOpen, image_
 use Rattle.ipc_model.specs.store.Store.{SpellsSegment}
 use Rattle.slot_steps.specs.Steps.{image_slot, segment_slot}
 
--- the slots by their numbers, as the written machine has them
+-- the slots by their numbers, as the abstract specification has them
 abbrev pub as_written : Slots → written.Slots
 as_written slots = record {
   image = λ n. if n == 0 then slots.image0 else slots.image1;
   segment = λ n. if n == 0 then slots.segment0 else slots.segment1;
 }
 
--- An image slot that is passed over in an epoch: it isn't open, or its image is of an epoch before.
+-- An image slot that is passed over in an epoch: it isn't open, or its image is of an earlier epoch.
 abbrev pub IsPassedImage : ℕ → List ℕ → Type 0
 IsPassedImage epoch slot = (IsOpen image_header slot → ⊥) ⊎ ((before : ℕ) × (before < epoch) × IsOfEpoch ((epoch + 1) % 2) before slot)
 
--- A segment slot that is passed over: it isn't open, or it is of the epoch right before.
+-- A segment slot that is passed over: it isn't open, or it is of the epoch just before.
 abbrev pub IsPassedSegment : ℕ → List ℕ → Type 0
 IsPassedSegment epoch slot = (IsOpen segment_header_length slot → ⊥) ⊎ ((before : ℕ) × (suc before ≡ epoch) × IsOfEpoch (before % 2) before slot)
 
--- Outside a checkpoint, and within one until the next segment is opened: the image of an epoch, and the records of its segment.
+-- Outside a checkpoint, and within one until the next segment is opened: the image of an epoch, and the records of its
+-- segment.
 pub record InOne (slots : Slots) (epoch : ℕ) (base : State) (records : List Record) : Type 0 where
   pub fits : epoch < 2 ^ 64
   pub image : HoldsImage epoch (slot_of slots (image_slot epoch)) base

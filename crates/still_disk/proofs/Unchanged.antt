@@ -1,4 +1,4 @@
--- Slots that nobody else writes to: one moment is as another.
+-- Slots that no other process writes to: all moments are alike.
 use Rattle.std.proofs.Common.{◌≡◌, ℕ, ◌≤◌, List, ◌++◌, length, take, drop, refl, sym, ap, subst, ◌∙◌, append_assoc, take-append-drop, length-append, length-take}
 use Rattle.std.proofs.lemmas.List.{append-nil, drop-drop, drop_all, drop_min}
 use Rattle.std.specs.Prelude.{IfOk, Result, Ok, Err}
@@ -87,7 +87,7 @@ reading_same begun ended copies reading = (tried_same begun ended reading.0 copi
 pub never_changes : (begun ended : Slots) → HasChanged Same slots begun ended → ⊥
 never_changes begun ended changed = changed.4 (tried_same begun ended changed.0 changed.1 changed.2 changed.3).1
 
--- what a copy is that was made at one of several tries
+-- the copy that was made at one of several tries
 pub copy_is : (result : Result StillDisk CopyFault) (old new : Slots) → IfOk result (λ copy. (begun : Slots) × Same old begun × IsReading Same slots begun new (still_slots copy)) → IfOk result (λ copy. still_slots copy ≡ old)
 copy_is (Ok copy) old new (begun, later, reading) = reading_same begun new (still_slots copy) reading ∙ later
 copy_is (Err fault) old new none = tt

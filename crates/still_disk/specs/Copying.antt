@@ -4,7 +4,7 @@ use Rattle.disk.specs.Moments.{one_more}
 use Rattle.still_disk.specs.declared.fault.CopyFault.{CopyFault}
 use Rattle.still_disk.specs.declared.fault.CopyFault.TheVariants.{Device, NoMemory, Busy}
 
--- the count of failed calls behind a fault, and behind a call of a copy: one more where the device failed, else as it was
+-- the count of failed calls after a fault, and after a call of a copy: one more if the device failed, else the same
 abbrev pub counted_fault : CopyFault → ℕ → ℕ
 counted_fault Device failures = one_more failures
 counted_fault NoMemory failures = failures

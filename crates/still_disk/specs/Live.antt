@@ -1,24 +1,24 @@
--- What is read of slots that somebody else may write to meanwhile.
+-- What is read of slots that another process may write to meanwhile.
 use Rattle.std.specs.Prelude.{◌≡◌, ℕ, ◌≤◌, List, [], ◌++◌, length, take, drop}
 use Rattle.disk.specs.Slots.{Slots}
 
 -- Moments follow one another, and at each a slot holds some bytes.
 module _ {Moment : Type 0} (Later : Moment → Moment → Type 0) (slot : Moment → List ℕ) where
-  -- A copy that was begun at one moment, and whose last piece was read at another: each piece is what stood behind those before it as
-  -- it was read.
+  -- A copy that was begun at one moment, and whose last piece was read at another: each piece is what followed those
+  -- before it when it was read.
   pub data Copied (begun : Moment) : Moment → List ℕ → Type 0 where
     nothing_yet : Copied begun begun []
     one_piece_more : {last : Moment} {copy : List ℕ} (now : Moment) (count : ℕ) (longer : List ℕ) → Copied begun last copy → Later last now
         → longer ≡ copy ++ take count (drop (length copy) (slot now)) → Copied begun now longer
 
-  -- A copy is whole once nothing stands behind it.
+  -- A copy is whole once nothing comes after it.
   pub record IsCopy (begun ended : Moment) (copy : List ℕ) : Type 0 where
     pub last : Moment
     pub copied : Copied begun last copy
     pub later : Later last ended
     pub whole : length (slot ended) ≤ length copy
 
--- the fronts of slots: as many bytes as their headers have, or as there are
+-- the fronts of slots: as many bytes as their headers have, or all that there are
 abbrev pub fronts_of : Slots → Slots
 fronts_of slots = record {
   image0 = take 24 slots.image0;
@@ -68,6 +68,6 @@ module _ {Moment : Type 0} (Later : Moment → Moment → Type 0) (slots : Momen
   abbrev pub IsReading : Moment → Moment → Slots → Type 0
   IsReading begun ended copies = (fronts again : Slots) × Tried begun ended fronts copies again × Agree fronts copies again
 
-  -- copies between two readings that don't
+  -- copies between two readings of the fronts that don't agree
   abbrev pub HasChanged : Moment → Moment → Type 0
   HasChanged begun ended = (fronts copies again : Slots) × Tried begun ended fronts copies again × (Agree fronts copies again → ⊥)

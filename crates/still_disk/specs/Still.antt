@@ -13,6 +13,6 @@ still_slots copy = record {
   segment1 = copy.segment1.items;
 }
 
--- the disk over time, of which nothing ever changes: a read gives these bytes, and a stop leaves them
+-- the disk over time, which never changes: a read gives these bytes, and a crash leaves them
 abbrev pub still_view : StillDisk → View
 still_view copy = record { seen = still_slots copy; moment = 0; left_at = λ k c. c ≡ still_slots copy }

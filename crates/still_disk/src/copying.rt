@@ -1,4 +1,4 @@
-// A copy of a store's slots that no turn of an epoch went through.
+// A copy of a store's slots during which no slot's front changed.
 ghost use Rattle.std.specs.Prelude.{◌≡◌, ◌≢◌, ◌<◌, Err, IfErr, IfNone, IfOk, IfSome, IsErrOf, length};
 ghost use Rattle.still_disk.specs.Copying.{counted};
 ghost use Rattle.still_disk.specs.Live.{HasChanged, IsReading, SlotsCopied};
@@ -10,7 +10,7 @@ use crate::{CopyFault, LiveSlots, StillDisk};
 use disk::{Disk, Slot};
 use std::alloc::Global;
 
-/// How often a copy is tried.
+/// How many times a copy is tried.
 const MOST_TRIES: u32 = 100;
 
 /// How many bytes are read at a time.
@@ -38,7 +38,7 @@ fn read_slots<S: LiveSlots>(
     })
 }
 
-/// What the slots hold, if the fronts are before and behind it what its own are.
+/// What the slots hold, if the fronts before and after the reading are the same as the copy's own.
 fn try_copy<S: LiveSlots>(
     alloc: Global,
     live: &mut S,
@@ -63,7 +63,7 @@ fn try_copy<S: LiveSlots>(
     }
 }
 
-/// A copy, read into a buffer piece by piece, and tried so often.
+/// A copy, read into a buffer piece by piece, and tried up to `MOST_TRIES` times.
 fn copy_by<S: LiveSlots>(
     alloc: Global,
     live: &mut S,
@@ -84,15 +84,15 @@ fn copy_by<S: LiveSlots>(
     Err(CopyFault::Busy)
 }
 
-/// Copies a store's slots into memory, also while a server goes on with the store. Nothing is written to it.
+/// Copies a store's slots into memory, also while a server goes on with the store. Nothing is written to the store.
 ///
-/// A server writes into a slot that is in use only behind its batches, and a batch whole before its gate is opened: of a slot
-/// that is read from its front to its end meanwhile, all batches are there whose gates were open when that began, and any
-/// further ones whole. What stands in a slot is written over only once its front has changed, with another gate or another
-/// epoch, and epochs only rise. So where the fronts of all four are after the reading what they were before it, the copies stand for a
-/// state that the store had meanwhile (`beside::copies_stand`).
+/// A server writes to a slot in use only after its batches, and writes a whole batch before it opens its gate. If a
+/// slot is read from its front to its end meanwhile, all batches are there whose gates were open when that began, and
+/// any further ones are whole. A slot is written over only once its front has changed, to another gate or another
+/// epoch, and epochs only grow. So if the fronts of all four are the same after the reading as before it, the copies
+/// stand for a state that the store had meanwhile (`beside::copies_stand`).
 ///
-/// `Device`: the device failed. `NoMemory`: no memory. `Busy`: a front changed during each of a hundred tries.
+/// `Device`: the device failed. `NoMemory`: out of memory. `Busy`: a front changed during each of a hundred tries.
 pub fn live_copy<S: LiveSlots>(alloc: Global, live: &mut S) -> Result<StillDisk, CopyFault>
     ensures reading { S.honest → IfOk result (λ copy. (begun : S.Moment) × S.later (S.now live.old) begun × IsReading S.later S.slots begun (S.now live.new) (still_slots copy)) }
     ensures busy { S.honest → IsErrOf result CopyFault.Busy → (begun ended : S.Moment) × S.later (S.now live.old) begun × HasChanged S.later S.slots begun ended }
@@ -104,7 +104,7 @@ pub fn live_copy<S: LiveSlots>(alloc: Global, live: &mut S) -> Result<StillDisk,
     copy_by(alloc, live, &mut piece)
 }
 
-/// What `live_copy` gives of a disk that nobody else writes to: what its slots hold. `Busy` never comes then.
+/// What `live_copy` returns for a disk that nobody else writes to: what its slots hold. `Busy` never comes then.
 pub fn still_copy<D: Disk>(alloc: Global, disk: &mut D) -> Result<StillDisk, CopyFault>
     ensures slots { D.honest → IfOk result (λ copy. still_slots copy ≡ (D.view disk.old).seen) }
     ensures unfailed { IfOk result (λ copy. ⟦<StillDisk as Disk>⟧.failed_calls copy ≡ 0) }

@@ -6,9 +6,9 @@ use std::alloc::AllocError;
 pub enum CopyFault {
     /// The device failed.
     Device,
-    /// No memory.
+    /// Out of memory.
     NoMemory,
-    /// At each try a slot was made anew meanwhile.
+    /// During each try a slot's front changed.
     Busy,
 }
 

@@ -1,4 +1,4 @@
-// The fronts of the slots: what of them changes before what stands behind is written over.
+// The fronts of the slots: the part of them that changes before what stands after it is written over.
 ghost use Rattle.std.specs.Prelude.{◌≡◌, ◌≢◌, ◌↔◌, ◌≤◌, IfErr, IfOk, IsTrue, take};
 ghost use Rattle.disk.specs.Slots.{slot_of};
 ghost use Rattle.still_disk.specs.Copying.{counted};
@@ -31,7 +31,7 @@ impl Fronts {
     }
 }
 
-/// The front of a slot of so many bytes, or of as many as there are.
+/// The front of a slot: `size` bytes, or as many as there are.
 fn read_front<S: LiveSlots>(
     alloc: Global,
     live: &mut S,

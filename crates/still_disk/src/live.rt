@@ -1,13 +1,14 @@
-// Slots that somebody else may write to while they are read.
+// Slots that may be written to while they are read.
 ghost use Rattle.std.specs.Prelude.{◌≡◌, ◌-◌, ◌≤◌, ◌++◌, ℕ, length, take, drop, min, IfOk};
 ghost use Rattle.disk.specs.Moments.{CountsFailure};
 ghost use Rattle.disk.specs.Slots.{Slots, slot_of};
 
 use disk::{Disk, DiskFault, Slot};
 
-/// The slots of a store, which are read while somebody else may write to them: a read gives what a slot holds at a moment of its own.
+/// The slots of a store, which may be written to while they are read: a read returns what a slot holds at a moment of
+/// its own.
 pub trait LiveSlots {
-    /// The premise that a read gives what stands in a slot.
+    /// The premise that a read returns what stands in a slot.
     ghost honest: { Type 0 };
 
     /// The moments, of which one may be later than another.
@@ -28,7 +29,8 @@ pub trait LiveSlots {
     /// How many calls have failed.
     ghost failed: { Self → ℕ };
 
-    /// Reads from `at` on into the buffer, and answers how many bytes came: less than it has room for only at the slot's end.
+    /// Reads from `at` on into the buffer, and returns how many bytes came. It returns less than the buffer has room
+    /// for only at the slot's end.
     fn read_live(&mut self, slot: Slot, at: u64, buffer: &mut [u8]) -> Result<usize, DiskFault>
         ensures later { honest → later (now self.old) (now self.new) }
         ensures count { honest → IfOk result (λ n. n ≡ min (length buffer.old) (length (slot_of (slots (now self.new)) slot) - at)) }
@@ -37,7 +39,7 @@ pub trait LiveSlots {
         ensures failures { CountsFailure (failed self.old) (failed self.new) result };
 }
 
-/// Where nobody else writes to a disk, one moment is as another.
+/// If nobody else writes to a disk, all moments are alike.
 impl<D: Disk> LiveSlots for D {
     ghost use Rattle.std.specs.Prelude.{◌≡◌, refl};
     ghost use Rattle.std.proofs.Common.{◌∙◌};

@@ -8,7 +8,7 @@ use crate::{CopyFault, LiveSlots};
 use disk::Slot;
 use std::alloc::Global;
 
-/// Reads the next piece of a slot behind the bytes that were read of it, and answers how many came.
+/// Reads the next piece of a slot after the bytes that were read of it, and returns how many came.
 fn read_on<S: LiveSlots>(
     live: &mut S,
     slot: Slot,
@@ -31,8 +31,9 @@ fn read_on<S: LiveSlots>(
 
 /// All bytes of a slot, read into a buffer piece by piece.
 ///
-/// It is read until a read gives none, and not up to its length: who appends to a segment writes a batch whole before its gate
-/// is opened, so where a gate was read open, what stands behind it is there for the next read, also past what the length was.
+/// It reads until a read returns nothing, and not up to the slot's length: a server that appends to a segment writes a
+/// whole batch before it opens its gate. So if a gate was read open, what stands after it is there for the next read,
+/// even past what the length was.
 pub(crate) fn read_slot<S: LiveSlots>(
     alloc: Global,
     live: &mut S,

@@ -11,7 +11,7 @@ use disk::{Disk, DiskFault, Slot};
 use slot_steps::{IMAGE_HEADER, SEGMENT_HEADER};
 use std::alloc::{AllocError, Global};
 
-/// Four slots in memory. Nobody writes to them: a write and a cut fail, and change nothing.
+/// Four slots in memory. Nobody writes to them: a write and a truncation fail, and change nothing.
 pub struct StillDisk {
     pub(crate) image0: Vec<u8>,
     pub(crate) image1: Vec<u8>,
@@ -20,7 +20,7 @@ pub struct StillDisk {
     pub(crate) failures: u64,
 }
 
-// Written out, as proofs above then know one function, and not the parts.
+// Written out, so that proofs above know one function and not its parts.
 impl Drop for StillDisk {
     fn drop(self) {
         let StillDisk {
@@ -70,14 +70,14 @@ impl StillDisk {
     }
 }
 
-/// The front of these bytes, of so many or of as many as there are.
+/// The front of these bytes: `size` of them, or as many as there are.
 fn front_of(alloc: Global, bytes: &[u8], size: usize) -> Result<Vec<u8>, AllocError>
     ensures { IfOk result (λ front. front.items ≡ take size bytes.now) }
 {
     bytes[..size.min(bytes.len())].to_vec(alloc)
 }
 
-/// What of these bytes stands from a place on, as far as the buffer has room.
+/// Copies these bytes from a place on, as far as the buffer has room.
 fn fill(buffer: &mut [u8], bytes: &[u8], at: u64) -> usize
     ensures count { result ≡ min (length buffer.old) (length bytes.now - at) }
     ensures bytes { buffer.new ≡ take result (drop at bytes.now) ++ drop result buffer.old }

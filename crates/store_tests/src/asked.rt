@@ -1,4 +1,4 @@
-//! Calls of numbers alone, in tables.
+//! Calls that consist only of numbers, in tables.
 
 use ipc_model::Call;
 
@@ -11,15 +11,15 @@ pub(crate) enum Asked {
     AllocateName,
     Type(u32),
     Destroy(u32),
-    /// A name and the set behind it.
+    /// A name and the set after it.
     MoveMember(u32, u32),
     /// A send-once right.
     ExtractRight(u32),
     /// A send right under the name of the port.
     InsertRight(u32),
-    /// Of what happens to a name, by its number, to the port 0x100.
+    /// For a notice about a name, by its number, to the port 0x100.
     RequestNotification(u32, u32),
-    /// The receive right goes.
+    /// Removes the receive right.
     DropReceive(u32),
     /// With a send right made of 0x100.
     SpaceCreate,

@@ -1,4 +1,4 @@
-//! Stores of whole slots and bent ones, and what opening them gives.
+//! Stores of whole slots and corrupted ones, and what opening them returns.
 use crate::store::{Store, are_receive, disk_of, keeps};
 use crate::written::{image_of_name, segment_of_name};
 use disk::Slot;
@@ -8,13 +8,14 @@ use std::alloc::{AllocError, Global};
 /// The epochs of image 0, image 1, segment 0 and segment 1. A slot without one is empty.
 pub(crate) type Epochs = [Option<u64>; 4];
 
-/// What opening a store gives: its epoch, how many records its segment holds, and which slots its state comes from, in the same
-/// order. Each slot has a name of its own, the images in their text and the segments in their one record: 0x100 to 0x103.
+/// What opening a store returns: its epoch, how many records its segment holds, and which slots its state comes from,
+/// in the same order. Each slot has a name of its own, the images in their encoding and the segments in their one
+/// record: 0x100 to 0x103.
 pub(crate) type Found = Result<(u64, u64, [bool; 4]), StoreFault>;
 
 pub(crate) const DAMAGED: Found = Err(StoreFault::Damaged);
 
-/// No slot is open that counts: a new store is made.
+/// No slot that counts is open: a new store is made.
 pub(crate) const NEW: Found = Ok((0, 0, [false, false, false, false]));
 
 /// Image 4 and its segment.
@@ -26,14 +27,14 @@ pub(crate) const FOUR_TO_FIVE: Found = Ok((5, 1, [true, false, true, true]));
 /// Image 5 and its segment.
 pub(crate) const FIVE: Found = Ok((5, 1, [false, true, false, true]));
 
-/// How a slot is bent.
+/// How a slot is corrupted.
 #[derive(Clone, Copy)]
 pub(crate) enum Bend {
-    /// The byte at this place is another one.
+    /// The byte at this place is replaced by this one.
     Byte(usize, u8),
     /// All bytes from this place on are 0.
     Zero(usize),
-    /// It is cut to this length, or goes on to it with bytes ff.
+    /// It is truncated to this length, or extended to it with bytes ff.
     Length(usize),
 }
 
@@ -47,7 +48,7 @@ fn whole_slot(alloc: Global, slot: Slot, epoch: u64) -> Result<Vec<u8>, AllocErr
     }
 }
 
-/// Sets a byte that is there, and was another one.
+/// Replaces a byte, which must exist and differ.
 pub(crate) fn set(bytes: &mut [u8], at: usize, byte: u8) -> Option<()> {
     let place = bytes.get_mut(at)?;
     if *place == byte {
@@ -57,7 +58,7 @@ pub(crate) fn set(bytes: &mut [u8], at: usize, byte: u8) -> Option<()> {
     Some(())
 }
 
-// Bends a slot.
+// Corrupts a slot.
 fn change(bytes: &mut Vec<u8>, how: Bend) -> Option<()> {
     match how {
         Bend::Byte(at, byte) => set(bytes, at, byte),
@@ -103,7 +104,7 @@ fn bent_slots(alloc: Global, epochs: Epochs, bends: &[(Slot, Bend)]) -> Option<[
     ])
 }
 
-/// What opening a store gives, and its disk.
+/// What opening a store returns, and its disk.
 pub(crate) fn reopened<S: Store + Drop>(alloc: Global, disk: S) -> (Found, S) {
     let (opening, disk) = disk.open(alloc, &[0x100, 0x101, 0x102, 0x103]);
     let found = match opening {
@@ -113,8 +114,8 @@ pub(crate) fn reopened<S: Store + Drop>(alloc: Global, disk: S) -> (Found, S) {
     (found, disk)
 }
 
-// Whether an opening left all slots as they were where it refused the store; and else those of the other number than the
-// epoch's, and the epoch's image open.
+// Whether an opening left all slots as they were if it refused the store; and else those with the other number than the
+// epoch's, and left the epoch's image open.
 fn is_left<S: Store>(found: Found, disk: &S, before: &[Vec<u8>; 4]) -> bool {
     let [image0, image1, segment0, segment1] = keeps(disk, before);
     match found {
@@ -130,8 +131,8 @@ fn is_open<S: Store>(disk: &S, image: Slot) -> bool {
     disk.bytes(image).first() == Some(&OPEN_GATE)
 }
 
-/// What opening a store gives, whether it leaves the slots that it is to leave, and what opening it again gives. Nothing where
-/// a slot isn't bent by what bends it.
+/// What opening a store returns, whether it leaves the slots that it is to leave, and what opening it again returns.
+/// `None` if a slot isn't changed by its corruption.
 pub(crate) fn tried<S: Store + Drop>(
     alloc: Global,
     epochs: Epochs,

@@ -1,4 +1,4 @@
-//! Calls and what they answer.
+//! Calls and their answers.
 use crate::asked::Asked;
 use crate::expect::same;
 use crate::machine::{Machine, Words, after_allocated, ask, ask_all};
@@ -16,7 +16,7 @@ pub(crate) fn read<M: Machine>(machine: &M) -> [Words; 4] {
     ]
 }
 
-/// What they answer beside one port.
+/// What they answer in a state with one port.
 fn read_one_port<M: Machine + Drop>(alloc: Global) -> Option<[Words; 4]> {
     let machine: M = after_allocated(alloc, 1, 0x100)?;
     let words = read(&machine);
@@ -60,7 +60,7 @@ fn both_answers<M: Machine>(
     answers
 }
 
-/// Whether each of these calls is answered so, in place too, and one that has a record isn't.
+/// Whether each of these calls gets this answer, in place too, and one that has a record doesn't.
 fn answers_so<M: Machine>(machine: &mut M) -> bool {
     for (space, asked, words) in &UNRECORDED {
         if both_answers(machine, *space, *asked) != [Some(Some(*words)); 2] {
@@ -70,7 +70,7 @@ fn answers_so<M: Machine>(machine: &mut M) -> bool {
     both_answers(machine, 1, Asked::Allocate(1)) == [Some(None); 2]
 }
 
-/// Whether they are answered so beside one port.
+/// Whether they get these answers in a state with one port.
 fn answers_beside_one_port<M: Machine + Drop>(alloc: Global) -> Option<bool> {
     let mut machine: M = after_allocated(alloc, 1, 0x100)?;
     let answers = answers_so(&mut machine);
@@ -116,7 +116,7 @@ static FULL_OF_PORTS: [Row; 10] = [
     (5, Asked::AllocateName, [4, 0, 0, 0]),
 ];
 
-/// Makes calls, and tells whether each is answered so.
+/// Makes calls, and returns whether each gets its answer.
 fn is_answered_so<M: Machine>(machine: &mut M, rows: &[Row]) -> bool {
     for (space, asked, words) in rows {
         if ask(machine, *space, *asked) != Some(*words) {
@@ -126,8 +126,8 @@ fn is_answered_so<M: Machine>(machine: &mut M, rows: &[Row]) -> bool {
     true
 }
 
-/// Four spaces hold 16,381 ports, and then there are three more and no other: whether the spaces are made and filled, and it is
-/// so.
+/// Four spaces hold 16,381 ports, and then there are three more and no other. Returns whether the spaces are made,
+/// whether they are filled, and whether this holds.
 fn fills_up<M: Machine + Drop>(alloc: Global) -> Option<(bool, Option<()>, bool)> {
     let mut machine = M::opened(alloc)?;
     let made = is_answered_so(&mut machine, &SPACES_MADE);
@@ -137,21 +137,21 @@ fn fills_up<M: Machine + Drop>(alloc: Global) -> Option<(bool, Option<()>, bool)
     Some((made, filled, full))
 }
 
-// They are made of a kernel alone: a disk in memory copies a slot at each write.
+// They are made of just a kernel: a disk in memory copies a slot at each write.
 #[test]
 fn there_are_16384_ports(rt: HostRuntime) {
     let seen = fills_up::<Kernel>(rt.alloc());
     same(&rt, seen, Some((true, Some(()), true)));
 }
 
-/// The code of a receipt.
+/// The code of a receive.
 fn code_of_receipt<M: Machine>(machine: &mut M, name: u32, waited: bool) -> Option<u32> {
     let [code, ..] = ask(machine, 1, Asked::Receive(name, waited))?;
     Some(code)
 }
 
-/// Whether two ports were put in a set; and the codes of receipts that find no port of their own, at first and after a wait:
-/// one that is in the set, and one that isn't there.
+/// Whether two ports were put in a set; and the codes of receives that find no port of their own, at first and after a
+/// wait: one that is in the set, and one that doesn't exist.
 type Receipts = (Option<()>, [Option<u32>; 4]);
 
 fn receipts_without_a_port<M: Machine + Drop>(alloc: Global) -> Option<Receipts> {

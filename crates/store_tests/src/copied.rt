@@ -7,8 +7,9 @@ use snapshot::{NamedEntry, Snapshot};
 use std::alloc::Global;
 use std::process::Abort;
 
-/// Three ports, 0x100 to 0x102, and a set, 0x103, with the first as its member. The third has a send right too. 0x104 is a
-/// send-once right of the second, with a dead-name request to the first, and the second tells the first of its destruction.
+/// Three ports, 0x100 to 0x102, and a set, 0x103, with the first as its member. The third has a send right too. 0x104
+/// is a send-once right of the second, with a dead-name request to the first, and the second notifies the first of its
+/// destruction.
 static BEFORE: [Asked; 9] = [
     Asked::Allocate(1),
     Asked::Allocate(1),
@@ -21,11 +22,11 @@ static BEFORE: [Asked; 9] = [
     Asked::InsertRight(0x102),
 ];
 
-/// The receive right of the third port goes.
+/// Removes the receive right of the third port.
 const DEATH: Asked = Asked::DropReceive(0x102);
 
-/// To the first port, by a send right made for it, with id 7: a send right of the second, and a send-once right of the third
-/// to reply by.
+/// To the first port, by a send right made for it, with id 7: a send right of the second, and a send-once right of the
+/// third for the reply.
 static MESSAGE: [u8; 32] = [
     0x14, 0x15, 0, 0x80, 0, 0, 0, 0, 0, 1, 0, 0, 2, 1, 0, 0, 0, 0, 0, 0, 7, 0, 0, 0, 0x14, 0x20, 1,
     0x10, 1, 1, 0, 0,
@@ -59,7 +60,7 @@ fn name_at(names: &[NamedEntry], index: usize) -> NameSeen {
     Some((named.name, named.entry))
 }
 
-/// The names of the only space, as far as the sixth.
+/// The names of the only space, up to the sixth.
 fn names_of(copy: &Snapshot) -> [NameSeen; 6] {
     let [space] = copy.spaces.as_slice() else {
         return [None; 6];
@@ -88,14 +89,14 @@ fn port_of(copy: &Snapshot, index: usize) -> PortSeen {
     ))
 }
 
-/// The rights of the first port's oldest message: that to reply by, and the first of its body.
+/// The rights of the first port's oldest message: that for the reply, and the first of its body.
 fn rights_of(copy: &Snapshot) -> Option<[Option<CarriedRight>; 2]> {
     let port = copy.ports.as_slice().first()?;
     let message = port.state.messages.as_slice().first()?;
     Some([message.reply, message.rights.as_slice().first().copied()])
 }
 
-/// A copy of the machine that is made of that copy.
+/// A copy of the machine that is made from that copy.
 fn copied_again<M: Machine + Drop>(alloc: Global) -> Option<Snapshot> {
     let machine = M::of_copy(alloc, copy_after_calls::<M>(alloc)?)?;
     let copy = machine.copied(alloc);

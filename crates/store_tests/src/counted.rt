@@ -1,4 +1,4 @@
-//! Files that count how often they are synced, in front of those of the system.
+//! Files that count how many times they are synced, in front of those of the system.
 
 use std::alloc::Allocator;
 use std::cell::Cell;
@@ -9,7 +9,7 @@ use std::os::unix::net::SocketAddr;
 use std::path::PathBuf;
 use std::rt::Files;
 
-/// How often files were synced, and how often the folder was that they are in; and whether a sync fails now.
+/// How many times files were synced, and how many times their folder was; and whether a sync fails now.
 #[derive(Drop)]
 pub(crate) struct Syncs {
     files: Cell<u32>,
@@ -147,7 +147,7 @@ impl<'a> Files for CountedFiles<'a> {
         self.files.remove_dir_all(alloc, path)
     }
 
-    // The rest could be left out, but what stands in its place then is dearer to prove.
+    // The rest could be left out, but what stands in its place then is more expensive to prove.
 
     fn canonicalize<B: Allocator>(&self, alloc: B, path: &str) -> io::Result<PathBuf<B>> {
         self.files.canonicalize(alloc, path)

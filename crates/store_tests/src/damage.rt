@@ -1,5 +1,5 @@
-//! Stores of two epochs whose slots are bent. What opening each of them gives follows from the rules of docs/FORMATS.md,
-//! "Opening".
+//! Stores of two epochs whose slots are corrupted. What opening each of them returns follows from the rules of
+//! docs/FORMATS.md, "Opening".
 use crate::bending::{Bend, DAMAGED, Epochs, FIVE, FOUR, FOUR_TO_FIVE, Found, NEW, tried};
 use crate::expect::same_in_row;
 use disk::{MemDisk, Slot};
@@ -15,10 +15,10 @@ const BOTH: Epochs = [Some(4), Some(5), Some(4), Some(5)];
 // The same, before image 5 was begun.
 const HALF: Epochs = [Some(4), None, Some(4), Some(5)];
 
-// A store's name, the epochs of its slots, how these are bent, and what opening it gives.
+// A store's name, the epochs of its slots, how these are corrupted, and what opening it returns.
 type Row = (&'static str, Epochs, &'static [(Slot, Bend)], Found);
 
-// What isn't read: an older image's text, an older segment's batches, what is closed.
+// What isn't read: an older image's encoding, an older segment's batches, what is closed.
 static PASSED_OVER: [Row; 14] = [
     (
         "the older image is of no state",

@@ -7,7 +7,7 @@ use std::{env, fs};
 
 // The functions that make one call of a disk have no clause, so that a test's proof carries nothing of it.
 
-// Whether these bytes are read of a slot.
+// Whether these bytes are read from a slot.
 fn is_read<D: Disk>(disk: &mut D, slot: Slot, wanted: &[u8]) -> bool {
     let mut buffer = [0; 64];
     match disk.read(slot, 0, &mut buffer) {
@@ -33,7 +33,7 @@ fn write<D: Disk>(
     Some(disk.write_at(slot, at, bytes))
 }
 
-// A slot has to be cut to less.
+// A slot can only be truncated to less.
 fn cut<D: Disk>(disk: &mut D, slot: Slot, length: u64) -> Option<Result<(), DiskFault>> {
     if length > disk.length(slot) {
         return None;
@@ -94,7 +94,8 @@ fn taken<D: Disk>(disk: &mut D, steps: &[Step]) -> Taken {
     (take(disk, steps), counts(disk, Slot::Image1))
 }
 
-// The same once that is written, and whether the slots hold it; and once it is cut and synced, and whether that is read then.
+// The same once that is written, and whether the slots hold it; and once it is truncated and synced, and whether that
+// is read then.
 fn written_and_read<S: Store + Drop>(alloc: Global) -> (Taken, [bool; 4], Taken, bool) {
     let mut disk = S::empty(alloc);
     (
@@ -112,7 +113,7 @@ fn memory_is_read_as_it_was_written(rt: HostRuntime) {
     same(&rt, seen, (written, [true; 4], shortened, true));
 }
 
-// How many bytes are read at the end of three, and behind it, and what is in the first one's buffer.
+// How many bytes are read at the end of three, and after it, and what is in the first one's buffer.
 fn read_at_the_end<S: Store + Drop>(alloc: Global) -> ([Result<usize, DiskFault>; 2], [u8; 4]) {
     let mut disk = S::empty(alloc);
     let mut buffer = *b"....";
@@ -130,7 +131,7 @@ fn a_read_ends_at_the_end(rt: HostRuntime) {
     same(&rt, seen, ([Ok(1), Ok(0)], *b"c..."));
 }
 
-// A write of 4 bytes over 2 of 3, a cut and a new write, and a synced write.
+// A write of 4 bytes over 2 of 3, a truncation and a new write, and a synced write.
 static BEGUN: [Step; 5] = [
     Step::Write(Slot::Image0, 1, b"WXYZ"),
     Step::Cut(Slot::Image1, 2),
@@ -139,7 +140,8 @@ static BEGUN: [Step; 5] = [
     Step::Sync(Slot::Segment0),
 ];
 
-// A disk with these, and a write that failed: its sixth call. That they were done is seen of what it holds and counts then.
+// A disk with these, and a write that failed: its sixth call. That they were done shows in what it holds and counts
+// then.
 fn begun<S: Store + Drop>(alloc: Global, torn: Torn) -> Option<S> {
     let mut disk = S::holding(alloc, [b"abc", b"abcdef", b"", b"m"])?;
     disk.plan_faults(None, Some(6), torn);
@@ -150,7 +152,7 @@ fn begun<S: Store + Drop>(alloc: Global, torn: Torn) -> Option<S> {
 
 static SEEN: Slots<'static> = [b"aWXYZ", b"abW", b"pq", b"m"];
 
-// What a stop leaves of that.
+// What a crash leaves of that.
 static LEFT: [(Torn, Slots<'static>); 4] = [
     (Torn::Old, [b"abc", b"ab", b"pq", b"m"]),
     (Torn::New, [b"aWXYZ", b"abWdef", b"pq", b"mnop"]),
@@ -158,7 +160,7 @@ static LEFT: [(Torn, Slots<'static>); 4] = [
     (Torn::Fill(35), [b"a####", b"ab#def", b"pq", b"m###"]),
 ];
 
-// Whether such a disk holds what was written, and how many calls failed; and whether a stop leaves these bytes.
+// Whether such a disk holds what was written, and how many calls failed; and whether a crash leaves these bytes.
 fn torn_by_a_stop<S: Store + Drop>(
     alloc: Global,
     torn: Torn,
@@ -178,7 +180,7 @@ fn a_stop_tears_what_was_not_synced(rt: HostRuntime) {
     }
 }
 
-// What a sync answers on what a stop leaves, and its counts then; and whether a second stop leaves these bytes.
+// What a sync answers on what a crash leaves, and its counts then; and whether a second crash leaves these bytes.
 type AtRest = (Result<(), DiskFault>, (u64, u64), bool);
 
 fn left_at_rest<S: Store + Drop>(alloc: Global, torn: Torn, image0: &[u8]) -> Option<AtRest> {
@@ -189,7 +191,7 @@ fn left_at_rest<S: Store + Drop>(alloc: Global, torn: Torn, image0: &[u8]) -> Op
     Some((synced, counts, left.bytes(Slot::Image0) == image0))
 }
 
-// What a stop leaves has no plan, and nothing that a second stop could tear.
+// What a crash leaves has no plan, and nothing that a second crash could tear.
 #[test]
 fn a_stop_leaves_a_disk_at_rest(rt: HostRuntime) {
     for (torn, [image0, ..]) in &LEFT {
@@ -203,7 +205,7 @@ static AB: [Step; 1] = [Step::Write(Slot::Image0, 0, b"ab")];
 
 static A: [Step; 1] = [Step::Write(Slot::Image0, 0, b"A")];
 
-// What a sync, a cut, a write and a read answer.
+// The answers of a sync, a truncation, a write and a read.
 type Answers = (
     Result<(), DiskFault>,
     [Option<Result<(), DiskFault>>; 2],
@@ -221,8 +223,8 @@ fn answers<D: Disk>(disk: &mut D) -> Answers {
     )
 }
 
-// Whether two steps were taken; what the disk answers that is stopped since the second, its counts then, and whether it holds
-// what was written.
+// Whether two steps were taken; what the disk, which has been stopped since the second, answers; its counts then; and
+// whether it holds what was written.
 type Stopped = ([Option<()>; 2], Answers, (u64, u64), bool);
 
 fn ask_stopped<S: Store>(disk: &mut S) -> Stopped {
@@ -236,7 +238,7 @@ fn ask_stopped<S: Store>(disk: &mut S) -> Stopped {
     )
 }
 
-// The same, and whether it holds nothing behind a stop.
+// The same, and whether it holds nothing after a crash.
 fn stopped_and_asked<S: Store + Drop>(alloc: Global) -> Option<(Stopped, bool)> {
     let mut disk = S::empty(alloc);
     let seen = ask_stopped(&mut disk);
@@ -288,8 +290,8 @@ fn empty(rt: &HostRuntime, folder: &str) -> Option<()> {
     fs::create_dir(rt, folder).ok()
 }
 
-// A folder with the files of a disk. What is done on files is written over any such folder, and called at each kind of them
-// once: a proof carries then nothing of files, and each such call is dear.
+// A folder with the files of a disk. What is done on files is generic in such a folder, and called once for each kind:
+// a proof then carries nothing of files, and each such call is expensive.
 trait Folder {
     type Files: Disk + Drop;
 
@@ -328,7 +330,7 @@ static SEGMENT_STEPS: [Step; 5] = [
     Step::Sync(Slot::Segment0),
 ];
 
-// Writes to a folder's files, and gives the counts of the segment 0.
+// Writes to a folder's files, and returns the counts of the segment 0.
 fn write_segment<F: Folder>(folder: &F) -> Option<(u64, u64)> {
     let mut disk = folder.files().ok()?;
     take(&mut disk, &SEGMENT_STEPS)?;
@@ -369,7 +371,7 @@ fn fault_at(rt: HostRuntime, path: &str) -> Option<DiskFault> {
     Plain { rt, path }.files().err()
 }
 
-// The faults of files in a folder that isn't there, and in a file.
+// The faults of files in a folder that doesn't exist, and in a file.
 fn faults_in_file(rt: HostRuntime, path: &str) -> Option<[Option<DiskFault>; 2]> {
     let absent = fault_at(rt, path);
     fs::write(&rt, path, b"a".as_slice()).ok()?;
@@ -382,7 +384,7 @@ fn fault_of_slot(rt: HostRuntime, folder: &str, slot: &str) -> Option<Option<Dis
     Some(fault_at(rt, folder))
 }
 
-// These faults, one behind the other, and whether the folder was emptied between them and removed.
+// These faults, one after the other, and whether the folder was emptied between them and removed.
 type Refused = (
     Option<[Option<DiskFault>; 2]>,
     Option<()>,
@@ -412,10 +414,10 @@ fn what_is_no_folder_or_no_file_is_refused(rt: HostRuntime) {
     same(&rt, refused(rt), Some(wanted));
 }
 
-// Whether what comes before was done, what two calls answer then, and how many have failed behind them.
+// Whether what comes before was done, what two calls answer then, and how many have failed after them.
 type Failed = (Option<()>, [Option<Result<(), DiskFault>>; 2], u64);
 
-// A write and a cut on files whose folder is removed.
+// A write and a truncation on files whose folder is removed.
 fn write_in_removed<F: Folder>(rt: &HostRuntime, folder: &F, path: &str) -> Option<Failed> {
     let mut disk = folder.files().ok()?;
     let removed = remove_empty(rt, path);
@@ -424,8 +426,8 @@ fn write_in_removed<F: Folder>(rt: &HostRuntime, folder: &F, path: &str) -> Opti
     Some((removed, [written, cut], disk.failures()))
 }
 
-// What is read of a folder that is empty, and whether it still is behind that; the counts of files as they are written, what
-// is read of them, and whether they are removed; and how calls fail.
+// What is read from a folder that is empty, and whether it still is after that; the counts of files as they are
+// written, what is read from them, and whether they are removed; and how calls fail.
 type OnFiles = (
     Option<[Empty; 4]>,
     Option<()>,
@@ -452,7 +454,7 @@ fn seen_on_files(rt: HostRuntime) -> Option<OnFiles> {
     Some(seen_on(&rt, &Plain { rt, path }, path))
 }
 
-// Reads and syncs make no file, files hold what was written, and a failed call is counted.
+// Reads and syncs create no file, files hold what was written, and a failed call is counted.
 #[test]
 fn files_are_read_written_and_synced(rt: HostRuntime) {
     let empty = Some([(true, Ok(())); 4]);
@@ -471,7 +473,7 @@ fn counted_at<'a>(files: &'a HostRuntime, folder: &'a str, syncs: &'a Syncs) -> 
     }
 }
 
-// How often files and their folder were synced behind these steps.
+// How many times files and their folder were synced after these steps.
 fn syncs_behind<D: Disk>(disk: &mut D, syncs: &Syncs, steps: &[Step]) -> Option<(u32, u32)> {
     take(disk, steps)?;
     Some(syncs.counts())
@@ -493,8 +495,8 @@ static SECOND: [Step; 2] = [
 
 static CUT: [Step; 2] = [Step::Cut(Slot::Image0, 0), Step::Sync(Slot::Image0)];
 
-// The same behind each sync of a slot: one without a file, a new one, one that was written again, one that wasn't, and another
-// new one.
+// The same after each sync of a slot: one without a file, a new one, one that was written again, one that wasn't, and
+// another new one.
 fn count_syncs<F: Folder>(folder: &F, syncs: &Syncs) -> Option<[Option<(u32, u32)>; 5]> {
     let mut disk = folder.files().ok()?;
     Some([
@@ -518,8 +520,8 @@ fn fail_syncs<F: Folder>(folder: &F, syncs: &Syncs) -> Option<Failed> {
     Some((written, answers, disk.failures()))
 }
 
-// What syncs answer that fail, and how often was synced then; whether the folder is emptied; how often was synced behind each
-// sync that doesn't fail; and whether the folder is removed.
+// What syncs that fail answer, and the number of syncs then; whether the folder is emptied; the number of syncs after
+// each sync that doesn't fail; and whether the folder is removed.
 type Synced = (
     Option<Failed>,
     (u32, u32),
@@ -545,8 +547,8 @@ fn synced_files(rt: HostRuntime) -> Option<Synced> {
     Some(synced(&rt, &counted_at(&rt, path, &syncs), path, &syncs))
 }
 
-// A failed sync isn't made good: what the system could not write it may have dropped, so a later one would tell nothing. A
-// sync syncs the file, and a new one its folder too.
+// A failed sync isn't made good: the system may have dropped what it couldn't write, so a later sync would prove
+// nothing. A sync syncs the file, and a new one its folder too.
 #[test]
 fn syncs_are_of_files_and_their_folder(rt: HostRuntime) {
     let failed = (Some(()), [Some(Err(DiskFault)); 2], 2);

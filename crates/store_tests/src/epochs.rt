@@ -44,16 +44,16 @@ fn half_done<S: Store + Drop>(alloc: Global) -> Option<S> {
     Some(disk)
 }
 
-// An epoch, and how many records are told of it.
+// An epoch, and how many records are reported for it.
 type Told = Result<(u64, u64), StoreFault>;
 
-// What a look tells of a store: the epoch of its image, and its records.
+// What a look reports of a store: the epoch of its image, and its records.
 fn look_at<D: Disk>(alloc: Global, disk: &mut D) -> Told {
     let (epoch, records, _, _) = looked(alloc, disk)?;
     Ok((epoch, records))
 }
 
-// What is told of a store whose checkpoint was half done: by a look, by its opening, and by a look behind that.
+// What is reported of a store whose checkpoint was half done: by a look, by its opening, and by a look after that.
 fn told_of_half_done<S: Store + Drop>(alloc: Global) -> Option<(Told, Found, Told)> {
     let mut disk = half_done::<S>(alloc)?;
     let first = look_at(alloc, &mut disk);
@@ -61,7 +61,8 @@ fn told_of_half_done<S: Store + Drop>(alloc: Global) -> Option<(Told, Found, Tol
     Some((first, found, look_at(alloc, &mut disk)))
 }
 
-// A store whose first checkpoint was half done is in epoch 1 once it is opened; its second checkpoint is half done then.
+// A store whose first checkpoint was half done is in epoch 1 once it is opened; its second checkpoint is half done
+// then.
 #[test]
 fn checkpoints_are_finished(rt: HostRuntime) {
     let told = told_of_half_done::<MemDisk>(rt.alloc());
@@ -69,8 +70,8 @@ fn checkpoints_are_finished(rt: HostRuntime) {
     same(&rt, told, Some((Ok((0, 2)), found, Ok((1, 1)))));
 }
 
-// The slots of an epoch and of the next one, each whole: the image of the first has no name, its segment allocates 0x100, and
-// with that name the next epoch begins, whose segment has this content.
+// The slots of an epoch and of the next one, each whole: the image of the first has no name, its segment allocates
+// 0x100, and with that name the next epoch begins, whose segment has this content.
 fn in_epochs(
     alloc: Global,
     first: u64,
@@ -85,8 +86,8 @@ fn in_epochs(
     ])
 }
 
-// How long the next image and segment are; and twice what opening the store gives, and whether its slots are those of epoch 1
-// then.
+// How long the next image and segment are; and twice what opening the store returns, and whether its slots are those of
+// epoch 1 then.
 fn finished_without_image<S: Store + Drop>(
     alloc: Global,
     wanted: &[Vec<u8>; 4],
@@ -103,7 +104,7 @@ fn finished_without_image<S: Store + Drop>(
     Some((lengths, [(first, is_first), (second, is_second)]))
 }
 
-// The next segment is open, without a record, and the image of epoch 0 is alone.
+// The next segment is open, without a record, and there is only the image of epoch 0.
 #[test]
 fn a_checkpoint_without_its_image_is_finished(rt: HostRuntime) {
     let Ok(wanted) = in_epochs(rt.alloc(), 0, 1, &[0]) else {
@@ -130,8 +131,8 @@ fn second_batch() -> [u8; 54] {
     batch
 }
 
-// What opening a store of these slots gives, and whether it has these slots then; and the same behind an append, which leaves
-// those.
+// What opening a store of these slots returns, and whether it has these slots then; and the same after an append, which
+// leaves those.
 fn gone_on<S: Store + Drop>(
     alloc: Global,
     before: &[Vec<u8>; 4],
@@ -145,7 +146,7 @@ fn gone_on<S: Store + Drop>(
     Some([(first, is_first), (second, is_second)])
 }
 
-// The same of a store of epochs 4 and 5.
+// The same for a store of epochs 4 and 5.
 fn gone_on_in_five<S: Store + Drop>(alloc: Global) -> Option<[(Found, [bool; 4]); 2]> {
     let before = in_epochs(alloc, 4, 5, &[0]).ok()?;
     let after = in_epochs(alloc, 4, 5, &second_batch());
@@ -177,12 +178,12 @@ static TORN: [Torn; 6] = [
     Torn::Fill(0xff),
 ];
 
-// How many device calls the opening of such a store makes: four syncs, four headers, the image's length and text, two reads
-// of segments; four calls that clear the next image, one for its text, two for its header and two for its gate; and the two
-// that end the segment.
+// How many device calls the opening of such a store makes: four syncs, four headers, the image's length and encoding,
+// two reads of segments; four calls that clear the next image, one for its encoding, two for its header and two for its
+// gate; and the two that end the segment.
 const CALLS: u64 = 23;
 
-// The fault of an opening that a stop may come within, and what opening the store again gives then.
+// The fault of an opening within which a crash may come, and what opening the store again returns then.
 fn stopped<S: Store + Drop>(
     alloc: Global,
     stop_at: u64,
@@ -195,7 +196,7 @@ fn stopped<S: Store + Drop>(
     Some((first.err(), found))
 }
 
-// Whatever a stop within the opening leaves, the next one gives the state with both records, in epoch 1.
+// Whatever a crash within the opening leaves, the next one returns the state with both records, in epoch 1.
 #[test]
 fn stops_while_a_checkpoint_is_finished(rt: HostRuntime) {
     for torn in &TORN {

@@ -1,15 +1,15 @@
-//! What a test compares. The assertions stand here alone, and what is compared is made by functions without clauses: a
-//! test's proof then carries neither the branch of an assertion nor what a call of the library says.
+//! What a test compares. Only these functions contain assertions, and what is compared is made by functions without
+//! clauses: a test's proof then carries neither the branch of an assertion nor what a call of the library says.
 
 use std::fmt::Debug;
 use std::process::Abort;
 
-/// Compares what was seen with what is wanted.
+/// Compares what was seen with what is expected.
 pub(crate) fn same<T: PartialEq + Debug + Drop>(rt: &impl Abort, seen: T, wanted: T) {
     assert_eq!(rt; seen, wanted);
 }
 
-/// Compares what was seen in a row of a table with what is wanted.
+/// Compares what was seen in a row of a table with what is expected.
 pub(crate) fn same_in_row<T: PartialEq + Debug + Drop>(
     rt: &impl Abort,
     row: impl Debug + Drop,

@@ -7,7 +7,7 @@ use ipc_model::{Call, Reply};
 use journal::{LONGEST_STEP, PIECE, Segment, StoreFault};
 use std::alloc::Global;
 
-// Appends batches of so many records each.
+// Appends batches with these numbers of records.
 fn append_all<D: Disk>(
     alloc: Global,
     segment: &mut Segment,
@@ -20,7 +20,8 @@ fn append_all<D: Disk>(
     Ok(())
 }
 
-// What appends answer of batches of so many records, how many a new segment has behind them, and whether it has these bytes.
+// What appends of batches with these numbers of records answer, how many a new segment has after them, and whether it
+// has these bytes.
 type Stored = (Result<(), StoreFault>, u64, bool);
 
 fn stored<S: Store + Drop>(alloc: Global, counts: &[u8], wanted: &[u8]) -> Option<Stored> {
@@ -63,7 +64,7 @@ fn a_batch_has_one_gate(rt: HostRuntime) {
 // What an append answers, and how many records and how many bytes the segment has then.
 type Appended = (Result<(), StoreFault>, u64, usize);
 
-// Appends a batch of so many records to a segment of so many.
+// Appends a batch of `count` records to a segment of `records` records.
 fn appended<S: Store + Drop>(alloc: Global, records: u64, count: u8) -> Option<Appended> {
     let mut disk: S = disk_with(alloc, &[], &NEW_SEGMENT)?;
     let mut segment = segment_of(records);
@@ -87,7 +88,7 @@ fn a_segment_holds_65536_records(rt: HostRuntime) {
     }
 }
 
-// The records of a segment, which is read in pieces of so many bytes, and where the last one ends.
+// The records of a segment that is read in pieces of `room` bytes, and where the last one ends.
 fn read<S: Store + Drop>(
     alloc: Global,
     segment: &[u8],
@@ -97,7 +98,7 @@ fn read<S: Store + Drop>(
     records_of(alloc, &mut disk, room)
 }
 
-// Where the only record ends that was read, its space, and whether it is an allocation of the name 0x100.
+// Where the only record that was read ends, its space, and whether it is an allocation of the name 0x100.
 fn only_of(read: &Read) -> Option<(u64, u32, bool, bool)> {
     let [record] = read.records.as_slice() else {
         return None;
@@ -145,7 +146,7 @@ fn size_of(read: Option<Result<Read, StoreFault>>) -> Option<(usize, u64)> {
     Some(size)
 }
 
-// The same of a long segment.
+// The same for a long segment.
 fn seen_in<S: Store + Drop>(alloc: Global, count: u16, room: usize) -> Option<(usize, u64)> {
     let segment = long_segment(alloc, count).ok()?;
     let read = read::<S>(alloc, &segment, room);
@@ -164,7 +165,7 @@ static ROOMS: [usize; 5] = [
     PIECE,
 ];
 
-// Records stand across the edges of pieces, and the pieces are of any size that is allowed.
+// Records stand across the edges of pieces, and pieces may have any size that is allowed.
 #[test]
 fn pieces_of_any_size(rt: HostRuntime) {
     for room in &ROOMS {
@@ -173,7 +174,7 @@ fn pieces_of_any_size(rt: HostRuntime) {
     }
 }
 
-// Whether a fault is told by these words.
+// Whether a fault is reported in these words.
 fn is_told(alloc: Global, fault: StoreFault, words: &str) -> Option<bool> {
     let told = format!(in alloc; "{fault}").ok()?;
     Some(told.as_str() == words)

@@ -6,14 +6,14 @@ use kernel::lawful;
 use snapshot::{LivePort, NamedEntry, Snapshot, Space};
 use std::alloc::{AllocError, Global};
 
-/// A port's serial and its set; the port whose receive right the one message in its queue carries, if it has one; and whether
-/// that message has a byte too many.
+/// A port's serial and its set; the port whose receive right the one message in its queue carries, if there is one; and
+/// whether that message has a byte too many.
 type PortRow = (u64, Option<u32>, Option<u64>, bool);
 
 /// A body of one item, a receive right.
 static BODY: [u8; 8] = [16, 32, 1, 0x10, 0, 0, 0, 0];
 
-/// The same with a byte behind it.
+/// The same with a byte after it.
 static ODD_BODY: [u8; 9] = [16, 32, 1, 0x10, 0, 0, 0, 0, 0];
 
 fn holding(port: u64, receive: bool, send: u32) -> Entry {
@@ -69,7 +69,8 @@ fn live_ports(alloc: Global, rows: &[PortRow]) -> Result<Sequence<LivePort>, All
     Ok(Sequence::new(ports))
 }
 
-/// The names of space 1: the receive right of port 1 as 0x100, a set as 0x101, and what 0x102 stands for, if it is a name.
+/// The names of space 1: the receive right of port 1 as 0x100, a set as 0x101, and what 0x102 stands for, if it is a
+/// name.
 fn names(alloc: Global, third: Option<Entry>) -> Result<Vec<NamedEntry>, AllocError> {
     let mut names = Vec::new(alloc);
     names.push(NamedEntry {
@@ -86,7 +87,7 @@ fn names(alloc: Global, third: Option<Entry>) -> Result<Vec<NamedEntry>, AllocEr
     Ok(names)
 }
 
-/// Space 1 with these names, alone.
+/// Just space 1, with these names.
 fn spaces(alloc: Global, third: Option<Entry>) -> Result<Sequence<Space>, AllocError> {
     let names = names(alloc, third)?;
     let mut spaces = Vec::new(alloc);
@@ -126,7 +127,7 @@ fn verdict(alloc: Global, third: Option<Entry>, ports: &[PortRow]) -> Option<boo
 /// Port 1 is in the set, and the receive right of port 2 is in its queue.
 static USUAL: [PortRow; 2] = [(1, Some(0x101), Some(2), false), (2, None, None, false)];
 
-/// Whether the usual ports are lawful beside what 0x102 stands for.
+/// Whether the usual ports are lawful together with what 0x102 stands for.
 fn usual(alloc: Global, third: Option<Entry>) -> Option<bool> {
     verdict(alloc, third, &USUAL)
 }
@@ -145,8 +146,8 @@ fn names_are_looked_at(rt: HostRuntime) {
     }
 }
 
-/// A port without a receive right, one in a set that isn't there, two that carry each other, and a message of odd size: each
-/// is refused.
+/// A port without a receive right, one in a set that doesn't exist, two that carry each other, and a message of odd
+/// size: each is refused.
 static PORTS: [&'static [PortRow]; 4] = [
     &[(1, None, None, false), (2, None, None, false)],
     &[(1, Some(0x105), Some(2), false), (2, None, None, false)],

@@ -1,6 +1,6 @@
-//! Tests of the running state and of the store that holds it. Of the state's parts: that each call that takes memory is done where
-//! there is enough, and that changes are kept and given up. Of the kernel over them: calls and what they answer, and the bounds.
-//! Of the store: a disk that stops, the journal, and recovery. The rest is proved.
+//! Tests of the running state and of the store that holds it. Of the state's parts: each call that takes memory is done
+//! if there is enough, and changes are committed and rolled back. Of the kernel over them: calls and their answers, and
+//! the bounds. Of the store: a disk that crashes, the journal, and recovery. The rest is proved.
 #![tactic(auto)]
 
 #[cfg(test)]

@@ -1,4 +1,4 @@
-//! What a look at a store tells, without a change.
+//! What a look at a store reports; it changes nothing.
 use crate::expect::same;
 use crate::store::Store;
 use disk::{Disk, MemDisk};
@@ -6,7 +6,7 @@ use journal::StoreFault;
 use recover::look;
 use std::alloc::Global;
 
-/// What a look tells of a store: its epoch, its records, the next serial, and how many spaces it has.
+/// What a look reports of a store: its epoch, its records, the next serial, and how many spaces it has.
 pub(crate) fn looked<D: Disk>(
     alloc: Global,
     disk: &mut D,
@@ -21,7 +21,7 @@ pub(crate) fn looked<D: Disk>(
     ))
 }
 
-/// The look at a disk with nothing.
+/// The look at an empty disk.
 fn look_at_nothing<S: Store + Drop>(alloc: Global) -> Result<(u64, u64, u64, usize), StoreFault> {
     let mut disk = S::empty(alloc);
     looked(alloc, &mut disk)

@@ -1,5 +1,5 @@
-//! A kernel as the tests see it. Its methods have no clauses, so that a test's proof carries nothing of a state: what is known
-//! of a kernel would be written out at each exit of a function that owns one.
+//! A kernel as the tests see it. Its methods have no clauses, so that a test's proof carries nothing of a state: what
+//! is known of a kernel would be written out at each exit of a function that owns one.
 
 use crate::asked::Asked;
 use crate::recorded::Counter;
@@ -11,27 +11,27 @@ use std::alloc::Global;
 /// The first words of a reply's frame.
 pub(crate) type Words = [u32; 4];
 
-/// What makes calls and replays records.
+/// Makes calls and replays records.
 pub(crate) trait Machine {
-    /// In the opening state, where there is memory.
+    /// One in the opening state, if there is memory.
     fn opened(alloc: Global) -> Option<Self>;
 
-    /// In the state of a copy, where that is one of a kernel.
+    /// One in the state of a copy, if that is one of a kernel.
     fn of_copy(alloc: Global, copy: Snapshot) -> Option<Self>;
 
-    /// A copy of the state, where there is memory.
+    /// A copy of the state, if there is memory.
     fn copied(&self, alloc: Global) -> Option<Snapshot>;
 
-    /// With a record's step made.
+    /// This one after a record's step.
     fn replayed(self, record: &Record) -> Result<Self, ReplayFault>;
 
-    /// Makes a call, where there is memory.
+    /// Makes a call, if there is memory.
     fn make(&mut self, space: u32, call: &Call) -> Option<Words>;
 
-    /// Makes a call of space 1, where there is memory for it and for its record.
+    /// Makes a call of space 1, if there is memory for it and for its record.
     fn make_recorded(&mut self, call: &Call, counter: &mut Counter) -> Option<Words>;
 
-    /// The answer to a call that has no record, where there is memory.
+    /// The answer to a call that has no record, if there is memory.
     fn answered(&self, space: u32, call: &Call) -> Option<Option<Words>>;
 
     /// The same in place.
@@ -47,8 +47,9 @@ pub(crate) trait Machine {
     fn status(&self) -> Words;
 }
 
-/// The first words of a reply's frame, of those that come here: the call's number, the code, and two results, of a port's
-/// status the messages and the make-send count; of a message its code, size and member, and the call's number.
+/// The first words of a reply's frame, as far as they are compared here: the call's number, the code, and two results,
+/// of a port's status the messages and the make-send count; of a message its code, size and member, and the call's
+/// number.
 fn words_of(reply: &Reply) -> Words {
     match reply {
         Reply::Refused { number, code } => [*number, code.number(), 0, 0],
@@ -68,7 +69,7 @@ fn words_of(reply: &Reply) -> Words {
     }
 }
 
-/// The words of a reply that isn't wanted behind them.
+/// The words of a reply that isn't needed after that.
 fn words(reply: Reply) -> Words {
     let words = words_of(&reply);
     drop(reply);
@@ -126,14 +127,14 @@ impl Machine for Kernel {
     }
 }
 
-/// Makes a call that isn't wanted behind it.
+/// Makes a call that isn't needed after that.
 pub(crate) fn make<M: Machine>(machine: &mut M, space: u32, call: Call) -> Option<Words> {
     let words = machine.make(space, &call);
     drop(call);
     words
 }
 
-/// Makes a call of numbers.
+/// Makes a call that consists of numbers.
 pub(crate) fn ask<M: Machine>(machine: &mut M, space: u32, asked: Asked) -> Option<Words> {
     make(machine, space, asked.call())
 }
@@ -146,7 +147,7 @@ pub(crate) fn ask_all<M: Machine>(machine: &mut M, calls: &[Asked]) -> Option<()
     Some(())
 }
 
-/// In the state after a record.
+/// One in the state after a record.
 fn after<M: Machine>(alloc: Global, record: &Record) -> Option<M> {
     M::opened(alloc)?.replayed(record).ok()
 }
@@ -160,7 +161,7 @@ pub(crate) fn allocated(right: u32, name: u32) -> Record {
     }
 }
 
-/// In the state after an allocation.
+/// One in the state after an allocation.
 pub(crate) fn after_allocated<M: Machine>(alloc: Global, right: u32, name: u32) -> Option<M> {
     let record = allocated(right, name);
     let machine = after(alloc, &record);

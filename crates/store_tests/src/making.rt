@@ -1,4 +1,4 @@
-//! A stored record and the segment that stores it. What is made here has no contract, so that a test's proof doesn't
+//! A stored record and the segment that stores it. The functions here have no contract, so that a test's proof doesn't
 //! carry it along.
 ghost use Rattle.std.specs.Prelude.{◌<◌, ◌^◌, length};
 ghost use Rattle.ipc_model.specs.texts.Texts.{call_text, reply_text};
@@ -10,7 +10,7 @@ use record::push_record;
 use slot_steps::segment_slot;
 use std::alloc::Global;
 
-/// A segment of epoch 0 with one batch: that of the record 0, which is the allocation of the name 0x100.
+/// A segment of epoch 0 with one batch: that of record 0, which is the allocation of the name 0x100.
 pub(crate) static SEGMENT: [u8; 70] = [
     0x5a, 1, 0, 0, 0, 0, 0, 0, 0, 0, 0, 0, 0, 0, 0, 0, 0x5a, 1, 0, 0, 0, 40, 0, 0, 0, 0, 0, 0, 0,
     0, 0, 0, 0, 0, 0, 0, 0, 1, 0, 0, 0, 8, 0, 0, 0, 5, 0, 0, 0, 1, 0, 0, 0, 12, 0, 0, 0, 5, 0, 0,
@@ -33,7 +33,7 @@ fn allocation(name: u32) -> Record
     }
 }
 
-/// Adds the record of this number, the allocation of a name: the first one and the number's lowest byte.
+/// Adds the record with this number, the allocation of a name: the first one plus the number's lowest byte.
 fn add_allocation(
     alloc: Global,
     batch: &mut Batch,
@@ -53,7 +53,7 @@ fn add_allocation(
     Ok(())
 }
 
-/// Adds so many records, numbered on from this number, where record 0 allocates this name behind 0x100.
+/// Adds `count` records, numbered from this number on, where record 0 allocates this name after 0x100.
 fn add_allocations(
     alloc: Global,
     batch: &mut Batch,
@@ -75,12 +75,12 @@ fn batch_of(alloc: Global, number: u64, count: u8, first: u8) -> Result<Batch, S
     Ok(batch)
 }
 
-/// A segment of epoch 0 that is told to hold so many records.
+/// A segment of epoch 0 that is said to hold `records` records.
 pub(crate) fn segment_of(records: u64) -> Segment {
     Segment { epoch: 0, records }
 }
 
-/// Appends a batch. Nothing is appended of no records, or to a slot without a header.
+/// Appends a batch. Nothing is appended if it has no records, or to a slot without a header.
 fn append<D: Disk>(segment: &mut Segment, disk: &mut D, batch: &Batch) -> Result<(), StoreFault> {
     if batch.count() == 0 || disk.length(segment_slot(segment.epoch)) == 0 {
         return Ok(());
@@ -88,7 +88,7 @@ fn append<D: Disk>(segment: &mut Segment, disk: &mut D, batch: &Batch) -> Result
     segment.append(disk, batch)
 }
 
-/// Appends a batch of so many records, where record 0 of the segment allocates this name behind 0x100.
+/// Appends a batch of `count` records, where record 0 of the segment allocates this name after 0x100.
 pub(crate) fn append_from<D: Disk>(
     alloc: Global,
     segment: &mut Segment,
@@ -100,7 +100,7 @@ pub(crate) fn append_from<D: Disk>(
     append(segment, disk, &batch)
 }
 
-/// Appends a batch of so many records. The names of an epoch begin at 0x100 and its number.
+/// Appends a batch of `count` records. The names of an epoch begin at 0x100 plus its number.
 pub(crate) fn append_allocations<D: Disk>(
     alloc: Global,
     segment: &mut Segment,

@@ -6,8 +6,8 @@ use spaces::Spaces;
 /// How many spaces are filled.
 const SPACES: u32 = 16;
 
-/// Hands out the least unused name of a space, for a send right to port 7, and keeps it: names that were taken out of use
-/// and aren't kept or given up yet are passed over one by one.
+/// Gives the least unused name of a space to a send right to port 7, and commits that: names that were taken out of
+/// use, with no commit or rollback since, are passed over one by one.
 fn hand_out(spaces: &mut Spaces, space: u32) -> Option<u32> {
     let name = spaces.free_name(space);
     hold(spaces, space, name, 7, None)?;
@@ -15,7 +15,7 @@ fn hand_out(spaces: &mut Spaces, space: u32) -> Option<u32> {
     Some(name)
 }
 
-/// Hands out as many names as a space may have.
+/// Gives out as many names as a space may have.
 fn fill(spaces: &mut Spaces, space: u32) -> Option<()> {
     for _name in 0..MAX_NAMES {
         hand_out(spaces, space)?;
@@ -23,7 +23,7 @@ fn fill(spaces: &mut Spaces, space: u32) -> Option<()> {
     Some(())
 }
 
-/// Whether two names of a full space were taken out of use, and those that are handed out then.
+/// Whether two names of a full space were taken out of use, and those that are given out then.
 type Again = ([Option<()>; 2], [Option<u32>; 2]);
 
 fn handed_out_again(spaces: &mut Spaces, space: u32) -> Again {
@@ -33,7 +33,7 @@ fn handed_out_again(spaces: &mut Spaces, space: u32) -> Again {
     )
 }
 
-/// Makes a full space, and gives how many names it has and those that are handed out again.
+/// Makes a full space, and returns how many names it has and those that are given out again.
 fn filled_once(spaces: &mut Spaces, space: u32) -> Option<(usize, Again)> {
     add_space(spaces, space)?;
     fill(spaces, space)?;
@@ -43,7 +43,7 @@ fn filled_once(spaces: &mut Spaces, space: u32) -> Option<(usize, Again)> {
 
 const WANTED: (usize, Again) = (MAX_NAMES, ([Some(()); 2], [Some(0x800), Some(0x1000)]));
 
-/// In how many spaces the least unused names were handed out again, and how many send rights to port 7 there are then.
+/// In how many spaces the least unused names were given out again, and how many send rights to port 7 there are then.
 fn filled(spaces: &mut Spaces) -> Option<(u32, u64)> {
     let mut right: u32 = 0;
     for space in 1..=SPACES {

@@ -3,7 +3,7 @@ use crate::sample::add_port;
 use codes::MAX_PORTS;
 use ports::Ports;
 
-/// Makes as many ports as may live, and gives the first serial.
+/// Makes as many ports as may live, and returns the first serial.
 fn fill(ports: &mut Ports) -> Option<u64> {
     let first = ports.next_serial();
     for _port in 0..MAX_PORTS {

@@ -1,4 +1,4 @@
-//! Spaces and names for tests, made where there is room and memory.
+//! Spaces and names for tests, made if there is room and memory.
 ghost use Rattle.port_space.specs.References.{AreFewReferences};
 
 use codes::{MAX_NAMES, MAX_SPACES};
@@ -13,7 +13,7 @@ pub(crate) fn add_space(spaces: &mut Spaces, space: u32) -> Option<()> {
     spaces.add(space).ok()
 }
 
-/// Has a name of a space stand for this.
+/// Makes a name of a space stand for this.
 fn put(spaces: &mut Spaces, space: u32, name: u32, entry: Entry) -> Option<()>
     requires { AreFewReferences entry }
 {
@@ -24,7 +24,7 @@ fn put(spaces: &mut Spaces, space: u32, name: u32, entry: Entry) -> Option<()>
     Some(())
 }
 
-/// Has a name stand for a send right, with the target of a dead-name request.
+/// Makes a name stand for a send right, with the target of a dead-name request.
 pub(crate) fn hold(
     spaces: &mut Spaces,
     space: u32,
@@ -41,7 +41,7 @@ pub(crate) fn hold(
     put(spaces, space, name, Entry::Port(rights))
 }
 
-/// Has a name stand for a send-once right, with the target of a dead-name request.
+/// Makes a name stand for a send-once right, with the target of a dead-name request.
 pub(crate) fn hold_once(
     spaces: &mut Spaces,
     space: u32,
@@ -62,7 +62,7 @@ pub(crate) fn remove(spaces: &mut Spaces, space: u32, name: u32) -> Option<()> {
     Some(())
 }
 
-/// Has what stands under one name stand under another.
+/// Makes what stands under one name stand under another.
 pub(crate) fn rename(spaces: &mut Spaces, space: u32, from: u32, to: u32) -> Option<()> {
     if spaces.entry(space, to).is_some() {
         return None;

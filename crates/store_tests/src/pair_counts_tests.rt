@@ -4,7 +4,7 @@ use pair_counts::PairCounts;
 /// Two of (5, 9), and one of (5, 7) and of (6, 1).
 static COUNTED: [(u64, u64); 4] = [(5, 9), (5, 7), (6, 1), (5, 9)];
 
-/// Counts these, and keeps it.
+/// Counts these, and commits that.
 fn count(counts: &mut PairCounts) -> Option<()> {
     for (first, second) in &COUNTED {
         counts.add(*first, *second).ok()?;
@@ -20,15 +20,15 @@ fn of_five(counts: &PairCounts) -> OfFive {
     ([counts.count(5, 7), counts.count(5, 9)], counts.least(5))
 }
 
-/// One (5, 9) less, and no (5, 7): whether each was done, and what stands with 5 then.
+/// One less of (5, 9), and none of (5, 7): whether each was done, and what stands with 5 then.
 fn count_fewer(counts: &mut PairCounts) -> ([Option<()>; 2], OfFive) {
     let fewer = counts.subtract(5, 9).ok();
     let cleared = counts.clear(5, 7).ok();
     ([fewer, cleared], of_five(counts))
 }
 
-/// Which steps were done; and what stands with 5: at first, with one (5, 9) less and no (5, 7), with no (5, 9) either, once
-/// all is given up, and once the first change is made again and kept.
+/// Which steps were done; and what stands with 5: at first, with one less of (5, 9) and none of (5, 7), with none of
+/// (5, 9) either, once all is rolled back, and once the first change is made again and committed.
 fn changed(counts: &mut PairCounts) -> ([Option<()>; 6], [OfFive; 5]) {
     let counted = count(counts);
     let first = of_five(counts);

@@ -8,7 +8,7 @@ use ipc_model::{CarriedRight, Message, PortInMessage, RightKind, Sequence};
 use ports::{PortNumbers, Ports};
 use std::alloc::{AllocError, Global};
 
-/// A message by a send right, with a right to reply by and a right in its body, both to one port.
+/// A message by a send right, with a right for the reply and a right in its body, both to one port.
 fn message(alloc: Global, kind: RightKind, port: u64) -> Result<Message, AllocError>
     ensures reply { IfOk result (λ message. message.reply ≡ Some (record { kind = kinds.SendOnce; port = in_message.Live port })) }
     ensures rights { IfOk result (λ message. message.rights ≡ (record { kind = kind; port = in_message.Live port }) ∷ []) }
@@ -29,7 +29,8 @@ fn message(alloc: Global, kind: RightKind, port: u64) -> Result<Message, AllocEr
     })
 }
 
-/// Queues a message with rights to a port. That the port doesn't live is told as a want of memory: no test wants either.
+/// Queues a message with rights to a port. If the port doesn't live, that is reported as out of memory: no test expects
+/// either.
 fn send(
     alloc: Global,
     ports: &mut Ports,
@@ -43,7 +44,7 @@ fn send(
     ports.push(to, message(alloc, kind, port)?)
 }
 
-/// Asks that port 1 be told when port 3 has no senders.
+/// Requests that port 1 be notified when port 3 has no senders.
 fn request(ports: &mut Ports) -> Option<()> {
     let numbers = ports.numbers(3)?;
     let asked = PortNumbers {
@@ -53,7 +54,8 @@ fn request(ports: &mut Ports) -> Option<()> {
     ports.set_numbers(3, asked).ok()
 }
 
-/// Makes ports 1 to 3, and keeps them. In the queue of port 2 travel rights to port 1, and the receive right of port 3.
+/// Makes ports 1 to 3, and commits them. In the queue of port 2 travel rights to port 1, and the receive right of port
+/// 3.
 fn fill(alloc: Global, ports: &mut Ports) -> [Option<()>; 6] {
     let filled = [
         add_port(ports),
@@ -67,7 +69,7 @@ fn fill(alloc: Global, ports: &mut Ports) -> [Option<()>; 6] {
     filled
 }
 
-/// Whether all of that was done, and three steps behind it.
+/// Whether all of that was done, and three steps after it.
 type Done = ([Option<()>; 6], [Option<()>; 3]);
 
 const DONE: Done = ([Some(()); 6], [Some(()); 3]);
@@ -86,9 +88,9 @@ fn body_port(ports: &Ports) -> Option<PortInMessage> {
     Some(ports.seen(*right).port)
 }
 
-/// What is seen of the ports: the send and send-once rights to port 1, the send rights to port 2 and the send-once rights to
-/// port 3; the port in whose queue the receive right of port 3 travels; how many messages port 2 has, and what its oldest has
-/// in the places of ports; and the target of the request of port 3.
+/// What is seen of the ports: the send and send-once rights to port 1, the send rights to port 2 and the send-once
+/// rights to port 3; the port in whose queue the receive right of port 3 travels; how many messages port 2 has, and
+/// what its oldest has in the places of ports; and the target of the request of port 3.
 type Picture = (
     [u64; 4],
     Option<u64>,
@@ -116,8 +118,8 @@ fn seen(ports: &Ports) -> Picture {
     )
 }
 
-/// Which steps were done; and what is seen: at first, once port 1 has died, once port 2 has died too, once all is given up,
-/// and once port 1 has died again and this is kept.
+/// Which steps were done; and what is seen: at first, once port 1 has died, once port 2 has died too, once all is
+/// rolled back, and once port 1 has died again and this is committed.
 fn buried(alloc: Global, ports: &mut Ports) -> (Done, [Picture; 5]) {
     let filled = fill(alloc, ports);
     let first = seen(ports);
@@ -164,8 +166,8 @@ fn ports_die_and_live_again(rt: HostRuntime) {
     same(&rt, seen, BURIED);
 }
 
-/// Which steps were done; and what is seen: once the oldest message of port 2 is taken, once the other one is taken too, once
-/// all is given up, and once the oldest is taken again and this is kept.
+/// Which steps were done; and what is seen: once the oldest message of port 2 is taken, once the other one is taken
+/// too, once all is rolled back, and once the oldest is taken again and this is committed.
 fn taken(alloc: Global, ports: &mut Ports) -> (Done, [Picture; 4]) {
     let filled = fill(alloc, ports);
     let first_taken = ports.take(2).ok();

@@ -3,7 +3,7 @@ use crate::sample::empty;
 use queue::{PushFault, Queue};
 use std::alloc::Global;
 
-/// Queues empty messages with these ids, and keeps them.
+/// Queues empty messages with these ids, and commits that.
 fn fill(alloc: Global, queue: &mut Queue, ids: &[u32]) -> Option<()> {
     for id in ids {
         queue.push_forced(empty(alloc, *id)).ok()?;
@@ -12,7 +12,7 @@ fn fill(alloc: Global, queue: &mut Queue, ids: &[u32]) -> Option<()> {
     Some(())
 }
 
-/// The id of the message of an index, if there is one.
+/// The id of the message at an index, if there is one.
 fn id_at(queue: &Queue, index: u32) -> Option<u32> {
     if index < queue.len() {
         Some(queue.message(index).id)
@@ -28,8 +28,8 @@ fn ids(queue: &Queue) -> Ids {
     [id_at(queue, 0), id_at(queue, 1), id_at(queue, 2)]
 }
 
-/// Whether a first message was queued, and one whatever the limit; what becomes of two pushes under a limit between them; and
-/// how many messages there are then.
+/// Whether a first message was queued, and one whatever the limit; what becomes of two pushes under a limit between
+/// them; and how many messages there are then.
 type Pushed = ([Option<()>; 2], [Result<(), PushFault>; 2], u32);
 
 fn pushed(alloc: Global, queue: &mut Queue) -> Pushed {
@@ -55,8 +55,8 @@ fn take_and_push(alloc: Global, queue: &mut Queue) -> Option<()> {
     queue.push_forced(empty(alloc, 3)).ok()
 }
 
-/// Which steps were done; and the ids of messages of which one was taken and one pushed: so far, once it is given up, and once
-/// it is done again and kept.
+/// Which steps were done; and the ids of messages of which one was taken and one pushed: so far, once that is rolled
+/// back, and once it is done again and committed.
 fn changed(alloc: Global, queue: &mut Queue) -> ([Option<()>; 3], [Ids; 3]) {
     let filled = fill(alloc, queue, &[1, 2]);
     let pushed = take_and_push(alloc, queue);

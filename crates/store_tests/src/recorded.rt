@@ -6,7 +6,7 @@ use ipc_model::{Call, Reply};
 use kernel::{Kernel, Recorder};
 use std::alloc::{AllocError, Global};
 
-/// Counts the records that it is given, where it has memory.
+/// Counts the records that it is given, if it has memory.
 #[derive(Drop)]
 pub(crate) struct Counter {
     has_memory: bool,
@@ -27,14 +27,15 @@ impl Recorder for Counter {
     }
 }
 
-/// What is seen of a kernel: its calls that take no memory, the type of the next name, and how many records were counted.
+/// What is seen of a kernel: its calls that take no memory, the type of the next name, and how many records were
+/// counted.
 type Seen = ([Words; 4], Words, u32);
 
 fn seen<M: Machine>(machine: &M, counter: &Counter) -> Seen {
     (read(machine), machine.type_of(1, 0x101), counter.written)
 }
 
-/// Whether a call that memory for its record is wanted for changes nothing; and what it answers then, where there is.
+/// Whether a call changes nothing if memory for its record runs out; and what it answers if there is memory.
 fn tried<M: Machine>(machine: &mut M, call: &Call) -> (bool, Option<Words>, u32) {
     let mut counter = Counter {
         has_memory: false,
@@ -48,7 +49,7 @@ fn tried<M: Machine>(machine: &mut M, call: &Call) -> (bool, Option<Words>, u32)
     (refused && is_same, answer, counter.written)
 }
 
-/// The same for a call beside one port.
+/// The same for a call in a state with one port.
 fn tried_beside_one_port<M: Machine + Drop>(
     alloc: Global,
     asked: Asked,

@@ -14,8 +14,8 @@ static IMAGE: [u8; 48] = [
     0, 0, 1, 0, 0, 0, 1, 0, 0, 0, 0, 0, 0, 0, 0, 0, 0, 0,
 ];
 
-// What opening a store gave: how many records it holds, the type bits of the names 0x100, 0x163 and 0x164, 0 where
-// one isn't in use, and how long segment 0 is now.
+// What opening a store returned: how many records it holds, the type bits of the names 0x100, 0x163 and 0x164, 0 for
+// one that isn't in use, and how long segment 0 is now.
 type Found = Result<(u64, [u32; 3], usize), StoreFault>;
 
 const EMPTY: Found = Ok((0, [0, 0, 0], 17));
@@ -28,7 +28,7 @@ const PAIR: Found = Ok((2, [0x20000, 0, 0], 110));
 // A hundred records of allocations, of the names from 0x100 on.
 const HUNDRED: Found = Ok((100, [0x20000, 0x20000, 0], 5_317));
 
-// What opening a store gives, and its disk.
+// What opening a store returns, and its disk.
 fn opened<S: Store + Drop>(alloc: Global, disk: S) -> (Found, S) {
     let (opening, disk) = disk.open(alloc, &[0x100, 0x163, 0x164, 0x164]);
     let length = disk.bytes(Slot::Segment0).len();
@@ -60,7 +60,7 @@ fn stored<S: Store + Drop>(alloc: Global) -> Option<S> {
     Some(disk)
 }
 
-// Whether such a store has the image and the segment that it is to have, and what opening it and a new one gives.
+// Whether such a store has the image and the segment that it should have, and what opening it and a new one returns.
 fn made<S: Store + Drop>(alloc: Global) -> Option<([bool; 2], [Found; 2])> {
     let disk = stored::<S>(alloc)?;
     let are_made = [
@@ -77,7 +77,7 @@ fn a_new_store_is_made(rt: HostRuntime) {
     same(&rt, seen, Some(([true; 2], [STORED, EMPTY])));
 }
 
-// What opening a store gives whose image or segment has another byte at a place.
+// What opening a store returns if its image or segment has another byte at a place.
 fn bent<S: Store + Drop>(alloc: Global, is_image: bool, at: usize, byte: u8) -> Option<Found> {
     let mut image0 = IMAGE;
     let mut segment0 = SEGMENT;
@@ -113,7 +113,7 @@ fn bent_bytes(rt: HostRuntime) {
     }
 }
 
-// What opening a store gives whose segment is cut to so many bytes.
+// What opening a store returns if its segment is truncated to `length` bytes.
 fn cut<S: Store + Drop>(alloc: Global, length: usize) -> Option<Found> {
     opened_with::<S>(alloc, &IMAGE, SEGMENT.get(..length)?)
 }
@@ -140,7 +140,7 @@ const LATE_NUMBER: usize = 16 + 19_990 * 53 + 13;
 // How long a segment of 20,000 records is.
 const LONG: usize = 16 + 20_000 * 53 + 1;
 
-// What opening a store of many records gives, and one in which a record has another number than the last.
+// What opening a store of many records returns, and one in which a record has another number than the last.
 fn many_records<S: Store + Drop>(alloc: Global, segment: &mut [u8]) -> [Option<Found>; 2] {
     let whole = opened_with::<S>(alloc, &IMAGE, segment);
     if set(segment, LATE_NUMBER, 0).is_none() {
@@ -171,11 +171,11 @@ static OTHER: [u8; 70] = [
     0, 0, 0, 0, 0, 0, 1, 0, 0, 0,
 ];
 
-// How many bytes of an image and a segment the second slots have, whether the segment is of another version, and what opening
-// the store gives.
+// How many bytes of an image and a segment the second slots have, whether the segment is of another version, and what
+// opening the store returns.
 type Second = (usize, usize, bool, Found);
 
-// What opening a store with a stored record gives where the second slots have these.
+// What opening a store with a stored record returns if the second slots have these.
 fn beside<S: Store + Drop>(alloc: Global, row: &Second) -> Option<Found> {
     let (image1, segment1, is_other, _) = *row;
     let segment = if is_other { &OTHER } else { &SEGMENT };
@@ -199,7 +199,7 @@ fn second_slots(rt: HostRuntime) {
     }
 }
 
-// Stores a batch of so many records, and opens what a stop at a device call leaves.
+// Stores a batch of `count` records, and opens what a crash at a device call leaves.
 fn stopped<S: Store + Drop>(alloc: Global, count: u8, stop_at: u64, torn: Torn) -> Option<Found> {
     let mut disk: S = disk_with(alloc, &IMAGE, &NEW_SEGMENT)?;
     disk.plan_faults(Some(stop_at), None, torn);
@@ -207,7 +207,7 @@ fn stopped<S: Store + Drop>(alloc: Global, count: u8, stop_at: u64, torn: Torn) 
     Some(reopened(alloc, disk.stop()?))
 }
 
-// Each fill of the gate, and whether it is an open one.
+// What the gate is filled with, and whether it is then an open one.
 static GATES: [(Torn, bool); 5] = [
     (Torn::Old, false),
     (Torn::New, true),
@@ -235,9 +235,9 @@ fn stops_within_an_append(rt: HostRuntime) {
     }
 }
 
-// Stores: whether the image is there, how many batches the segment has, how many bytes are left of it, how many device
-// calls an opening makes (four syncs and four reads of headers; then the making, or a read of the image's length and one of
-// its text, a read of what stands behind the segment's header, and the segment's end), and what it finds.
+// Stores: whether there is an image, how many batches the segment has, how many bytes are left of it, how many device
+// calls an opening makes (four syncs and four reads of headers; then the making, or a read of the image's length and
+// one of its encoding, a read of what stands after the segment's header, and the segment's end), and what it finds.
 type Described = (bool, u8, usize, u64, Found);
 
 static STORES: [Described; 3] = [
@@ -246,7 +246,7 @@ static STORES: [Described; 3] = [
     (true, 100, 5_317, 13, HUNDRED),
 ];
 
-// Segments with no gate behind their batches, which no server leaves.
+// Segments with no gate after their batches, which no server leaves.
 static FOREIGN: [Described; 2] = [(true, 1, 69, 13, STORED), (true, 0, 16, 12, EMPTY)];
 
 static TORN: [Torn; 6] = [
@@ -274,7 +274,7 @@ fn add_batches(segment: &mut Vec<u8>, batches: u8) -> Result<(), AllocError> {
     segment.extend_from_slice(&[0])
 }
 
-// A segment of epoch 0 with so many such batches.
+// A segment of epoch 0 with `batches` such batches.
 fn batches_of(alloc: Global, batches: u8) -> Result<Vec<u8>, AllocError> {
     let mut segment = SEGMENT[..16].to_vec(alloc)?;
     add_batches(&mut segment, batches)?;
@@ -288,7 +288,7 @@ fn disk_of<S: Store + Drop>(alloc: Global, store: &Described) -> Option<S> {
     disk_with(alloc, image, segment.get(..length).unwrap_or(&segment))
 }
 
-// Opens a store with a stop at a device call, and opens what that leaves.
+// Opens a store with a crash at a device call, and opens what that leaves.
 fn stopped_opening<S: Store + Drop>(
     alloc: Global,
     store: &Described,
@@ -318,8 +318,8 @@ fn stops_within_an_opening(rt: HostRuntime) {
     }
 }
 
-// A stop within the write of the missing gate may leave an open one, which is a damaged batch then. Nothing else is
-// promised for such a segment; every other stop leaves what it stands for.
+// A crash within the write of the missing gate may leave an open one, which is then a damaged batch. Nothing else is
+// promised for such a segment; every other crash leaves what it stands for.
 fn is_promised(store: &Described, torn: Torn, found: Found) -> bool {
     found == store.4 || torn == Torn::Fill(OPEN_GATE) && found == Err(StoreFault::Damaged)
 }

@@ -1,4 +1,4 @@
-//! Records and what their replay says.
+//! Records and the result of their replay.
 use crate::asked::Asked;
 use crate::expect::same;
 use crate::machine::{Machine, Words, after_allocated, allocated, ask_all, make};
@@ -7,7 +7,7 @@ use ipc_model::{Call, Record, Reply, RightKind, Sequence};
 use kernel::{Kernel, ReplayFault};
 use std::alloc::Global;
 
-/// What a replay gives: its fault, or none; nothing where there is no memory.
+/// What a replay returns: its fault, or none; nothing if there is no memory.
 type Found = Option<Option<ReplayFault>>;
 
 const DONE: Found = Some(None);
@@ -19,7 +19,7 @@ fn fault_of<M: Machine + Drop>(machine: Option<M>, record: &Record) -> Found {
     Some(machine?.replayed(record).err())
 }
 
-/// The fault where the record of an allocation is replayed.
+/// The fault if the record of an allocation is replayed.
 fn fault_of_allocated<M: Machine + Drop>(machine: Option<M>, right: u32, name: u32) -> Found {
     let record = allocated(right, name);
     let found = fault_of(machine, &record);
@@ -27,12 +27,12 @@ fn fault_of_allocated<M: Machine + Drop>(machine: Option<M>, right: u32, name: u
     found
 }
 
-/// The fault where such a record is the first of a new store.
+/// The fault if such a record is the first of a new store.
 fn fault_at_first<M: Machine + Drop>(alloc: Global, right: u32, name: u32) -> Found {
     fault_of_allocated(M::opened(alloc), right, name)
 }
 
-/// The fault where such a record is replayed twice.
+/// The fault if such a record is replayed twice.
 fn fault_of_second<M: Machine + Drop>(alloc: Global, right: u32, name: u32) -> Found {
     fault_of_allocated(after_allocated::<M>(alloc, right, name), right, name)
 }
@@ -47,7 +47,7 @@ fn replays_a_record_once(rt: HostRuntime) {
     same(&rt, found, [MISMATCH; 3]);
 }
 
-/// The fault where a record follows the allocation of a port under 0x1ff.
+/// The fault if a record follows the allocation of a port under 0x1ff.
 fn fault_after_a_port<M: Machine + Drop>(alloc: Global, call: Call, reply: Reply) -> Found {
     let record = Record {
         space: 1,
@@ -59,7 +59,7 @@ fn fault_after_a_port<M: Machine + Drop>(alloc: Global, call: Call, reply: Reply
     found
 }
 
-/// The fault where a right of that port is extracted under a name.
+/// The fault if a right of that port is extracted under a name.
 fn fault_of_extracted<M: Machine + Drop>(alloc: Global, name: u32) -> Found {
     let reply = Reply::Extracted {
         name,
@@ -79,7 +79,7 @@ fn replays_the_name_of_an_extracted_right(rt: HostRuntime) {
     }
 }
 
-/// The fault where a space of this number is created, with this name for a send right of that port.
+/// The fault if a space with this number is created, with this name for a send right of that port.
 fn fault_of_space<M: Machine + Drop>(alloc: Global, space: u32, name: u32) -> Found {
     let create = Call::SpaceCreate {
         name: 0x1ff,
@@ -105,7 +105,7 @@ fn replays_the_number_of_a_new_space(rt: HostRuntime) {
     }
 }
 
-/// The fault where such an extraction is refused.
+/// The fault if such an extraction is refused.
 fn fault_of_refused<M: Machine + Drop>(alloc: Global) -> Found {
     let refused = Reply::Refused {
         number: 18,
@@ -133,7 +133,7 @@ fn bytes_of(alloc: Global, bytes: &[u8]) -> Option<Sequence<u8>> {
     Some(Sequence::new(items))
 }
 
-/// A send to a port of the set, 0x100 or the one behind it, by a send right made for it, with id 7.
+/// A send to a port of the set, 0x100 or the one after it, by a send right made for it, with id 7.
 fn send(alloc: Global, port: u8) -> Option<Call> {
     let text = [
         0x14, 0, 0, 0, 0, 0, 0, 0, port, 1, 0, 0, 0, 0, 0, 0, 0, 0, 0, 0, 7, 0, 0, 0,
@@ -142,7 +142,7 @@ fn send(alloc: Global, port: u8) -> Option<Call> {
     Some(Call::Send { message })
 }
 
-/// The record of a receipt from the set that took that port's message.
+/// The record of a receive from the set that took that port's message.
 fn received(alloc: Global, port: u8) -> Option<Record> {
     let text = [
         0, 0x11, 0, 0, 24, 0, 0, 0, 0, 0, 0, 0, port, 1, 0, 0, 0, 0, 0, 0, 7, 0, 0, 0,
@@ -172,14 +172,14 @@ fn fill_set<M: Machine>(alloc: Global, machine: &mut M) -> Option<Words> {
     send_to(alloc, machine, 1)
 }
 
-/// In the state with that set and its messages.
+/// One in the state with that set and its messages.
 fn with_set<M: Machine + Drop>(alloc: Global) -> Option<M> {
     let mut machine = M::opened(alloc)?;
     fill_set(alloc, &mut machine)?;
     Some(machine)
 }
 
-/// The fault where the record of a receipt from that port is replayed.
+/// The fault if the record of a receive from that port is replayed.
 fn fault_of_receipt<M: Machine + Drop>(alloc: Global, port: u8) -> Found {
     let record = received(alloc, port)?;
     let found = fault_of(with_set::<M>(alloc), &record);

@@ -4,7 +4,7 @@ use ipc_model::{Message, RightKind, Sequence};
 use ports::Ports;
 use std::alloc::Global;
 
-/// Makes a port, where a further one may be made.
+/// Makes a port, if one more may be made.
 pub(crate) fn add_port(ports: &mut Ports) -> Option<()> {
     if ports.is_full() || ports.next_serial() == u64::MAX {
         return None;

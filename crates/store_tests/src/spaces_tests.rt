@@ -5,8 +5,8 @@ use ipc_model::{Entry, PortRights};
 use spaces::Spaces;
 use std::alloc::Global;
 
-/// Makes spaces 2 and 1, and keeps them. The names 0x102 and 0x105 of space 2 and 0x103 of space 1 stand for rights to
-/// port 7, each with a request.
+/// Makes spaces 2 and 1, and commits them. The names 0x102 and 0x105 of space 2 and 0x103 of space 1 stand for rights
+/// to port 7, each with a request.
 fn fill(spaces: &mut Spaces) -> [Option<()>; 5] {
     let filled = [
         add_space(spaces, 2),
@@ -52,8 +52,8 @@ fn rename_and_remove(spaces: &mut Spaces) -> [Option<()>; 3] {
 /// Whether the space was filled and twice changed; and its names.
 type Renamed = ([Option<()>; 5], [[Option<()>; 3]; 2], [Option<Names>; 4]);
 
-/// Which steps were done; and the names of space 2: at first, once they are changed, once that is given up, and once it is
-/// done again and kept.
+/// Which steps were done; and the names of space 2: at first, once they are changed, once that is rolled back, and once
+/// it is done again and committed.
 fn renamed(alloc: Global, spaces: &mut Spaces) -> Renamed {
     let filled = fill(spaces);
     let first = names(alloc, spaces);
@@ -96,7 +96,7 @@ fn next_notice(effects: &mut Effects) -> NoticeSeen {
     }
 }
 
-/// The dead-name notices of port 7 as it dies, as they are handed out.
+/// The dead-name notices for port 7 when it dies, in their order.
 fn told(spaces: &mut Spaces, effects: &mut Effects) -> Option<[NoticeSeen; 4]> {
     spaces.bury(7, effects).ok()?;
     Some([
@@ -137,7 +137,7 @@ fn held(spaces: &Spaces) -> Held {
     (entries, counts)
 }
 
-/// A port dies, and nobody is told.
+/// A port dies, and no notice is sent.
 fn die(alloc: Global, spaces: &mut Spaces, port: u64) -> Option<()> {
     let mut effects = Effects::new(alloc);
     let done = spaces.bury(port, &mut effects).ok();
@@ -145,8 +145,8 @@ fn die(alloc: Global, spaces: &mut Spaces, port: u64) -> Option<()> {
     done
 }
 
-/// Which steps were done; and what is held: once port 9 has died, once port 7 has died too, once space 2 is gone, and once all
-/// is given up.
+/// Which steps were done; and what is held: once port 9 has died, once port 7 has died too, once space 2 is gone, and
+/// once all is rolled back.
 fn buried(alloc: Global, spaces: &mut Spaces) -> ([Option<()>; 5], [Option<()>; 3], [Held; 4]) {
     let filled = fill(spaces);
     let first_died = die(alloc, spaces, 9);

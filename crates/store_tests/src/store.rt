@@ -1,5 +1,6 @@
-//! A disk in memory and the store on it, as the tests see them. No method has a clause, so that a test's proof carries nothing
-//! of a disk or of a kernel: what is known of them would be written out at each exit of a function that owns one.
+//! A disk in memory and the store on it, as the tests see them. No method has a clause, so that a test's proof carries
+//! nothing of a disk or of a kernel: what is known of them would be written out at each exit of a function that owns
+//! one.
 
 use disk::{Disk, MemDisk, Slot, Torn};
 use ipc_model::Reply;
@@ -13,22 +14,22 @@ pub(crate) struct Seen {
     pub(crate) epoch: u64,
     /// How many records its segment holds.
     pub(crate) records: u64,
-    /// The type bits of four names of space 1, 0 where one isn't in use.
+    /// The type bits of four names of space 1, 0 for one that isn't in use.
     pub(crate) bits: [u32; 4],
 }
 
 /// The type bits of a receive right.
 const RECEIVE: u32 = 0x2_0000;
 
-/// What opening a store gives.
+/// What opening a store returns.
 pub(crate) type Opening = Result<Seen, StoreFault>;
 
 /// The bytes of the slots: image 0, image 1, segment 0, segment 1.
 pub(crate) type Slots<'a> = [&'a [u8]; 4];
 
-/// A disk that may hold a store, and stops as it is planned to.
+/// A disk that may hold a store, and crashes as planned.
 pub(crate) trait Store: Disk {
-    /// A disk with nothing.
+    /// An empty disk.
     fn empty(alloc: Global) -> Self;
 
     /// A disk whose slots hold these bytes.
@@ -37,13 +38,13 @@ pub(crate) trait Store: Disk {
     /// Plans failures of calls, as `MemDisk::plan` does.
     fn plan_faults(&mut self, stop_at: Option<u64>, fail_at: Option<u64>, torn: Torn);
 
-    /// What a stop leaves.
+    /// What a crash leaves.
     fn stop(self) -> Option<Self>;
 
     /// The bytes of a slot.
     fn bytes(&self, slot: Slot) -> &[u8];
 
-    /// What opening the store gives with these names, and the disk.
+    /// What opening the store returns for these names, and the disk.
     fn open(self, alloc: Global, names: &[u32; 4]) -> (Opening, Self);
 
     /// The disk of the opened store, and the segment in use.
@@ -72,7 +73,8 @@ fn see<D: Disk>(opened: &Opened<D>, names: &[u32; 4]) -> Seen {
     }
 }
 
-/// What opening the store gives, and the disk. It knows nothing of the disk, as dropping a disk in memory is dear to prove.
+/// What opening the store returns, and the disk. It knows nothing of the disk, since dropping a disk in memory is
+/// expensive to prove.
 fn see_on<D: Disk + Drop>(alloc: Global, disk: D, names: &[u32; 4]) -> (Opening, D) {
     match open(alloc, disk) {
         Ok(opened) => {
@@ -148,7 +150,7 @@ pub(crate) fn disk_with<S: Store>(alloc: Global, image0: &[u8], segment0: &[u8])
     S::holding(alloc, [image0, &[], segment0, &[]])
 }
 
-/// Whether a disk's slots hold these bytes, each.
+/// Whether each of a disk's slots holds these bytes.
 pub(crate) fn slots_are<S: Store>(disk: &S, wanted: &Slots<'_>) -> [bool; 4] {
     let [image0, image1, segment0, segment1] = *wanted;
     [
@@ -159,7 +161,7 @@ pub(crate) fn slots_are<S: Store>(disk: &S, wanted: &Slots<'_>) -> [bool; 4] {
     ]
 }
 
-/// The same of slots that were made.
+/// The same for slots that were made.
 pub(crate) fn keeps<S: Store>(disk: &S, slots: &[Vec<u8>; 4]) -> [bool; 4] {
     let [image0, image1, segment0, segment1] = slots;
     slots_are(disk, &[image0, image1, segment0, segment1])

@@ -41,7 +41,7 @@ fn read_from<D: Disk>(alloc: Global, disk: &mut D, room: usize) -> Result<Read, 
     Ok(Read { records, end })
 }
 
-/// Reads a segment of epoch 0 in pieces of so many bytes, where it has a header and a piece is large enough.
+/// Reads a segment of epoch 0 in pieces of `room` bytes, if it has a header and a piece is large enough.
 pub(crate) fn records_of<D: Disk>(
     alloc: Global,
     disk: &mut D,
@@ -53,12 +53,13 @@ pub(crate) fn records_of<D: Disk>(
     Some(read_from(alloc, disk, room))
 }
 
-/// Behind a record's number and space: a call that sets the limit of the port 0x100's queue to 5, and that it was done.
+/// After a record's number and space: a call that sets the limit of the port 0x100's queue to 5, and the reply that it
+/// was done.
 static LIMIT_SET: [u8; 28] = [
     12, 0, 0, 0, 10, 0, 0, 0, 0, 1, 0, 0, 5, 0, 0, 0, 8, 0, 0, 0, 10, 0, 0, 0, 0, 0, 0, 0,
 ];
 
-/// The batch of the record of this number, which sets that limit.
+/// The batch of the record with this number, which sets that limit.
 fn limit_batch(number: u32) -> [u8; 53] {
     let mut batch = [0; 53];
     batch[..25].copy_from_slice(&SEGMENT[16..41]);
@@ -74,8 +75,8 @@ fn add_limits(segment: &mut Vec<u8>, count: u16) -> Result<(), AllocError> {
     segment.extend_from_slice(&[0])
 }
 
-/// A segment of epoch 0 with so many batches of a record each, and one more: the allocation of [`SEGMENT`], and then
-/// limits that are set. Each batch has 53 bytes.
+/// A segment of epoch 0 with `count` batches of one record each, and one more: the allocation of [`SEGMENT`], followed
+/// by calls that set limits. Each batch has 53 bytes.
 pub(crate) fn long_segment(alloc: Global, count: u16) -> Result<Vec<u8>, AllocError> {
     let mut segment = SEGMENT[..69].to_vec(alloc)?;
     add_limits(&mut segment, count)?;

@@ -4,7 +4,7 @@ use notify::port_destroyed;
 use std::alloc::Global;
 use transit::would_circle;
 
-/// Makes a port, where a further one may be made.
+/// Makes a port, if one more may be made.
 fn add_port(state: &mut IpcState) -> Option<()> {
     if state.is_out_of_ports() || state.has_port(state.next_serial()) {
         return None;

@@ -1,5 +1,5 @@
-//! Stores of two epochs: which slots are open with which epochs. What opening each of them gives follows from the rules of
-//! docs/FORMATS.md, "Opening".
+//! Stores of two epochs: which slots are open with which epochs. What opening each of them returns follows from the
+//! rules of docs/FORMATS.md, "Opening".
 use crate::bending::{DAMAGED, Epochs, FIVE, FOUR, FOUR_TO_FIVE, Found, NEW, tried};
 use crate::expect::same_in_row;
 use disk::MemDisk;
@@ -15,7 +15,7 @@ const SIX: Found = Ok((6, 1, [true, false, true, false]));
 // The last epoch but one.
 const LAST_EVEN: u64 = u64::MAX - 1;
 
-// Which images are open, the epochs of the slots, and what opening the store gives.
+// Which images are open, the epochs of the slots, and what opening the store returns.
 type Row = (&'static str, Epochs, Found);
 
 static OPEN: [Row; 64] = [
@@ -26,7 +26,7 @@ static OPEN: [Row; 64] = [
     ("no image is open", [None, None, Some(4), None], DAMAGED),
     ("no image is open", [None, None, None, Some(5)], DAMAGED),
     ("no image is open", [None, None, Some(4), Some(5)], DAMAGED),
-    // Image 4 is alone. Segment 4 has to be open,
+    // Only image 4 is open. Segment 4 has to be open,
     ("image 4 is alone", [Some(4), None, None, None], DAMAGED),
     ("image 4 is alone", [Some(4), None, None, Some(3)], DAMAGED),
     ("image 4 is alone", [Some(4), None, None, Some(5)], DAMAGED),
@@ -59,7 +59,7 @@ static OPEN: [Row; 64] = [
         [Some(4), None, Some(4), Some(7)],
         DAMAGED,
     ),
-    // Image 5 is alone.
+    // Only image 5 is open.
     ("image 5 is alone", [None, Some(5), None, None], DAMAGED),
     ("image 5 is alone", [None, Some(5), Some(4), None], DAMAGED),
     ("image 5 is alone", [None, Some(5), Some(6), None], DAMAGED),
@@ -198,7 +198,7 @@ static OPEN: [Row; 64] = [
         [Some(4), Some(7), Some(4), Some(7)],
         DAMAGED,
     ),
-    // An epoch is of the other number: that of both images, or one two further, or a segment's.
+    // An epoch has the other number: that of both images, or one two further on, or a segment's.
     (
         "an epoch is of the other number",
         [Some(4), Some(4), Some(4), Some(5)],

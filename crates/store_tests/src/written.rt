@@ -4,7 +4,7 @@ use std::alloc::{AllocError, Global};
 // An open gate and version 1, before the epoch.
 static FRONT: [u8; 8] = [0x5a, 1, 0, 0, 0, 0, 0, 0];
 
-// The length and the text of the opening state's image.
+// The length and the encoding of the opening state.
 static NO_NAME: [u8; 32] = [
     24, 0, 0, 0, 0, 0, 0, 0, // length
     1, 0, 0, 0, 0, 0, 0, 0, // next serial
@@ -12,7 +12,7 @@ static NO_NAME: [u8; 32] = [
     0, 0, 0, 0, 0, 0, 0, 0, // no names, no ports
 ];
 
-// The length of an image's text with one receive right, and the text up to its name's lowest byte.
+// The length of the encoding of a state with one receive right, and that encoding up to its name's lowest byte.
 static IMAGE_TO_NAME: [u8; 28] = [
     94, 0, 0, 0, 0, 0, 0, 0, // length
     2, 0, 0, 0, 0, 0, 0, 0, // next serial
@@ -20,7 +20,7 @@ static IMAGE_TO_NAME: [u8; 28] = [
     1, 0, 0, 0, // one name
 ];
 
-// The same text behind that byte.
+// The same encoding after that byte.
 static IMAGE_BEHIND_NAME: [u8; 73] = [
     1, 0, 0, // the rest of the name
     1, 1, 0, 0, 0, 0, 0, 0, 0, // rights to port 1:
@@ -41,7 +41,7 @@ static BATCH_TO_NAME: [u8; 37] = [
     12, 0, 0, 0, 4, 0, 0, 0, 1, 0, 0, 0, // mach_port_allocate_name, receive
 ];
 
-// The same batch behind that byte, and a closed gate.
+// The same batch after that byte, and a closed gate.
 static BATCH_BEHIND_NAME: [u8; 16] = [
     1, 0, 0, // the rest of the name
     8, 0, 0, 0, 4, 0, 0, 0, 0, 0, 0, 0, // the reply: done
@@ -65,7 +65,7 @@ pub(crate) fn image_of_none(alloc: Global, epoch: u64) -> Result<Vec<u8>, AllocE
     opened_slot(alloc, epoch, &NO_NAME)
 }
 
-/// An image slot with a state that has one receive right, of this name behind 0x100.
+/// An image slot with a state that has one receive right, under this name after 0x100.
 pub(crate) fn image_of_name(alloc: Global, epoch: u64, name: u8) -> Result<Vec<u8>, AllocError> {
     let mut slot = opened_slot(alloc, epoch, &IMAGE_TO_NAME)?;
     slot.push(name)?;
@@ -73,7 +73,7 @@ pub(crate) fn image_of_name(alloc: Global, epoch: u64, name: u8) -> Result<Vec<u
     Ok(slot)
 }
 
-/// A segment slot with one record, which allocates this name behind 0x100 as a receive right.
+/// A segment slot with one record, which allocates this name after 0x100 as a receive right.
 pub(crate) fn segment_of_name(alloc: Global, epoch: u64, name: u8) -> Result<Vec<u8>, AllocError> {
     let mut segment = opened_slot(alloc, epoch, &BATCH_TO_NAME)?;
     segment.push(name)?;

@@ -1,4 +1,4 @@
--- Each step of a checkpoint, as what it makes of a history's store.
+-- Each step of a checkpoint, by how it changes a history's store.
 use Rattle.std.proofs.Common.{◌≡◌, ◌⊎◌, ℕ, Bool, true, false, take, Option, Some, None, ap, subst, ◌∙◌, inl, inr}
 use Rattle.std.specs.Prelude.{Result, Ok, Err, IfOk, IfErr, IfSome, IfNone, MatchBool}
 use Rattle.disk.specs.Moments.{View}
@@ -19,7 +19,7 @@ module _ {D : Type 0} (honest : Type 0) (view : D → View) (base : State) (old 
   abbrev Does : Type 0
   Does = (Goes honest view base old new ⊎ Breaks honest view base old new) ⊎ (new ≡ old.store)
 
-  -- what a step answered, and what it did
+  -- from what a step answered, what it did
   fault_does : (Fails : Type 0) → (Fails → Breaks honest view base old new) → (fault : StoreFault) → IsFault old.store fault Fails new → Does
   fault_does Fails breaks fault (inl failed) = inr failed.2
   fault_does Fails breaks fault (inr device) = inl (inr (breaks device.1))
@@ -78,7 +78,8 @@ module _ {D : Type 0} (honest : Type 0) (view : D → View) (base : State) (old 
   finish_breaks : FailsToFinish honest view old.store new → Breaks honest view base old new
   finish_breaks fails = (fails.unfailed, ap (λ (s : StoreValue D). s.failed) fails.rest, λ is_honest kept. finish_fails honest view is_honest old.store new kept.mid kept.state kept.kept fails)
 
-  -- The next segment is opened where all is stored that led to the checkpoint's state, which is so the state of what is stored.
+  -- The next segment is opened when all records are stored that led to the checkpoint's state. So this is the state of
+  -- what is stored.
   same_state : IsStorer honest view base old → old.stored ≡ old.earlier → (kept : KeptAt view old.store base old.stored old.earlier (records_of old.entries)) → kept.state ≡ kept.mid
   same_state is all kept =
       one_run base (take old.earlier (records_of old.entries)) kept.state kept.mid (fit_take old.earlier (records_of old.entries) is.recorded.fit) is.recorded.lawful is.recorded.grounded

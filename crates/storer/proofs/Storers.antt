@@ -1,4 +1,4 @@
--- What the half that stores makes of a history, step by step.
+-- What the half that stores does with a history, step by step.
 use Rattle.std.proofs.Common.{◌≡◌, ◌⊎◌, ℕ, ◌+◌, ◌<◌, ◌≤◌, Bool, true, false, List, [], ◌++◌, length, take, drop, Option, Some, None, refl, sym, ap, subst, ◌∙◌, inl, inr, arith, take-append-drop}
 use Rattle.std.specs.Prelude.{◌↔◌}
 use Rattle.std.proofs.lemmas.Bool.{cases_lt}
@@ -39,7 +39,7 @@ use Rattle.system.proofs.Lists.{take_long, take_sum, drop_long}
 use Rattle.system.proofs.Rows.{fit_take, fit_drop, are_take, are_drop}
 use Rattle.system.proofs.Simulation.{no_time}
 
--- lists: parts of a beginning are parts of the whole
+-- lists: parts of a prefix are parts of the whole
 
 front_same : (old new : List Entry) (n : ℕ) → Begins old new → n ≤ length (records_of old) → take n (records_of new) ≡ take n (records_of old)
 front_same old new n begins within = ap (take n) (begins_records old new begins) ∙ take-append-le n (records_of old) (records_of (drop (length old) new)) within
@@ -57,7 +57,7 @@ recorded_caught base old other new is begins mine theirs = elim (begins_caught o
 ]
 
 module _ {D : Type 0} (honest : Type 0) (view : D → View) (base : State) where
-  -- slots that stood for the state after some of the records of a beginning stand for it still
+  -- slots that stood for the state after some records of a prefix still stand for it
   stands_further : (old new : List Entry) (least : ℕ) (c : Slots) → Begins old new → StandsFor base least (records_of old) c → StandsFor base least (records_of new) c
   stands_further old new least c begins (k, more, within, (state, run, stands)) =
       (k, more, omega (arith, within, begins_records_length old new begins), (state, subst (λ (l : List Record). Run base l state) (sym (front_same old new k begins within)) run, stands))
@@ -81,7 +81,7 @@ module _ {D : Type 0} (honest : Type 0) (view : D → View) (base : State) where
     left = λ is_honest failed c may. stands_further storer.entries entries storer.stored c begins (is.left is_honest failed c may);
   }
 
-  -- A stop leaves the stored records at least.
+  -- A crash leaves at least the stored records.
   pub kept_stands : (storer : StorerValue D) → IsStorer honest view base storer → (kept : KeptAt view storer.store base storer.stored storer.earlier (records_of storer.entries)) → (c : Slots) → Recovered (as_written c) kept.state → StandsFor base storer.stored (records_of storer.entries) c
   kept_stands storer is kept c recovered = (storer.stored, omega arith, is.within, (kept.state, kept.before, recovered))
 
@@ -108,7 +108,7 @@ module _ {D : Type 0} (honest : Type 0) (view : D → View) (base : State) where
             ]);
       }
 
-  -- The records of a batch that is the next one, as the store takes them up.
+  -- The records of the next batch, as the store takes them up.
   module _ (storer : StorerValue D) (is : IsStorer honest view base storer) (load : LoadValue) (is_load : IsLoad base load) (begins : Begins load.entries storer.entries) (first : load.first ≡ storer.stored) (number : load.number ≡ storer.store.segment.records)
       (room : storer.store.segment.records + load.batch.count ≤ MAX_RECORDS) (kept : KeptAt view storer.store base storer.stored storer.earlier (records_of storer.entries)) where
     abbrev records : List Record
@@ -151,7 +151,7 @@ module _ {D : Type 0} (honest : Type 0) (view : D → View) (base : State) where
     run_after = subst (λ (l : List Record). Run base l behind.0) (sym (take_sum storer.stored load.batch.count (records_of storer.entries) is.within))
         (run_join base kept.state behind.0 (take storer.stored (records_of storer.entries)) records kept.before behind.1)
 
-    -- a stop while it is stored leaves the stored records, or these and all of the batch's
+    -- a crash while it is stored leaves the stored records, or these and all of the batch's
     pub during_append : (c : Slots) → Follows (view storer.store.disk) (segment_slot storer.store.segment.epoch) (λ was now. IsMidAppend was (content_of load.batch) now) c → StandsFor base storer.stored (records_of storer.entries) c
     during_append c mid = elim (append_mid (view storer.store.disk) storer.store.segment storer.store.checkpoint kept.mid kept.state behind.0 records load.batch kept.kept ready c mid) [
       | inl before ↦ kept_stands storer is kept c before
@@ -170,9 +170,10 @@ module _ {D : Type 0} (honest : Type 0) (view : D → View) (base : State) where
           (append_keeps (view storer.store.disk) (view new) storer.store.segment storer.store.checkpoint kept.mid kept.state behind.0 records load.batch kept.kept ready written synced time);
     }
 
-  -- A step of the store that changes nothing of what it knows.
+  -- A step of the store that changes nothing of what the half knows.
 
-  -- what a step did: something, by which it is kept and loses nothing; or the device failed, and it loses nothing; or nothing
+  -- what a step did: something, by which it is kept and loses nothing; or the device failed, and it loses nothing; or
+  -- nothing
   abbrev pub Goes : StorerValue D → StoreValue D → Type 0
   Goes old new = (old.store.failed ≡ false) × (new.failed ≡ false)
       × (honest → (kept : KeptAt view old.store base old.stored old.earlier (records_of old.entries)) → Keeps (view new.disk) new.segment new.checkpoint kept.mid kept.state × Passes (view old.store.disk) (view new.disk) (λ c. Recovered (as_written c) kept.state))

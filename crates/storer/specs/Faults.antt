@@ -4,8 +4,8 @@ use Rattle.journal.specs.declared.fault.StoreFault.TheVariants.{Device, Failed, 
 use Rattle.storer.specs.declared.fault.NotStored.{NotStored}
 use Rattle.storer.specs.declared.fault.NotStored.TheVariants.{NotNow, NoMemory, Store}
 
--- It isn't the next one; memory is wanted for what it brings of the history; the device fails, or failed before; or the segment
--- would hold too many records.
+-- It isn't the next one; the process is out of memory for what the load adds to the history; the device fails, or
+-- failed before; or the segment would hold too many records.
 abbrev pub IsWhyNotStored : NotStored → Type 0
 IsWhyNotStored NotNow = ⊤
 IsWhyNotStored NoMemory = ⊤

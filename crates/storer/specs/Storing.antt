@@ -1,4 +1,4 @@
--- What is kept under the lock of the store, and what is brought there.
+-- What the lock of the store protects, and what is brought there.
 use Rattle.std.specs.Prelude.{◌≡◌, ℕ, ◌+◌, ◌<◌, ◌≤◌, ◌^◌, List, None, length, map, take, drop, true, false, refl}
 use Rattle.std.specs.Coded.{Coded, code_by, coded×, coded_ℕ, coded_list}
 use Rattle.disk.specs.Moments.{View, MayLeave, Passes}
@@ -20,7 +20,7 @@ use Rattle.phases.specs.Phases.{Keeps}
 use Rattle.standing.specs.Standing.{as_written}
 use Rattle.storing.specs.Values.{CutValue, StoreValue, cut_code, store_code}
 
--- A history whose records a store can hold: a run from the base, of calls and replies that records can have.
+-- A history whose records a store can hold: a run from the base, of calls and replies that records can hold.
 pub record IsRecorded (base : State) (entries : List Entry) : Type 0 where
   pub end : State
   pub run : Run base (records_of entries) end
@@ -29,8 +29,8 @@ pub record IsRecorded (base : State) (entries : List Entry) : Type 0 where
   pub lawful : Lawful base
   pub grounded : Grounded base
 
--- Records of one epoch that were taken to be stored, with the history up to them: where the first one stands there, and which
--- number it has in its epoch.
+-- Records of one epoch that were taken to be stored, with the history up to them: at which place of the history the
+-- first one stands, and which number it has in its epoch.
 pub record LoadValue : Type 0 where
   pub epoch : ℕ
   pub batch : BatchValue
@@ -49,7 +49,7 @@ pub record IsLoad (base : State) (load : LoadValue) : Type 0 where
   pub within : load.first + load.batch.count ≤ length (records_of load.entries)
   pub holds : Holds load.number (take load.batch.count (drop load.first (records_of load.entries))) load.batch
 
--- The state at the end of an epoch, with the history up to it: so many records lead there.
+-- The state at the end of an epoch, with the history up to it: this many records lead there.
 pub record EndValue : Type 0 where
   pub cut : CutValue
   pub entries : List Entry
@@ -65,12 +65,12 @@ pub record IsEnd (base : State) (end : EndValue) : Type 0 where
   pub run : Run base (take end.earlier (records_of end.entries)) state
   pub image : IsImageOf end.cut.text state
 
--- Slots that stand for the state after some first ones of these records, so many at least.
+-- Slots that stand for the state after a prefix of these records, of at least this length.
 abbrev pub StandsFor : State → ℕ → List Record → Slots → Type 0
 StandsFor base least records c = (k : ℕ) × (least ≤ k) × (k ≤ length records) × ((state : State) × Run base (take k records) state × Recovered (as_written c) state)
 
--- The half that stores, and what it knows of the history: `stored` of its records are stored, and a checkpoint under way is made
--- of the state after `earlier` ones.
+-- The half that stores, and what it knows of the history: `stored` of its records are stored, and a checkpoint under
+-- way is of the state after `earlier` of them.
 pub record StorerValue (D : Type 0) : Type 0 where
   pub store : StoreValue D
   pub entries : List Entry
@@ -82,8 +82,8 @@ storer_code {D = D} code =
     code_by (StoreValue D × (List Entry × (ℕ × ℕ))) (coded× (store_code code) (coded× (coded_list entry.the_row.coded) (coded× coded_ℕ coded_ℕ)))
     (λ s. (s.store, (s.entries, (s.stored, s.earlier)))) (λ p. record { store = p.0; entries = p.1.0; stored = p.1.1.0; earlier = p.1.1.1 }) (λ _. refl)
 
--- A store that is kept with what is stored, outside a checkpoint or in one of its two phases. A checkpoint under way is made of
--- the state after the earlier records.
+-- A store that is kept with what is stored, outside a checkpoint or in one of its two phases. A checkpoint under way is
+-- of the state after the earlier records.
 pub record KeptAt {D : Type 0} (view : D → View) (store : StoreValue D) (base : State) (stored earlier : ℕ) (records : List Record) : Type 0 where
   pub state : State
   pub before : Run base (take stored records) state
@@ -91,7 +91,7 @@ pub record KeptAt {D : Type 0} (view : D → View) (store : StoreValue D) (base 
   pub cut : Run base (take earlier records) mid
   pub kept : Keeps (view store.disk) store.segment store.checkpoint mid state
 
--- A stop leaves the state after some first ones of the history's records, and no fewer than are stored.
+-- A crash leaves the state after a prefix of the history's records, no fewer than are stored.
 pub record IsStorer {D : Type 0} (honest : Type 0) (view : D → View) (base : State) (storer : StorerValue D) : Type 0 where
   pub recorded : IsRecorded base storer.entries
   pub within : storer.stored ≤ length (records_of storer.entries)
@@ -99,8 +99,8 @@ pub record IsStorer {D : Type 0} (honest : Type 0) (view : D → View) (base : S
   pub kept : honest → storer.store.failed ≡ false → KeptAt view storer.store base storer.stored storer.earlier (records_of storer.entries)
   pub left : honest → storer.store.failed ≡ true → (c : Slots) → MayLeave (view storer.store.disk) c → StandsFor base storer.stored (records_of storer.entries) c
 
--- At each moment of a step, a stop leaves the state after some first ones of what the history has after it, and no fewer than
--- were stored before it.
+-- At each moment of a step, a crash leaves the state after a prefix of the records that the history has after the step,
+-- no fewer than were stored before it.
 abbrev pub LosesNothing : {D : Type 0} → (D → View) → State → StorerValue D → StorerValue D → Type 0
 LosesNothing view base old new = Passes (view old.store.disk) (view new.store.disk) (StandsFor base old.stored (records_of new.entries))
 
@@ -110,8 +110,8 @@ pub record IsNext {D : Type 0} (store : StoreValue D) (stored : ℕ) (load : Loa
   pub epoch : load.epoch ≡ store.segment.epoch
   pub number : load.number ≡ store.segment.records
 
--- A checkpoint can be begun with a state: the store hasn't failed, none is under way, and the state is of the end of the epoch
--- in use.
+-- A checkpoint can begin with a state: the store hasn't failed, none is under way, and the state is of the end of the
+-- epoch in use.
 pub record CanBegin {D : Type 0} (store : StoreValue D) (end : EndValue) : Type 0 where
   pub unfailed : store.failed ≡ false
   pub none : store.checkpoint ≡ None

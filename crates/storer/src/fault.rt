@@ -5,7 +5,7 @@ use journal::StoreFault;
 pub enum NotStored {
     /// It isn't the next one, or its segment isn't open yet. Nothing of the store changed.
     NotNow,
-    /// A growth was refused. Nothing changed.
+    /// An allocation failed. Nothing changed.
     NoMemory,
     /// The store failed.
     Store(StoreFault),
@@ -16,6 +16,6 @@ pub enum NotStored {
 pub enum NotBegun {
     /// The store failed, one is under way, or the state isn't of the end of the epoch in use.
     NotNow,
-    /// A growth was refused.
+    /// An allocation failed.
     NoMemory,
 }

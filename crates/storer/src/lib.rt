@@ -1,5 +1,5 @@
-//! What lies under the lock of the store: the half that stores, and the beginning of the history that it stores. It knows nothing
-//! of the lock of the kernel but what loads and ends bring.
+//! What lies under the lock of the store: the half that stores, and the prefix of the history that it stores. It knows
+//! nothing of the lock of the kernel but what loads and ends bring.
 #![tactic(auto)]
 
 mod fault;

@@ -27,7 +27,7 @@ impl<L: Founding> Model for Load<L> {
     ghost invariant = { λ l. IsLoad L.base (record { epoch = l.epoch; batch = l.batch; entries = l.past.entries; first = l.first; number = l.number }) };
 }
 
-/// The state at the end of an epoch, to be made an image of, with the history up to it. It can't be copied.
+/// The state at the end of an epoch, from which an image is to be made, with the history up to it. It can't be copied.
 #[derive(Drop)]
 pub struct End<L: Founding> {
     pub cut: Cut,

@@ -1,4 +1,4 @@
-//! The steps of a checkpoint. At any moment of each of them, a stop leaves what is stored.
+//! The steps of a checkpoint. A crash at any moment of each of them leaves what is stored.
 ghost use Rattle.std.specs.Prelude.{◌≡◌, false, IfOk, IfErr, IfSome, IfNone, MatchBool};
 ghost use Rattle.storer.specs.Storing.{LosesNothing};
 ghost use Rattle.storing.specs.Changes.{CanFinish, CanOpen, ClosesImage, FailsToCloseImage, FailsToFinish, FailsToRollClose, FailsToRollHead, FailsToRollOpen, FailsToWritePiece, Finishes, HasImaged, HasPieceLeft, IsFault, IsFaultOrShortage, IsNotNow, IsRolled, RollsClose, RollsHead, RollsOpen, WritesPiece};
@@ -12,7 +12,7 @@ use std::alloc::Global;
 use storing::Finished;
 
 impl<L: Founding, D: Disk> Storer<L, D> {
-    /// Closes the slot of the next segment. Answers whether that was the next step.
+    /// Closes the slot of the next segment. Returns whether that was the next step.
     ///
     /// `Failed`: the device failed in an earlier step, and nothing changed. `Device`: the device failed.
     pub fn roll_close(&mut self) -> Result<bool, StoreFault>
@@ -26,7 +26,8 @@ impl<L: Founding, D: Disk> Storer<L, D> {
         self.store.roll_close()
     }
 
-    /// Writes the header of the next segment. Answers whether that was the next step; its faults are those of `roll_close`.
+    /// Writes the header of the next segment. Returns whether that was the next step; its faults are those of
+    /// `roll_close`.
     pub fn roll_head(&mut self) -> Result<bool, StoreFault>
         ensures done { IfOk result (λ is_done. MatchBool is_done (RollsHead D.honest D.view self.old.store self.new.store)
             (IsNotNow self.old.store (IsRolled self.old.store.checkpoint 1) self.new.store)) }
@@ -38,8 +39,8 @@ impl<L: Founding, D: Disk> Storer<L, D> {
         self.store.roll_head()
     }
 
-    /// Opens the next segment. Answers whether that was the next step, and all records are stored that led to the checkpoint's
-    /// state; its faults are those of `roll_close`.
+    /// Opens the next segment. Returns whether that was the next step, and all records are stored that led to the
+    /// checkpoint's state; its faults are those of `roll_close`.
     pub fn roll_open(&mut self) -> Result<bool, StoreFault>
         ensures done { IfOk result (λ is_done. MatchBool is_done (RollsOpen D.honest D.view self.old.store self.new.store)
             (IsNotNow self.old.store (CanOpen self.old.store self.old.store.checkpoint × (self.old.stored ≡ self.old.earlier)) self.new.store)) }
@@ -57,7 +58,7 @@ impl<L: Founding, D: Disk> Storer<L, D> {
         self.open_next()
     }
 
-    /// Opens the next segment, where all is stored that the segment before has to hold.
+    /// Opens the next segment, if all is stored that the segment before has to hold.
     fn open_next(&mut self) -> Result<bool, StoreFault>
         requires { self.old.stored ≡ self.old.earlier }
         ensures done { IfOk result (λ is_done. MatchBool is_done (RollsOpen D.honest D.view self.old.store self.new.store)
@@ -70,9 +71,9 @@ impl<L: Founding, D: Disk> Storer<L, D> {
         self.store.roll_open()
     }
 
-    /// Makes the next image in memory, and closes its slot. Answers whether that was the image's next step.
+    /// Makes the next image in memory, and closes its slot. Returns whether that was the image's next step.
     ///
-    /// `NoMemory`: a growth was refused, and nothing changed. Its other faults are those of `roll_close`.
+    /// `NoMemory`: an allocation failed, and nothing changed. Its other faults are those of `roll_close`.
     pub fn close_image(&mut self, alloc: Global) -> Result<bool, StoreFault>
         ensures done { IfOk result (λ is_done. MatchBool is_done (ClosesImage D.honest D.view self.old.store self.new.store)
             (IsNotNow self.old.store (HasImaged self.old.store.checkpoint 0) self.new.store)) }
@@ -84,8 +85,8 @@ impl<L: Founding, D: Disk> Storer<L, D> {
         self.store.close_image(alloc)
     }
 
-    /// Writes the next piece of the image. Answers whether one was left and the image was closed; its faults are those of
-    /// `roll_close`.
+    /// Writes the next piece of the image. Returns whether one was left and the image was closed; its faults are those
+    /// of `roll_close`.
     pub fn write_piece(&mut self) -> Result<bool, StoreFault>
         ensures done { IfOk result (λ is_done. MatchBool is_done (WritesPiece D.honest D.view self.old.store self.new.store)
             (IsNotNow self.old.store (HasPieceLeft self.old.store.checkpoint) self.new.store)) }
@@ -97,8 +98,8 @@ impl<L: Founding, D: Disk> Storer<L, D> {
         self.store.write_piece()
     }
 
-    /// Finishes the image, once all of it is written and the next segment is open. The checkpoint is over then, which the receipt
-    /// says. Its faults are those of `roll_close`.
+    /// Finishes the image, once all of it is written and the next segment is open. The checkpoint is then over, and the
+    /// receipt says so. Its faults are those of `roll_close`.
     pub fn finish(&mut self) -> Result<Option<Finished>, StoreFault>
         ensures done { IfOk result (λ receipt. IfSome receipt (λ finished. (finished ≡ self.old.store.segment.epoch) × Finishes D.honest D.view self.old.store self.new.store)) }
         ensures not_now { IfOk result (λ receipt. IfNone receipt (IsNotNow self.old.store (CanFinish self.old.store.checkpoint) self.new.store)) }

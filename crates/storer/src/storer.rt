@@ -24,12 +24,13 @@ pub struct Storer<L: Founding, D: Disk> {
     pub(crate) store: StoreHalf<D>,
     past: Past<L>,
 
-    // How many records of the history are stored, and how many led to the state that a checkpoint under way is made of.
+    // How many records of the history are stored, and how many led to the state of which a checkpoint under way makes
+    // an image.
     pub(crate) stored: u64,
     pub(crate) earlier: u64,
 }
 
-// Written out, as proofs above then know one function, and not the parts.
+// Written out, so that proofs above know one function and not its parts.
 impl<L: Founding, D: Disk + Drop> Drop for Storer<L, D> {
     fn drop(self) {
         let Storer {
@@ -56,7 +57,7 @@ impl<L: Founding, D: Disk> Model for Storer<L, D> {
 }
 
 impl<L: Founding, D: Disk> Storer<L, D> {
-    /// Goes on from the disk of an opened store, and its segment in use, with the history that begins here.
+    /// Continues from the disk of an opened store and its segment in use, with the history that begins here.
     pub fn new(disk: D, segment: Segment, past: Past<L>) -> Self
         requires none { past.entries ≡ [] }
         requires base { Lawful L.base × Grounded L.base }
@@ -71,7 +72,7 @@ impl<L: Founding, D: Disk> Storer<L, D> {
         }
     }
 
-    /// How many records of the history are stored: a stop leaves so many at least.
+    /// How many records of the history are stored: a crash leaves at least that many.
     pub fn stored(&self) -> u64
         ensures stored { result ≡ self.now.stored }
         ensures left { D.honest → (c : Slots) → MayLeave (D.view self.now.store.disk) c → StandsFor L.base self.now.stored (records_of self.now.entries) c }
@@ -79,7 +80,7 @@ impl<L: Founding, D: Disk> Storer<L, D> {
         self.stored
     }
 
-    /// Whether the device failed; the store has to be opened again then.
+    /// Whether the device failed; then the store has to be opened again.
     pub fn has_failed(&self) -> bool
         ensures { result ≡ self.now.store.failed }
     {
@@ -100,7 +101,7 @@ impl<L: Founding, D: Disk> Storer<L, D> {
         self.store.is_checkpointing()
     }
 
-    /// Whether records aren't stored yet that led to the state that a checkpoint is made of, and the device works.
+    /// Whether some records that led to a checkpoint's state aren't stored yet, and the device works.
     pub fn is_behind(&self) -> bool
         ensures { MatchBool result ((self.now.stored < self.now.earlier) × (self.now.store.failed ≡ false)) ((self.now.earlier ≤ self.now.stored) ⊎ (self.now.store.failed ≡ true)) }
     {
@@ -137,7 +138,7 @@ impl<L: Founding, D: Disk> Storer<L, D> {
         (store.into_disk(), past)
     }
 
-    /// Learns a history that it is in, or that is in it. Says whether it did.
+    /// Learns a history that it is in, or that is in it. Returns whether it did.
     fn learn(&mut self, past: &mut Past<L>) -> bool
         requires { IsRecorded L.base past.old.entries }
         ensures same { past.new ≡ past.old }
@@ -148,11 +149,11 @@ impl<L: Founding, D: Disk> Storer<L, D> {
         self.past.catch_up(past).is_ok()
     }
 
-    /// Stores a load, where it is the next one and its segment is in use: all of it or nothing. At `Ok` it is on the disk. Else
-    /// it comes back.
+    /// Stores a load, if it is the next one and its segment is in use: all of it or nothing. At `Ok` it is on the disk.
+    /// Else it comes back.
     ///
-    /// With `Store(Device)` whether it is stored isn't known until the store is opened again. `Store(Failed)`, `Store(Full)`,
-    /// `NotNow`, `NoMemory`: nothing was written.
+    /// With `Store(Device)` it isn't known whether it is stored until the store is opened again. `Store(Failed)`,
+    /// `Store(Full)`, `NotNow`, `NoMemory`: nothing was written.
     pub fn append(&mut self, load: Load<L>) -> Result<Receipt, (NotStored, Load<L>)>
         ensures stored { IfOk result (λ receipt. (receipt ≡ load.batch.count) × (self.new.stored ≡ self.old.stored + load.batch.count)) }
         ensures next { OnOk result (IsNext self.old.store self.old.stored load) }
@@ -212,7 +213,7 @@ impl<L: Founding, D: Disk> Storer<L, D> {
             number,
         } = load;
         let count = u64::from(batch.count());
-        // So many records the history has, and no sum passes that.
+        // The history has this many records, and no sum exceeds that.
         let _ = self.past.len();
         match self.store.append(batch) {
             Ok(receipt) => {
@@ -232,7 +233,8 @@ impl<L: Founding, D: Disk> Storer<L, D> {
         }
     }
 
-    /// Begins a checkpoint with the state at the end of the epoch in use. It writes nothing. Else the state comes back.
+    /// Begins a checkpoint with the state at the end of the epoch in use. It writes nothing. If it can't begin, the
+    /// state comes back.
     pub fn begin(&mut self, end: End<L>) -> Result<(), (NotBegun, End<L>)>
         ensures begun { OnOk result (self.new.store ≡ record self.old.store { checkpoint = Some (begun end.cut) }) }
         ensures earlier { OnOk result (self.new.earlier ≡ end.earlier) }

@@ -1,4 +1,4 @@
--- What a batch that is appended to the segment in use leaves of the slots.
+-- The slots after a batch is appended to the segment in use.
 use Rattle.std.proofs.Common.{◌≡◌, ℕ, ◌+◌, ◌-◌, ◌<◌, ◌%◌, ◌==◌, Bool, true, false, List, [], ◌∷◌, ◌++◌, Option, None, Some, length, take, if◌then◌else◌, refl, sym, ap, subst, ◌∙◌, arith, length-append}
 use Rattle.checkpoint.specs.Images.{HoldsBehind, first_pieces}
 use Rattle.disk.specs.declared.slot.Slot.{Slot}
@@ -10,11 +10,11 @@ use Rattle.journal.specs.declared.segment.Segment.{Segment}
 use Rattle.slot_steps.specs.Steps.{image_slot, segment_slot}
 use Rattle.storing.specs.Values.{AreEpochs, AreMade, CheckpointValue, HasShape}
 
--- a closed gate stands behind a batch
+-- a closed gate stands after a batch
 batch_some : (bytes content : List ℕ) → 0 < length (with_batch bytes content)
 batch_some bytes content = omega (arith, length-append (take (length bytes - 1) bytes) (open_gate ∷ (content ++ closed_gate ∷ [])))
 
--- no slot gets empty where one gets bytes
+-- no slot becomes empty when one gets bytes
 some_kept : (changed slot : Slot) (s : Slots) (bytes : List ℕ) → 0 < length bytes → 0 < length (slot_of s slot) → 0 < length (slot_of (with_slot s changed bytes) slot)
 some_kept Image0 Image0 s bytes some had = some
 some_kept Image1 Image1 s bytes some had = some

@@ -11,21 +11,21 @@ use Rattle.journal.specs.declared.fault.StoreFault.TheVariants.{Device, Failed, 
 use Rattle.slot_steps.specs.Steps.{HasSomeGate, IsClosing, IsShut, IsStillClosed, image_slot, segment_slot}
 use Rattle.storing.specs.Values.{CheckpointValue, StoreValue}
 
--- what a stop may leave while a batch is appended to an epoch's segment
+-- the post-crash contents while a batch is appended to an epoch's segment
 abbrev pub PassesAppend : ℕ → View → View → BatchValue → Type 0
 PassesAppend epoch old new batch = Passes old new (Follows old (segment_slot epoch) (λ before after. IsMidAppend before (content_of batch) after))
 
--- a batch stands in an epoch's segment, and what stood there before stands in front of it
+-- a batch stands in an epoch's segment, after what stood there before
 abbrev pub IsAppended : ℕ → Slots → Slots → BatchValue → Type 0
 IsAppended epoch old new batch = new ≡ with_slot old (segment_slot epoch) (with_batch (slot_of old (segment_slot epoch)) (content_of batch))
 
--- Which steps of a checkpoint come next.
+-- which step of a checkpoint comes next
 
 abbrev pub IsRolled : Option CheckpointValue → ℕ → Type 0
 IsRolled None steps = ⊥
 IsRolled (Some checkpoint) steps = checkpoint.rolled ≡ steps
 
--- the next segment may be opened: the one in use holds its whole row
+-- the next segment may be opened: the one in use holds its epoch's whole log
 abbrev pub CanOpen : {D : Type 0} → StoreValue D → Option CheckpointValue → Type 0
 CanOpen store None = ⊥
 CanOpen store (Some checkpoint) = (checkpoint.rolled ≡ 2) × (store.segment.records ≡ checkpoint.row)
@@ -56,7 +56,7 @@ module _ {D : Type 0} (honest : Type 0) (view : D → View) where
     pub synced : honest → IsSynced (view new.disk) (segment_slot checkpoint.epoch)
     pub passes : honest → IsSynced (view old.disk) (segment_slot checkpoint.epoch) → Passes (view old.disk) (view new.disk) (Follows (view old.disk) (segment_slot checkpoint.epoch) (IsClosing 16))
 
-  -- Its header stands behind the gate, and a closed gate behind the header.
+  -- Its header stands after the gate, and a closed gate after the header.
   pub record RollsHead (old new : StoreValue D) : Type 0 where
     pub checkpoint : CheckpointValue
     pub under_way : old.checkpoint ≡ Some checkpoint
@@ -80,7 +80,7 @@ module _ {D : Type 0} (honest : Type 0) (view : D → View) where
     pub synced : honest → IsSynced (view new.disk) (segment_slot checkpoint.epoch)
     pub passes : honest → Passes (view old.disk) (view new.disk) (Follows (view old.disk) (segment_slot checkpoint.epoch) HasSomeGate)
 
-  -- The next image's text is made, and its slot closed and cleared.
+  -- The next image is encoded, and its slot closed and cleared.
   pub record ClosesImage (old new : StoreValue D) : Type 0 where
     pub checkpoint : CheckpointValue
     pub under_way : old.checkpoint ≡ Some checkpoint
@@ -91,7 +91,7 @@ module _ {D : Type 0} (honest : Type 0) (view : D → View) where
     pub shut : honest → IsShut (view new.disk) (image_slot checkpoint.epoch)
     pub passes : honest → IsSynced (view old.disk) (image_slot checkpoint.epoch) → Passes (view old.disk) (view new.disk) (Follows (view old.disk) (image_slot checkpoint.epoch) (IsClosing 24))
 
-  -- One piece more of the text stands in the slot.
+  -- One more piece of the image stands in the slot.
   pub record WritesPiece (old new : StoreValue D) : Type 0 where
     pub checkpoint : CheckpointValue
     pub under_way : old.checkpoint ≡ Some checkpoint
@@ -102,7 +102,7 @@ module _ {D : Type 0} (honest : Type 0) (view : D → View) where
     pub shut : honest → IsShut (view old.disk) (image_slot checkpoint.epoch) → IsShut (view new.disk) (image_slot checkpoint.epoch)
     pub passes : honest → IsShut (view old.disk) (image_slot checkpoint.epoch) → Passes (view old.disk) (view new.disk) (Follows (view old.disk) (image_slot checkpoint.epoch) IsStillClosed)
 
-  -- The image is whole, and its gate open. The checkpoint is over.
+  -- The image is whole, and its gate is open. The checkpoint is over.
   pub record Finishes (old new : StoreValue D) : Type 0 where
     pub checkpoint : CheckpointValue
     pub under_way : old.checkpoint ≡ Some checkpoint
@@ -175,6 +175,6 @@ IsNotNow old possible new = (old.failed ≡ false) × (possible → ⊥) × (new
 abbrev pub IsFault : {D : Type 0} → StoreValue D → StoreFault → Type 0 → StoreValue D → Type 0
 IsFault old fault fails new = ((fault ≡ Failed) × (old.failed ≡ true) × (new ≡ old)) ⊎ ((fault ≡ Device) × fails)
 
--- the same of a step that takes memory: it was wanted, and nothing changed
+-- the same for a step that allocates: or it ran out of memory, and nothing changed
 abbrev pub IsFaultOrShortage : {D : Type 0} → StoreValue D → StoreFault → Type 0 → Type 0 → StoreValue D → Type 0
 IsFaultOrShortage old fault possible fails new = IsFault old fault fails new ⊎ ((fault ≡ NoMemory) × (old.failed ≡ false) × possible × (new ≡ old))

@@ -12,7 +12,7 @@ counted_fault NoMemory failures = failures
 counted_fault Failed failures = failures
 counted_fault Version failures = failures
 
--- the count after a step that was answered so
+-- the count after a step with this result
 abbrev pub counted : {T : Type 0} → Result T StoreFault → ℕ → ℕ
 counted (Ok done) failures = failures
 counted (Err fault) failures = counted_fault fault failures

@@ -11,8 +11,8 @@ use Rattle.slot_steps.specs.Steps.{image_slot, segment_slot}
 use Rattle.storing.specs.declared.under_way.Making.{Making}
 use Rattle.storing.specs.declared.under_way.Making.TheVariants.{Cut, Image}
 
--- A state that was copied at the end of an epoch, as an image's text: the epoch that begins with it, and how many records the
--- row of the epoch before has.
+-- A snapshot of the state at the end of an epoch, as the encoding of an image: the epoch that begins with it, and how
+-- many records the log of the epoch before has.
 pub record CutValue : Type 0 where
   pub epoch : ℕ
   pub row : ℕ
@@ -22,9 +22,9 @@ abbrev pub cut_code : Coded CutValue
 cut_code =
     code_by (ℕ × (ℕ × List ℕ)) (coded× coded_ℕ (coded× coded_ℕ (coded_list coded_ℕ))) (λ c. (c.epoch, (c.row, c.text))) (λ p. record { epoch = p.0; row = p.1.0; text = p.1.1 }) (λ _. refl)
 
--- A checkpoint under way: the epoch that begins, how many records the segment of the epoch before has to hold before the next
--- one is opened, how many of the three steps of rolling are done; the image's text, and how many of its steps are done: its
--- closing, and then its pieces.
+-- A checkpoint under way: the epoch that begins, how many records the segment of the epoch before has to hold before
+-- the next one is opened, how many of the three steps of rotating are done; the encoding of the image, and how many of
+-- its steps are done: its slot is closed, and then its pieces are written.
 pub record CheckpointValue : Type 0 where
   pub epoch : ℕ
   pub row : ℕ
@@ -41,7 +41,7 @@ checkpoint_code =
 abbrev pub begun : CutValue → CheckpointValue
 begun cut = record { epoch = cut.epoch; row = cut.row; rolled = 0; text = cut.text; imaged = 0 }
 
--- what an image is made of: a copy of the state, and from its closing on the image in memory
+-- what an image is made from: a snapshot of the state, and once its slot is closed, the encoded image in memory
 abbrev pub text_of : Making → List ℕ
 text_of (Cut snapshot) = snapshot_text snapshot
 text_of (Image image) = image.text
@@ -69,13 +69,13 @@ store_code {D = D} code =
     (λ s. (s.disk, (s.segment.epoch, (s.segment.records, (s.failed, s.checkpoint)))))
     (λ p. record { disk = p.0; segment = record { epoch = p.1.0; records = p.1.1.0 }; failed = p.1.1.1.0; checkpoint = p.1.1.1.1 }) (λ _. refl)
 
--- The segment in use is that of the epoch before, until the next one is opened, of which there is a header from the first
--- step of rolling on; behind the image's gate, once it is closed, stand the pieces that were written.
+-- The next segment's slot has a first byte from the first step of rotating on. Once the image's slot is closed, the
+-- pieces that were written stand there after the gate and the header.
 pub record IsMade (view : View) (segment : Segment) (checkpoint : CheckpointValue) : Type 0 where
   pub header : 0 < checkpoint.rolled → 0 < length (slot_of view.seen (segment_slot checkpoint.epoch))
   pub pieces : 0 < checkpoint.imaged → HoldsBehind (slot_of view.seen (image_slot checkpoint.epoch)) (first_pieces (checkpoint.imaged - 1) checkpoint.text)
 
--- the epochs of a checkpoint under way
+-- the epochs of a checkpoint under way: the segment in use is that of the epoch before, until the next one is opened
 pub record IsUnderWay (segment : Segment) (checkpoint : CheckpointValue) : Type 0 where
   pub steps : checkpoint.rolled ≤ 3
   pub before : checkpoint.rolled < 3 → checkpoint.epoch ≡ segment.epoch + 1
@@ -92,6 +92,6 @@ AreMade view segment (Some checkpoint) = IsMade view segment checkpoint
 
 -- what stands in the slots until the device fails
 pub record HasShape (view : View) (segment : Segment) (checkpoint : Option CheckpointValue) : Type 0 where
-  -- behind the last batch stands a closed gate
+  -- a closed gate stands after the last batch
   pub gate : 0 < length (slot_of view.seen (segment_slot segment.epoch))
   pub made : AreMade view segment checkpoint

@@ -1,5 +1,5 @@
-//! The half of the core that stores: batches go to the segment in use, and the steps of a checkpoint make the next segment
-//! and the next image.
+//! The half of the core that stores: batches go to the segment in use, and the steps of a checkpoint make the next
+//! segment and the next image.
 #![tactic(auto)]
 
 mod receipt;

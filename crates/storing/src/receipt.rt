@@ -23,7 +23,7 @@ impl Model for Receipt {
 }
 
 impl Receipt {
-    /// How many records are stored by it.
+    /// How many records it says are stored.
     pub fn count(&self) -> u32
         ensures { result ≡ self.now }
     {
@@ -40,8 +40,8 @@ impl Receipt {
     }
 }
 
-/// Says that an epoch's image is whole, and so that a checkpoint is over. Only its last step makes one, and it can't be
-/// copied.
+/// Says that an epoch's image is whole, and so that a checkpoint is over. Only the checkpoint's last step makes one,
+/// and it can't be copied.
 #[derive(Drop)]
 pub struct Finished {
     pub(crate) epoch: u64,

@@ -15,7 +15,7 @@ use journal::{Batch, Segment, StoreFault, roll_close, roll_head, roll_open};
 use std::alloc::Global;
 use std::marker::Model;
 
-/// The half of the core that stores. It knows of calls what batches and cuts bring.
+/// The half of the core that stores. It knows of calls only what batches and snapshots bring.
 pub struct StoreHalf<D: Disk> {
     disk: D,
     segment: Segment,
@@ -23,7 +23,7 @@ pub struct StoreHalf<D: Disk> {
     checkpoint: Option<Checkpoint>,
 }
 
-// Written out, as proofs above then know one function, and not the parts.
+// Written out, so that proofs above know one function and not its parts.
 impl<D: Disk + Drop> Drop for StoreHalf<D> {
     fn drop(self) {
         let StoreHalf {
@@ -77,7 +77,7 @@ impl<D: Disk> StoreHalf<D> {
         disk
     }
 
-    /// Whether the device failed; the store has to be opened again then.
+    /// Whether the device failed; then the store has to be opened again.
     pub fn has_failed(&self) -> bool
         ensures { result ≡ self.now.failed }
     {
@@ -105,12 +105,12 @@ impl<D: Disk> StoreHalf<D> {
         self.checkpoint.is_some()
     }
 
-    /// Stores a batch of the epoch in use: all of it or nothing. At `Ok` it is on the disk. It takes no memory. With a fault
-    /// the batch comes back.
+    /// Stores a batch of the epoch in use: all of it or nothing. At `Ok` it is on the disk. It takes no memory. At a
+    /// fault the batch comes back.
     ///
     /// `Failed`: the device failed in an earlier call; the store has to be opened again. `Full`: the segment would hold
-    /// more than `MAX_RECORDS` records; nothing changed. `Device`: the device failed, and whether the batch is stored isn't
-    /// known until the store is opened again.
+    /// more than `MAX_RECORDS` records; nothing changed. `Device`: the device failed, and whether the batch is stored
+    /// isn't known until the store is opened again.
     pub fn append(&mut self, batch: Batch) -> Result<Receipt, (StoreFault, Batch)>
         requires { 0 < batch.count }
         ensures stored { D.honest → OnOk result (IsAppended self.old.segment.epoch (D.view self.old.disk).seen (D.view self.new.disk).seen batch) }
@@ -156,7 +156,8 @@ impl<D: Disk> StoreHalf<D> {
         self.checkpoint = Some(Checkpoint::new(cut));
     }
 
-    /// Closes the slot of the next segment. Answers whether it did: it does where that is the checkpoint's next step of rolling.
+    /// Closes the slot of the next segment. Returns whether it did: it does if that is the checkpoint's next step of
+    /// the rotation.
     ///
     /// `Failed`: the device failed in an earlier call, and nothing changed. `Device`: the device failed.
     pub fn roll_close(&mut self) -> Result<bool, StoreFault>
@@ -181,7 +182,7 @@ impl<D: Disk> StoreHalf<D> {
         Ok(true)
     }
 
-    /// Writes the header of the next segment. Answers whether it did, as `roll_close`; its faults are the same.
+    /// Writes the header of the next segment. Returns whether it did, like `roll_close`; its faults are the same.
     pub fn roll_head(&mut self) -> Result<bool, StoreFault>
         ensures done { IfOk result (λ is_done. MatchBool is_done (RollsHead D.honest D.view self.old self.new) (IsNotNow self.old (IsRolled self.old.checkpoint 1) self.new)) }
         ensures faults { IfErr result (λ fault. IsFault self.old fault (FailsToRollHead D.honest D.view self.old self.new) self.new) }
@@ -204,8 +205,8 @@ impl<D: Disk> StoreHalf<D> {
         Ok(true)
     }
 
-    /// Opens the next segment, once the one in use holds its whole row; the next epoch's batches are stored there from then on.
-    /// Answers whether it did; its faults are those of `roll_close`.
+    /// Opens the next segment, once the one in use holds its whole epoch log; from then on the next epoch's batches are
+    /// stored there. Returns whether it did; its faults are those of `roll_close`.
     pub fn roll_open(&mut self) -> Result<bool, StoreFault>
         ensures done { IfOk result (λ is_done. MatchBool is_done (RollsOpen D.honest D.view self.old self.new) (IsNotNow self.old (CanOpen self.old self.old.checkpoint) self.new)) }
         ensures faults { IfErr result (λ fault. IsFault self.old fault (FailsToRollOpen D.honest D.view self.old self.new) self.new) }
@@ -229,10 +230,10 @@ impl<D: Disk> StoreHalf<D> {
         Ok(true)
     }
 
-    /// Makes the next image in memory, and closes and clears its slot. Answers whether it did: it does where that is the
+    /// Makes the next image in memory, and closes and clears its slot. Returns whether it did: it does if that is the
     /// image's next step.
     ///
-    /// `NoMemory`: a growth was refused, and nothing changed. The other faults are those of `roll_close`.
+    /// `NoMemory`: an allocation failed, and nothing changed. The other faults are those of `roll_close`.
     pub fn close_image(&mut self, alloc: Global) -> Result<bool, StoreFault>
         ensures done { IfOk result (λ is_done. MatchBool is_done (ClosesImage D.honest D.view self.old self.new) (IsNotNow self.old (HasImaged self.old.checkpoint 0) self.new)) }
         ensures faults { IfErr result (λ fault. IsFaultOrShortage self.old fault (HasImaged self.old.checkpoint 0) (FailsToCloseImage D.honest D.view self.old self.new) self.new) }
@@ -258,7 +259,7 @@ impl<D: Disk> StoreHalf<D> {
         Ok(true)
     }
 
-    /// Writes the next piece of the image. Answers whether it did: it does where the image was closed and a piece is left.
+    /// Writes the next piece of the image. Returns whether it did: it does if the image was closed and a piece is left.
     /// Its faults are those of `roll_close`.
     pub fn write_piece(&mut self) -> Result<bool, StoreFault>
         ensures done { IfOk result (λ is_done. MatchBool is_done (WritesPiece D.honest D.view self.old self.new) (IsNotNow self.old (HasPieceLeft self.old.checkpoint) self.new)) }
@@ -284,8 +285,8 @@ impl<D: Disk> StoreHalf<D> {
         Ok(true)
     }
 
-    /// Opens the gate of the image, whose whole text is written, once the next segment is open. The checkpoint is over then,
-    /// which the receipt says. Its faults are those of `roll_close`.
+    /// Opens the gate of the image, whose whole encoding is written, once the next segment is open. The checkpoint is
+    /// then over, and the receipt says so. Its faults are those of `roll_close`.
     pub fn finish(&mut self) -> Result<Option<Finished>, StoreFault>
         ensures done { IfOk result (λ receipt. IfSome receipt (λ finished. (finished ≡ self.old.segment.epoch) × Finishes D.honest D.view self.old self.new)) }
         ensures not_now { IfOk result (λ receipt. IfNone receipt (IsNotNow self.old (CanFinish self.old.checkpoint) self.new)) }
@@ -305,7 +306,7 @@ impl<D: Disk> StoreHalf<D> {
             return Ok(None);
         }
         let epoch = checkpoint.epoch;
-        // Its clause says that the text's length fits the header.
+        // Its clause says that the length of the encoding fits the header.
         let _ = image.size();
         if image.finish(&mut self.disk).is_err() {
             self.failed = true;

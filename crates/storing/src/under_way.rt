@@ -6,7 +6,7 @@ use checkpoint::Image;
 use snapshot::Snapshot;
 use std::marker::Model;
 
-/// The end of an epoch: a copy of the state after its whole row. It can't be copied.
+/// The end of an epoch: a snapshot of the state after its whole epoch log. It can't be copied.
 #[derive(Drop)]
 pub struct Cut {
     snapshot: Snapshot,
@@ -26,7 +26,7 @@ impl Model for Cut {
 }
 
 impl Cut {
-    /// The epoch that begins with this state, where the row of the epoch before has so many records.
+    /// The epoch that begins with this state, if the log of the epoch before has `row` records.
     pub fn new(snapshot: Snapshot, epoch: u64, row: u64) -> Self
         ensures { result ≡ record { epoch = epoch; row = row; text = snapshot_text snapshot } }
     {
@@ -38,7 +38,7 @@ impl Cut {
     }
 }
 
-/// What the next image is made of: the copy of the state, and from its closing on the image in memory.
+/// What the next image is made of: the snapshot, and once its slot is closed, the image in memory.
 #[derive(Drop)]
 pub(crate) enum Making {
     Cut(Snapshot),
@@ -67,7 +67,7 @@ impl Model for Checkpoint {
 }
 
 impl Checkpoint {
-    /// A checkpoint of which nothing is done.
+    /// A checkpoint with no step done.
     pub(crate) fn new(cut: Cut) -> Self
         ensures { result ≡ begun cut }
     {

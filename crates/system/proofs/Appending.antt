@@ -149,7 +149,7 @@ module _ {D : Type 0} (honest : Type 0) (view : D → View) (base : State) where
       subst (λ (l : List Record). Run base l after) (sym (take_sum w.stored is.out.size w.applied (stored_within honest view base w old stands)))
       (run_join base kept.state after (take w.stored w.applied) (take is.out.size (drop w.stored w.applied)) kept.before run)
 
-  -- a stop while it is stored leaves the stored records, or these and all of the batch's
+  -- a crash while it is stored leaves the stored records, or these and all of the batch's
   during : (w : World) (old : SystemValue D) (taken : TakenValue) (stands : StandsFor honest view base w old) (is : IsTaken w old taken stands) (kept : KeepsStored view old.store base old.core.kernel w.stored w.earlier w.applied) (c : Slots)
       → Follows (view old.store.disk) (segment_slot old.store.segment.epoch) (λ was now. IsMidAppend was (content_of taken.batch) now) c → StandsFrom base w.stored w c
   during w old taken stands is kept c mid =

@@ -43,7 +43,7 @@ module _ (batch : Option world.Batch) (taken stored handed : ℕ) (P : ℕ → T
   some_batch None (Some size) between none = absurd (cc (sym none, between.batch_is))
   some_batch (Some out) (Some size) between none = between
 
-  -- the same batch with another word for its place
+  -- the same batch, with its place described in another way
   pub between_with : (Q : ℕ → TakenValue → Type 0) → ((size : ℕ) (out : TakenValue) → 0 < size → stored + size ≤ taken → P size out → Q size out) → (out : Option TakenValue) (receipt : Option ℕ) (b : Bool)
       → Between batch taken stored handed P out receipt b → Between batch taken stored handed Q out receipt b
   between_with Q other None None false between = between

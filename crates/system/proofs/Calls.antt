@@ -42,14 +42,14 @@ some_same : {A : Type 0} (o : Option A) (a b : A) → o ≡ Some a → o ≡ Som
 some_same o a b one two = cc (one, two)
 
 module _ {D : Type 0} (honest : Type 0) (view : D → View) where
-  -- A core whose row alone may have records that wait.
+  -- A core in which only the epoch log may have records that wait.
   pub record IsReady (old : SystemValue D) : Type 0 where
     pub none_older : old.core.older.count ≡ 0
     pub epoch : old.store.segment.epoch ≡ old.core.epoch
     pub room : 0 < old.core.row.waiting.count → old.store.segment.records + old.core.row.waiting.count ≤ MAX_RECORDS
     pub finished : old.finished ≡ None
 
-  -- what it takes are the row's
+  -- the records that it takes are those of the epoch log
   pub record TakesRow (old new : SystemValue D) (taken : TakenValue) : Type 0 where
     pub epoch : taken.epoch ≡ old.core.epoch
     pub batch : taken.batch ≡ old.core.row.waiting
@@ -61,7 +61,7 @@ module _ {D : Type 0} (honest : Type 0) (view : D → View) where
     | inr row ↦ record { epoch = row.1; batch = row.2; core = row.3 }
   ]
 
-  -- where the row has records that wait, they are taken
+  -- if the epoch log has records that wait, they are taken
   pub takes_some : (old new : SystemValue D) → old.core.is_out ≡ false → CannotTake old.core × (new ≡ old) → (old.core.row.waiting.count ≡ 0) × (new ≡ old)
   takes_some old new none_out none = elim none.0 as (λ _. (old.core.row.waiting.count ≡ 0) × (new ≡ old)) [ inl empty ↦ (empty.1, none.1) | inr out ↦ absurd (cc (none_out, out)) ]
 
@@ -88,7 +88,7 @@ module _ {D : Type 0} (honest : Type 0) (view : D → View) where
     ]
   ]
 
-  -- a row in which nothing waited, after a call
+  -- an epoch log in which nothing waited, after a call
   row_of : (b : Bool) (row : RowValue) (entry : Record) → row.waiting ≡ empty_batch → 0 < (if b then with_record row entry else row).waiting.count → b ≡ true
   row_of true row entry none some = refl
   row_of false row entry none some = absurd (omega (arith, some, ap (λ (b : BatchValue). b.count) none))
@@ -116,11 +116,11 @@ module _ {D : Type 0} (honest : Type 0) (view : D → View) where
         };
       }
 
-  -- the batch stands behind what the segment held
+  -- the batch stands after what the segment held
   abbrev IsWritten : StoreValue D → StoreValue D → BatchValue → Type 0
   IsWritten before after batch = IsAppended before.segment.epoch (view before.disk).seen (view after.disk).seen batch
 
-  -- it is there on the disk
+  -- it is on the disk
   abbrev IsThere : StoreValue D → StoreValue D → Type 0
   IsThere before after = IsSynced (view after.disk) (segment_slot before.segment.epoch)
 
@@ -287,7 +287,7 @@ module _ {D : Type 0} (honest : Type 0) (view : D → View) where
         | false ↦ λ (none : _). settled_without old space c made new rests submits none same
       ] refl
 
-  -- the ticket that was given is there
+  -- the ticket that was given exists
   ticket_there : (old : SystemValue D) (space : ℕ) (c : Call) (made new : SystemValue D) (submits : Submits old space c made) → new.tickets ≡ made.tickets → finmap.get new.tickets.kept old.tickets.given ≡ Some (Some submits.ticket)
   ticket_there old space c made new submits same =
       ap (λ (t : TicketsValue). finmap.get t.kept old.tickets.given) (same ∙ ap (λ (s : SystemValue D). s.tickets) submits.rest) ∙ get-here old.tickets.kept old.tickets.given (Some submits.ticket)

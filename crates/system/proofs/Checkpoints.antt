@@ -29,7 +29,7 @@ use Rattle.system.proofs.Lists.{take_end, take_long}
 use Rattle.system.proofs.Rows.{drop_past, fit_take, holds_as, holds_none}
 use Rattle.system.proofs.Simulation.{Shows, and_false, from_stored, from_told, shows_device, shows_failed, shown, unfailed_first, unmoved}
 
--- the written checkpoint beside the store's
+-- The abstract specification's checkpoint, and the store's.
 
 abbrev Both : ℕ → Option world.Checkpoint → Option CheckpointValue → Option ℕ → Bool → CheckpointValue → Type 0
 Both epoch written checkpoint finished b c = (v : world.Checkpoint) × (written ≡ Some v) × IsSameCheckpoint epoch v c × (finished ≡ None) × (b ≡ true)
@@ -43,7 +43,7 @@ both epoch (Some v) (Some other) None false c is there = absurd is
 both epoch (Some v) (Some other) (Some finished) b c is there = absurd is
 both epoch (Some v) None finished b c is there = absurd (cc there)
 
--- no checkpoint is under way where the core has none
+-- no checkpoint is under way if the core has none
 none_cut : (epoch : ℕ) (written : Option world.Checkpoint) (checkpoint : Option CheckpointValue) (finished : Option ℕ) (b : Bool) → Checkpoints epoch written checkpoint finished b → b ≡ false → (written ≡ None) × (checkpoint ≡ None) × (finished ≡ None)
 none_cut epoch None None None b is none = (refl, refl, refl)
 none_cut epoch None None (Some finished) b is none = absurd is
@@ -59,7 +59,7 @@ some_cut epoch None None true is = absurd is
 some_cut epoch None (Some finished) b is = absurd is
 some_cut epoch (Some c) finished b is = absurd is
 
--- what is possible in the written world is possible in the store, step by step
+-- what is possible in the world of events is possible in the store, step by step
 
 module _ (epoch : ℕ) where
   rolled_back : (written : Option world.Checkpoint) (checkpoint : Option CheckpointValue) (finished : Option ℕ) (b : Bool) (n : ℕ) → n < 3 → Checkpoints epoch written checkpoint finished b → world.IsRolled written n → IsRolled checkpoint n
@@ -143,21 +143,21 @@ module _ {D : Type 0} (honest : Type 0) (view : D → View) (base : State) where
       let kept = stands.kept is_honest unfailed in
       passes_as (view old.store.disk) (view new.store.disk) (λ c. Recovered (as_written c) kept.state) (StandsFrom base w.stored w) (passes kept is_honest) (λ c recovered. from_stored honest view base w old stands kept c recovered))
 
-  -- what a failure makes of a core, by what it makes of the store
+  -- how a failure changes a core, by how it changes the store
   failed_rest : (old new : SystemValue D) → new ≡ record old { store = new.store } → new.store ≡ record old.store { disk = new.store.disk; failed = true } → new ≡ record old { store = record old.store { disk = new.store.disk; failed = true } }
   failed_rest old new rest store = rest ∙ ap (λ (s : StoreValue D). record old { store = s }) store
 
   same_rest : (old new : SystemValue D) → new ≡ record old { store = new.store } → new.store ≡ old.store → new ≡ old
   same_rest old new rest store = rest ∙ ap (λ (s : StoreValue D). record old { store = s }) store
 
-  -- the checkpoint of the world, that of the store beside it
+  -- the checkpoint of the world, which belongs to that of the store
   under : (w : World) (old : SystemValue D) (c : CheckpointValue) → StandsFor honest view base w old → old.store.checkpoint ≡ Some c → Both w.epoch w.checkpoint old.store.checkpoint old.finished old.core.is_cut c
   under w old c stands there = both w.epoch w.checkpoint old.store.checkpoint old.finished old.core.is_cut c stands.checkpoint there
 
   working : (w : World) (old : SystemValue D) → StandsFor honest view base w old → old.store.failed ≡ false → w.failed ≡ false
   working w old stands unfailed = sym stands.failed ∙ unfailed
 
-  -- the segment in use, where the store's checkpoint is as far as it was
+  -- the segment in use, if the store's checkpoint is as far as it was
   in_use_as : (w : World) (old : SystemValue D) (c d : CheckpointValue) (stands : StandsFor honest view base w old) → old.store.checkpoint ≡ Some c → d.row ≡ c.row → ((c.rolled < 3 → d.rolled < 3) × (c.rolled ≡ 3 → d.rolled ≡ 3))
       → IsInUse w.epoch w.opened w.earlier w.stored stands.older old.store.segment (Some d)
   in_use_as w old c d stands there row rolled =
@@ -177,7 +177,7 @@ module _ {D : Type 0} (honest : Type 0) (view : D → View) (base : State) where
   together epoch v c finished b none is same =
       subst (λ (f : Option ℕ). Checkpoints epoch (Some v) (Some c) f b) (sym none) (subst (λ (x : Bool). Checkpoints epoch (Some v) (Some c) None x) (sym is) same)
 
-  -- a step of a checkpoint under way, which is under way still
+  -- a step of a checkpoint under way, which is still under way
   step_done : (w : World) (event : world.Event) (old new : SystemValue D) (c d : CheckpointValue) (segment : Segment) (change : world.Checkpoint → world.Checkpoint) (stands : StandsFor honest view base w old)
       → old.store.checkpoint ≡ Some c → old.store.failed ≡ false
       → ((v : world.Checkpoint) → w.checkpoint ≡ Some v → IsSameCheckpoint w.epoch v c → world.IsPossible w event × world.AfterPossible base w event world.done (record w { checkpoint = Some (change v) }) × IsSameCheckpoint w.epoch (change v) d)
@@ -196,7 +196,7 @@ module _ {D : Type 0} (honest : Type 0) (view : D → View) (base : State) where
       (together w.epoch (change v) d old.finished old.core.is_cut found.3 found.4 allowed.2) in_use
       (λ kept is_honest. subst (λ (s : StoreValue D). Keeps (view s.disk) s.segment s.checkpoint kept.mid kept.state) store_is (keeps kept is_honest)) passes
 
-  -- what the steps make of the written checkpoint
+  -- how the steps change the abstract specification's checkpoint
   abbrev roll : world.Checkpoint → world.Checkpoint
   roll checkpoint = record checkpoint { rolled = checkpoint.rolled + 1 }
 
@@ -245,7 +245,7 @@ module _ {D : Type 0} (honest : Type 0) (view : D → View) (base : State) where
 
   -- It is opened.
 
-  -- the segment of the epoch before is in use, and where it is whole, all earlier records are stored
+  -- the segment of the epoch before is in use, and if it is whole, all earlier records are stored
   before_open : (w : World) (old : SystemValue D) (c : CheckpointValue) (stands : StandsFor honest view base w old) → old.store.checkpoint ≡ Some c → c.rolled ≡ 2 → IsBeforeEpoch w.epoch w.opened w.earlier w.stored stands.older old.store.segment c
   before_open w old c stands there rolled =
       elim (subst (IsInUse w.epoch w.opened w.earlier w.stored stands.older old.store.segment) there stands.in_use) as (λ _. IsBeforeEpoch w.epoch w.opened w.earlier w.stored stands.older old.store.segment c) [
@@ -317,7 +317,7 @@ module _ {D : Type 0} (honest : Type 0) (view : D → View) (base : State) where
   abbrev finish : world.Checkpoint → world.Checkpoint
   finish checkpoint = record checkpoint { finished = true }
 
-  -- the segment in use is the epoch's, once it is rolled
+  -- the segment in use is the epoch's, once the store has rotated to it
   in_epoch : (w : World) (old : SystemValue D) (c : CheckpointValue) (stands : StandsFor honest view base w old) → old.store.checkpoint ≡ Some c → c.rolled ≡ 3 → IsInEpoch w.epoch w.opened w.earlier w.stored old.store.segment
   in_epoch w old c stands there rolled =
       elim (subst (IsInUse w.epoch w.opened w.earlier w.stored stands.older old.store.segment) there stands.in_use) as (λ _. IsInEpoch w.epoch w.opened w.earlier w.stored old.store.segment) [
@@ -472,7 +472,7 @@ module _ {D : Type 0} (honest : Type 0) (view : D → View) (base : State) where
       unmoved honest view base w world.finish world.not_now old new stands same
       (unfailed_first w.failed (working w old stands unfailed), (λ can. none (finish_back w.epoch w.checkpoint old.store.checkpoint old.finished old.core.is_cut stands.checkpoint can)), refl)
 
-  -- memory was wanted for the image's text
+  -- there was no memory to encode the image
   pub shows_shortage : (w : World) (old new : SystemValue D) → StandsFor honest view base w old → old.store.failed ≡ false → HasImaged old.store.checkpoint 0 → new ≡ record old { store = new.store } → new.store ≡ old.store
       → Shows honest view base w world.image_close (world.store fault.no_memory) old new
   shows_shortage w old new stands unfailed has rest same =

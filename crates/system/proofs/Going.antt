@@ -1,4 +1,4 @@
--- A checkpoint between the calls of a lone caller keeps the store.
+-- A checkpoint between the calls of a single connection keeps the store.
 use Rattle.std.proofs.Common.{◌≡◌, ◌⊎◌, inl, inr, ℕ, ◌+◌, ◌<◌, Bool, true, false, Option, None, Some, refl, sym, ap, subst, ◌∙◌, arith}
 use Rattle.std.specs.Prelude.{MatchBool, is_some}
 use Rattle.disk.specs.Moments.{View, Passes}
@@ -23,12 +23,12 @@ use Rattle.system.proofs.Between.{some_is}
 use Rattle.system.proofs.Simulation.{no_time}
 
 module _ {D : Type 0} (honest : Type 0) (view : D → View) where
-  -- A store that is kept stays so, and a stop until then leaves its state.
+  -- A store that is kept stays so, and a crash until then leaves its state.
   pub record Moves (old new : StoreValue D) (mid state : State) : Type 0 where
     pub kept : honest → Keeps (view old.disk) old.segment old.checkpoint mid state → Keeps (view new.disk) new.segment new.checkpoint mid state
     pub passes : honest → Keeps (view old.disk) old.segment old.checkpoint mid state → Passes (view old.disk) (view new.disk) (Recovers state)
 
-  -- A stop leaves the state of a store that was kept.
+  -- A crash leaves the state of a store that was kept.
   abbrev pub Leaves : StoreValue D → StoreValue D → State → State → Type 0
   Leaves old new mid state = honest → Keeps (view old.disk) old.segment old.checkpoint mid state → Passes (view old.disk) (view new.disk) (Recovers state)
 
@@ -104,7 +104,7 @@ module _ {D : Type 0} (honest : Type 0) (view : D → View) where
       let now = device old new fault (FailsToFinish honest view old new) unfailed is in
       (now.0, λ mid state is_honest kept. finish_fails honest view is_honest old new mid state kept now.1)
 
-  -- closing an image may want memory too, and then nothing changed
+  -- closing an image may also run out of memory, and then nothing changed
   pub image_breaks : (old new : StoreValue D) (fault : StoreFault) → old.failed ≡ false → IsFaultOrShortage old fault (HasImaged old.checkpoint 0) (FailsToCloseImage honest view old new) new
       → ((fault ≡ Device) × ((mid state : State) → Leaves old new mid state)) ⊎ ((fault ≡ NoMemory) × (new ≡ old))
   image_breaks old new fault unfailed is = elim is as (λ _. ((fault ≡ Device) × ((mid state : State) → Leaves old new mid state)) ⊎ ((fault ≡ NoMemory) × (new ≡ old))) [
@@ -114,7 +114,7 @@ module _ {D : Type 0} (honest : Type 0) (view : D → View) where
     | inr short ↦ inr (short.0, short.3)
   ]
 
-  -- The steps of rolling one after another.
+  -- The steps of rotating, one after another.
 
   close_next : (s0 : StoreValue D) → IsFirstStep s0 → IsRolled s0.checkpoint 0
   close_next s0 first = subst (λ (c : Option CheckpointValue). IsRolled c 0) (sym first.under_way) first.none_rolled
@@ -130,7 +130,7 @@ module _ {D : Type 0} (honest : Type 0) (view : D → View) where
   head_done true s0 s1 s2 closed done = (refl, done)
   head_done false s0 s1 s2 closed none = absurd (none.1 (head_next s0 s1 closed))
 
-  -- a checkpoint whose header stands there is the one that was begun
+  -- a checkpoint whose header is written is the one that was begun
   row_of : (s0 s1 s2 : StoreValue D) (first : IsFirstStep s0) → RollsClose honest view s0 s1 → RollsHead honest view s1 s2 → (s2.checkpoint ≡ Some (record first.checkpoint { rolled = 2 })) × (s2.segment ≡ s0.segment) × (s2.failed ≡ false)
   row_of s0 s1 s2 first closed headed =
       let c0 : closed.checkpoint ≡ first.checkpoint = some_is closed.checkpoint first.checkpoint (sym closed.under_way ∙ first.under_way) in
@@ -222,7 +222,7 @@ module _ {D : Type 0} (honest : Type 0) (view : D → View) where
             )
       ]
 
-  -- an image's receipt is there to be handed in
+  -- an image's receipt can be handed in
   pub hands_finished : (old between new : SystemValue D) (b : Bool) → FinishesImage honest view old between → MatchBool b (HandsIn between new) ((between.receipt ≡ None) × (between.finished ≡ None) × (new ≡ between)) → HandsIn between new
   hands_finished old between new true finishes hands = hands
   hands_finished old between new false finishes none = absurd (cc (none.1, ap (λ (s : SystemValue D). s.finished) finishes.rest))
@@ -265,7 +265,7 @@ module _ {D : Type 0} (honest : Type 0) (view : D → View) where
   none_of None is = refl
   none_of (Some c) is = absurd (cc is)
 
-  -- a checkpoint is made of the state that the store is kept with
+  -- a checkpoint is of the state that the store is kept with
   pub begins_kept : (old new : SystemValue D) → IsResting old → is_some old.store.checkpoint ≡ false → BeginsEpoch old new → honest → IsStanding view old.store old.core.kernel → Keeps (view new.store.disk) new.store.segment new.store.checkpoint old.core.kernel old.core.kernel
   begins_kept old new rests none begins is_honest standing =
       let kept = subst (λ (c : Option CheckpointValue). Keeps (view old.store.disk) old.store.segment c standing.0 old.core.kernel) (none_of old.store.checkpoint none) standing.1 in
@@ -308,7 +308,7 @@ module _ {D : Type 0} (honest : Type 0) (view : D → View) where
   piece_working true s0 s1 done unfailed = ap (λ (s : StoreValue D). s.failed) done.rest ∙ unfailed
   piece_working false s0 s1 none unfailed = ap (λ (s : StoreValue D). s.failed) none.2 ∙ unfailed
 
-  -- a core that goes on with the same state
+  -- a core that continues with the same state
 
   pub standing_after : (old new : SystemValue D) → new.core.kernel ≡ old.core.kernel → ((mid : State) → Moves old.store new.store mid old.core.kernel) → honest → IsStanding view old.store old.core.kernel → IsStanding view new.store new.core.kernel
   standing_after old new kernel moves is_honest standing =
@@ -320,7 +320,7 @@ module _ {D : Type 0} (honest : Type 0) (view : D → View) where
   pub kernel_same : (old new : SystemValue D) → new ≡ record old { store = new.store } → new.core.kernel ≡ old.core.kernel
   kernel_same old new rest = ap (λ (s : SystemValue D). s.core.kernel) rest
 
-  -- the image was finished behind what was done before, and its receipt handed in
+  -- the image was finished after what was done before, and its receipt handed in
   pub finished_moves : (s0 : StoreValue D) (old between new : SystemValue D) → ((mid state : State) → Moves s0 old.store mid state) → FinishesImage honest view old between → new.store ≡ between.store → (mid state : State) → Moves s0 new.store mid state
   finished_moves s0 old between new before finishes same mid state =
       moves_then s0 old.store new.store mid state (before mid state) (subst (λ (s : StoreValue D). Moves old.store s mid state) (sym same) (finish_moves old.store between.store mid state finishes.finishes))
@@ -328,7 +328,7 @@ module _ {D : Type 0} (honest : Type 0) (view : D → View) where
   pub system_same : (old new : SystemValue D) → new ≡ record old { store = new.store } → new.store ≡ old.store → new ≡ old
   system_same old new rest same = rest ∙ ap (λ (s : StoreValue D). record old { store = s }) same
 
-  -- the next segment is in use, and the checkpoint is made of the core's state
+  -- the next segment is in use, and the checkpoint is of the core's state
 
   pub rolled_standing : (old between new : SystemValue D) → BeginsEpoch old between → new ≡ record between { store = new.store } → Keeps (view new.store.disk) new.store.segment new.store.checkpoint old.core.kernel old.core.kernel → IsStanding view new.store new.core.kernel
   rolled_standing old between new begins rest kept =
@@ -345,7 +345,7 @@ module _ {D : Type 0} (honest : Type 0) (view : D → View) where
       record { closed = s1; headed = s2; closes = closed; heads = headed; opens = (open_done e s0 s1 s2 s3 first closed headed last).1 }
 
 module _ {D : Type 0} (honest : Type 0) (view : D → View) (records : ℕ) (state : State) where
-  -- a step of an image, where a checkpoint is under way
+  -- a step of an image, if a checkpoint is under way
   pub image_goes : (checkpoint : Option CheckpointValue) (old new : StoreValue D) → is_some checkpoint ≡ true → GoesOnImage honest view old new → GoesOn honest view records state checkpoint old new
   image_goes None old new is goes = absurd (cc is)
   image_goes (Some checkpoint) old new is goes = goes

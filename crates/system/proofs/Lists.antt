@@ -46,7 +46,7 @@ module _ {A : Type 0} where
   take_long (suc k) [] le = absurd (omega arith)
   take_long (suc k) (x ∷ xs) le = ap suc (take_long k xs (omega arith))
 
-  -- the element behind all others, and those before it
+  -- the element after all others, and those before it
   pub got_last : (xs : List A) (x : A) → slice_get (xs ++ x ∷ []) (length xs) ≡ Some x
   got_last [] x = refl
   got_last (y ∷ xs) x = got_last xs x

@@ -1,4 +1,4 @@
--- What a call leaves of the half that makes calls.
+-- How a call changes the half that makes calls.
 use Rattle.std.proofs.Common.{◌≡◌, inl, inr, ℕ, ◌+◌, ◌-◌, ◌^◌, ◌≤◌, ◌<◌, ◌∙◌, ap, Bool, true, false, List, ◌++◌, length, take, length-append, Result, Ok, Err, OnErr, arith, refl, subst, sym}
 use Rattle.std.specs.Prelude.{IsErrOf, MatchBool, if◌then◌else◌}
 use Rattle.std.proofs.Math.Dec.{leb}
@@ -13,7 +13,7 @@ use Rattle.system.specs.Halves.{CanCut, KernelValue, RowValue, entry_of, row_aft
 use Rattle.system.specs.declared.kernel_half.SubmitFault.{SubmitFault}
 use Rattle.system.specs.declared.kernel_half.SubmitFault.TheVariants as fault
 
--- the row after a call, with a record or without
+-- the epoch log after a call, with a record or without
 module _ (old new : RowValue) (space : ℕ) (c : Call) (answer : Reply)
     (with_one : has_record c answer ≡ true → new ≡ with_record old (entry_of space c answer)) (with_none : has_record c answer ≡ false → new ≡ old) where
   pub row_is_after : new ≡ row_after old space c answer
@@ -35,12 +35,12 @@ pub with_fault : {T E : Type 0} (P : Type 0) (r : Result T E) → P → OnErr r 
 with_fault P (Ok v) holds = tt
 with_fault P (Err f) holds = holds
 
--- want of memory is no full row
+-- running out of memory isn't a full epoch log
 pub memory_no_full : {T : Type 0} (r : Result T SubmitFault) → r ≡ Err fault.NoMemory → IsErrOf r fault.EpochFull → ⊥
 memory_no_full (Ok v) is told = cc is
 memory_no_full (Err f) is told = cc (is, told)
 
--- a number that is within another, or isn't, by the test
+-- a number is at most another, or isn't, by the test
 pub due_or_not : (a b seen handed : ℕ) → a ≡ seen → b ≡ handed → MatchBool (leb a b) (seen ≤ handed) (handed < seen)
 due_or_not a b seen handed same_seen same_handed = elim (leb_tells a b) as (λ _. MatchBool (leb a b) (seen ≤ handed) (handed < seen)) [
   | inl within ↦ subst (λ (t : Bool). MatchBool t (seen ≤ handed) (handed < seen)) (sym within.0) (omega (arith, within.1, same_seen, same_handed))

@@ -15,7 +15,7 @@ use Rattle.system.specs.Order.{IsInOrder, IsOut, stored_out, taken_out}
 use Rattle.system.proofs.Between.{some_is}
 use Rattle.system.proofs.Tickets.{none_fresh}
 
--- how many records a row has more
+-- how many more records an epoch log has
 pub record IsGrown (old new : RowValue) : Type 0 where
   pub grown : ℕ
   pub waiting : new.waiting.count ≡ old.waiting.count + grown
@@ -162,7 +162,7 @@ module _ {D : Type 0} where
   pub answered_in_order : (old : SystemValue D) (tickets : TicketsValue) → IsInOrder old → ((number : ℕ) → tickets.given ≤ number → finmap.get tickets.kept number ≡ None) → IsInOrder (record old { tickets = tickets })
   answered_in_order old tickets is fresh = record { out = is.out; counted = is.counted; epoch = is.epoch; next = is.next; over = is.over; whole = is.whole; fresh = fresh }
 
-  -- a cut finds no checkpoint, and the halves in one epoch
+  -- a snapshot finds no checkpoint, and the halves in one epoch
   pub before_cut : (old : SystemValue D) (cut : CutValue) (core : KernelValue) → IsInOrder old → Cuts old.core cut core → (old.store.checkpoint ≡ None) × (cut.epoch ≡ old.store.segment.epoch + 1)
   before_cut old cut core is cuts =
       let over = is.over cuts.can.over in
@@ -181,7 +181,7 @@ module _ {D : Type 0} where
         fresh = is.fresh;
       })
 
-  -- a step of a checkpoint that is under way still
+  -- a step of a checkpoint that is still under way
   pub stepped_in_order : (old : SystemValue D) (c d : CheckpointValue) (store : StoreValue D) → IsInOrder old → old.store.checkpoint ≡ Some c → store.checkpoint ≡ Some d → d.epoch ≡ c.epoch → IsInOrder (record old { store = store })
   stepped_in_order old c d store is there now epoch = record {
     out = is.out;

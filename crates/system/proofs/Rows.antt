@@ -1,4 +1,4 @@
--- The records of a row, and parts of what was applied.
+-- The records of an epoch log, and parts of what was applied.
 use Rattle.std.proofs.Common.{◌≡◌, ℕ, zero, suc, ◌+◌, ◌-◌, ◌≤◌, Bool, true, false, List, [], ◌∷◌, ◌++◌, length, take, drop, refl, sym, ap, subst, ◌∙◌, arith, append_assoc, length-append}
 use Rattle.std.specs.Prelude.{max, map, if◌then◌else◌}
 use Rattle.std.proofs.lemmas.List.{append-nil}
@@ -36,7 +36,7 @@ holds_as n m records other batch same_place same holds = subst (λ (k : ℕ). Ho
 pub holds_none : (n : ℕ) (records : List Record) → records ≡ [] → Holds n records empty_batch
 holds_none n records none = subst (λ (l : List Record). Holds n l empty_batch) (sym none) (record { counted = refl; text = refl })
 
--- no records may have any numbers
+-- an empty batch may be numbered from anywhere
 pub empty_holds : (n m : ℕ) (batch : BatchValue) → Holds n [] batch → Holds m [] batch
 empty_holds n m batch holds = record { counted = holds.counted; text = holds.text }
 
@@ -89,7 +89,7 @@ none_taken : (k : ℕ) → take k none_of_records ≡ none_of_records
 none_taken zero = refl
 none_taken (suc k) = refl
 
--- what stands before a place and behind another
+-- what stands before one place and after another
 pub drop_take : (m n : ℕ) (xs : List Record) → drop m (take (m + n) xs) ≡ take n (drop m xs)
 drop_take zero n xs = ap (λ (k : ℕ). take k xs) (omega arith)
 drop_take (suc m) n [] = ap (λ (l : List Record). drop (suc m) l) (none_taken (suc m + n)) ∙ sym (none_taken n)
@@ -99,7 +99,7 @@ drop_take (suc m) n (x ∷ xs) =
 
 -- A call is made.
 
--- What was applied has no more than a record more, and that waits.
+-- What was applied has at most one more record, and that one waits.
 pub record Grows (base : State) (opened earlier taken stored : ℕ) (applied : List Record) (older : ℕ) (before : BatchValue) (old new : KernelValue) (more : List Record) : Type 0 where
   pub within : length applied ≤ length more
   pub front : (k : ℕ) → k ≤ length applied → take k more ≡ take k applied

@@ -16,7 +16,7 @@ use Rattle.system.specs.declared.event.Outcome.{Outcome}
 use Rattle.system.proofs.Tickets.{none_fresh}
 
 module _ {D : Type 0} (honest : Type 0) (view : D → View) (base : State) where
-  -- A core that goes on from an opened store.
+  -- A core that continues from an opened store.
   pub first_stands : (kernel : State) (disk : D) (segment : Segment) → kernel ≡ base → Lawful base → Grounded base → (honest → IsKept (view disk) segment kernel)
       → StandsFor honest view base (first_world segment.epoch segment.records) (first_system kernel disk segment)
   first_stands kernel disk segment is lawful grounded kept = record {

@@ -1,4 +1,4 @@
--- What a core does is what the written world of events allows: calls, batches, receipts and replies.
+-- What a core does is what the abstract specification's world of events allows: calls, batches, receipts and replies.
 use Rattle.std.proofs.Common.{◌≡◌, ◌⊎◌, inl, inr, ℕ, ◌+◌, ◌-◌, ◌≤◌, ◌<◌, Bool, true, false, List, [], ◌∷◌, ◌++◌, length, take, drop, Option, None, Some, refl, sym, ap, subst, ◌∙◌, arith, length-append}
 use Rattle.std.specs.Prelude.{max, nat_lt, slice_get, ◌&&◌, if◌then◌else◌}
 use Rattle.std.proofs.lemmas.Bool.{cases_eq, le-ltb, lt-ltb}
@@ -58,7 +58,7 @@ module _ {D : Type 0} (honest : Type 0) (view : D → View) (base : State) where
   pub stored_within : (w : World) (system : SystemValue D) → StandsFor honest view base w system → w.stored ≤ length w.applied
   stored_within w system stands = omega (arith, (handed_within _ _ _ _ _ system.out system.receipt system.core.is_out stands.between).1, stands.counts.taken_within)
 
-  -- a stop that leaves the state after what is stored
+  -- a crash that leaves the state after what is stored
   pub from_stored : (w : World) (system : SystemValue D) → (stands : StandsFor honest view base w system) → (kept : KeepsStored view system.store base system.core.kernel w.stored w.earlier w.applied) → (c : Slots) → Recovered (as_written c) kept.state
       → StandsFrom base w.stored w c
   from_stored w system stands kept c recovered = (w.stored, omega arith, stored_within w system stands, (kept.state, kept.before, recovered))
@@ -69,7 +69,7 @@ module _ {D : Type 0} (honest : Type 0) (view : D → View) (base : State) where
   pub from_told : (w : World) (system : SystemValue D) → StandsFor honest view base w system → (c : Slots) → StandsFrom base w.stored w c → StandsFrom base (told w) w c
   from_told w system stands c from = from_less w w.stored (told w) c (told_least w system stands) from
 
-  -- a stop while nothing happens leaves no fewer than were told
+  -- a crash while nothing happens leaves no fewer records than were acknowledged
   pub left_stored : (w : World) (system : SystemValue D) → StandsFor honest view base w system → honest → (c : Slots) → MayLeave (view system.store.disk) c → StandsFrom base w.stored w c
   left_stored w system stands is_honest c may = elim w.failed as (λ (b : Bool). w.failed ≡ b → StandsFrom base w.stored w c) [
     | true ↦ λ (failed : _). stands.left is_honest failed c may
@@ -280,7 +280,7 @@ module _ {D : Type 0} (honest : Type 0) (view : D → View) (base : State) where
       let last : max w.taken w.earlier ≡ w.taken = omega (arith, past) in
       stands.waits.row_is.counted ∙ ap (λ (n : ℕ). length (drop n w.applied)) last ∙ drop_long w.taken w.applied
 
-  -- those of the row
+  -- those of the epoch log
   shows_take_row : (w : World) (old new : SystemValue D) (taken : TakenValue) → StandsFor honest view base w old → 0 < taken.batch.count → old.core.is_out ≡ false → old.core.older.count ≡ 0 → taken.epoch ≡ old.core.epoch → taken.batch ≡ old.core.row.waiting
       → new.core ≡ record old.core { row = record old.core.row { waiting = empty_batch }; is_out = true } → new ≡ record old { core = new.core; out = Some taken } → Shows w world.take_batch world.done old new
   shows_take_row w old new taken stands some none_out none_older epoch batch core rest =
@@ -466,7 +466,7 @@ module _ {D : Type 0} (honest : Type 0) (view : D → View) (base : State) where
 
   -- The store changes.
 
-  -- the device failed while nothing else changed; a stop until then leaves the stored records at least
+  -- the device failed while nothing else changed; a crash until then leaves at least the stored records
   pub shows_device : (w : World) (event : world.Event) (old new : SystemValue D) → StandsFor honest view base w old → w.failed ≡ false → After base w event (world.store fault.device) (record w { failed = true })
       → new ≡ record old { store = record old.store { disk = new.store.disk; failed = true } } → (honest → Passes (view old.store.disk) (view new.store.disk) (StandsFrom base w.stored w)) → Shows w event (world.store fault.device) old new
   shows_device w event old new stands unfailed after rest time = record {
@@ -494,7 +494,7 @@ module _ {D : Type 0} (honest : Type 0) (view : D → View) (base : State) where
     passes = λ is_honest. passes_as (view old.store.disk) (view new.store.disk) (StandsFrom base w.stored w) (StandsFrom base (told w) w) (time is_honest) (λ c from. from_told w old stands c from);
   }
 
-  -- the device failed in an earlier event, and so it answers
+  -- the device failed in an earlier event, and the event answers that
   pub shows_failed : (w : World) (event : world.Event) (old new : SystemValue D) → StandsFor honest view base w old → world.is_of_store event ≡ true → old.store.failed ≡ true → new ≡ old → Shows w event (world.store fault.failed) old new
   shows_failed w event old new stands of_store failed same =
       unmoved w event (world.store fault.failed) old new stands same ((λ i. (sym stands.failed ∙ failed) i && of_store i), refl)

@@ -1,4 +1,4 @@
--- What the storing of a batch that is out leaves of a core.
+-- How storing the batch that is out changes a core.
 use Rattle.std.proofs.Common.{◌≡◌, ◌⊎◌, inl, inr, ℕ, ◌+◌, ◌<◌, true, false, Option, None, Some, sym, ap, subst, ◌∙◌}
 use Rattle.codes.specs.declared.limits.TheConstants.{MAX_RECORDS}
 use Rattle.disk.specs.Moments.{View, IsSynced}
@@ -37,7 +37,7 @@ module _ {D : Type 0} (honest : Type 0) (view : D → View) (old : SystemValue D
     passes = passes;
   }
 
-  -- or of a fault, with which the batch came back
+  -- or how a fault changes it, with which the batch came back
   module _ (left : Option TakenValue) (back : BatchValue) (fault : StoreFault) (again : left ≡ Some (record { epoch = epoch; batch = back })) (same : back ≡ batch)
       (device : fault ≡ Device → (store.failed ≡ true) × (store.segment ≡ old.store.segment))
       (faults : (fault ≡ Device) ⊎ (((fault ≡ Failed) ⊎ (fault ≡ Full)) × (store ≡ old.store))) where

@@ -42,7 +42,7 @@ given_ticket old made new t is_made is_new =
     is_new ∙ ap (λ (m : TicketsValue). record { kept = finmap.insert m.kept m.given (Some t); given = m.given + 1 }) is_made
     ∙ ap (λ (k : FinMap nat_cmp (Option TicketValue)). record { kept = k; given = old.given + 1 }) (insert-insert old.kept old.given None (Some t))
 
--- a place that was made and given up
+-- a place that was made and removed again
 pub dropped_place : (old made new : TicketsValue) → made ≡ record { kept = finmap.insert old.kept old.given None; given = old.given } → new ≡ record { kept = finmap.remove made.kept made.given; given = made.given } → finmap.get old.kept old.given ≡ None
     → new ≡ old
 dropped_place old made new is_made is_new none =
@@ -52,7 +52,7 @@ dropped_place old made new is_made is_new none =
 pub err_same : {T E : Type 0} (r : Result T E) (a b : E) → r ≡ Err a → r ≡ Err b → a ≡ b
 err_same r a b one two = cc (one, two)
 
--- a place that was taken out had a ticket where one comes of it
+-- a place that was taken out had a ticket, if one comes from it
 pub taken_there : (o : Option (Option TicketValue)) (taken : Option TicketValue) → taken ≡ option_flatten o → IfSome taken (λ ticket. o ≡ Some (Some ticket))
 taken_there None taken is = subst (λ (t : Option TicketValue). IfSome t (λ ticket. None ≡ Some (Some ticket))) (sym is) tt
 taken_there (Some None) taken is = subst (λ (t : Option TicketValue). IfSome t (λ ticket. Some None ≡ Some (Some ticket))) (sym is) tt

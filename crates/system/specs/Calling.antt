@@ -1,4 +1,4 @@
--- A call whose five events come one after another, of a core in which nothing waits.
+-- A call whose five events come one after another, on a core in which nothing waits.
 use Rattle.std.specs.Prelude.{◌≡◌, ℕ, ◌+◌, ◌<◌, true, false, [], ◌∷◌, None, is_some, if◌then◌else◌}
 use Rattle.codes.specs.declared.limits.TheConstants.{MAX_RECORDS}
 use Rattle.disk.specs.Moments.{View, IsSynced}
@@ -13,8 +13,8 @@ use Rattle.system.specs.Changes.{FailsToStore, HandsIn, Stores, Takes}
 use Rattle.system.specs.Core.{SystemValue}
 use Rattle.system.specs.Halves.{entry_of}
 
--- Nothing waits: all records are stored, and their receipts were handed in. The segment in use is the epoch's, and the halves
--- agree whether a checkpoint is under way; the device didn't fail.
+-- Nothing waits: all records are stored, and their receipts were handed in. The segment in use is the epoch's, the
+-- halves agree whether a checkpoint is under way, and the device didn't fail.
 pub record IsResting {D : Type 0} (system : SystemValue D) : Type 0 where
   pub none_out : system.core.is_out ≡ false
   pub out : system.out ≡ None

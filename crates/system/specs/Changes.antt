@@ -40,7 +40,7 @@ module _ {D : Type 0} where
     pub synced : honest → IsSynced (view new.store.disk) (segment_slot old.store.segment.epoch)
     pub passes : honest → IsSynced (view old.store.disk) (segment_slot old.store.segment.epoch) → PassesAppend old.store.segment.epoch (view old.store.disk) (view new.store.disk) taken.batch
 
-  -- The device failed while it was stored: the batch is still out, and the store of no further use.
+  -- The device failed while it was stored: the batch is still out, and the store can't be used any more.
   pub record FailsToStore (honest : Type 0) (view : D → View) (old new : SystemValue D) : Type 0 where
     pub taken : TakenValue
     pub out : old.out ≡ Some taken
@@ -49,7 +49,7 @@ module _ {D : Type 0} where
     pub rest : new ≡ record old { store = record old.store { disk = new.store.disk; failed = true } }
     pub passes : honest → IsSynced (view old.store.disk) (segment_slot old.store.segment.epoch) → PassesAppend old.store.segment.epoch (view old.store.disk) (view new.store.disk) taken.batch
 
-  -- There is no room for the batch in its segment, and nothing changed.
+  -- The segment has no room for the batch, and nothing changed.
   pub record FindsFull (old new : SystemValue D) : Type 0 where
     pub taken : TakenValue
     pub out : old.out ≡ Some taken

@@ -28,14 +28,14 @@ use Rattle.system.specs.declared.event.Event.{Event}
 use Rattle.system.specs.declared.event.Outcome.{Outcome}
 use Rattle.system.specs.declared.event.Outcome.TheVariants as outcome
 
--- The tickets that weren't answered, by number, and how many were given. (A number whose ticket is still being made stands
--- for none.)
+-- The tickets that weren't answered, by number, and how many were given. (A number whose ticket is still being made has
+-- none.)
 pub record TicketsValue : Type 0 where
   pub kept : finmap.FinMap nat_cmp (Option TicketValue)
   pub given : ℕ
 
--- The two halves; what is between them: a batch that was taken or the receipt of so many records, the receipt of an epoch's
--- image, and whether this is older than the batch's; and the tickets.
+-- The two halves; what is between them: a batch that was taken, or the receipt of this many records, the receipt of an
+-- epoch's image, and whether that is older than the batch's; and the tickets.
 pub record SystemValue (D : Type 0) : Type 0 where
   pub core : KernelValue
   pub store : StoreValue D
@@ -45,7 +45,7 @@ pub record SystemValue (D : Type 0) : Type 0 where
   pub finished_first : Bool
   pub tickets : TicketsValue
 
--- A core that goes on from a state, on a disk with this segment in use, where all records are stored.
+-- A core that continues from a state, on a disk with this segment in use, where all records are stored.
 abbrev pub first_system : {D : Type 0} → State → D → Segment → SystemValue D
 first_system kernel disk segment = record {
   core = first_half kernel segment.epoch segment.records;
@@ -57,7 +57,7 @@ first_system kernel disk segment = record {
   tickets = record { kept = finmap.empty; given = 0 };
 }
 
--- What was applied: a run from the base to the core's state, of calls and replies that records can have.
+-- What was applied: a run from the base to the core's state, of calls and replies that records can hold.
 pub record IsApplied (base : State) (applied : List Record) (kernel : State) (made : ℕ) : Type 0 where
   pub run : Run base applied kernel
   pub fit : FitCalls applied
@@ -66,8 +66,9 @@ pub record IsApplied (base : State) (applied : List Record) (kernel : State) (ma
   pub lawful : Lawful base
   pub grounded : Grounded base
 
--- How many records there are: `all` were applied since the opening; of these `earlier` before this epoch, whose row began with
--- `opened` records. The row of the epoch before has `older` records, of which the last is the last of the earlier ones.
+-- How many records there are: `all` were applied since the opening; of these `earlier` before this epoch, whose log
+-- began with `opened` records. The log of the epoch before has `older` records, of which the last is the last of the
+-- earlier ones.
 pub record Counts (opened earlier taken stored all older row : ℕ) : Type 0 where
   pub earlier_within : earlier ≤ all
   pub taken_within : taken ≤ all
@@ -76,12 +77,12 @@ pub record Counts (opened earlier taken stored all older row : ℕ) : Type 0 whe
   pub older_within : stored < earlier → earlier ≤ older + stored
   pub older_room : stored < earlier → older ≤ MAX_RECORDS
 
--- The records that wait: those of the epoch before that aren't taken, and those of the row.
+-- The records that wait: those of the epoch before that aren't taken, and those of the epoch log.
 pub record Wait (opened earlier taken : ℕ) (applied : List Record) (older : ℕ) (before row : BatchValue) : Type 0 where
   pub before_is : Holds (older + taken - earlier) (drop taken (take earlier applied)) before
   pub row_is : Holds (opened + (max taken earlier - earlier)) (drop (max taken earlier) applied) row
 
--- a batch of so many records that follow the stored ones: of the epoch before, or of the row
+-- a batch of this many records that follow the stored ones: of the epoch before, or of the epoch log
 abbrev pub HasPlace : ℕ → ℕ → ℕ → ℕ → ℕ → List Record → ℕ → TakenValue → Type 0
 HasPlace epoch opened earlier stored older applied size taken =
     ((stored + size ≤ earlier) × (taken.epoch + 1 ≡ epoch) × Holds (older + stored - earlier) (take size (drop stored applied)) taken.batch)
@@ -115,7 +116,7 @@ Between batch taken stored handed place (Some out) None true = BatchBetween batc
 Between batch taken stored handed place None (Some size) true = ReceiptBetween batch taken stored handed size
 Between batch taken stored handed place _ _ _ = ⊥
 
--- the receipts that are out, the oldest first
+-- the receipts that are out, oldest first
 abbrev pub in_turn : Option ℕ → Option ℕ → Bool → List Receipt
 in_turn None None finished_first = []
 in_turn (Some size) None finished_first = of_append size ∷ []
@@ -177,16 +178,16 @@ pub record AreTickets (tickets : List Ticket) (handed : ℕ) (value : TicketsVal
   pub each : (n : ℕ) → finmap.get value.kept n ≡ kept_ticket (slice_get tickets n)
   pub seen : greatest_seen tickets ≤ handed
 
--- Slots that stand for the state after the first k of the calls that were applied.
+-- Slots that stand for the state after the first k calls that were applied.
 abbrev pub Stands : State → World → ℕ → Slots → Type 0
 Stands base world k c = (state : State) × Run base (take k world.applied) state × Recovered (as_written c) state
 
--- Slots that stand for the state after some first ones of the calls that were applied, so many at least.
+-- Slots that stand for the state after a prefix of the calls that were applied, of at least this length.
 abbrev pub StandsFrom : State → ℕ → World → Slots → Type 0
 StandsFrom base least world c = (k : ℕ) × (least ≤ k) × (k ≤ length world.applied) × Stands base world k c
 
--- A store that is kept with what is stored, in a state from which the rest of what was applied leads to the core's; a
--- checkpoint under way is made of the state after the earlier records.
+-- A store that is kept with what is stored, in a state from which the rest of what was applied leads to the core's. A
+-- checkpoint under way is of the state after the earlier records.
 pub record KeepsStored {D : Type 0} (view : D → View) (store : StoreValue D) (base kernel : State) (stored earlier : ℕ) (applied : List Record) : Type 0 where
   pub state : State
   pub before : Run base (take stored applied) state
@@ -195,13 +196,13 @@ pub record KeepsStored {D : Type 0} (view : D → View) (store : StoreValue D) (
   pub cut : Run base (take earlier applied) mid
   pub kept : Keeps (view store.disk) store.segment store.checkpoint mid state
 
--- The core stands for a world of events, where the store's records began from this base: its state is the one after all that
--- was applied, and its store is kept with what is stored.
+-- The core stands for a world of events, if the store's records began from this base: its state is the one after all
+-- that was applied, and its store is kept with what is stored.
 pub record StandsFor {D : Type 0} (honest : Type 0) (view : D → View) (base : State) (world : World) (system : SystemValue D) : Type 0 where
   pub epoch : world.epoch ≡ system.core.epoch
   pub applied : IsApplied base world.applied system.core.kernel system.core.row.made
   pub handed : system.core.handed ≡ world.handed
-  -- how many records the row of the epoch before has
+  -- how many records the log of the epoch before has
   pub older : ℕ
   pub counts : Counts world.opened world.earlier world.taken world.stored (length world.applied) older system.core.row.length
   pub waits : Wait world.opened world.earlier world.taken world.applied older system.core.older system.core.row.waiting
@@ -211,13 +212,13 @@ pub record StandsFor {D : Type 0} (honest : Type 0) (view : D → View) (base : 
   pub in_use : IsInUse world.epoch world.opened world.earlier world.stored older system.store.segment system.store.checkpoint
   pub tickets : AreTickets world.tickets world.handed system.tickets
   pub failed : system.store.failed ≡ world.failed
-  -- until the device fails, the store is kept; then, a stop leaves the state after the stored records at least
+  -- until the device fails, the store is kept; from then on, a crash leaves the state after at least the stored records
   pub kept : honest → world.failed ≡ false → KeepsStored view system.store base system.core.kernel world.stored world.earlier world.applied
   pub left : honest → world.failed ≡ true → (c : Slots) → MayLeave (view system.store.disk) c → StandsFrom base world.stored world c
 
--- One event: what it answered is what the written machine allows, with the world after it, for which the core stands then. A
--- stop at any moment of it leaves the state after some first ones of the calls that are applied after it, and no fewer than
--- were told before it; a stop after it, no fewer than were told after it.
+-- One event: what it answered is what the abstract specification allows, with the world after it, which the core then
+-- stands for. A crash at any moment of it leaves the state after a prefix of the calls that are applied after it, no
+-- shorter than what was acknowledged before it; a crash after it, no shorter than what was acknowledged after it.
 pub record Steps {D : Type 0} (honest : Type 0) (view : D → View) (base : State) (world : World) (event : Event) (answered : Outcome) (old new : SystemValue D) : Type 0 where
   pub kept : Reply
   pub next : World
@@ -231,19 +232,20 @@ abbrev pub Simulates : {D : Type 0} → Type 0 → (D → View) → Event → Ou
 Simulates honest view event answered old new =
     (base : State) (world : World) → StandsFor honest view base world old → Steps honest view base world event answered old new
 
--- the number of a ticket is how many were given before
+-- the number of a ticket is the count of those that were given before
 abbrev pub IsNumbered : {D : Type 0} → SystemValue D → Outcome → Type 0
 IsNumbered old (outcome.Ticket number) = number ≡ old.tickets.given
 IsNumbered old answered = Unit {0}
 
--- Slots that a stop may have left between two moments of an event, and at the last of these: those of the crash set of an event.
+-- Slots that a crash may have left between two moments of an event, and at the last of these: those of the crash set of
+-- an event.
 pub record AreBounded (base : State) (least_before least_after : ℕ) (next : World) (from until : ℕ) (last : View) : Type 0 where
   pub later : from ≤ until
   pub during : (k : ℕ) (c : Slots) → from < k → k ≤ until → last.left_at k c → StandsFrom base least_before next c
   pub after : (c : Slots) → last.left_at until c → StandsFrom base least_after next c
 
--- Events one after another, with what they answered. There are moments of the disk's clock, one before the events and one after
--- each of them, between which a stop leaves what it may leave within that event.
+-- Events one after another, with what they answered. There are moments of the disk's clock, one before the events and
+-- one after each of them, such that a crash between two of them leaves what it may leave within that event.
 abbrev pub Runs : Type 0 → State → World → List Event → List Outcome → ℕ → View → World → Type 0
 Runs honest base world [] [] from last end = (end ≡ world) × (honest → from ≡ last.moment)
 Runs honest base world (event ∷ events) (answered ∷ outcomes) from last end =

@@ -1,4 +1,5 @@
--- How the device's count of failures grows by an event or a call: by one where it tells that the device failed, else not at all.
+-- How the device's count of failures grows by an event or a call: by one where it reports that the device failed, else
+-- not at all.
 use Rattle.std.specs.Prelude.{ℕ, List, [], ◌∷◌, Result, Ok, Err}
 use Rattle.system.specs.declared.event.Outcome.{Outcome}
 use Rattle.system.specs.declared.event.Outcome.TheVariants as outcome
@@ -6,7 +7,7 @@ use Rattle.system.specs.declared.system.CallFault.{CallFault}
 use Rattle.system.specs.declared.system.CallFault.TheVariants.{Submit, Store}
 pub use Rattle.storing.specs.Counting.{counted, counted_fault}
 
--- the count after a call that was answered so
+-- the count after a call with this result
 abbrev pub counted_call : {T : Type 0} → Result T CallFault → ℕ → ℕ
 counted_call (Ok done) failures = failures
 counted_call (Err (Submit fault)) failures = failures

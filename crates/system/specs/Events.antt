@@ -1,4 +1,4 @@
--- The events and outcomes of a core, as the written machine has them.
+-- The events and outcomes of a core, as the abstract specification has them.
 use Rattle.ipc_model.specs.declared.call.Reply.{Reply}
 use Rattle.ipc_model.specs.store.Faults as fault
 use Rattle.ipc_model.specs.world.World as world

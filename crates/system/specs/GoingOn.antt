@@ -1,4 +1,4 @@
--- A checkpoint between the calls of a lone caller.
+-- A checkpoint between the calls of a single connection.
 use Rattle.std.specs.Prelude.{◌≡◌, ◌⊎◌, ℕ, ◌+◌, ◌-◌, ◌^◌, ◌<◌, ◌≤◌, true, false, Option, None, Some, is_some}
 use Rattle.disk.specs.Moments.{View}
 use Rattle.disk.specs.Slots.{Slots}
@@ -13,11 +13,11 @@ use Rattle.storing.specs.Values.{CheckpointValue, CutValue, StoreValue, begun}
 abbrev pub Recovers : State → Slots → Type 0
 Recovers state c = Recovered (as_written c) state
 
--- a store that is kept with this state, whatever state a checkpoint under way is made of
+-- a store that is kept with this state, whatever state a checkpoint under way is of
 abbrev pub IsStanding : {D : Type 0} → (D → View) → StoreValue D → State → Type 0
 IsStanding view store state = (mid : State) × Keeps (view store.disk) store.segment store.checkpoint mid state
 
--- Of a checkpoint nothing is done, and the segment in use holds the whole row of its epoch.
+-- No step of a checkpoint's rotation is done, and the segment in use holds the whole log of its epoch.
 pub record IsFirstStep {D : Type 0} (store : StoreValue D) : Type 0 where
   pub checkpoint : CheckpointValue
   pub under_way : store.checkpoint ≡ Some checkpoint
@@ -34,7 +34,7 @@ pub record IsRolledOver {D : Type 0} (old new : StoreValue D) : Type 0 where
   pub unfailed : new.failed ≡ false
 
 module _ {D : Type 0} (honest : Type 0) (view : D → View) where
-  -- The three steps of rolling came one after another: the next segment is in use.
+  -- The three steps of rotating came one after another: the next segment is in use.
   pub record RollsOver (old new : StoreValue D) : Type 0 where
     pub closed : StoreValue D
     pub headed : StoreValue D
@@ -42,7 +42,7 @@ module _ {D : Type 0} (honest : Type 0) (view : D → View) where
     pub heads : RollsHead honest view closed headed
     pub opens : RollsOpen honest view headed new
 
-  -- The next epoch began: a checkpoint is under way, whose image is of this state, and the next segment is in use.
+  -- The next epoch began: a checkpoint of this state is under way, and the next segment is in use.
   pub record BeginsNext (state : State) (old new : StoreValue D) : Type 0 where
     pub cut : CutValue
     pub epoch : cut.epoch ≡ old.segment.epoch + 1
@@ -50,18 +50,20 @@ module _ {D : Type 0} (honest : Type 0) (view : D → View) where
     pub image : IsImageOf cut.text state
     pub rolls : RollsOver (record old { checkpoint = Some (begun cut) }) new
 
-  -- What is done where no checkpoint is under way: the next epoch begins, where the segment in use has so many records and
-  -- there is a next one; else nothing changes.
+  -- What is done where no checkpoint is under way: the next epoch begins, if the segment in use has this many records
+  -- and there is a next epoch; otherwise nothing changes.
   abbrev pub GoesOnInEpoch : ℕ → State → StoreValue D → StoreValue D → Type 0
   GoesOnInEpoch records state old new =
       (((old.segment.records < records) ⊎ (2 ^ 64 - 1 ≤ old.segment.epoch)) × (new ≡ old))
       ⊎ ((records ≤ old.segment.records) × (old.segment.epoch < 2 ^ 64 - 1) × BeginsNext state old new)
 
-  -- What is done of an image that was closed: a piece is written where one is left, else it is finished.
+  -- What is done for an image whose slot was closed: a piece is written if one is left, else the image is finished if
+  -- it can be; otherwise nothing changes.
   abbrev pub GoesOnPieces : StoreValue D → StoreValue D → Type 0
   GoesOnPieces old new = WritesPiece honest view old new ⊎ (Finishes honest view old new ⊎ ((HasPieceLeft old.checkpoint → ⊥) × (CanFinish old.checkpoint → ⊥) × (new ≡ old)))
 
-  -- What is done where a checkpoint is under way: its image is closed, where that wasn't done, else goes on.
+  -- What is done where a checkpoint is under way: its image's slot is closed, if that wasn't done, else the image
+  -- continues.
   abbrev pub GoesOnImage : StoreValue D → StoreValue D → Type 0
   GoesOnImage old new = ClosesImage honest view old new ⊎ ((HasImaged old.checkpoint 0 → ⊥) × GoesOnPieces old new)
 
@@ -70,7 +72,7 @@ module _ {D : Type 0} (honest : Type 0) (view : D → View) where
   GoesOn records state None old new = GoesOnInEpoch records state old new
   GoesOn records state (Some checkpoint) old new = GoesOnImage old new
 
--- What is due between two calls takes memory: the state's copy, or its image.
+-- What is due between two calls allocates: the state's copy, or its image.
 abbrev pub TakesMemory : {D : Type 0} → ℕ → StoreValue D → Option CheckpointValue → Type 0
 TakesMemory records store None = (records ≤ store.segment.records) × (store.segment.epoch < 2 ^ 64 - 1)
 TakesMemory records store (Some checkpoint) = checkpoint.imaged ≡ 0

@@ -15,8 +15,8 @@ use Rattle.ipc_model.specs.texts.Texts.{kept_record, record_text, FitsCall, IsRe
 use Rattle.journal.specs.Batch.{BatchValue, batch_code, empty_batch, with_text}
 use Rattle.storing.specs.Values.{CutValue}
 
--- The row of an epoch: how many records it has, how many were made since the store was opened, in all epochs, and the ones
--- that wait to be taken, the row's last.
+-- The log of an epoch: how many records it has, how many were made since the store was opened, in all epochs, and the
+-- ones that wait to be taken, the log's last.
 pub record RowValue : Type 0 where
   pub length : ℕ
   pub made : ℕ
@@ -29,19 +29,19 @@ row_code =
 abbrev pub entry_of : ℕ → Call → Reply → Record
 entry_of space c answer = record { space = space; call = c; reply = answer }
 
--- a record more, which has the next number
+-- one more record, which has the next number
 abbrev pub with_record : RowValue → Record → RowValue
 with_record row entry = record { length = row.length + 1; made = row.made + 1; waiting = with_text row.waiting (record_text row.length entry) }
 
--- a row after a call that was answered so
+-- an epoch log after a call with this reply
 abbrev pub row_after : RowValue → ℕ → Call → Reply → RowValue
 row_after row space c answer = if has_record c answer then with_record row (entry_of space c answer) else row
 
--- A record was written into a row, and what is kept of it is one that a segment may hold.
+-- A record was added to an epoch log, and what is kept of it is one that a segment may hold.
 abbrev pub Wrote : RowValue → ℕ → Call → Reply → RowValue → Type 0
 Wrote old space c answer new = (new ≡ with_record old (entry_of space c answer)) × IsRecord (kept_record (entry_of space c answer))
 
--- the row of the next epoch, which has no record
+-- the log of the next epoch, which has no record
 abbrev pub next_row : RowValue → RowValue
 next_row row = record { length = 0; made = row.made; waiting = empty_batch }
 
@@ -63,9 +63,9 @@ pub record TakenValue : Type 0 where
 abbrev pub taken_code : Coded TakenValue
 taken_code = code_by (ℕ × BatchValue) (coded× coded_ℕ batch_code) (λ t. (t.epoch, t.batch)) (λ p. record { epoch = p.0; batch = p.1 }) (λ _. refl)
 
--- The half that makes calls: the state, its epoch, the records of the epoch before that wait to be taken, the epoch's row, how
--- many of the records that were made are stored, as receipts tell, whether a batch is out, and whether a checkpoint is under
--- way.
+-- The half that makes calls: the state, its epoch, the records of the epoch before that wait to be taken, the epoch
+-- log, how many of the records that were made are stored according to receipts, whether a batch is out, and whether a
+-- checkpoint is under way.
 pub record KernelValue : Type 0 where
   pub kernel : State
   pub epoch : ℕ
@@ -81,7 +81,7 @@ kernel_code =
     (λ k. (k.kernel, (k.epoch, (k.older, (k.row, (k.handed, (k.is_out, k.is_cut)))))))
     (λ p. record { kernel = p.0; epoch = p.1.0; older = p.1.1.0; row = p.1.1.1.0; handed = p.1.1.1.1.0; is_out = p.1.1.1.1.1.0; is_cut = p.1.1.1.1.1.1 }) (λ _. refl)
 
--- a half that goes on from a state in an epoch, whose row has so many records, all of which are stored
+-- a half that continues from a state in an epoch, whose log has this many records, all of which are stored
 abbrev pub first_half : State → ℕ → ℕ → KernelValue
 first_half kernel epoch records = record {
   kernel = kernel;
@@ -93,8 +93,8 @@ first_half kernel epoch records = record {
   is_cut = false;
 }
 
--- A call was made, and a ticket given: the reply is one of the machine's, the call's record stands in the row, if it has one,
--- and the ticket saw all records that were made.
+-- A call was made, and a ticket given: the reply is one of the machine's; the epoch log has the call's record, if there
+-- is one; and the ticket saw all records that were made.
 pub record Gives (old : KernelValue) (space : ℕ) (c : Call) (ticket : TicketValue) (new : KernelValue) : Type 0 where
   pub step : Step old.kernel space c ticket.answer new.kernel
   pub row : new.row ≡ row_after old.row space c ticket.answer
@@ -104,12 +104,13 @@ pub record Gives (old : KernelValue) (space : ℕ) (c : Call) (ticket : TicketVa
   pub kept : has_record c ticket.answer ≡ true → IsRecord (kept_record (entry_of space c ticket.answer))
   pub rest : new ≡ record old { kernel = new.kernel; row = new.row }
 
--- The row takes no more records, and a step of the call has one.
+-- The epoch log takes no more records, and a step of the call has one.
 abbrev pub IsFullFor : KernelValue → ℕ → Call → Type 0
 IsFullFor half space c =
     (MAX_RECORDS ≤ half.row.length) × ((answer : Reply) × (new : State) × Step half.kernel space c answer new × (has_record c answer ≡ true))
 
--- Records that waited are out as a batch: those of the epoch before, and where none of these is left, those of the row.
+-- Records that waited are out as a batch: those of the epoch before, and if none of these is left, those of the epoch
+-- log.
 pub record TakesBatch (old : KernelValue) (taken : TakenValue) (new : KernelValue) : Type 0 where
   pub some : 0 < taken.batch.count
   pub none_out : old.is_out ≡ false
@@ -121,7 +122,7 @@ pub record TakesBatch (old : KernelValue) (taken : TakenValue) (new : KernelValu
 abbrev pub CannotTake : KernelValue → Type 0
 CannotTake half = ((half.older.count ≡ 0) × (half.row.waiting.count ≡ 0)) ⊎ (half.is_out ≡ true)
 
--- the receipt of so many records was handed in
+-- the receipt of this many records was handed in
 abbrev pub with_receipt : KernelValue → ℕ → KernelValue
 with_receipt half count = record half { handed = half.handed + count; is_out = false }
 
@@ -131,7 +132,7 @@ pub record CanCut (half : KernelValue) : Type 0 where
   pub next : half.epoch < 2 ^ 64 - 1
   pub none_older : half.older.count ≡ 0
 
--- The next epoch began: the copy is the image of the state after the whole row.
+-- The next epoch began: the copy is the image of the state after the whole epoch log.
 pub record Cuts (old : KernelValue) (cut : CutValue) (new : KernelValue) : Type 0 where
   pub can : CanCut old
   pub epoch : cut.epoch ≡ old.epoch + 1

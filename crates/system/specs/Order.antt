@@ -1,11 +1,11 @@
--- What a core keeps to at any time.
+-- What holds of a core at any time.
 use Rattle.std.specs.Prelude.{◌≡◌, ℕ, ◌+◌, ◌<◌, ◌≤◌, Bool, true, false, Option, None, Some}
 use Rattle.std.specs.FinMap as finmap
 use Rattle.storing.specs.Values.{CheckpointValue}
 use Rattle.system.specs.Core.{SystemValue}
 use Rattle.system.specs.Halves.{TakenValue}
 
--- A batch is out from its taking until its receipt is handed in.
+-- A batch is out from when it is taken until its receipt is handed in.
 abbrev pub IsOut : Option TakenValue → Option ℕ → Bool → Type 0
 IsOut None None false = Unit {0}
 IsOut (Some taken) None true = 0 < taken.batch.count

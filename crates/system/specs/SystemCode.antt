@@ -1,4 +1,4 @@
--- A code of a core's values, by which proofs tell them apart.
+-- A code of a core's values, by which proofs distinguish them (ghost).
 use Rattle.std.specs.Prelude.{ℕ, Bool, Option, refl}
 use Rattle.std.specs.Coded.{Coded, code_by, coded×, coded_bool, coded_option, coded_ℕ}
 use Rattle.storing.specs.Values.{StoreValue, store_code}

@@ -1,4 +1,4 @@
--- A code of tickets, by which proofs tell them apart.
+-- A code of tickets, by which proofs distinguish them (ghost).
 use Rattle.std.specs.Prelude.{ℕ, Option, refl}
 use Rattle.std.specs.Ordering.{nat_cmp}
 use Rattle.std.specs.FinMap as finmap

@@ -11,9 +11,9 @@ use journal::StoreFault;
 use std::alloc::AllocError;
 
 impl<D: Disk> System<D> {
-    /// Begins the next epoch, with a copy of the state after all calls, and a checkpoint that makes it the epoch's image. Answers
-    /// whether it did: it doesn't until the receipt of the last checkpoint was handed in, and in the last epoch. Where memory
-    /// is wanted nothing changed.
+    /// Begins the next epoch, with a snapshot of the state after all calls, and a checkpoint that makes it the epoch's
+    /// image. Returns whether it did: it doesn't until the receipt of the last checkpoint was delivered, nor in the
+    /// last epoch. If an allocation fails, nothing changed.
     pub fn cut(&mut self) -> Result<bool, AllocError>
         ensures done { IfOk result (λ is_done. MatchBool is_done (BeginsEpoch self.old self.new) ((CanCut self.old.core → ⊥) × (self.new ≡ self.old))) }
         ensures err { OnErr result (CanCut self.old.core × (self.new ≡ self.old)) }
@@ -25,7 +25,7 @@ impl<D: Disk> System<D> {
         Ok(true)
     }
 
-    /// Closes the slot of the next segment. Answers whether that was the next step.
+    /// Closes the slot of the next segment. Returns whether that was the next step.
     ///
     /// `Failed`: the device failed in an earlier step, and nothing changed. `Device`: the device failed.
     pub fn roll_close(&mut self) -> Result<bool, StoreFault>
@@ -38,7 +38,8 @@ impl<D: Disk> System<D> {
         self.store.roll_close()
     }
 
-    /// Writes the header of the next segment. Answers whether that was the next step; its faults are those of `roll_close`.
+    /// Writes the header of the next segment. Returns whether that was the next step; its faults are those of
+    /// `roll_close`.
     pub fn roll_head(&mut self) -> Result<bool, StoreFault>
         ensures done { IfOk result (λ is_done. MatchBool is_done (RollsHead D.honest D.view self.old.store self.new.store)
             (IsNotNow self.old.store (IsRolled self.old.store.checkpoint 1) self.new.store)) }
@@ -49,8 +50,8 @@ impl<D: Disk> System<D> {
         self.store.roll_head()
     }
 
-    /// Opens the next segment. Answers whether that was the next step, and the segment in use holds its whole row; its faults
-    /// are those of `roll_close`.
+    /// Opens the next segment. Returns whether that was the next step, and the segment in use holds its whole epoch
+    /// log; its faults are those of `roll_close`.
     pub fn roll_open(&mut self) -> Result<bool, StoreFault>
         ensures done { IfOk result (λ is_done. MatchBool is_done (RollsOpen D.honest D.view self.old.store self.new.store)
             (IsNotNow self.old.store (CanOpen self.old.store self.old.store.checkpoint) self.new.store)) }
@@ -61,9 +62,9 @@ impl<D: Disk> System<D> {
         self.store.roll_open()
     }
 
-    /// Makes the next image in memory, and closes its slot. Answers whether that was the image's next step.
+    /// Makes the next image in memory, and closes its slot. Returns whether that was the image's next step.
     ///
-    /// `NoMemory`: a growth was refused, and nothing changed. Its other faults are those of `roll_close`.
+    /// `NoMemory`: an allocation failed, and nothing changed. Its other faults are those of `roll_close`.
     pub fn close_image(&mut self) -> Result<bool, StoreFault>
         ensures done { IfOk result (λ is_done. MatchBool is_done (ClosesImage D.honest D.view self.old.store self.new.store)
             (IsNotNow self.old.store (HasImaged self.old.store.checkpoint 0) self.new.store)) }
@@ -75,8 +76,8 @@ impl<D: Disk> System<D> {
         self.store.close_image(self.alloc)
     }
 
-    /// Writes the next piece of the image. Answers whether one was left and the image was closed; its faults are those of
-    /// `roll_close`.
+    /// Writes the next piece of the image. Returns whether one was left and the image was closed; its faults are those
+    /// of `roll_close`.
     pub fn write_piece(&mut self) -> Result<bool, StoreFault>
         ensures done { IfOk result (λ is_done. MatchBool is_done (WritesPiece D.honest D.view self.old.store self.new.store)
             (IsNotNow self.old.store (HasPieceLeft self.old.store.checkpoint) self.new.store)) }
@@ -87,8 +88,8 @@ impl<D: Disk> System<D> {
         self.store.write_piece()
     }
 
-    /// Finishes the image, whose receipt is out then. Answers whether all of it was written and the next segment is open; its
-    /// faults are those of `roll_close`.
+    /// Finishes the image, whose receipt is then out. Returns whether all of it was written and the next segment is
+    /// open; its faults are those of `roll_close`.
     pub fn finish(&mut self) -> Result<bool, StoreFault>
         ensures done { IfOk result (λ is_done. MatchBool is_done (FinishesImage D.honest D.view self.old self.new)
             ((self.old.store.failed ≡ false) × (CanFinish self.old.store.checkpoint → ⊥) × (self.new ≡ self.old))) }

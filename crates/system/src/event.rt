@@ -10,11 +10,11 @@ pub enum Event {
     Take,
     /// The batch is stored.
     Append,
-    /// The oldest receipt is handed in: of a batch that was stored, or of an image that was finished.
+    /// The oldest receipt is delivered: of a batch that was stored, or of an image that was finished.
     Durable,
     /// The reply that a ticket keeps is asked for.
     Reply { ticket: u64 },
-    /// The next epoch begins, with a copy of the state, and a checkpoint with it.
+    /// The next epoch begins, with a snapshot of the state, and a checkpoint with it.
     Cut,
     /// The slot of the next segment is closed.
     RollClose,
@@ -30,10 +30,10 @@ pub enum Event {
     Finish,
 }
 
-/// What an event answered.
+/// The answer to an event.
 #[derive(Drop)]
 pub enum Outcome {
-    /// The call was made. Its reply is told for the ticket of this number, once all that it saw is stored.
+    /// The call was made. The ticket with this number gives its reply, once all that it saw is stored.
     Ticket(u64),
     /// The ticket's reply.
     Reply(Reply),
@@ -41,10 +41,10 @@ pub enum Outcome {
     Done,
     /// It isn't possible now; nothing changed.
     NotNow,
-    /// The epoch's row takes no more records, and the call has one; nothing changed.
+    /// The epoch log takes no more records, and the call has one; nothing changed.
     EpochFull,
-    /// The store failed, or memory was wanted there, and then nothing changed.
+    /// The store failed; or it ran out of memory, and then nothing changed.
     Store(StoreFault),
-    /// A growth was refused; nothing changed.
+    /// An allocation failed; nothing changed.
     NoMemory,
 }

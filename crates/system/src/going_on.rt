@@ -1,4 +1,4 @@
-//! A checkpoint between the calls of a lone caller, where nothing waits.
+//! A checkpoint between the calls of a single caller, when nothing waits.
 ghost use Rattle.std.specs.Prelude.{◌≡◌, ◌⊎◌, ◌<◌, false, IfErr, OnOk};
 ghost use Rattle.disk.specs.Moments.{Passes};
 ghost use Rattle.ipc_model.specs.state.State.{State};
@@ -14,12 +14,12 @@ use disk::Disk;
 use journal::StoreFault;
 
 impl<D: Disk> System<D> {
-    /// What is done between two calls: where the segment in use has so many records and no checkpoint is under way, one is
-    /// begun and the next segment taken into use; else one step is done of the image that is being made. The state stays as it
-    /// is, at any moment of a stop too.
+    /// What is done between two calls. If the segment in use has at least `records` records and no checkpoint is under
+    /// way, one is begun and the next segment is taken into use; else one step is done of the image that is being made.
+    /// The state stays as it is, also if a crash comes at any moment.
     ///
-    /// `NoMemory`: memory is wanted for what is due, and nothing changed. `Device`: the device failed, and the core is of no
-    /// further use.
+    /// `NoMemory`: out of memory for what is due, and nothing changed. `Device`: the device failed, and the core is of
+    /// no further use.
     pub fn go_on(&mut self, records: u64) -> Result<(), StoreFault>
         requires { IsResting self.old }
         ensures goes { OnOk result (GoesOn D.honest D.view records self.old.core.kernel self.old.store.checkpoint self.old.store self.new.store) }
@@ -46,7 +46,7 @@ impl<D: Disk> System<D> {
         }
     }
 
-    /// The three steps of rolling, by which the next segment is taken into use.
+    /// The three steps of the rotation, by which the next segment is taken into use.
     fn roll(&mut self) -> Result<(), StoreFault>
         requires { IsFirstStep self.old.store }
         ensures rest { self.new ≡ record self.old { store = self.new.store } }
@@ -71,7 +71,7 @@ impl<D: Disk> System<D> {
         Ok(())
     }
 
-    /// One step of the image of a checkpoint under way: its closing, a piece, or, where all of it is written, its end. Its
+    /// One step of the image of a checkpoint under way: its closing, a piece, or its end if all of it is written. Its
     /// faults are those of `go_on`.
     fn go_on_image(&mut self) -> Result<(), StoreFault>
         requires { IsResting self.old }

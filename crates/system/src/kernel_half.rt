@@ -23,9 +23,9 @@ use waiting::Places;
 /// Why a call wasn't made. Nothing changed.
 #[derive(Clone, Copy, Debug, PartialEq, Eq)]
 pub enum SubmitFault {
-    /// A growth was refused.
+    /// An allocation failed.
     NoMemory = 1,
-    /// The epoch's row takes no more records, and a step of the call has one.
+    /// The epoch log takes no more records, and a step of the call has one.
     EpochFull = 2,
 }
 
@@ -40,22 +40,22 @@ impl From<AllocError> for SubmitFault {
     }
 }
 
-/// The half of the core that makes calls. It knows of the store what receipts tell.
+/// The half of the core that makes calls. It knows of the store only what receipts say.
 pub struct KernelHalf {
     kernel: Kernel,
     epoch: u64,
 
-    // The records of the epoch before that wait to be taken.
+    // The records of the previous epoch that wait to be taken.
     older: Batch,
     row: Row,
     handed: u64,
 
-    // The batch that takes the place of the one that is taken next; there is none while a batch is out.
+    // The batch that takes the place of the one that is taken next; `None` while a batch is out.
     spare: Option<Batch>,
     is_cut: bool,
 }
 
-// Written out, as proofs above then know one function, and not the parts.
+// Written out, so that proofs above know one function and not its parts.
 impl Drop for KernelHalf {
     fn drop(self) {
         let KernelHalf {
@@ -85,13 +85,13 @@ impl Model for KernelHalf {
 
     ghost view = { λ k. record { kernel = k.kernel; epoch = k.epoch; older = k.older; row = k.row; handed = k.handed; is_out = is_none k.spare; is_cut = k.is_cut } };
 
-    // There is an epoch before this one where records of it wait.
+    // If records of the previous epoch wait, this epoch isn't the first.
     ghost invariant = { λ k. (k.handed ≤ k.row.made) × (k.row.made < 2 ^ 64) × IfSome k.spare (λ batch. batch ≡ empty_batch)
         × (0 < k.older.count → 0 < k.epoch) };
 }
 
 impl KernelHalf {
-    /// Goes on from a state in an epoch, whose segment holds so many records. It takes no memory.
+    /// Continues from a state in an epoch whose segment holds `records` records. It takes no memory.
     pub fn new(alloc: Global, kernel: Kernel, epoch: u64, records: u64) -> Self
         ensures { result ≡ first_half kernel epoch records }
     {
@@ -106,7 +106,7 @@ impl KernelHalf {
         }
     }
 
-    /// How many records the epoch's row has.
+    /// How many records the epoch log has.
     pub fn row_length(&self) -> u64
         ensures { result ≡ self.now.row.length }
     {
@@ -134,14 +134,14 @@ impl KernelHalf {
         self.row.made()
     }
 
-    /// Makes a call of a task of this space. Its record, if it has one, waits then to be taken.
+    /// Makes a call of a task of this space. Its record, if it has one, then waits to be taken.
     pub fn submit(&mut self, space: u32, call: &Call) -> Result<Ticket, SubmitFault>
         ensures given { IfOk result (λ ticket. Gives self.old space call.now ticket self.new) }
         ensures full { IsErrOf result SubmitFault.EpochFull → IsFullFor self.old space call.now }
         ensures err { OnErr result (self.new ≡ self.old) }
     {
         call_in_range(call);
-        // No machine makes so many records.
+        // No machine makes this many records.
         if self.row.made() == u64::MAX {
             return Err(SubmitFault::NoMemory);
         }
@@ -153,10 +153,10 @@ impl KernelHalf {
         Ok(Ticket { reply, seen })
     }
 
-    /// Makes a call as `submit` does, beside a witness, who learns of its record, if it has one, before the call is kept. Where
-    /// the witness can't learn of it, that is answered as out of memory, and nothing changed.
+    /// Makes a call as `submit` does, together with a witness that learns of its record, if it has one, before the call
+    /// is committed. If the witness can't learn of it, the answer is out of memory, and nothing changed.
     ///
-    /// It names the places at which the call may have given one that waits something to do: no wake-up is lost.
+    /// It names the places at which the call may have given a waiting call something to do: no wake-up is lost.
     pub fn submit_beside<W: Witness>(
         &mut self,
         space: u32,
@@ -172,7 +172,7 @@ impl KernelHalf {
         ensures err { OnErr result.1 ((self.new ≡ self.old) × (result.0 ≡ witness)) }
     {
         places.clear();
-        // No machine makes so many records.
+        // No machine makes this many records.
         if self.row.made() == u64::MAX {
             return (witness, Err(SubmitFault::NoMemory));
         }
@@ -187,7 +187,7 @@ impl KernelHalf {
         }
     }
 
-    /// Makes a call whose record, if it has one, has room.
+    /// Makes a call; there is room for its record, if it has one.
     fn submit_with_room<W: Witness>(
         &mut self,
         space: u32,
@@ -235,7 +235,7 @@ impl KernelHalf {
         Ok(Ticket { reply, seen })
     }
 
-    /// Takes records that wait, as a batch of one epoch, the epoch before first. There is none while a batch is out, or where
+    /// Takes records that wait, as a batch of one epoch, the previous epoch's first. `None` while a batch is out, or if
     /// no record waits.
     pub fn take(&mut self) -> Option<Taken>
         ensures taken { IfSome result (λ taken. TakesBatch self.old taken self.new) }
@@ -265,8 +265,8 @@ impl KernelHalf {
         drop(self.spare.replace(receipt.into_empty()));
     }
 
-    /// Begins the next epoch, with a copy of the state after the whole row. There is none while a checkpoint is under way or
-    /// records of the epoch before wait, and in the last epoch. Where memory is wanted nothing changed.
+    /// Begins the next epoch, with a snapshot of the state after the whole epoch log. `None` while a checkpoint is
+    /// under way or records of the previous epoch wait, and in the last epoch. If an allocation fails, nothing changed.
     pub fn cut(&mut self, alloc: Global) -> Result<Option<Cut>, AllocError>
         ensures cut { IfOk result (λ cut. IfSome cut (λ cut. Cuts self.old cut self.new)) }
         ensures not_now { IfOk result (λ cut. IfNone cut ((CanCut self.old → ⊥) × (self.new ≡ self.old))) }
@@ -293,7 +293,7 @@ impl KernelHalf {
         self.is_cut = false;
     }
 
-    /// Whether all records that a ticket saw are stored, as far as receipts tell.
+    /// Whether all records that a ticket saw are stored, according to receipts.
     pub fn is_due(&self, ticket: &Ticket) -> bool
         ensures { MatchBool result (ticket.now.seen ≤ self.now.handed) (self.now.handed < ticket.now.seen) }
     {
@@ -313,8 +313,8 @@ impl KernelHalf {
     }
 }
 
-/// Makes a step of the machine. Its record, if it has one, is written into the row, and the witness learns of it, before it is
-/// kept.
+/// Makes a step of the machine. Its record, if it has one, is written into the epoch log, and the witness learns of it,
+/// before the step is committed.
 fn apply_beside<W: Witness>(
     kernel: &mut Kernel,
     row: &mut Row,

@@ -14,8 +14,8 @@ use record::{in_range, push_exchange};
 use std::alloc::{AllocError, Global};
 use std::marker::Model;
 
-/// The row of an epoch: the records that its segment holds or will hold. Of these it keeps the ones that wait to be
-/// taken, spelled as they are stored.
+/// An epoch log: the records that an epoch's segment holds or will hold. It keeps those that wait to be taken, encoded
+/// as they are stored.
 #[derive(Drop)]
 pub(crate) struct Row {
     alloc: Global,
@@ -25,7 +25,7 @@ pub(crate) struct Row {
     made: u64,
     waiting: Batch,
 
-    // Where the text of a record is made, whose room is used again.
+    // Where a record is encoded. Its room is used again.
     text: Vec<u8>,
 }
 
@@ -44,7 +44,7 @@ impl Model for Row {
 }
 
 impl Row {
-    /// The row of an epoch whose segment holds so many records. It takes no memory.
+    /// The log of an epoch whose segment holds `length` records. It takes no memory.
     pub(crate) fn new(alloc: Global, length: u64) -> Self
         ensures { result ≡ record { length = length; made = 0; waiting = empty_batch } }
     {
@@ -79,8 +79,8 @@ impl Row {
         self.waiting.count()
     }
 
-    /// Adds the record of a call that was answered so, and tells how many bytes its text has. Where memory is wanted nothing
-    /// changed.
+    /// Adds the record of a call with this reply, and returns how many bytes its encoding has. If an allocation fails,
+    /// nothing changed.
     pub(crate) fn push(
         &mut self,
         space: u32,
@@ -103,7 +103,7 @@ impl Row {
         Ok(self.text.len())
     }
 
-    /// Takes the last record out again, whose text has so many bytes and which waits.
+    /// Removes the last record, whose encoding has `size` bytes and which waits.
     pub(crate) fn remove_last(&mut self, size: usize)
         requires some { 0 < self.old.waiting.count }
         requires made { 0 < self.old.made }
@@ -115,7 +115,7 @@ impl Row {
         self.made -= 1;
     }
 
-    /// Takes the row out, and leaves one without records.
+    /// Takes the log out, and leaves an empty one.
     pub(crate) fn take_out(&mut self) -> Row
         ensures taken { result ≡ self.old }
         ensures left { self.new ≡ record { length = 0; made = 0; waiting = empty_batch } }
@@ -124,7 +124,7 @@ impl Row {
         std::mem::replace(self, empty)
     }
 
-    /// Takes the records that wait, and has an empty batch in their place.
+    /// Takes the records that wait, and puts an empty batch in their place.
     pub(crate) fn take(&mut self, empty: Batch) -> Batch
         requires { empty ≡ empty_batch }
         ensures taken { result ≡ self.old.waiting }
@@ -133,7 +133,7 @@ impl Row {
         std::mem::replace(&mut self.waiting, empty)
     }
 
-    /// Takes the records that wait, and becomes the row of the next epoch. It takes no memory.
+    /// Takes the records that wait, and becomes the next epoch's log. It takes no memory.
     pub(crate) fn end(&mut self) -> Batch
         ensures taken { result ≡ self.old.waiting }
         ensures left { self.new ≡ next_row self.old }

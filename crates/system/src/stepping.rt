@@ -13,10 +13,10 @@ use ipc_model::Call;
 use std::alloc::{AllocError, Global};
 
 impl<D: Disk> System<D> {
-    /// One event, which is one of the written world of events (`Simulates`): what it answers is what that allows, and the
-    /// core stands for the world after it. On an honest disk, a stop at any moment of it leaves the state after some first
-    /// ones of the calls that are applied after it, and no fewer than were told before it; a stop after it, no fewer than
-    /// were told after it.
+    /// One event, which is one of the specified events (`Simulates`): its answer is one that the specification allows,
+    /// and the core stands for the world after it. On an honest disk, a crash at any moment of it leaves the state
+    /// after a prefix of the calls that are applied after it, no fewer than were acknowledged before it; a crash after
+    /// it, no fewer than were acknowledged after it.
     pub fn step(&mut self, event: &Event) -> Outcome
         ensures steps { Simulates D.honest D.view event.now result self.old self.new }
         ensures number { IsNumbered self.old result }
@@ -38,7 +38,7 @@ impl<D: Disk> System<D> {
         }
     }
 
-    /// Events one after another (`RunsThrough`). Room for what they answer is made first: where memory is wanted, none of them
+    /// Events one after another (`RunsThrough`). Room for their answers is allocated first: if that fails, none of them
     /// was done.
     pub fn run(&mut self, alloc: Global, events: &[Event]) -> Result<Vec<Outcome>, AllocError>
         ensures runs { IfOk result (λ outcomes. (base : State) (world : World) → StandsFor D.honest D.view base world self.old

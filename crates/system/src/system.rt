@@ -21,7 +21,7 @@ use std::alloc::Global;
 use std::marker::Model;
 use storing::{Finished, Receipt, StoreHalf};
 
-/// Why a call of a lone caller wasn't answered.
+/// Why a call of a single caller wasn't answered.
 #[derive(Clone, Copy, Debug, PartialEq, Eq)]
 pub enum CallFault {
     /// It wasn't made, and nothing changed.
@@ -52,11 +52,11 @@ impl From<StoreFault> for CallFault {
     }
 }
 
-/// The core of the server, for one thread: the two halves, and what goes between them. A ticket is known by its number, the
-/// first by 0.
+/// The core of the server, for one thread: the two halves, and what goes between them. A ticket is known by its number;
+/// the first is 0.
 ///
-/// It keeps what waits: records that aren't taken, a batch or its receipt, the receipt of an image, and tickets that aren't
-/// answered. What was stored and answered it lets go.
+/// It keeps what waits: records that aren't taken, a batch or its receipt, the receipt of an image, and tickets that
+/// aren't answered. It drops what was stored and answered.
 pub struct System<D: Disk> {
     pub(crate) alloc: Global,
     pub(crate) core: KernelHalf,
@@ -65,12 +65,12 @@ pub struct System<D: Disk> {
     pub(crate) receipt: Option<Receipt>,
     pub(crate) finished: Option<Finished>,
 
-    // Whether the image's receipt is older than the batch's, where both are out.
+    // Whether the image's receipt is older than the batch's, if both are out.
     pub(crate) finished_first: bool,
     pub(crate) tickets: Tickets,
 }
 
-// Written out, as proofs above then know one function, and not the parts.
+// Written out, so that proofs above know one function and not its parts.
 impl<D: Disk + Drop> Drop for System<D> {
     fn drop(self) {
         let System {
@@ -107,7 +107,8 @@ impl<D: Disk> Model for System<D> {
 }
 
 impl<D: Disk> System<D> {
-    /// Goes on from an opened store. It takes no memory. Until an event, the core stands for the world in which none was.
+    /// Continues from an opened store. It takes no memory. Until an event, the core stands for the world in which there
+    /// was none.
     pub fn new(alloc: Global, opened: Opened<D>) -> Self
         ensures value { result ≡ first_system opened.kernel opened.disk opened.segment }
         ensures stands { StandsFor D.honest D.view opened.kernel (first_world opened.segment.epoch opened.segment.records) result }
@@ -148,15 +149,15 @@ impl<D: Disk> System<D> {
         store.into_disk()
     }
 
-    /// Makes a call of a task of this space, and gives the number of its ticket. Its record, if it has one, waits then to be
-    /// taken. With a fault nothing changed.
+    /// Makes a call of a task of this space, and returns the number of its ticket. Its record, if it has one, then
+    /// waits to be taken. At a fault, nothing changed.
     pub fn submit(&mut self, space: u32, call: &Call) -> Result<u64, SubmitFault>
         ensures number { IfOk result (λ number. number ≡ self.old.tickets.given) }
         ensures given { OnOk result (Submits self.old space call.now self.new) }
         ensures full { IsErrOf result SubmitFault.EpochFull → IsFullNow self.old space call.now }
         ensures err { OnErr result (self.new ≡ self.old) }
     {
-        // No machine gives so many tickets.
+        // No machine gives this many tickets.
         if self.tickets.given() == u64::MAX {
             return Err(SubmitFault::NoMemory);
         }
@@ -170,8 +171,8 @@ impl<D: Disk> System<D> {
         }
     }
 
-    /// Takes records that wait, as a batch of one epoch that is out until its receipt is handed in. Answers whether it did: it
-    /// doesn't where none waits or a batch is out.
+    /// Takes records that wait, as a batch of one epoch that is out until its receipt is delivered. Returns whether it
+    /// did: it doesn't if none waits or a batch is out.
     pub fn take(&mut self) -> bool
         ensures taken { MatchBool result (Takes self.old self.new) (CannotTake self.old.core × (self.new ≡ self.old)) }
     {
@@ -184,12 +185,12 @@ impl<D: Disk> System<D> {
         }
     }
 
-    /// Stores the batch that is out: all of it or nothing. Answers whether there was one that the segment in use takes. It takes
-    /// no memory.
+    /// Stores the batch that is out: all of it or nothing. Returns whether there was one that the segment in use takes.
+    /// It takes no memory.
     ///
-    /// `Device`: the device failed, and whether the batch is stored isn't known until the store is opened again. `Failed`: it
-    /// failed before; nothing changed. `Full`: the segment has no room for it, and nothing changed; that never comes in a world
-    /// of events (`Simulates`). No other fault comes.
+    /// `Device`: the device failed, and whether the batch is stored isn't known until the store is opened again.
+    /// `Failed`: it failed before; nothing changed. `Full`: the segment has no room for it, and nothing changed; that
+    /// never comes in a world of events (`Simulates`). No other fault comes.
     pub fn append(&mut self) -> Result<bool, StoreFault>
         ensures done { IfOk result (λ is_stored. MatchBool is_stored (Stores D.honest D.view self.old self.new)
             (CannotAppend self.old × (self.old.store.failed ≡ false) × (self.new ≡ self.old))) }
@@ -221,7 +222,8 @@ impl<D: Disk> System<D> {
         }
     }
 
-    /// Hands the oldest receipt in: of a batch that was stored, or of an image that was finished. Answers whether there was one.
+    /// Delivers the oldest receipt: of a batch that was stored, or of an image that was finished. Returns whether there
+    /// was one.
     pub fn durable(&mut self) -> bool
         ensures { MatchBool result (HandsIn self.old self.new) ((self.old.receipt ≡ None) × (self.old.finished ≡ None) × (self.new ≡ self.old)) }
     {
@@ -240,7 +242,7 @@ impl<D: Disk> System<D> {
         }
     }
 
-    /// The reply that a ticket keeps, where all that it saw is stored; it is given once.
+    /// The reply that a ticket keeps, if all that it saw is stored; it is given once.
     pub fn reply(&mut self, number: u64) -> Option<Reply>
         ensures answered { IfSome result (λ answer. Answers self.old number answer self.new) }
         ensures frame { IfSome result (λ answer. length (reply_text answer) ≤ MAX_FRAME_CONTENT) }
@@ -253,11 +255,11 @@ impl<D: Disk> System<D> {
         Some(ticket.into_reply())
     }
 
-    /// Makes a call of a task of this space, where nothing waits: its record, if it has one, is taken and stored, and the
-    /// receipt handed in, before it is answered. With a fault of the submit nothing changed.
+    /// Makes a call of a task of this space while nothing waits: its record, if it has one, is taken and stored, and
+    /// the receipt delivered, before it is answered. At a fault of the submit, nothing changed.
     ///
-    /// Of the store's faults only `Device` comes: whether the record is stored isn't known then until the store is opened
-    /// again.
+    /// Of the store's faults only `Device` comes: then it isn't known whether the record is stored until the store is
+    /// opened again.
     pub fn call(&mut self, space: u32, call: &Call) -> Result<Reply, CallFault>
         requires { IsResting self.old }
         ensures answered { IfOk result (λ answer. Calls D.honest D.view self.old space call.now answer self.new) }
@@ -274,7 +276,7 @@ impl<D: Disk> System<D> {
         Ok(reply)
     }
 
-    /// Takes the records that wait, stores them, and hands their receipt in.
+    /// Takes the records that wait, stores them, and delivers their receipt.
     fn store_waiting(&mut self) -> Result<(), StoreFault>
         requires out { self.old.core.is_out ≡ false }
         requires none_older { self.old.core.older.count ≡ 0 }
@@ -299,7 +301,7 @@ impl<D: Disk> System<D> {
         Ok(())
     }
 
-    /// Whether there is a ticket of this number, and all that it saw is stored.
+    /// Whether there is a ticket with this number, and all that it saw is stored.
     fn is_due(&self, number: u64) -> bool
         ensures { MatchBool result
             ((ticket : TicketValue) × (map.get self.now.tickets.kept number ≡ Some (Some ticket)) × (ticket.seen ≤ self.now.core.handed))

@@ -13,7 +13,7 @@ use number_map::NumberMap;
 use std::alloc::{AllocError, Global};
 use std::marker::Model;
 
-/// What a call was answered, to be told once all records that it saw are stored. It can't be copied.
+/// What a call was answered, to be given out once all records that it saw are stored. It can't be copied.
 #[derive(Drop)]
 pub struct Ticket {
     pub(crate) reply: Reply,
@@ -45,7 +45,7 @@ impl Ticket {
         self.seen
     }
 
-    /// Whether the call was done: its code is 0.
+    /// Whether the call was done, which is code 0.
     pub fn is_success(&self) -> bool
         ensures { (call : Call) → result ≡ succeeded call self.now.answer }
     {
@@ -71,8 +71,8 @@ impl Ticket {
     }
 }
 
-/// The tickets that weren't answered, by number, and how many were given. The next one's place is made before its call is,
-/// so that keeping it takes no memory.
+/// The tickets that weren't answered, by number, and how many were given. The next ticket's place is made before its
+/// call is made, so that storing the ticket takes no memory.
 #[derive(Drop)]
 pub(crate) struct Tickets {
     kept: NumberMap<Option<Ticket>>,
@@ -108,7 +108,7 @@ impl Tickets {
         self.given
     }
 
-    /// Makes the place of the next ticket. Where memory is wanted nothing changed.
+    /// Makes the place of the next ticket. If an allocation fails, nothing changed.
     pub(crate) fn make_place(&mut self) -> Result<(), AllocError>
         ensures ok { OnOk result (self.new ≡ record { kept = map.insert self.old.kept self.old.given None; given = self.old.given }) }
         ensures err { OnErr result (self.new ≡ self.old) }
@@ -124,7 +124,7 @@ impl Tickets {
         drop(self.kept.remove(u128::from(self.given)));
     }
 
-    /// Keeps the next ticket in its place, and gives its number.
+    /// Puts the next ticket in its place, and returns its number.
     pub(crate) fn give(&mut self, ticket: Ticket) -> u64
         requires place { IsSome (map.get self.old.kept self.old.given) }
         requires more { self.old.given < 2 ^ 64 - 1 }
@@ -137,7 +137,7 @@ impl Tickets {
         number
     }
 
-    /// The ticket of a number.
+    /// The ticket with a number.
     pub(crate) fn get(&self, number: u64) -> Option<&Ticket>
         ensures there { IfSome result (λ ticket. map.get self.now.kept number ≡ Some (Some ticket.now)) }
         ensures none { IfNone result ((ticket : TicketValue) → map.get self.now.kept number ≡ Some (Some ticket) → ⊥) }
@@ -148,7 +148,7 @@ impl Tickets {
         }
     }
 
-    /// Takes the ticket of a number out.
+    /// Removes the ticket with a number, and returns it.
     pub(crate) fn take(&mut self, number: u64) -> Option<Ticket>
         ensures there { IfSome result (λ ticket. map.get self.old.kept number ≡ Some (Some ticket)) }
         ensures none { IfNone result ((ticket : TicketValue) → map.get self.old.kept number ≡ Some (Some ticket) → ⊥) }
@@ -158,7 +158,7 @@ impl Tickets {
     }
 }
 
-/// Keeps a ticket in the place that was made for it.
+/// Puts a ticket in the place that was made for it.
 fn keep_ticket(tickets: &mut NumberMap<Option<Ticket>>, number: u64, ticket: Ticket)
     requires { IsSome (map.get tickets.old number) }
     ensures { tickets.new ≡ map.insert tickets.old number (Some ticket) }

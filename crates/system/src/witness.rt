@@ -7,18 +7,18 @@ use ipc_model::{Call, Reply};
 use phases::Recorder;
 use std::alloc::AllocError;
 
-/// Who learns of the record of a call before the call is kept.
+/// Learns of the record of a call before the call is committed.
 pub trait Witness {
-    /// What it is after it learned of a call of a task of this space that was answered so.
+    /// What it is after it learned of a call of a task of this space with this reply.
     ghost learned: { Self → ℕ → Call → Reply → Self → Type 0 };
 
-    /// Learns of a record. Where it can't, nothing changed, and the call isn't made.
+    /// Learns of a record. If it can't, nothing changed, and the call isn't made.
     fn learn(&mut self, space: u32, call: &Call, reply: &Reply) -> Result<(), AllocError>
         ensures ok { OnOk result (learned self.old space call.now reply.now self.new) }
         ensures err { OnErr result (self.new ≡ self.old) };
 }
 
-/// A row beside a witness: a record is written into both or into none.
+/// An epoch log together with a witness: a record is written to both or to neither.
 #[derive(Drop)]
 pub(crate) struct Witnessed<W: Witness> {
     pub(crate) row: Row,

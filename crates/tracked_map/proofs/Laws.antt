@@ -1,4 +1,4 @@
--- Laws of maps whose changes are kept or given up.
+-- Laws of maps whose changes are committed or rolled back.
 use Rattle.std.proofs.Common.{◌≡◌, ℕ, zero, suc, ◌+◌, ◌-◌, ◌≤◌, ◌<◌, Bool, true, false, cond, nat_lt, ◌||◌, List, [], ◌∷◌, ◌++◌, length, Option, None, Some, MatchOption, is_some, refl, sym, ◌∙◌, ap, subst, arith}
 use Rattle.std.specs.Cmp.{nat_cmp_total, eq_by_cmp_equiv}
 use Rattle.std.proofs.lemmas.Bool.{ltb-false, ltb-true}
@@ -51,8 +51,8 @@ last_false : (a : Bool) → (a || false) ≡ true → a ≡ true
 last_false true e = refl
 last_false false e = e
 
--- what fits is short of what doesn't
--- a key behind others
+-- what fits is below what doesn't
+-- a key after others
 in_append : (q k : ℕ) (keys : List ℕ) → is_in q (keys ++ k ∷ []) ≡ (is_in q keys || (eq_by_cmp nat_cmp q k || false))
 in_append q k [] = refl
 in_append q k (n ∷ keys) = elim (eq_by_cmp nat_cmp q n) as (λ (b : Bool). (b || is_in q (keys ++ k ∷ [])) ≡ ((b || is_in q keys) || (eq_by_cmp nat_cmp q k || false))) [ true ↦ refl | false ↦ in_append q k keys ]
@@ -123,7 +123,7 @@ module _ {X : Type 0} where
     | suc n ↦ λ (_ : _). omega arith
   ] refl
 
-  -- a value put, or removed, and what was there noted
+  -- a value is put, or removed, and what was there is noted
   pub record IsPut (slots next : FinMap {K = ℕ} nat_cmp (Option X)) (former longer : List (ℕ × Option X)) (key : ℕ) (value before : Option X) (n : ℕ) (had has : Bool) : Type 0 where
     pub shows : shown next ≡ put (shown slots) key value
     pub unwound : over (shown next) longer ≡ over (shown slots) former
@@ -150,7 +150,7 @@ module _ {X : Type 0} where
         counts = counts;
       }
 
-  -- a key noted last
+  -- a key that is noted last
   noted_key : (q key : ℕ) (former : List (ℕ × Option X)) (before : Option X) → is_among q (former ++ (key, before) ∷ []) ≡ (is_among q former || (eq_by_cmp nat_cmp q key || false))
   noted_key q key former before = among_append q former ((key, before) ∷ [])
 
@@ -382,14 +382,14 @@ module _ {X : Type 0} where
         goes_before m from key slot all rest is goes,
       )
 
-  -- nor behind the last
+  -- nor after the last
   pub goes_out : (m : FinMap {K = ℕ} nat_cmp X) (from key : ℕ) (all : List (ℕ × Option X)) → all ≡ [] → Goes m from all → from ≤ key → get m key ≡ None
   goes_out m from key all none goes le =
       let left : IsFrom goes.slots goes.at [] = subst (IsFrom goes.slots goes.at) none goes.left in
       same_passed _ _ from (key + 1) goes.seen (passed_more goes.slots from goes.at (key + 1) (same_passed _ _ from goes.at (sym goes.seen) goes.passed) (λ q from_on _. left q from_on)) key le (omega arith)
 
 module _ {X : Type 0} where
-  -- where there are as many values as slots, no slot is without one
+  -- if there are as many values as slots, no slot is without one
   pub none_marked : (slots : FinMap {K = ℕ} nat_cmp (Option X)) (n : ℕ) → len slots ≡ n → n ≡ len (shown slots) → AreMarked slots []
   none_marked slots n as_many counted key is =
       let gone : len (remove slots key) ≡ len slots - 1 = len-remove nat_cmp_total slots key ∙ ap (λ (o : Option (Option X)). len_after (len slots) (is_some o) false) is in
@@ -402,7 +402,7 @@ pub taken_out : {X : Type 0} (slots : FinMap {K = ℕ} nat_cmp (Option X)) (key 
 taken_out slots key slot left None there was gone = ap (insert slots key) gone ∙ set_again slots key None (there ∙ ap Some (sym was))
 taken_out slots key slot left (Some value) there was gone = ap (insert slots key) gone
 
--- where a slot has no value, none is removed
+-- if a slot has no value, none is removed
 pub none_removed : {X : Type 0} (slots : FinMap {K = ℕ} nat_cmp (Option X)) (key : ℕ) → option_flatten (get slots key) ≡ None → remove (shown slots) key ≡ shown slots
 none_removed slots key none = without_none (shown slots) key (get_shown slots key ∙ none)
 
@@ -427,7 +427,7 @@ module _ {X : Type 0} where
       left q true is = absurd (cc is)
       left q false is = removed.all q is
 
-  -- a key more
+  -- one more key
   pub more_removed : (slots next : FinMap {K = ℕ} nat_cmp (Option X)) (keys longer : List ℕ) (key : ℕ) → next ≡ insert slots key None → longer ≡ keys ++ key ∷ [] → AreRemoved slots keys → AreRemoved next longer
   more_removed slots next keys longer key at is removed = subst (λ m. AreRemoved m longer) (sym at) (subst (AreRemoved (insert slots key None)) (sym is) (record {
     each = λ q among. get-insert nat_cmp_total slots key None q ∙ kept q (eq_by_cmp nat_cmp q key) (sym (in_append q key keys) ∙ among);

@@ -1,4 +1,5 @@
--- Slots of what changes by itself: in each, what stood there when the changes were last kept or given up, and what stands there.
+-- Slots of values that change independently: each holds the value as of the last commit or rollback, and the current
+-- one.
 use Rattle.std.proofs.Common.{◌≡◌, ℕ, cond, true, false, Bool, List, [], ◌∷◌, map, Option, None, Some, option_and_then, refl, sym, ◌∙◌, ap}
 use Rattle.std.specs.Cmp.{nat_cmp_total}
 use Rattle.std.specs.Ordering.{nat_cmp, eq_by_cmp}

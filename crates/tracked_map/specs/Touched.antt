@@ -1,4 +1,5 @@
--- Slots of which only the touched ones have changed: they alone are looked at when changes are kept or given up.
+-- Slots of which only the touched ones have changed: only these are looked at when changes are committed or rolled
+-- back.
 use Rattle.std.proofs.Common.{◌≡◌, ℕ, Bool, true, false, cond, ◌||◌, List, [], ◌∷◌, ◌++◌, length, Option, None, Some, is_some, option_and_then, refl, sym, ◌∙◌, ap, arith}
 use Rattle.std.specs.Cmp.{nat_cmp_total, eq_by_cmp_equiv}
 use Rattle.std.specs.declared.cmp.Ordering.{Ordering}
@@ -37,12 +38,12 @@ some_is : {Y : Type 0} (a b : Y) → Some a ≡ Some b → a ≡ b
 some_is a b e = cc e
 
 module _ {X Y : Type 0} where
-  -- what stood in a slot that isn't touched stands there still, and each such slot is in use
+  -- what stood in an untouched slot still stands there, and each such slot is in use
   abbrev pub AreTouched : (Y → Option X) → (Y → Option X) → FinMap {K = ℕ} nat_cmp Y → List ℕ → Type 0
   AreTouched before current slots touched =
       (key : ℕ) (slot : Y) → get slots key ≡ Some slot → is_touched key touched ≡ false → (before slot ≡ current slot) × (is_some (current slot) ≡ true)
 
-  -- a slot made to hold what a look at it gives, or removed where that is nothing
+  -- a slot made to hold what a look at it gives, or removed if that is nothing
   abbrev pub turned : (Y → Option X) → (Y → Y) → FinMap {K = ℕ} nat_cmp Y → ℕ → FinMap {K = ℕ} nat_cmp Y
   turned look turn slots key = elim (get slots key) as (λ _. FinMap {K = ℕ} nat_cmp Y) [
     | None ↦ slots
@@ -68,7 +69,7 @@ module _ {X Y : Type 0} where
         same_key : (k : ℕ) → eq_by_cmp nat_cmp k k ≡ true
         same_key k = (eq_by_cmp_equiv nat_cmp_total).refl k
 
-    -- a slot changed whose key is touched
+    -- a slot is changed whose key is touched
     pub put_touched : (slots : FinMap {K = ℕ} nat_cmp Y) (touched : List ℕ) (key : ℕ) (slot : Y) → is_touched key touched ≡ true → AreTouched before current slots touched → AreTouched before current (insert slots key slot) touched
     put_touched slots touched key slot is are q other at off = go (eq_by_cmp nat_cmp q key) refl (sym (get-insert nat_cmp_total slots key slot q) ∙ at)
       where
@@ -76,15 +77,15 @@ module _ {X Y : Type 0} where
         go true same _ = absurd (cc (sym is ∙ ap (λ (k : ℕ). is_touched k touched) (sym (key_same q key same)) ∙ off))
         go false _ there = are q other there off
 
-    -- the same the other way round
+    -- the same with the two looks exchanged
     pub exchanged : (slots : FinMap {K = ℕ} nat_cmp Y) (touched : List ℕ) → AreTouched before current slots touched → AreTouched current before slots touched
     exchanged slots touched are key slot at off = let both = are key slot at off in (sym both.0, ap is_some both.0 ∙ both.1)
 
-    -- nothing is touched: what stood there stands there
+    -- nothing is touched: what stood there still stands there
     pub all_alike : (slots : FinMap {K = ℕ} nat_cmp Y) → AreTouched before current slots [] → picked before slots ≡ picked current slots
     all_alike slots are = picked_alike before current slots (λ key slot at. (are key slot at refl).0)
 
-  -- Slots are turned to what one look gives, the other following it.
+  -- Slots are turned to what one look gives, and the other look then gives the same.
   module _ (look other : Y → Option X) (turn : Y → Y) (looks : (y : Y) → look (turn y) ≡ look y) (follows : (y : Y) → other (turn y) ≡ look y) where
     get_turned : (slots : FinMap {K = ℕ} nat_cmp Y) (key q : ℕ) (o : Option Y) → get slots key ≡ o
         → get (turned look turn slots key) q ≡ cond (eq_by_cmp nat_cmp q key) (option_and_then (λ (y : Y). cond (is_some (look y)) (Some (turn y)) None) o) (get slots q)

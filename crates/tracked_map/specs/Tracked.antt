@@ -1,10 +1,10 @@
--- Maps whose changes are kept or given up.
+-- Maps whose changes are committed or rolled back.
 use Rattle.std.specs.Prelude.{ℕ, Bool, true, false, ◌≡◌, ◌||◌, List, [], ◌∷◌, Option, None, Some, is_some, if◌then◌else◌, ◌+◌, ◌-◌, refl}
 use Rattle.std.specs.Ordering.{nat_cmp, eq_by_cmp}
 use Rattle.std.specs.FinMap.{FinMap, code, empty, entries, get, insert, remove, len}
 use Rattle.std.specs.Coded.{Coded, code_by, coded×, coded_ℕ}
 
--- a map as it was when its changes were last kept or given up, and as it is
+-- a map as of the last commit or rollback, and the current one
 pub record Tracked (X : Type 0) : Type 0 where
   pub before : FinMap {K = ℕ} nat_cmp X
   pub current : FinMap {K = ℕ} nat_cmp X
@@ -14,7 +14,7 @@ tracked_code {X} c =
     code_by (FinMap {K = ℕ} nat_cmp X × FinMap {K = ℕ} nat_cmp X) (coded× (code coded_ℕ c) (code coded_ℕ c))
     (λ t. (t.before, t.current)) (λ p. record { before = p.0; current = p.1 }) (λ _. refl)
 
--- a map without changes to keep or to give up
+-- a map without changes to commit or roll back
 abbrev pub at_rest : {X : Type 0} → FinMap {K = ℕ} nat_cmp X → Tracked X
 at_rest m = record { before = m; current = m }
 
@@ -23,11 +23,11 @@ abbrev pub put : {X : Type 0} → FinMap {K = ℕ} nat_cmp X → ℕ → Option 
 put m key None = remove m key
 put m key (Some value) = insert m key value
 
--- how many values there are once a key that had one or hadn't has one or hasn't
+-- how many values there are after a change of one key, by whether it had a value and whether it has one
 abbrev pub len_after : ℕ → Bool → Bool → ℕ
 len_after n had has = if had then (if has then n else n - 1) else (if has then n + 1 else n)
 
--- a map with these put over it, the last first
+-- a map with these put into it, the last one first
 unfoldable pub over : {X : Type 0} → FinMap {K = ℕ} nat_cmp X → List (ℕ × Option X) → FinMap {K = ℕ} nat_cmp X
 over m [] = m
 over m (e ∷ es) = put (over m es) e.0 e.1
@@ -44,7 +44,7 @@ is_among key (e ∷ es) = eq_by_cmp nat_cmp key e.0 || is_among key es
 abbrev pub HasSlots : {X : Type 0} → FinMap {K = ℕ} nat_cmp (Option X) → List (ℕ × Option X) → Type 0
 HasSlots slots former = (key : ℕ) → is_among key former ≡ true → is_some (get slots key) ≡ true
 
--- each slot without a value is one of these
+-- each slot without a value has one of these keys
 abbrev pub AreMarked : {X : Type 0} → FinMap {K = ℕ} nat_cmp (Option X) → List (ℕ × Option X) → Type 0
 AreMarked slots former = (key : ℕ) → get slots key ≡ Some None → is_among key former ≡ true
 
@@ -63,14 +63,15 @@ pub record AreRemoved {X : Type 0} (slots : FinMap {K = ℕ} nat_cmp (Option X))
   pub each : (key : ℕ) → is_in key keys ≡ true → get slots key ≡ Some None
   pub all : (key : ℕ) → get slots key ≡ Some None → is_in key keys ≡ true
 
--- a slot without a value removed
+-- removes a slot without a value
 abbrev pub unmarked : {X : Type 0} → FinMap {K = ℕ} nat_cmp (Option X) → ℕ → FinMap {K = ℕ} nat_cmp (Option X)
 unmarked {X} slots key = elim (get slots key) as (λ _. FinMap {K = ℕ} nat_cmp (Option X)) [
   | None ↦ slots
   | Some value ↦ elim value as (λ _. FinMap {K = ℕ} nat_cmp (Option X)) [ None ↦ remove slots key | Some there ↦ slots ]
 ]
 
--- Each key whose value was replaced has a slot, each slot without a value is one of these, and the values are counted.
+-- Each key whose value was replaced has a slot, each slot without a value has one of these keys, and the values are
+-- counted.
 pub record IsSound {X : Type 0} (slots : FinMap {K = ℕ} nat_cmp (Option X)) (former : List (ℕ × Option X)) (count count_before : ℕ) : Type 0 where
   pub kept : HasSlots slots former
   pub marked : AreMarked slots former

@@ -1,4 +1,4 @@
-//! A map from numbers to values whose changes are kept or given up. Neither takes memory.
+//! A map from numbers to values whose changes are committed or rolled back. Neither takes memory.
 #![tactic(auto)]
 
 ghost use Rattle.std.specs.Prelude.{◌≡◌, ℕ, ◌≤◌, ◌<◌, ◌||◌, [], true, false, Some, None, IfOk, OnOk, OnErr, MatchOption, is_some, option_copied, ◌^◌};
@@ -10,11 +10,12 @@ use number_map::NumberMap;
 use std::alloc::{AllocError, Global};
 use std::marker::Model;
 
-/// A map from numbers to values that remembers what it was when its changes were last kept or given up. Contracts see
-/// the map as it was then (`before`) and as it is (`current`).
+/// A map from numbers to values that remembers what it was at the last commit or rollback. Contracts see the map as it
+/// was then (`before`) and as it is (`current`).
 ///
-/// A value that is replaced or removed goes to the list of what was; its slot stays until then, so that giving a change up
-/// is a write in place. The keys that were removed are the slots without a value, unless one of them was set again.
+/// A value that is replaced or removed goes to a list of former values. Its slot stays until the commit or rollback, so
+/// that a rollback writes in place. The keys that were removed are the slots without a value, unless one of them was
+/// set again.
 #[derive(Drop)]
 pub struct TrackedMap<V> {
     slots: NumberMap<Option<V>>,
@@ -39,7 +40,7 @@ impl<V> Model for TrackedMap<V> {
 }
 
 impl<V> TrackedMap<V> {
-    /// A map of nothing. It takes no memory.
+    /// An empty map. It takes no memory.
     pub fn new(alloc: Global) -> Self
         ensures { result ≡ at_rest map.empty }
     {
@@ -85,7 +86,8 @@ impl<V> TrackedMap<V> {
         self.next_within(from, u128::MAX)
     }
 
-    /// The least key from one to another that has a value, with its value. What went is passed over between the two alone.
+    /// The least key in a range, both ends included, that has a value, with its value. Removed keys are passed over
+    /// only within that range.
     pub fn next_within(&self, from: u128, last: u128) -> Option<(u128, &V)>
         ensures { MatchOption result ((key : ℕ) → from ≤ key → key ≤ last → map.get self.now.current key ≡ None)
             (λ e. (from ≤ e.0) × (e.0 ≤ last) × (map.get self.now.current e.0 ≡ Some e.1.now) × ((key : ℕ) → from ≤ key → key < e.0 → map.get self.now.current key ≡ None)) }
@@ -104,7 +106,7 @@ impl<V> TrackedMap<V> {
 }
 
 impl<V: Copy + Drop> TrackedMap<V> {
-    /// Sets the value of a key. Where memory is wanted nothing changed.
+    /// Sets the value of a key. If an allocation fails, nothing changed.
     pub fn set(&mut self, key: u128, value: V) -> Result<(), AllocError>
         ensures ok { OnOk result (self.new ≡ record self.old { current = map.insert self.old.current key value }) }
         ensures err { OnErr result (self.new ≡ self.old) }
@@ -113,7 +115,7 @@ impl<V: Copy + Drop> TrackedMap<V> {
         Ok(())
     }
 
-    /// Sets the value of a key, and gives the one before. Where memory is wanted nothing changed.
+    /// Sets the value of a key, and returns the one before. If an allocation fails, nothing changed.
     pub fn replace(&mut self, key: u128, value: V) -> Result<Option<V>, AllocError>
         ensures before { IfOk result (λ before. before ≡ map.get self.old.current key) }
         ensures ok { OnOk result (self.new ≡ record self.old { current = map.insert self.old.current key value }) }
@@ -128,7 +130,7 @@ impl<V: Copy + Drop> TrackedMap<V> {
         Ok(before)
     }
 
-    /// Removes the value of a key, if it has one. Where memory is wanted nothing changed.
+    /// Removes the value of a key, if it has one. If an allocation fails, nothing changed.
     pub fn remove(&mut self, key: u128) -> Result<(), AllocError>
         ensures ok { OnOk result (self.new ≡ record self.old { current = map.remove self.old.current key }) }
         ensures err { OnErr result (self.new ≡ self.old) }
@@ -137,7 +139,7 @@ impl<V: Copy + Drop> TrackedMap<V> {
         Ok(())
     }
 
-    /// Takes the value of a key out, if it has one. Where memory is wanted nothing changed.
+    /// Removes the value of a key, if it has one, and returns it. If an allocation fails, nothing changed.
     pub fn take(&mut self, key: u128) -> Result<Option<V>, AllocError>
         ensures before { IfOk result (λ before. before ≡ map.get self.old.current key) }
         ensures ok { OnOk result (self.new ≡ record self.old { current = map.remove self.old.current key }) }
@@ -154,7 +156,7 @@ impl<V: Copy + Drop> TrackedMap<V> {
         Ok(Some(before))
     }
 
-    /// Keeps the changes. It takes no memory.
+    /// Commits the changes. It takes no memory.
     pub fn keep(&mut self)
         ensures { self.new ≡ at_rest self.old.current }
     {
@@ -171,7 +173,7 @@ impl<V: Copy + Drop> TrackedMap<V> {
         self.len_before = self.len;
     }
 
-    /// Gives the changes up. It takes no memory.
+    /// Rolls the changes back. It takes no memory.
     pub fn give_up(&mut self)
         ensures { self.new ≡ at_rest self.old.before }
     {
@@ -184,7 +186,7 @@ impl<V: Copy + Drop> TrackedMap<V> {
     }
 }
 
-/// Takes the value of a slot out, if it has one.
+/// Takes the value out of a slot, if it has one.
 fn take_value<V>(slots: &mut NumberMap<Option<V>>, key: u128) -> Option<V>
     ensures value { result ≡ option_flatten (map.get slots.old key) }
     ensures slots { MatchOption result (slots.new ≡ slots.old) (λ _. slots.new ≡ map.insert slots.old key None) }
@@ -195,7 +197,7 @@ fn take_value<V>(slots: &mut NumberMap<Option<V>>, key: u128) -> Option<V>
     }
 }
 
-/// Whether a slot was found that has no value.
+/// Whether a slot was found and has no value.
 fn is_mark<V: Copy>(found: Option<Option<V>>) -> bool
     ensures { result ≡ is_mark found }
 {
@@ -205,14 +207,14 @@ fn is_mark<V: Copy>(found: Option<Option<V>>) -> bool
     }
 }
 
-/// Whether one of two is so.
+/// Whether one of the two is true.
 fn either(one: bool, other: bool) -> bool
     ensures { result ≡ (one || other) }
 {
     one || other
 }
 
-/// How many values there are once a key has one that had one or hadn't, where there are no more than so many.
+/// How many values there are once a key has one, whether or not it had one before. There are at most `most`.
 fn len_with(len: usize, had: bool, most: usize) -> usize
     requires { len_after len had true ≤ most }
     ensures { result ≡ len_after len had true }
@@ -234,7 +236,7 @@ fn put_back<V: Copy + Drop>(slots: &mut NumberMap<Option<V>>, former: &[(u128, O
     }
 }
 
-/// Sets the value of a slot that is there.
+/// Sets the value of a slot that exists.
 fn write<V: Drop>(slots: &mut NumberMap<Option<V>>, key: u128, value: Option<V>)
     requires { is_some (map.get slots.old key) ≡ true }
     ensures { slots.new ≡ map.insert slots.old key value }
@@ -265,8 +267,8 @@ fn forget<V: Drop>(
     forget_removed(slots, removed);
 }
 
-/// Removes the slots without a value, which are among those of these keys; so many have one. Where there are no more slots
-/// than these, none is looked at.
+/// Removes the slots without a value, which are among those of these keys; `len` slots have one. If there are no more
+/// slots than these, none is looked at.
 fn forget_marks<V: Drop>(slots: &mut NumberMap<Option<V>>, former: &[(u128, Option<V>)], len: usize)
     requires marked { AreMarked slots.old former.now }
     requires counted { len ≡ map.len (shown slots.old) }

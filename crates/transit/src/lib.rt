@@ -1,4 +1,4 @@
-//! Receive rights that travel in messages: circles of ports that carry one another.
+//! Receive rights that travel in messages: cycles of ports that carry one another.
 #![tactic(auto)]
 
 ghost use Rattle.std.specs.Prelude.{◌≡◌};

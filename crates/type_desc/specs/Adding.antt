@@ -1,9 +1,9 @@
--- What is added to bytes, and that they stay in front of it.
+-- Additions to the end of bytes, which keep them at the front.
 use Rattle.std.specs.Prelude.{◌≡◌, ℕ, ◌^◌, ◌<◌, ◌≤◌, Bool, false, List, ◌++◌, length, take, refl}
 use Rattle.std.proofs.Common.{sym, ◌∙◌, ap, arith, length-take, take_at, take-take}
 use Rattle.ipc_model.specs.messages.Items.{Item, descriptor_text}
 
--- What was there stands in front of what is.
+-- The new bytes begin with the old ones.
 pub record Keeps (old new : List ℕ) : Type 0 where
   pub front : take (length old) new ≡ old
 
@@ -18,13 +18,13 @@ descriptor_with item type_name = descriptor_text (record item { type_name = type
 abbrev pub FitsShort : Bool → ℕ → Type 0
 FitsShort is_long type_name = is_long ≡ false → type_name < 2 ^ 8
 
--- What stays in front of what is in front stays in front.
+-- If the old bytes stay at the front of those between, and these at the front of the new, so do the old.
 pub keeps_both : (old mid new : List ℕ) → Keeps old mid → Keeps mid new → Keeps old new
 keeps_both old mid new first second =
     let shorter : length old ≤ length mid = omega (arith, ap length first.front, length-take (length old) mid) in
     let inner : take (length old) (take (length mid) new) ≡ take (length old) new = take-take (length old) (length mid) new shorter in
     record { front = sym inner ∙ ap (take (length old)) second.front ∙ first.front }
 
--- What is added behind what was added.
+-- Something is added after what was added.
 pub keeps_more : (old mid new added : List ℕ) → mid ≡ old ++ added → Keeps mid new → Keeps old new
 keeps_more old mid new added is kept = keeps_both old mid new (keeps_added old mid added is) kept

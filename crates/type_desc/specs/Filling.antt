@@ -9,7 +9,7 @@ use Rattle.type_desc.specs.Reading.{front_item, behind_item, one_item, no_item, 
 use Rattle.type_desc.specs.Values.{filled_item, names_after}
 use Rattle.words.specs.Words.{word}
 
--- The first of filled items, and the others.
+-- The first of the filled items, and then the others.
 abbrev pub FilledOneByOne : Type 0
 FilledOneByOne = (item : Item) (items : List Item) (names : List ℕ) → filled (item ∷ items) names ≡ filled_item item names ∷ filled items (names_after item names)
 
@@ -17,7 +17,7 @@ pub filled_front : FilledOneByOne
 filled_front item items names = elim (is_port_item item) as (λ (b : Bool). (if b then record item { content = flat_map word (take item.number names) } ∷ filled items (drop item.number names) else item ∷ filled items names)
     ≡ (if b then record item { content = flat_map word (take item.number names) } else item) ∷ filled items (if b then drop item.number names else names)) [ true ↦ refl | false ↦ refl ]
 
--- bytes with the text of filled items behind them, where there are items
+-- bytes followed by the bytes of filled items, if there are items
 abbrev pub with_filled : List ℕ → Result (List Item) KernReturn → List ℕ → Result (List ℕ) KernReturn
 with_filled text items names = and_then items (λ items. Ok (text ++ items_text (filled items names)))
 
@@ -28,7 +28,7 @@ filled_more text item (Ok items) names =
     ∙ ap Ok (sym (append_assoc text (item_text (filled_item item names)) (items_text (filled items (names_after item names)))))
 filled_more text item (Err code) names = refl
 
--- What is left is one item and what stands behind it.
+-- What is left is one item and what follows it.
 pub one_filled : (all : Result (List ℕ) KernReturn) (bytes rest text added : List ℕ) (names left : List ℕ) (item : Item) → all ≡ with_filled text (items_of bytes) names → (length bytes == 0) ≡ false → first_failing (tests_of_item bytes) ≡ None
     → item ≡ front_item bytes → rest ≡ behind_item bytes → added ≡ text ++ item_text (filled_item item names) → left ≡ names_after item names → all ≡ with_filled added (items_of rest) left
 one_filled all bytes rest text added names left item before some passes is behind adds leaves =
@@ -44,7 +44,7 @@ same_bytes : (one other : List ℕ) → ◌≡◌ {A = Result (List ℕ) KernRet
 unfolding bytes_in
 same_bytes one other e = ap bytes_in e
 
--- what was added, where all of it is known
+-- what was added, once all of it is known
 added_is : (items : Result (List Item) KernReturn) (body text names added : List ℕ) → with_filled text items names ≡ Ok added → added ≡ text ++ body_filled items body names
 added_is (Ok items) body text names added is = sym (same_bytes (text ++ items_text (filled items names)) added is)
 added_is (Err code) body text names added is = absurd (cc is)

@@ -7,11 +7,11 @@ use Rattle.codes.specs.declared.kern_return.KernReturn.{KernReturn}
 use Rattle.ipc_model.specs.messages.Items.{Item, items_of, items_within, item_of, after_item, is_long_form, tests_of_item, descriptor_length, data_length}
 use Rattle.ipc_model.specs.calls.Tests.{Tests, first_failing, and_then, unless_failing}
 
--- the form of the descriptor in front
+-- the form of the descriptor at the front
 abbrev pub form_of : List ℕ → Bool
 form_of bytes = is_long_form (little_number 4 bytes)
 
--- the item in front, and what stands behind it
+-- the item at the front, and what follows it
 abbrev pub front_item : List ℕ → Item
 front_item bytes = item_of bytes (form_of bytes)
 
@@ -26,7 +26,7 @@ at_least_four : (b : Bool) → 4 ≤ descriptor_length b
 at_least_four true = omega arith
 at_least_four false = omega arith
 
--- more steps than bytes find no more
+-- more steps than bytes find no more items
 same_within : (m n : ℕ) (bytes : List ℕ) → length bytes ≤ m → length bytes ≤ n → items_within m bytes ≡ items_within n bytes
 same_within zero zero bytes few less = refl
 same_within zero (suc n) [] few less = refl
@@ -55,7 +55,7 @@ stops {X} (test ∷ tests) r code fails = elim test.0 as (λ (b : Bool). (if b t
   | false ↦ λ (e : _). stops tests r code e
 ] fails
 
--- Where the item in front passes its tests, the items are it and those behind it.
+-- If the item at the front passes its tests, the items are this one and those after it.
 pub one_item : (bytes : List ℕ) → 0 < length bytes → first_failing (tests_of_item bytes) ≡ None → items_of bytes ≡ and_then (items_of (behind_item bytes)) (λ items. Ok (front_item bytes ∷ items))
 unfolding items_of
 one_item [] some passes = absurd (omega (arith, some))
@@ -66,7 +66,7 @@ one_item (b ∷ bytes) some passes =
     passes_on (tests_of_item text) (and_then (items_within (length bytes) behind) (λ items. Ok (front_item text ∷ items))) passes
     ∙ ap (λ (r : Result (List Item) KernReturn). and_then r (λ items. Ok (front_item text ∷ items))) (same_within (length bytes) (length behind) behind (omega (arith, shorter)) (omega arith))
 
--- Where it fails one, there are none.
+-- If it fails one, there are none.
 pub no_item : (bytes : List ℕ) (code : KernReturn) → 0 < length bytes → first_failing (tests_of_item bytes) ≡ Some code → items_of bytes ≡ Err code
 unfolding items_of
 no_item [] code some fails = absurd (omega (arith, some))
@@ -91,7 +91,7 @@ pub some_left : (bytes : List ℕ) → (length bytes == 0) ≡ false → 0 < len
 some_left [] is = absurd (cc is)
 some_left (b ∷ bytes) is = omega arith
 
--- What is left is one item and what stands behind it.
+-- What is left is one item and what follows it.
 pub one_more : (body bytes rest : List ℕ) (front : List Item) (item : Item) → items_of body ≡ with_front front (items_of bytes) → (length bytes == 0) ≡ false → first_failing (tests_of_item bytes) ≡ None
     → item ≡ front_item bytes → rest ≡ behind_item bytes → items_of body ≡ with_front (front ++ item ∷ []) (items_of rest)
 one_more body bytes rest front item before left passes is behind =

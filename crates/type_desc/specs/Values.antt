@@ -17,12 +17,12 @@ item_value item = record {
   content = item.content.now;
 }
 
--- a fault tells the code of a body's leftmost fault, or that memory ran out
+-- a fault has the code of a body's leftmost fault, or says that memory ran out
 abbrev pub FaultOf : Result (List Item) KernReturn → ItemFault → Type 0
 FaultOf items (Code code) = items ≡ Err code
 FaultOf items NoMemory = Unit {0}
 
--- An item with the names in front in the places of its ports, and the names behind those.
+-- An item with the first names in the places of its ports, and the names that are left.
 abbrev pub filled_item : Item → List ℕ → Item
 filled_item item names = if is_port_item item then record item { content = flat_map word (take item.number names) } else item
 

@@ -1,4 +1,4 @@
--- What is so of each item that is read.
+-- What holds of each item that is read.
 use Rattle.std.specs.Prelude.{◌≡◌, ℕ, ◌*◌, ◌^◌, ◌<◌, Bool, true, false, List, length}
 use Rattle.ipc_model.specs.messages.Items.{is_port_type, padded}
 

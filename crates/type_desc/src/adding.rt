@@ -11,7 +11,7 @@ use byteorder::{ByteOrder, LittleEndian};
 use std::alloc::AllocError;
 use words::push_word;
 
-/// Adds the two bytes of a number. Where memory is wanted nothing changed.
+/// Adds the two bytes of a number. If an allocation fails, nothing changed.
 fn push_half(out: &mut Vec<u8>, value: u16) -> Result<(), AllocError>
     ensures ok { OnOk result (out.new.items ≡ out.old.items ++ little_bytes 2 value) }
     ensures err { OnErr result (out.new.items ≡ out.old.items) }
@@ -22,7 +22,7 @@ fn push_half(out: &mut Vec<u8>, value: u16) -> Result<(), AllocError>
 }
 
 #[tactic(auto, using(crate::specs::Adding::keeps_added))]
-/// Adds numbers, four bytes each. Where memory is wanted some of them may have been added.
+/// Adds numbers, four bytes each. If an allocation fails, some of them may have been added.
 pub(crate) fn add_words(out: &mut Vec<u8>, numbers: &[u32]) -> Result<(), AllocError>
     ensures ok { OnOk result (out.new.items ≡ out.old.items ++ flat_map word numbers.now) }
     ensures part { OnErr result (Keeps out.old.items out.new.items) }
@@ -35,7 +35,7 @@ pub(crate) fn add_words(out: &mut Vec<u8>, numbers: &[u32]) -> Result<(), AllocE
     Ok(())
 }
 
-/// So many numbers from the front, or as many as there are.
+/// The first `count` numbers, or all if there are fewer.
 pub(crate) fn front_of(numbers: &[u32], count: u32) -> &[u32]
     ensures { result.now ≡ take count numbers.now }
 {
@@ -47,7 +47,7 @@ pub(crate) fn front_of(numbers: &[u32], count: u32) -> &[u32]
     }
 }
 
-/// The numbers behind so many from the front.
+/// The numbers after the first `count`.
 pub(crate) fn behind_front(numbers: &[u32], count: u32) -> &[u32]
     ensures { result.now ≡ drop count numbers.now }
 {
@@ -59,7 +59,7 @@ pub(crate) fn behind_front(numbers: &[u32], count: u32) -> &[u32]
     }
 }
 
-/// The type of ports as received; other types stay (MACH_MSG_TYPE_PORT_RECEIVE, _SEND and _SEND_ONCE).
+/// The type of ports as received (`MACH_MSG_TYPE_PORT_RECEIVE`, `_SEND` and `_SEND_ONCE`); other types stay.
 pub(crate) fn received_type(type_name: u16) -> u16
     ensures { result ≡ received_type type_name }
 {
@@ -70,7 +70,7 @@ pub(crate) fn received_type(type_name: u16) -> u16
     }
 }
 
-/// Adds zeros. Where memory is wanted nothing changed.
+/// Adds zeros. If an allocation fails, nothing changed.
 pub(crate) fn push_zeros(out: &mut Vec<u8>, count: usize) -> Result<(), AllocError>
     requires { count < 2 ^ 48 }
     ensures ok { OnOk result (out.new.items ≡ out.old.items ++ replicate count 0) }
@@ -91,7 +91,7 @@ fn short_word(type_name: u16, bits: u16, number: u32) -> u32
 }
 
 #[tactic(auto, using(crate::specs::Adding::keeps_added))]
-/// Adds a long descriptor. Where memory is wanted a part of it may have been added.
+/// Adds a long descriptor. If an allocation fails, a part of it may have been added.
 fn add_long_descriptor(
     out: &mut Vec<u8>,
     type_name: u16,
@@ -110,7 +110,7 @@ fn add_long_descriptor(
 
 impl Item<'_> {
     #[tactic(auto, using(crate::specs::Adding::keeps_added))]
-    /// Adds its descriptor with another type. Where memory is wanted a part of it may have been added.
+    /// Adds its descriptor with another type. If an allocation fails, a part of it may have been added.
     pub(crate) fn add_descriptor(&self, type_name: u16, out: &mut Vec<u8>) -> Result<(), AllocError>
         requires { FitsShort self.now.is_long type_name }
         ensures ok { OnOk result (out.new.items ≡ out.old.items ++ descriptor_with (item_value self.now) type_name) }

@@ -9,7 +9,7 @@ pub(crate) const SHORT_LENGTH: usize = 4;
 /// How many bytes a long one has (`mach_msg_type_long_t`).
 pub(crate) const LONG_LENGTH: usize = 12;
 
-/// `msgt_inline`: the data stands behind the descriptor.
+/// `msgt_inline`: the data stands after the descriptor.
 pub(crate) const INLINE_BIT: u32 = 0x1000_0000;
 
 /// `msgt_longform`.
@@ -24,7 +24,7 @@ const UNUSED_BIT: u32 = 0x8000_0000;
 /// How many bits the name of a port has.
 const PORT_BITS: u16 = 32;
 
-/// The type, the bits of an element and the number of elements that a descriptor tells.
+/// The type, the number of bits of an element and the number of elements that a descriptor gives.
 #[derive(Clone, Copy)]
 pub(crate) struct Fields {
     pub(crate) type_name: u16,
@@ -44,7 +44,7 @@ pub(crate) fn is_long_form(word: u32) -> bool
     word / LONG_FORM_BIT % 2 == 1
 }
 
-/// Whether the bit of deallocate or the unused one is set.
+/// Whether the deallocate bit or the unused bit is set.
 fn has_other_bit(word: u32) -> bool
     ensures { result ≡ has_other_bit word }
 {
@@ -57,7 +57,7 @@ pub(crate) fn is_port_type(type_name: u16) -> bool
     16 <= type_name && type_name <= 21
 }
 
-/// Whether the word of a long descriptor has a field that stands behind it.
+/// Whether the word of a long descriptor has a field that belongs after it.
 fn has_short_fields(word: u32, is_long: bool) -> bool
     ensures { result ≡ (is_long && not (word % 2 ^ 28 == 0)) }
 {
@@ -100,7 +100,7 @@ fn short_fields(body: &[u8]) -> Fields
     }
 }
 
-/// The fields behind a long descriptor's word.
+/// The fields after a long descriptor's word.
 fn long_fields(body: &[u8]) -> Fields
     requires { 12 ≤ length body.now }
     ensures type_name { result.type_name ≡ type_name_in body.now true }

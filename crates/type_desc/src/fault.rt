@@ -1,7 +1,7 @@
 use codes::KernReturn;
 use std::alloc::{AllocError, AllocFailed};
 
-/// Why the items of a body can't be given.
+/// Why the items of a body can't be listed.
 #[derive(Clone, Copy, Debug, PartialEq, Eq)]
 pub enum ItemFault {
     /// The code of the leftmost fault in the body.

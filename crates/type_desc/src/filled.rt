@@ -9,7 +9,7 @@ use crate::item::Item;
 use std::alloc::AllocError;
 
 impl Item<'_> {
-    /// The names that are left for the items behind it: those behind its own ports'.
+    /// The names that are left for the items after this one: those after its own ports'.
     pub fn names_behind<'n>(&self, names: &'n [u32]) -> &'n [u32]
         ensures { result.now ≡ names_after (item_value self.now) names.now }
     {
@@ -21,7 +21,7 @@ impl Item<'_> {
     }
 
     #[tactic(auto, using(crate::specs::Adding::keeps_more))]
-    /// Adds an item of ports with names in their places.
+    /// Adds a port item with names in the places of its ports.
     fn add_filled_ports(&self, names: &[u32], out: &mut Vec<u8>) -> Result<(), AllocError>
         requires { is_port_item (item_value self.now) ≡ true }
         ensures ok { OnOk result (out.new.items ≡ out.old.items ++ item_text (filled_item (item_value self.now) names.now)) }
@@ -45,9 +45,9 @@ impl Item<'_> {
         Ok(())
     }
 
-    /// Adds the item's bytes with the names in front in the places of its ports; as it is where it holds none.
+    /// Adds the item's bytes with the first of these names in the places of its ports; as it is if it holds none.
     ///
-    /// Where memory is wanted nothing changed.
+    /// If an allocation fails, nothing changed.
     pub fn push_filled(&self, names: &[u32], out: &mut Vec<u8>) -> Result<(), AllocError>
         ensures ok { OnOk result (out.new.items ≡ out.old.items ++ item_text (filled_item (item_value self.now) names.now)) }
         ensures err { OnErr result (out.new.items ≡ out.old.items) }
@@ -63,7 +63,7 @@ impl Item<'_> {
     }
 }
 
-/// Adds the items of a body with names in the places of their ports, as far as they go: `false` where a fault stops them.
+/// Adds the items of a body with names in the places of their ports, up to a fault: `false` if there is one.
 fn add_filled_items(body: &[u8], names: &[u32], out: &mut Vec<u8>) -> Result<bool, AllocError>
     ensures tiled { IfOk result (λ tiled. tiled ≡ true → out.new.items ≡ out.old.items ++ body_filled (items_of body.now) body.now names.now) }
     ensures faulty { IfOk result (λ tiled. tiled ≡ false → body_filled (items_of body.now) body.now names.now ≡ body.now) }
@@ -82,10 +82,10 @@ fn add_filled_items(body: &[u8], names: &[u32], out: &mut Vec<u8>) -> Result<boo
     Ok(true)
 }
 
-/// Adds a body with names in the places of the ports of its items, from the left; as it is where it is no row of items.
-/// Names beyond its ports are ignored, and where there are too few the places of the others are left out.
+/// Adds a body with names in the places of the ports of its items, from the left; as it is if items don't tile it.
+/// Names beyond its ports are ignored, and if there are too few, the places of the other ports are left out.
 ///
-/// Where memory is wanted nothing changed. None is taken for anything but the bytes that are added.
+/// If an allocation fails, nothing changed. It allocates only for the bytes that are added.
 pub fn push_filled_body(body: &[u8], names: &[u32], out: &mut Vec<u8>) -> Result<(), AllocError>
     ensures ok { OnOk result (out.new.items ≡ out.old.items ++ body_filled (items_of body.now) body.now names.now) }
     ensures err { OnErr result (out.new.items ≡ out.old.items) }

@@ -1,5 +1,5 @@
-//! The items of a message's body (Mach 3 Kernel Interfaces): descriptors (`mach_msg_type_t` and `mach_msg_type_long_t`),
-//! each with its data behind it. Each number has its lowest byte first.
+//! The items of a message's body (Mach 3 Kernel Interfaces): descriptors (`mach_msg_type_t` and
+//! `mach_msg_type_long_t`), each followed by its data. Each number has its lowest byte first.
 #![tactic(auto)]
 
 mod adding;

@@ -7,9 +7,9 @@ use crate::first::first_item;
 use crate::item::Item;
 use std::alloc::Global;
 
-/// The items that tile a body, from the left: none of an empty one. Each item's data is a slice of the body.
+/// The items that tile a body, from the left; an empty body has none. Each item's data is a slice of the body.
 ///
-/// `Code`: the code of the leftmost item's first test that fails, as `first_item` gives it. `NoMemory`: none
+/// `Code`: the code of the leftmost item's first test that fails, as `first_item` returns it. `NoMemory`: out of memory
 /// for the list.
 pub fn items(alloc: Global, body: &[u8]) -> Result<Vec<Item<'_>>, ItemFault>
     ensures found { IfOk result (λ found. items_of body.now ≡ Ok (map item_value found.items)) }

@@ -17,8 +17,8 @@ impl Item<'_> {
         is_port_type(self.type_name)
     }
 
-    /// How the rights of a port item are handed over (`msgt_name`: MACH_MSG_TYPE_MOVE_RECEIVE to
-    /// MACH_MSG_TYPE_MAKE_SEND_ONCE); of another item none.
+    /// How the rights of a port item are handed over (`msgt_name`: `MACH_MSG_TYPE_MOVE_RECEIVE` to
+    /// `MACH_MSG_TYPE_MAKE_SEND_ONCE`); `None` for other items.
     pub fn disposition(&self) -> Option<Disposition>
         ensures { result ≡ disposition_of self.now.type_name }
     {
@@ -26,7 +26,7 @@ impl Item<'_> {
     }
 
     #[tactic(auto, using(crate::specs::Names::names_count))]
-    /// How many ports it holds, NULL and DEAD among them.
+    /// How many ports it holds, counting `MACH_PORT_NULL` and `MACH_PORT_DEAD`.
     pub fn port_count(&self) -> u32
         ensures { result ≡ length (names_of_item (item_value self.now)) }
     {
@@ -42,7 +42,7 @@ impl Item<'_> {
     }
 }
 
-/// Whether the items hold more ports than a message may, which is 256, NULL and DEAD among them.
+/// Whether the items hold more ports than a message may, which is 256, counting `MACH_PORT_NULL` and `MACH_PORT_DEAD`.
 pub fn has_too_many_ports(items: &[Item<'_>]) -> bool
     ensures { result ≡ nat_lt MAX_MESSAGE_PORTS (ports_in (map item_value items.now)) }
 {

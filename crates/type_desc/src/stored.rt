@@ -8,7 +8,7 @@ use crate::item::Item;
 use std::alloc::AllocError;
 
 impl Item<'_> {
-    /// Adds an item of ports as a queued message has it.
+    /// Adds a port item as a queued message has it.
     fn add_stored_ports(&self, out: &mut Vec<u8>) -> Result<(), AllocError>
         requires { is_port_item (item_value self.now) ≡ true }
         ensures ok { OnOk result (out.new.items ≡ out.old.items ++ item_text (as_stored (item_value self.now))) }
@@ -44,7 +44,7 @@ impl Item<'_> {
 
     /// Adds the bytes of the item as a queued message has it: the type as received, and 0 in each port's place.
     ///
-    /// Where memory is wanted nothing changed.
+    /// If an allocation fails, nothing changed.
     pub fn push_stored(&self, out: &mut Vec<u8>) -> Result<(), AllocError>
         ensures ok { OnOk result (out.new.items ≡ out.old.items ++ item_text (as_stored (item_value self.now))) }
         ensures err { OnErr result (out.new.items ≡ out.old.items) }
@@ -60,7 +60,7 @@ impl Item<'_> {
     }
 }
 
-/// Adds items as a queued message has them. Where memory is wanted some of them may have been added.
+/// Adds items as a queued message has them. If an allocation fails, some of them may have been added.
 fn add_stored_items(items: &[Item<'_>], out: &mut Vec<u8>) -> Result<(), AllocError>
     ensures ok { OnOk result (out.new.items ≡ out.old.items ++ items_text (map as_stored (map item_value items.now))) }
     ensures part { OnErr result (Keeps out.old.items out.new.items) }
@@ -73,7 +73,7 @@ fn add_stored_items(items: &[Item<'_>], out: &mut Vec<u8>) -> Result<(), AllocEr
 
 /// Adds the bytes of items as a queued message has them: types of ports as received, and 0 in each port's place.
 ///
-/// Where memory is wanted nothing changed.
+/// If an allocation fails, nothing changed.
 pub fn push_stored_items(items: &[Item<'_>], out: &mut Vec<u8>) -> Result<(), AllocError>
     ensures ok { OnOk result (out.new.items ≡ out.old.items ++ items_text (map as_stored (map item_value items.now))) }
     ensures err { OnErr result (out.new.items ≡ out.old.items) }

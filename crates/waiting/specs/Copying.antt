@@ -1,4 +1,4 @@
--- Copy in, in two states in which the names that it is asked for stand for the same.
+-- Copy in, from two states in which the names that it takes stand for the same.
 use Rattle.std.proofs.Common.{◌≡◌, ℕ, ◌-◌, Bool, true, false, cond, ◌==◌, length, nat_le, Option, None, Some, option_and_then, refl, sym, ◌∙◌, ap, subst}
 use Rattle.std.specs.Prelude.{if◌then◌else◌}
 use Rattle.std.specs.Cmp.{nat_cmp_total}
@@ -23,14 +23,14 @@ use Rattle.ipc_model.specs.state.State.{State, Names, entry_at, is_empty_entry, 
 use Rattle.waiting.specs.Receiving.{stands}
 use Rattle.waiting.specs.Waiting.{port_of}
 
--- two options, both of something related or both of nothing
+-- two options: both of related values, or both of nothing
 abbrev pub Both : {X : Type 0} → (X → X → Type 0) → Option X → Option X → Type 0
 Both R None None = Unit {0}
 Both R None (Some y) = ⊥
 Both R (Some x) None = ⊥
 Both R (Some x) (Some y) = R x y
 
--- a change of the names of a space that is there, at one name
+-- a change of the names of an existing space, at one name
 entry_changed : (state : State) (space name : ℕ) (change : Names → Names) (o : Option Entry) (names : Names) → finmap.get state.spaces space ≡ Some names → ((n : Names) (k : ℕ) → finmap.get (change n) k ≡ cond (eq_by_cmp nat_cmp k name) o (finmap.get n k))
     → (k : ℕ) → entry_at (with_changed state space change) space k ≡ cond (eq_by_cmp nat_cmp k name) o (entry_at state space k)
 entry_changed state space name change o names there changed k =
@@ -67,7 +67,7 @@ full_port state serial other change keeps = go (finmap.get state.ports serial) r
         as_fullness (finmap.get (finmap.insert state.ports serial (change port)) other) ∙ ap fullness (get-insert nat_cmp_total state.ports serial (change port) other) ∙ at_key port there (eq_by_cmp nat_cmp other serial) refl
         ∙ sym (as_fullness (finmap.get state.ports other))
 
--- The names that are wanted stand for the same in both states; what the one named `remote` stands for is to a wanted port; and a
+-- The wanted names stand for the same in both states; what the one named `remote` stands for is to a wanted port; and a
 -- wanted port whose queue is full in the one state has a full queue in the other.
 module _ (space remote : ℕ) (wanted wanted_port : ℕ → Type 0) where
   pub record Alike (one other : State) : Type 0 where
@@ -108,14 +108,14 @@ module _ (space remote : ℕ) (wanted wanted_port : ℕ → Type 0) where
       entry_kept : (state : State) (serial : ℕ) (change : PortState → PortState) (name : ℕ) → entry_at (with_port state serial change) space name ≡ entry_at state space name
       entry_kept state serial change name = ap (λ (s : finmap.FinMap nat_cmp Names). option_and_then (λ (m : Names). finmap.get m name) (finmap.get s space)) (with_port_spaces state serial change)
 
-  -- what was taken in the one state and in the other of a name that stands for this
+  -- what was taken, in the one state and in the other, from a name that stands for this
   pub record TakenAlike (entry : Entry) (one other : Taken) : Type 0 where
     pub right : other.right ≡ one.right
     pub notices : other.notices ≡ one.notices
     pub states : Alike one.state other.state
     pub to : (serial : ℕ) → live_port one.right.port ≡ Some serial → port_of entry ≡ Some serial
 
-  -- a right was taken, and its name is left with this
+  -- a right was taken, and this is left of its name
   leaving : (one other : State) (name : ℕ) (right : CarriedRight) (left entry : Entry) → wanted name → entry_at one space name ≡ Some entry → ((serial : ℕ) → port_of left ≡ Some serial → port_of entry ≡ Some serial)
       → ((serial : ℕ) → live_port right.port ≡ Some serial → port_of entry ≡ Some serial) → Alike one other → TakenAlike entry (taken_leaving one space name right left) (taken_leaving other space name right left)
   leaving one other name right left entry want at same to alike = record { right = refl; notices = refl; states = alike_left one other name left entry want at same alike; to = to }
@@ -195,7 +195,7 @@ module _ (space remote : ℕ) (wanted wanted_port : ℕ → Type 0) where
   of_entry one other name disposition Set want at alike = tt
   of_entry one other name disposition (Dead references) want at alike = of_dead one other name disposition references want at alike
 
-  -- what is known of what was taken of a name: it is to the port that the name stands for a right to
+  -- what is known of a right that was taken from a name: it is to the port of the right that the name stands for
   pub record TakenOf (name : ℕ) (start : State) (first second : Taken) : Type 0 where
     pub right : second.right ≡ first.right
     pub notices : second.notices ≡ first.notices

@@ -12,8 +12,8 @@ place_of_name space name = space * 2 ^ 32 + name
 abbrev pub place_of_port : ℕ → ℕ
 place_of_port serial = 2 ^ 64 + serial
 
--- Places at which a call that waits may find something to do: all of the first ones' calls, one of those at each of the others', or, where
--- the list couldn't be kept for want of memory, all calls.
+-- Places at which a waiting call may find something to do: at each place of `changed` all calls, at each of `ready` one
+-- call; or, if the list couldn't be kept because memory ran out, all calls everywhere.
 pub record Named : Type 0 where
   pub changed : List ℕ
   pub ready : List ℕ
@@ -22,7 +22,7 @@ pub record Named : Type 0 where
 abbrev pub names : Named → ℕ → Bool
 names named place = named.are_all || (is_touched place named.changed || is_touched place named.ready)
 
--- what was named is named
+-- what was named is still named
 abbrev pub IsMore : Named → Named → Type 0
 IsMore old new = (place : ℕ) → names old place ≡ true → names new place ≡ true
 

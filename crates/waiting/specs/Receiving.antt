@@ -20,7 +20,7 @@ use Rattle.ipc_model.specs.state.State.{State, Names, entry_at, is_member, is_nu
 use Rattle.waiting.specs.Places.{place_of_name}
 use Rattle.waiting.specs.Waiting.{Covers, IsQuiet, Occupancy, occupancy}
 
--- a port gives nothing, and isn't in a set
+-- a port has no message to give, and isn't in a set
 abbrev IsIdle : Option PortState → Type 0
 IsIdle None = Unit {0}
 IsIdle (Some port) = (is_some port.set ≡ false) × (is_some (oldest port.messages) ≡ false)
@@ -33,7 +33,7 @@ none_held : (messages : List Message) → length messages ≡ 0 → is_some (old
 none_held [] none = refl
 none_held (m ∷ ms) none = absurd (omega (arith, none))
 
--- the port of an occupancy that is there
+-- there is a port, with the same set as this one and as many messages
 record Occupied (o : Option PortState) (port : PortState) : Type 0 where
   before : PortState
   there : o ≡ Some before
@@ -180,7 +180,7 @@ module _ (old new : State) (named : ℕ → Bool) (covers : Covers old new named
   abbrev members_among : State → ℕ → List (ℕ × Entry) → List ℕ
   members_among state set es = map (λ e. e.0) (filter (λ e. is_member state set e.1) es)
 
-  -- no member has a message: what is so of each is so of all, and the other way round
+  -- no member has a message: what holds of each holds of all, and conversely
   each_empty : (state : State) (names : Names) (set : ℕ) (es : List (ℕ × Entry)) → T (is_sorted nat_cmp es) → ((name : ℕ) (entry : Entry) → find nat_cmp name es ≡ Some entry → is_member state set entry ≡ true → is_some (oldest_under state names name) ≡ false)
       → all_empty state names (members_among state set es) ≡ true
   each_empty state names set [] sorted each = refl

@@ -23,7 +23,7 @@ use Rattle.ipc_model.specs.state.State.{State, entry_at, is_null_or_dead}
 use Rattle.waiting.specs.Copying.{Alike, Both, TakenOf, copy_in_alike}
 use Rattle.waiting.specs.Waiting.{names_in_items, port_of}
 
--- two results, both of something related or both the same code
+-- two results: both of related values, or both the same code
 abbrev BothDone : {X : Type 0} → (X → X → Type 0) → Result X KernReturn → Result X KernReturn → Type 0
 BothDone R (Ok x) (Ok y) = R x y
 BothDone R (Ok x) (Err code) = ⊥
@@ -42,7 +42,7 @@ or_done R code None (Some y) are = absurd are
 or_done R code (Some x) None are = absurd are
 or_done R code (Some x) (Some y) are = are
 
--- where the one finds no room, so does the other
+-- where the one finds no room, neither does the other
 abbrev Follows : {X : Type 0} → Result X KernReturn → Result X KernReturn → Type 0
 Follows first second = first ≡ Err SendTimedOut → second ≡ Err SendTimedOut
 
@@ -63,7 +63,7 @@ module _ (space remote : ℕ) (wanted wanted_port : ℕ → Type 0) where
   abbrev Like : State → State → Type 0
   Like one other = Alike space remote wanted wanted_port one other
 
-  -- a destination's right, with the port that lives
+  -- a destination's right, with its live port
   record DestinationAlike (one other : Taken × ℕ) : Type 0 where
     right : other.0.right ≡ one.0.right
     notices : other.0.notices ≡ one.0.notices
@@ -275,7 +275,7 @@ module _ (space remote : ℕ) (wanted wanted_port : ℕ → Type 0) where
       by_disposition (Ok by) (Ok reply) (Err code) wants = λ is. is
       by_disposition (Ok by) (Ok reply) (Ok items) wants = of_items one other parts by reply items at want want_local wants alike
 
--- Only the queue's test is answered that the time is over.
+-- Only the queue's test answers that the send timed out.
 
 abbrev Untimed : {X : Type 0} → Result X KernReturn → Type 0
 Untimed result = result ≡ Err SendTimedOut → ⊥
@@ -287,7 +287,7 @@ abbrev IsOther : KernReturn → Type 0
 IsOther SendTimedOut = ⊥
 IsOther code = Unit {0}
 
--- whether each test has another code
+-- whether each test has a code other than MACH_SEND_TIMED_OUT
 abbrev AreOther : Tests → Type 0
 AreOther [] = Unit {0}
 AreOther (test ∷ tests) = IsOther test.1 × AreOther tests

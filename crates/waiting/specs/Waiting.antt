@@ -17,8 +17,8 @@ use Rattle.ipc_model.specs.messages.Sending.{is_full, items_if_complex}
 use Rattle.ipc_model.specs.state.State.{State, entry_at, received_port}
 use Rattle.waiting.specs.Places.{place_of_name, place_of_port}
 
--- A call of a task of this space finds nothing to do: a send no room in the queue, a receive no message. It may be answered so, and
--- changes nothing then.
+-- A call of a task of this space finds nothing to do: a send finds no room in the queue, a receive no message. It may
+-- be answered so, and then changes nothing.
 abbrev pub FindsNothing : State → ℕ → Call → Type 0
 FindsNothing state space (call.Send message) = Answer state space (call.Send message) (without_message SendTimedOut 0 MACH_PORT_NULL)
 FindsNothing state space (call.Receive limit large name waited) = Answer state space (call.Receive limit large name waited) (without_message RcvTimedOut 0 MACH_PORT_NULL)
@@ -48,7 +48,7 @@ place_of_destination None = []
 abbrev pub places_of_send : State → ℕ → UsedParts → List ℕ
 places_of_send state space parts = map (place_of_name space) (names_cited parts) ++ place_of_destination (option_and_then port_of (entry_at state space parts.remote))
 
--- Where a call waits that finds nothing to do: a receive at its name. No other call waits.
+-- Where a call that finds nothing to do waits: a receive waits at its name, a send as above. No other call waits.
 abbrev pub places_of_call : State → ℕ → Call → List ℕ
 places_of_call state space (call.Receive limit large name waited) = place_of_name space name ∷ []
 places_of_call state space (call.Send message) = places_of_send state space (used_parts message)
@@ -57,11 +57,12 @@ places_of_call state space c = []
 abbrev pub WaitsAt : State → ℕ → Call → ℕ → Type 0
 WaitsAt state space c place = Contains (places_of_call state space c) place
 
--- No wake-up is lost: a call that found nothing to do before a step, and waits at no place that the step names, finds nothing after it.
+-- No wake-up is lost: a call that found nothing to do before a step, and waits at no place that the step names, finds
+-- nothing after it either.
 abbrev pub Wakes : State → State → (ℕ → Bool) → Type 0
 Wakes old new named = (space : ℕ) (call : Call) → FindsNothing old space call → ((place : ℕ) → WaitsAt old space call place → named place ≡ false) → FindsNothing new space call
 
--- of a port what a call that waits depends on: how many messages its queue may hold and holds, and the port's set
+-- what a waiting call depends on of a port: how many messages its queue may hold and holds, and the port's set
 pub record Occupancy : Type 0 where
   pub limit : ℕ
   pub held : ℕ
@@ -77,7 +78,7 @@ occupancy_at state serial = option_map occupancy (finmap.get state.ports serial)
 abbrev pub IsQuiet : PortState → Type 0
 IsQuiet port = (port.set ≡ None) × (port.messages ≡ [])
 
--- What the places name of the changes from one state to another.
+-- Which changes from one state to another the places have to name.
 pub record Covers (old new : State) (named : ℕ → Bool) : Type 0 where
   -- each name that stands for something else
   pub entries : (space name : ℕ) → named (place_of_name space name) ≡ false → entry_at new space name ≡ entry_at old space name
@@ -86,6 +87,6 @@ pub record Covers (old new : State) (named : ℕ → Bool) : Type 0 where
   -- each name whose port got a message, or is in a set now
   pub ports : (space name : ℕ) (entry : Entry) (serial : ℕ) (port : PortState) → named (place_of_name space name) ≡ false → entry_at new space name ≡ Some entry → received_port entry ≡ Some serial
       → finmap.get new.ports serial ≡ Some port → IsQuiet port ⊎ (occupancy_at old serial ≡ occupancy_at new serial)
-  -- each set of whose members one got a message, or has come with one
+  -- each set of which a member got a message, or to which a member came with one
   pub sets : (space set name : ℕ) (entry : Entry) (serial : ℕ) (port : PortState) → named (place_of_name space set) ≡ false → entry_at new space name ≡ Some entry → received_port entry ≡ Some serial
       → finmap.get new.ports serial ≡ Some port → port.set ≡ Some set → (port.messages ≡ []) ⊎ ((entry_at old space name ≡ Some entry) × (occupancy_at old serial ≡ occupancy_at new serial))

@@ -34,7 +34,7 @@ some_code : (o : Option KernReturn) (code : KernReturn) (A B C : Type 0) → Mat
 some_code None code A B C is never = absurd (never is)
 some_code (Some c) code A B C is never = ap (λ (k : KernReturn). Some k) (sym (code_same code c is.0))
 
--- a receive that takes a message, or has no room for its names, is answered otherwise
+-- a receive that takes a message, or has no room for its names, gets another answer
 takes_none : (old : State) (space : ℕ) (names : Names) (receipt : Receipt) (member serial : ℕ) (port : PortState) (message : Message) (acted : State) (effects : List Effect)
     → TakesOut old space names receipt member serial port message (without_message RcvTimedOut 0 MACH_PORT_NULL) acted effects → ⊥
 takes_none old space names receipt member serial port message acted effects is = go (nat_lt receipt.limit (message_size message)) (lacks_names names message) is
@@ -70,7 +70,7 @@ refused_send old space message acted effects names is = go (ready_to_send old sp
 abbrev no_effects : List Effect
 no_effects = []
 
--- and the other way round
+-- and conversely
 matches_code : (o : Option KernReturn) (code : KernReturn) (A B C : Type 0) → o ≡ Some code → B → C → MatchOption o A (λ c. (without_message code 0 MACH_PORT_NULL ≡ without_message c 0 MACH_PORT_NULL) × B × C)
 matches_code o code A B C is b c = subst (λ (p : Option KernReturn). MatchOption p A (λ c. (without_message code 0 MACH_PORT_NULL ≡ without_message c 0 MACH_PORT_NULL) × B × C)) (sym is) (refl, b, c)
 

@@ -4,28 +4,28 @@ ghost use Rattle.waiting.specs.Places.{IsMore, names, place_of_name, place_of_po
 use std::alloc::Global;
 use std::marker::Model;
 
-/// The place of a name of a space, at which receives of the name wait, and sends whose messages cite it.
+/// The place of a name of a space. Receives from the name wait there, and sends whose messages cite it.
 pub fn place_of_name(space: u32, name: u32) -> u128
     ensures { result ≡ place_of_name space name }
 {
     u128::from(space) * (1 << 32) + u128::from(name)
 }
 
-/// The place of a port, at which sends to it wait.
+/// The place of a port. Sends to it wait there.
 pub fn place_of_port(serial: u64) -> u128
     ensures { result ≡ place_of_port serial }
 {
     (1 << 64) + u128::from(serial)
 }
 
-/// Whether a place is a port's, and not a name's.
+/// Whether a place is a port's rather than a name's.
 pub fn is_place_of_port(place: u128) -> bool
     ensures { MatchBool result (2 ^ 64 ≤ place) (place < 2 ^ 64) }
 {
     1 << 64 <= place
 }
 
-/// The places at which a step may have given calls that wait something to do.
+/// The places at which a step may have given waiting calls something to do.
 #[derive(Drop)]
 pub struct Places {
     changed: Vec<u128>,
@@ -66,7 +66,8 @@ impl Places {
         self.are_all = false;
     }
 
-    /// Adds a place that changed: each call that waits there may be answered now. Where an allocation fails all places are named.
+    /// Adds a place that changed: each call that waits there may be answered now. If an allocation fails, all places
+    /// are named.
     pub fn add_changed(&mut self, place: u128)
         ensures added { names self.new place ≡ true }
         ensures kept { IsMore self.old self.new }
@@ -83,7 +84,7 @@ impl Places {
         }
     }
 
-    /// Adds a place at which one of the calls that wait may be done now. Where an allocation fails all places are named.
+    /// Adds a place at which one of the waiting calls may be done now. If an allocation fails, all places are named.
     pub fn add_ready(&mut self, place: u128)
         ensures added { names self.new place ≡ true }
         ensures kept { IsMore self.old self.new }
@@ -121,7 +122,7 @@ impl Places {
         self.ready.as_slice()
     }
 
-    /// Whether every place is named, as the list of them couldn't be kept.
+    /// Whether every place is named, since the list of them couldn't be kept.
     pub fn are_all(&self) -> bool
         ensures { result ≡ self.now.are_all }
     {

@@ -1,4 +1,4 @@
--- What stands at the front of an input, by the steps that read it, and that a frame's text is read again.
+-- What stands at the front of an input, by the steps that read it; and the bytes of a frame are read back.
 use Rattle.std.proofs.Common.{◌≡◌, ℕ, ◌<◌, ◌≤◌, true, false, eqb, ltb, List, [], ◌++◌, length, take, drop, Option, Some, None, Ok, Err, IfSome, refl, sym, ap, subst, ◌∙◌, append_assoc, arith, le-ltb, lt-ltb, ne_eqb, length-append, take_at, drop_at}
 use Rattle.std.proofs.KnownBytes.{Consumes-trans}
 use Rattle.byteorder.specs.Endian.{little_number}
@@ -16,12 +16,12 @@ front_parts input n rest long number-is rest-is =
     let enough : ltb (length input) 4 ≡ false = le-ltb _ _ long in
     rw (some, enough, number-is, rest-is) refl
 
--- behind a length word
+-- after a length word
 front_behind : (n : ℕ) (rest : List ℕ) → IsContentLength n → front_of (word n ++ rest) ≡ content_at n rest
 front_behind n rest fits =
     front_parts (word n ++ rest) n rest (omega (arith, length-append (word n) rest)) (little_number-reads_back 4 n rest (omega (arith, fits.greatest))) refl
 
--- enough bytes behind the length word, and too few
+-- enough bytes after the length word, and too few
 content_whole : (n : ℕ) (rest : List ℕ) → IsContentLength n → n ≤ length rest → content_at n rest ≡ whole (take n rest) (drop n rest)
 content_whole n rest fits long =
     let least : ltb n 4 ≡ false = le-ltb _ _ fits.least in
@@ -36,7 +36,7 @@ content_short n rest fits short =
     let few : ltb (length rest) n ≡ true = lt-ltb _ _ short in
     rw (least, greatest, few) refl
 
--- a frame's text is a whole frame, whatever follows it
+-- the bytes of a frame are a whole frame, whatever follows them
 front_of_text : (content rest : List ℕ) → IsContentLength (length content) → front_of (frame_text content ++ rest) ≡ whole content rest
 front_of_text content rest fits =
     let regrouped : frame_text content ++ rest ≡ word (length content) ++ (content ++ rest) = append_assoc (word (length content)) content rest in
@@ -80,7 +80,7 @@ within_frame n taken fits few =
     let number-is = number_behind n taken fits in
     (subst IsContentLength (sym number-is) fits, omega (arith, number-is, length-append (word n) taken))
 
--- a length word, and a fault in the content behind it
+-- a length word, and a fault in the content after it
 behind_length : (ys : List ℕ) (new : Option (List ℕ)) (n : ℕ) (fault : WireFault) → IsContentLength n → IsContentOf n ys (Err fault) new → IsReadOf (word n ++ ys) (Err fault) new
 behind_length ys new n Short fits second = ([], front_behind n ys fits ∙ content_short n ys fits second.0, second.1)
 behind_length ys new n TooLong fits second = absurd second
@@ -90,7 +90,7 @@ behind_length ys new n Device fits second =
 behind_length ys new n NoMemory fits second =
     (omega (arith, length-append (word n) ys), subst IsContentLength (sym (number_behind n ys fits)) fits, second)
 
--- what they answer where the second one fails
+-- what the two steps answer if the second one fails
 pub content_failed : (old mid new : Option (List ℕ)) (n : ℕ) (fault : WireFault) → IsContentLength n → IfSome old (λ input. IsLengthOf input (Ok (Some n)) mid) → IfSome mid (λ input. IsContentOf n input (Err fault) new)
     → IfSome old (λ input. IsReadOf input (Err fault) new)
 content_failed None mid new n fault fits first second = tt

@@ -1,4 +1,4 @@
--- The numbers and the texts of the faults.
+-- The numbers and the lines of text of the faults.
 use Rattle.std.specs.Prelude.{ℕ, List, codes}
 use Rattle.wire.specs.declared.fault.WireFault.{WireFault}
 use Rattle.wire.specs.declared.fault.WireFault.TheVariants.{Short, TooLong, Device, NoMemory}

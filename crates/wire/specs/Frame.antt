@@ -7,7 +7,7 @@ use Rattle.codes.specs.declared.limits.TheConstants.{MIN_FRAME_CONTENT, MAX_FRAM
 use Rattle.wire.specs.declared.fault.WireFault.{WireFault}
 use Rattle.wire.specs.declared.fault.WireFault.TheVariants.{Short, TooLong, Device, NoMemory}
 
--- a frame's content, and how many bytes of content it has room for without taking memory
+-- a frame's content, and how many bytes of content it has room for without an allocation
 pub record FrameValue : Type 0 where
   pub content : List ℕ
   pub room : ℕ
@@ -28,7 +28,7 @@ pub data Front : Type 0 where
   whole : (content left : List ℕ) → Front
   faulty : (fault : WireFault) (left : List ℕ) → Front
 
--- behind a length word of n, what the rest of the input is
+-- what the rest of the input is, after a length word of n
 abbrev pub content_at : ℕ → List ℕ → Front
 content_at n rest =
     if nat_lt n MIN_FRAME_CONTENT then faulty Short rest
@@ -42,12 +42,12 @@ front_of input =
     else if nat_lt (length input) 4 then faulty Short []
     else content_at (little_number 4 input) (drop 4 input)
 
--- bytes that go no further than a frame does, and no further than its length word where that is wrong
+-- bytes that end no later than the frame does, and no later than its length word if that is wrong
 abbrev pub IsWithinFrame : List ℕ → Type 0
 IsWithinFrame taken =
     4 < length taken → IsContentLength (little_number 4 taken) × (length taken ≤ 4 + little_number 4 taken)
 
--- A read of the input that left this answered so. Memory may run out once the length is read, and a reader
+-- A read of the input with this result, which left this of it. Memory may run out once the length is read, and a reader
 -- may fail at any byte of the frame.
 abbrev pub IsReadOf : List ℕ → Result (Option FrameValue) WireFault → Option (List ℕ) → Type 0
 IsReadOf input (Ok None) left = (front_of input ≡ ended) × (left ≡ Some [])

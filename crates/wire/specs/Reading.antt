@@ -1,4 +1,4 @@
--- The two steps of reading a frame, each by what it answered and what it left of the input.
+-- The two steps of reading a frame, each by its result and what it left of the input.
 use Rattle.std.specs.Prelude.{◌≡◌, ℕ, ◌<◌, ◌≤◌, List, [], ◌++◌, length, Option, None, Some, Result, Ok, Err}
 use Rattle.std.specs.Io.KnownBytes.{Consumes}
 use Rattle.words.specs.Words.{word}
@@ -19,7 +19,7 @@ IsLengthOf input (Err TooLong) left = (rest : List ℕ) × (front_of input ≡ f
 IsLengthOf input (Err Device) left = ConsumesPart (Some input) left 4
 IsLengthOf input (Err NoMemory) left = ⊥
 
--- the n bytes of content behind it
+-- the n bytes of content after it
 abbrev pub IsContentOf : ℕ → List ℕ → Result FrameValue WireFault → Option (List ℕ) → Type 0
 IsContentOf n input (Ok frame) left = (rest : List ℕ) × (input ≡ frame.content ++ rest) × (length frame.content ≡ n) × (left ≡ Some rest)
 IsContentOf n input (Err Short) left = (length input < n) × (left ≡ Some [])

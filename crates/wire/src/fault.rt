@@ -6,7 +6,7 @@ use std::alloc::AllocError;
 use std::error::Error;
 use std::fmt;
 
-/// Why a frame could not be read or written.
+/// Why a frame couldn't be read or written.
 #[derive(Clone, Copy, Debug, PartialEq, Eq)]
 pub enum WireFault {
     /// The input ends within a frame, or a length is below 4.
@@ -27,7 +27,7 @@ impl WireFault {
         self as u32
     }
 
-    /// The fault as a line of errors, behind the name of a program: its kind, its number and its text.
+    /// The fault as a line of errors, after the name of a program: its kind, its number and its text.
     pub fn line(self) -> &'static str
         ensures { result.now ≡ fault_line self }
     {

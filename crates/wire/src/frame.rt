@@ -30,8 +30,8 @@ impl Model for Frame {
 }
 
 impl Frame {
-    /// A frame of the number 0 with no arguments, and with room for `room` bytes at least. It fails only
-    /// where memory runs out.
+    /// A frame with the number 0 and no arguments, and with room for at least `room` bytes. It fails only if memory
+    /// runs out.
     pub fn with_room(alloc: Global, room: usize) -> Result<Frame, AllocError>
         requires { 4 ≤ room }
         ensures content { IfOk result (λ frame. frame.content ≡ word 0) }
@@ -42,7 +42,7 @@ impl Frame {
         Ok(Frame { bytes })
     }
 
-    /// A frame of this content. It fails only where memory runs out.
+    /// A frame with this content. It fails only if memory runs out.
     pub fn from_content(alloc: Global, content: &[u8]) -> Result<Frame, AllocError>
         requires { IsContentLength (length content.now) }
         ensures { IfOk result (λ frame. frame.content ≡ content.now) }
@@ -61,7 +61,7 @@ impl Frame {
         }
     }
 
-    /// Makes this a frame of the number with no arguments. The room doesn't shrink.
+    /// Makes this a frame with this number and no arguments. The room doesn't shrink.
     pub fn start(&mut self, number: u32)
         ensures content { self.new.content ≡ word number }
         ensures room { self.old.room ≤ self.new.room }
@@ -112,7 +112,7 @@ impl Frame {
         &self.content()[4..]
     }
 
-    /// How many bytes of content this has room for.
+    /// How many bytes of content it has room for.
     pub fn room(&self) -> usize
         ensures value { result ≡ self.now.room }
         ensures least { length self.now.content ≤ result }

@@ -1,6 +1,5 @@
-//! Frames on a stream of bytes. A frame is the count of its content's bytes, from 4 to 65,532, in four
-//! bytes, and then the content: a call's number in four bytes, and the call's arguments. Each number
-//! has its lowest byte first.
+//! Frames on a stream of bytes. A frame is the number of its content's bytes, from 4 to 65,532, in four bytes, followed
+//! by the content: a call's number in four bytes, and the call's arguments. Each number has its lowest byte first.
 #![tactic(auto)]
 
 mod fault;

@@ -12,7 +12,7 @@ use codes::{MAX_FRAME_CONTENT, MIN_FRAME_CONTENT};
 use std::alloc::Global;
 use std::io::{ErrorKind, Read};
 
-// One read, retried where a signal interrupts it.
+// One read, retried if a signal interrupts it.
 fn read_some<R: Read>(reader: &mut R, buffer: &mut [u8]) -> Result<usize, WireFault>
     ensures bound { ReadsAtMost result buffer.new }
     ensures bytes { IfOk result
@@ -89,7 +89,7 @@ fn read_length<R: Read>(reader: &mut R) -> Result<Option<u32>, WireFault>
     Ok(Some(length))
 }
 
-// Reads the content behind a length word.
+// Reads the content after a length word.
 fn read_content<R: Read>(alloc: Global, reader: &mut R, length: u32) -> Result<Frame, WireFault>
     requires { IsContentLength length }
     ensures { IfSome (R.remaining reader.old)
@@ -103,7 +103,7 @@ fn read_content<R: Read>(alloc: Global, reader: &mut R, length: u32) -> Result<F
     Ok(Frame::from_vec(content))
 }
 
-// Reads a frame by its two steps.
+// Reads a frame in its two steps.
 fn read_parts<R: Read>(alloc: Global, reader: &mut R) -> Result<Option<Frame>, WireFault>
     ensures exact { IfSome (R.remaining reader.old)
         (λ input. IsReadOf input result (R.remaining reader.new)) }
@@ -117,14 +117,14 @@ fn read_parts<R: Read>(alloc: Global, reader: &mut R) -> Result<Option<Frame>, W
     }
 }
 
-/// The next frame of the input, or `None` where the input is at its end. No byte behind the frame is
-/// read, nor any behind a wrong length.
+/// The next frame of the input, or `None` at the end of input. No byte after the frame is read, nor any after a wrong
+/// length.
 ///
-/// `Short`: the input ends within the frame, and all of it is read, or the length is below 4. `TooLong`:
-/// the length is above 65,532. `NoMemory`: only the four bytes of the length were read. `Device`: the
-/// reader failed within the frame, which is lost.
+/// `Short`: the input ends within the frame, and all of it is read, or the length is below 4. `TooLong`: the length is
+/// above 65,532. `NoMemory`: only the four bytes of the length were read. `Device`: the reader failed within the frame,
+/// which is lost.
 pub fn read_frame<R: Read>(alloc: Global, reader: &mut R) -> Result<Option<Frame>, WireFault>
-    // What is answered, and which bytes are left.
+    // What is returned, and which bytes are left.
     ensures exact { IfSome (R.remaining reader.old)
         (λ input. IsReadOf input result (R.remaining reader.new)) }
     // A frame that is read stood at the front of the input.

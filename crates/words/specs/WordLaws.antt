@@ -1,4 +1,4 @@
--- A number and its bytes give each other back.
+-- A number and its bytes determine each other.
 use Rattle.std.specs.Prelude.{◌≡◌, ℕ, zero, suc, ◌+◌, ◌^◌, ◌<◌, ◌≤◌, List, [], ◌∷◌, ◌++◌, length, take, refl}
 use Rattle.std.specs.Int.{w32, from_le_bytes}
 use Rattle.std.proofs.Common.{sym, ◌∙◌, ap, arith}
@@ -35,7 +35,7 @@ word-little_number (a ∷ b ∷ c ∷ d ∷ rest) fits long =
     let is : n ≡ from_le_bytes w32 (a ∷ b ∷ c ∷ d ∷ []) = omega arith in
     le_bytes_4 (a ∷ b ∷ c ∷ d ∷ []) n refl (front_fits 4 (a ∷ b ∷ c ∷ d ∷ rest) fits) is
 
--- words in front of equal bytes are those of one number
+-- words at the front of equal bytes are of the same number
 pub same_word : (m n : ℕ) (xs ys : List ℕ) → m < 2 ^ 32 → n < 2 ^ 32 → word m ++ xs ≡ word n ++ ys → m ≡ n
 same_word m n xs ys fits fits_too e =
     sym (little_number-word m xs fits) ∙ ap (λ (l : List ℕ). little_number 4 l) e ∙ little_number-word n ys fits_too

@@ -7,7 +7,7 @@ ghost use Rattle.words.specs.Words.{word, long_word};
 use byteorder::{ByteOrder, LittleEndian};
 use std::alloc::AllocError;
 
-/// The number in the first four bytes, and the bytes behind it.
+/// The number in the first four bytes, and the bytes after it.
 pub fn take_word(bytes: &[u8]) -> Option<(u32, &[u8])>
     ensures found { IfSome result (λ r. bytes.now ≡ word r.0 ++ r.1.now) }
     ensures fits { IfSome result (λ r. r.0 < 2 ^ 32) }
@@ -20,7 +20,7 @@ pub fn take_word(bytes: &[u8]) -> Option<(u32, &[u8])>
     Some((LittleEndian::read_u32(bytes), rest))
 }
 
-/// The number in the first eight bytes, and the bytes behind it.
+/// The number in the first eight bytes, and the bytes after it.
 pub fn take_long_word(bytes: &[u8]) -> Option<(u64, &[u8])>
     ensures found { IfSome result (λ r. bytes.now ≡ long_word r.0 ++ r.1.now) }
     ensures fits { IfSome result (λ r. r.0 < 2 ^ 64) }
@@ -33,7 +33,7 @@ pub fn take_long_word(bytes: &[u8]) -> Option<(u64, &[u8])>
     Some((LittleEndian::read_u64(bytes), rest))
 }
 
-/// Adds the four bytes of a number. Where memory is wanted nothing changed.
+/// Adds the four bytes of a number. If an allocation fails, nothing changed.
 pub fn push_word(out: &mut Vec<u8>, value: u32) -> Result<(), AllocError>
     ensures ok { OnOk result (out.new.items ≡ out.old.items ++ word value) }
     ensures err { OnErr result (out.new.items ≡ out.old.items) }
@@ -43,7 +43,7 @@ pub fn push_word(out: &mut Vec<u8>, value: u32) -> Result<(), AllocError>
     out.extend_from_slice(&text)
 }
 
-/// Adds the eight bytes of a number. Where memory is wanted nothing changed.
+/// Adds the eight bytes of a number. If an allocation fails, nothing changed.
 pub fn push_long_word(out: &mut Vec<u8>, value: u64) -> Result<(), AllocError>
     ensures ok { OnOk result (out.new.items ≡ out.old.items ++ long_word value) }
     ensures err { OnErr result (out.new.items ≡ out.old.items) }

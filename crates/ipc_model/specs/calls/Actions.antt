@@ -1,5 +1,5 @@
--- What each call on names and ports does that passes its tests: its answer, the state, and the effects that it sets off.
--- (Kernel Interfaces, "Port Manipulation"; the calls on spaces are this server's.)
+-- What each call on names and ports does once it passes its tests: its answer, the state after it, and the effects that
+-- it sets off. (Kernel Interfaces, "Port Manipulation"; the calls on spaces are this server's.)
 use Rattle.std.specs.Prelude.{◌≡◌, ℕ, ◌+◌, ◌-◌, ◌^◌, ◌<◌, ◌≤◌, min, Bool, true, false, ◌==◌, ◌&&◌, not, nat_le, List, [], ◌∷◌, ◌++◌, length, map, filter, filter_map, flat_map, Option, None, Some, is_some, option_and_then, if◌then◌else◌}
 use Rattle.std.specs.FinMap as finmap
 use Rattle.codes.specs.declared.notification.TheConstants.{MACH_NOTIFY_PORT_DESTROYED, MACH_NOTIFY_DEAD_NAME}
@@ -41,7 +41,7 @@ only state answer = record { answer = answer; state = state; effects = [] }
 abbrev pub done_with : ℕ → State → List Effect → Action
 done_with number state effects = record { answer = reply.Done number; state = state; effects = effects }
 
--- the ports whose receive rights are members of a set
+-- the ports whose receive rights are members of the set
 abbrev pub serials_of_members : State → Names → ℕ → List ℕ
 serials_of_members state names set = filter_map (λ e. received_port e.1) (filter (λ e. is_member state set e.1) (finmap.entries names))
 
@@ -53,7 +53,7 @@ with_ports state (serial ∷ serials) change = with_ports (with_port state seria
 abbrev pub members_in : State → Names → ℕ → Option ℕ → State
 members_in state names set other = with_ports state (serials_of_members state names set) (λ port. record port { set = other })
 
--- a set that goes, or gets another name, takes its members out, or along
+-- when a set goes, its members are in no set any more; when it is renamed, they get its new name
 abbrev pub members_moved : State → Names → ℕ → Option ℕ → Entry → State
 members_moved state names set other (Port rights) = state
 members_moved state names set other (SendOnce port target) = state
@@ -91,7 +91,7 @@ abbrev pub destroyed : State → ℕ → Names → ℕ → Entry → Action
 destroyed state space names name entry =
     done_with MACH_PORT_DESTROY (with_names (members_moved state names name None entry) space (finmap.remove names name)) (effects_of_name name entry)
 
--- A right's references under a name become this many; where none are left the right goes.
+-- A right keeps this many references under a name; if none are left, the right goes.
 abbrev pub send_left : State → ℕ → ℕ → PortRights → ℕ → ℕ → Action
 send_left state space name rights left number =
     let entry : Entry = Port (record rights { send = left }) in
@@ -108,7 +108,7 @@ receive_gone state space name rights =
 abbrev pub send_once_gone : State → ℕ → ℕ → ℕ → Option ℕ → ℕ → Action
 send_once_gone state space name port target number = done_with number (without_name state space name) (release kind.SendOnce port ∷ port_deleted name target)
 
--- mach_port_deallocate: one reference less of a send right, a send-once right or a dead name
+-- mach_port_deallocate: takes one reference from a send right, a send-once right or a dead name
 abbrev pub deallocated : State → ℕ → Names → ℕ → Entry → Action
 deallocated state space names name (Port rights) = send_left state space name rights (rights.send - 1) MACH_PORT_DEALLOCATE
 deallocated state space names name (SendOnce port target) = send_once_gone state space name port target MACH_PORT_DEALLOCATE
@@ -129,7 +129,7 @@ modified state space names name Set wanted delta =
     if delta == minus_one then done_with MACH_PORT_MOD_REFS (with_names (members_in state names name None) space (finmap.remove names name)) [] else done_with MACH_PORT_MOD_REFS state []
 modified state space names name (Dead references) wanted delta = dead_left state space name (sum_of references delta) MACH_PORT_MOD_REFS
 
--- a change of what the port keeps whose receive right a name holds
+-- changes what the port keeps whose receive right this name holds
 abbrev pub with_received : State → Entry → (PortState → PortState) → State
 with_received state entry change = elim (received_port entry) as (λ _. State) [ None ↦ state | Some serial ↦ with_port state serial change ]
 
@@ -155,7 +155,8 @@ status_of state serial port = record {
 abbrev pub set_named : ℕ → Option ℕ
 set_named name = if name == MACH_PORT_NULL then None else Some name
 
--- Requests for notifications. The target is a send-once right that was copied in, or none where the request is cancelled.
+-- Requests for notifications. The target is a send-once right that was copied in; there is none where a request is
+-- cancelled.
 
 -- the port has no send right, and as many were made as the task knows of, or more
 abbrev pub lacks_senders : State → ℕ → ℕ → Bool
@@ -175,7 +176,8 @@ port_request_set state variant sync serial (Some target) =
     then (with_port state serial (λ port. record port { no_senders_target = None }), notify target (notice.NoSenders (make_send_count_of state serial)) ∷ [])
     else (with_port state serial (λ port. record port { no_senders_target = Some target }), [])
 
--- A dead-name request: kept with the name; of a dead name the notice goes out at once, and the name has a reference more.
+-- A dead-name request is kept with the name. If the name is dead already, the notice goes out at once, and the name
+-- gets one more reference.
 abbrev pub dead_name_request_set : State → ℕ → ℕ → Option ℕ → Entry → State × List Effect
 dead_name_request_set state space name target (Port rights) = (with_entry state space name (Port (record rights { dead_name_target = target })), [])
 dead_name_request_set state space name target (SendOnce port former) = (with_entry state space name (SendOnce port target), [])
@@ -192,7 +194,8 @@ abbrev pub request_set_under : State → ℕ → ℕ → ℕ → ℕ → Option 
 request_set_under state space name variant sync target =
     elim (entry_at state space name) as (λ _. State × List Effect) [ None ↦ (state, []) | Some entry ↦ request_set state space name variant sync target entry ]
 
--- The former target comes back as a send-once right under a new name, which the answer shows; 0 where there was none.
+-- The former target comes back as a send-once right under a new name. The answer shows the name, or 0 where there was
+-- none.
 abbrev pub GivesBack : State → ℕ → Option ℕ → ℕ → State → Type 0
 GivesBack state space None name new = (name ≡ MACH_PORT_NULL) × (new ≡ state)
 GivesBack state space (Some former) name new = IsUnused (names_in state space) name × (new ≡ with_entry state space name (SendOnce former None))
@@ -253,7 +256,7 @@ Created (Some taken) answer new effects =
     × MayArrive finmap.empty taken.right.kind taken.right.port name
     × (new ≡ with_names taken.state number (names_after finmap.empty taken.right.kind taken.right.port name)) × (effects ≡ taken.notices)
 
--- A space goes with all its names, rising, and its sets with it.
+-- A space is destroyed with all its names, in ascending order, and its sets go with it.
 abbrev pub received_serials : Names → List ℕ
 received_serials names = filter_map (λ e. received_port e.1) (finmap.entries names)
 
@@ -262,16 +265,16 @@ space_destroyed state space names =
     let outside : State = with_ports state (received_serials names) (λ port. record port { set = None }) in
     done_with SPACE_DESTROY (record outside { spaces = finmap.remove state.spaces space }) (flat_map (λ e. effects_of_name e.0 e.1) (finmap.entries names))
 
--- a call acts so: it answers, leaves a state, and sets effects off
+-- an action as a relation: the answer, the state that it leaves, and the effects that it sets off
 abbrev pub Acts : Action → Reply → State → List Effect → Type 0
 Acts action answer new effects = (answer ≡ action.answer) × (new ≡ action.state) × (effects ≡ action.effects)
 
--- so it acts on what a name stands for; the tests see to it that the name is in use
+-- the same for an action on what a name stands for; the tests ensure that the name is in use
 abbrev pub ActsOn : Option Entry → (Entry → Action) → Reply → State → List Effect → Type 0
 ActsOn None action answer new effects = ⊥
 ActsOn (Some entry) action answer new effects = Acts (action entry) answer new effects
 
--- the tests see to it that the name holds a receive right, whose port lives
+-- the tests ensure that the name holds a receive right, whose port lives
 abbrev pub status_action : State → Option PortState → ℕ → Action
 status_action state None serial = done_with MACH_PORT_GET_RECEIVE_STATUS state []
 status_action state (Some port) serial = only state (reply.ReceiveStatus (status_of state serial port))
@@ -280,7 +283,8 @@ abbrev pub status_action_of : State → Option ℕ → Action
 status_action_of state None = done_with MACH_PORT_GET_RECEIVE_STATUS state []
 status_action_of state (Some serial) = status_action state (finmap.get state.ports serial) serial
 
--- What a call on names and ports may answer that passes its tests, the state after it, and the effects that it sets off.
+-- A call on names and ports that passes its tests: what it may answer, the state after it, and the effects that it sets
+-- off.
 unfoldable pub Done : State → ℕ → Names → Call → Reply → State → List Effect → Type 0
 Done old space names (call.Attach other) answer new effects = Acts (done_with ATTACH old []) answer new effects
 Done old space names call.Names answer new effects =

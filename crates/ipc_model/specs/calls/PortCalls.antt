@@ -1,4 +1,4 @@
--- The calls on names and ports: the tests of each, in order, and what each does that passes them.
+-- The calls on names and ports: the tests of each, in order.
 -- (Kernel Interfaces, "Port Manipulation"; the calls on spaces are this server's.)
 use Rattle.std.specs.Prelude.{ℕ, ◌+◌, ◌-◌, ◌^◌, Bool, true, false, ◌==◌, ◌&&◌, ◌||◌, not, nat_le, nat_lt, [], ◌∷◌, ◌++◌, Option, None, Some, is_some, is_none, option_and_then, if◌then◌else◌}
 use Rattle.std.specs.List.{list_any}
@@ -43,7 +43,7 @@ is_in_use names name = is_some (finmap.get names name)
 abbrev pub is_no_name : Names → ℕ → Bool
 is_no_name names name = is_null_or_dead name || not (is_in_use names name)
 
--- what is asked of the entry under a name; of a name that isn't in use the answer is no
+-- a predicate on the entry under a name; false for a name that isn't in use
 abbrev pub entry_is : (Entry → Bool) → Option Entry → Bool
 entry_is test None = false
 entry_is test (Some entry) = test entry
@@ -75,7 +75,7 @@ is_send_once (Dead references) = false
 abbrev pub one_if : Bool → ℕ
 one_if b = if b then 1 else 0
 
--- how many send references an entry holds, and how many of a dead name
+-- how many send references an entry holds, or how many references a dead name has
 abbrev pub send_references : Entry → ℕ
 send_references (Port rights) = rights.send
 send_references (SendOnce port target) = 0
@@ -103,7 +103,7 @@ references_under names name n = elim (finmap.get names name) as (λ _. ℕ) [ No
 abbrev pub is_no_right : ℕ → Bool
 is_no_right n = nat_lt 4 n
 
--- a delta of 32 bits in two's complement: zero or positive below 2 ^ 31, and how far below zero from there on
+-- whether a delta of 32 bits in two's complement is negative: it is from 2 ^ 31 on; and how far below zero it is then
 abbrev pub is_negative : ℕ → Bool
 is_negative delta = nat_le (2 ^ 31) delta
 
@@ -134,7 +134,7 @@ tests_of_delta n references delta =
     then (sum_is_negative references delta, InvalidValue) ∷ (nat_lt (bound_of n) (sum_of references delta), UrefsOverflow) ∷ []
     else (not (is_none_or_minus_one delta), InvalidValue) ∷ []
 
--- the tests of a right that is copied in, and of the state after it where it is taken
+-- the tests of a right that is copied in, and, where it was taken, of the state after that
 abbrev pub tests_of_taken : KernReturn → Option Taken → (Taken → ℕ → Tests) → Tests
 tests_of_taken code None later = (true, code) ∷ []
 tests_of_taken code (Some taken) later = elim (live_port taken.right.port) as (λ _. Tests) [ None ↦ (true, code) ∷ [] | Some serial ↦ later taken serial ]
@@ -154,8 +154,8 @@ is_in_some_set state entry = elim (option_and_then (λ serial. finmap.get state.
 abbrev pub stands_elsewhere : Names → ℕ → ℕ → Bool
 stands_elsewhere names name serial = list_any (λ e. is_number (port_held e.1) serial && not (e.0 == name)) (finmap.entries names)
 
--- a name is in use for something that this right can't join: a send-once right joins nothing, and a send or receive
--- right only the other rights of its own port
+-- a name is in use for something that this right can't be merged with: a send-once right merges with nothing, and a
+-- send or receive right only with other rights to its own port
 abbrev pub is_taken_otherwise : RightKind → ℕ → Option Entry → Bool
 is_taken_otherwise kind serial None = false
 is_taken_otherwise kind.SendOnce serial (Some entry) = true
@@ -182,7 +182,7 @@ tests_of_insert space name taken serial =
     ∷ (not (is_in_use names name) && names_are_used_up names, NoSpace)
     ∷ []
 
--- a right that comes out under a name may want a new one
+-- the tests of a right that is extracted, which may need a new name
 abbrev pub tests_of_extract : ℕ → Taken → ℕ → Tests
 tests_of_extract space taken serial =
     let names : Names = names_in taken.state space in
@@ -203,7 +203,7 @@ target_now state variant entry = if variant == MACH_NOTIFY_DEAD_NAME then reques
 abbrev pub target_under : State → Names → ℕ → ℕ → Option ℕ
 target_under state names variant name = option_and_then (target_now state variant) (finmap.get names name)
 
--- the tests of a variant
+-- the tests of a request of this variant
 abbrev pub tests_of_variant : Names → ℕ → ℕ → ℕ → Bool → Tests
 tests_of_variant names name variant sync cancels =
     if variant == MACH_NOTIFY_PORT_DESTROYED then (not (sync == 0), InvalidValue) ∷ (not (name_is has_receive names name), InvalidRight) ∷ []

@@ -51,7 +51,7 @@ refused (call.Send message) code = without_message code 0 MACH_PORT_NULL
 refused (call.Receive limit large name waited) code = without_message code 0 MACH_PORT_NULL
 refused c code = reply.Refused (number_of_call c) code
 
--- refused, a call answers so, changes nothing, and sets nothing off
+-- the call is refused with this reply: it changes nothing, and sets nothing off
 abbrev pub IsRefusedWith : Reply → State → Reply → State → List Effect → Type 0
 IsRefusedWith refusal old answer new effects = (answer ≡ refusal) × (new ≡ old) × (effects ≡ [])
 
@@ -67,12 +67,13 @@ ActsIn old space names c answer new effects =
     RefusedOrDone (first_failing (tests_of old space names c))
     (λ code. IsRefusedWith (reply.Refused (number_of_call c) code) old answer new effects) (Done old space names c answer new effects)
 
--- A caller whose space is gone is refused before all else.
+-- A caller whose space is gone is refused before any test.
 abbrev pub ActsFrom : State → ℕ → Option Names → Call → Reply → State → List Effect → Type 0
 ActsFrom old space None c answer new effects = IsRefusedWith (refused c InvalidTask) old answer new effects
 ActsFrom old space (Some names) c answer new effects = ActsIn old space names c answer new effects
 
--- A step of the machine: this call of a task of this space may answer so, and leaves this state once its effects have settled.
+-- A step of the machine: this call of a task of this space may give this reply, and leaves this state once its effects
+-- have settled.
 unfoldable pub Step : State → ℕ → Call → Reply → State → Type 0
 Step old space c answer new =
     (acted : State) × (effects : List Effect) × ActsFrom old space (finmap.get old.spaces space) c answer acted effects × Settles acted effects new
@@ -111,7 +112,7 @@ abbrev pub is_success : KernReturn → Bool
 is_success Success = true
 is_success _ = false
 
--- a receipt that didn't ask for the contrary has destroyed a message that was too large
+-- a receive without MACH_RCV_LARGE destroyed a message that was too large
 abbrev pub has_destroyed : Call → KernReturn → Bool
 has_destroyed (call.Receive limit false name waited) RcvTooLarge = true
 has_destroyed _ _ = false
@@ -125,11 +126,12 @@ abbrev pub destroyed_message : Call → Reply → Bool
 destroyed_message c (reply.Message code size member message) = has_destroyed c code
 destroyed_message c answer = false
 
--- Whether an answered call has a record: it may change the state and has code 0, or it is a receipt that destroyed a message.
+-- Whether an answered call has a record: it may change the state, and has code 0 or is a receive that destroyed a
+-- message.
 abbrev pub has_record : Call → Reply → Bool
 has_record c answer = is_recorded c && (succeeded c answer || destroyed_message c answer)
 
--- the machine goes from old to new by these records, each a step
+-- these records, each a step, lead the machine from old to new
 abbrev pub Run : State → List Record → State → Type 0
 Run old [] new = new ≡ old
 Run old (first ∷ records) new = (mid : State) × Step old first.space first.call first.reply mid × Run mid records new

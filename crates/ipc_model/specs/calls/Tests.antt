@@ -2,7 +2,7 @@
 use Rattle.std.specs.Prelude.{Bool, List, [], ◌∷◌, Option, None, Some, Result, Ok, Err, MatchOption, if◌then◌else◌}
 use Rattle.codes.specs.declared.kern_return.KernReturn.{KernReturn}
 
--- A test is true where it fails, and then the call is refused with the code beside it.
+-- A test is true where it fails, and then the call is refused with the code paired with it.
 abbrev pub Tests : Type 0
 Tests = List (Bool × KernReturn)
 
@@ -11,7 +11,7 @@ abbrev pub first_failing : Tests → Option KernReturn
 first_failing [] = None
 first_failing (test ∷ tests) = if test.0 then Some test.1 else first_failing tests
 
--- Where a test fails the call is refused with its code; else it is done.
+-- If a test fails, the call is refused with its code; otherwise it is done.
 abbrev pub RefusedOrDone : Option KernReturn → (KernReturn → Type 0) → Type 0 → Type 0
 RefusedOrDone refusal refused done = MatchOption refusal done refused
 

@@ -1,5 +1,5 @@
--- What rights that go set off: notices, and the death of ports. The effects of a call stand in one list, and each is done in its turn.
--- (Kernel Interfaces, mach_port_destroy, mach_port_deallocate, "Notifications".)
+-- What is set off when rights go: notices, and the death of ports. The effects of a call stand in one list, and are
+-- done in its order. (Kernel Interfaces, mach_port_destroy, mach_port_deallocate, "Notifications".)
 use Rattle.std.specs.Prelude.{ℕ, ◌+◌, Bool, false, ◌==◌, ◌&&◌, not, List, [], ◌∷◌, ◌++◌, map, flat_map, Option, None, Some, option_map, if◌then◌else◌}
 use Rattle.std.specs.Ordering.{nat_cmp}
 use Rattle.std.specs.FinMap as finmap
@@ -18,8 +18,8 @@ use Rattle.ipc_model.specs.messages.Notices as notice
 use Rattle.ipc_model.specs.state.Placed.{send_count}
 use Rattle.ipc_model.specs.state.State.{State, with_port, lives, request_of}
 
--- An effect that waits for its turn: a right that is released, which stands in no place any more, or a notice
--- that goes out by the send-once right of a request's target.
+-- An effect that waits for its turn: a right that is released, and no longer stands in any place, or a notice that goes
+-- out by the send-once right of a request's target.
 pub data Effect : Type 0 where
   release : RightKind → (port : ℕ) → Effect
   notify : (target : ℕ) → Notice → Effect
@@ -54,18 +54,18 @@ queued state serial message = with_port state serial (λ port. record port { mes
 abbrev pub notified : State → ℕ → Notice → State
 notified state target what = queued state target (notice_message what)
 
--- a reference more where there is a dead-name request
+-- one more reference where there is a dead-name request
 abbrev pub one_more_if : Option ℕ → ℕ
 one_more_if None = 0
 one_more_if (Some target) = 1
 
--- a request, but none by which this port was to be told
+-- a request's target, dropped if the target is this port
 abbrev pub without_target : ℕ → Option ℕ → Option ℕ
 without_target serial None = None
 without_target serial (Some target) = if target == serial then None else Some target
 
--- what a name becomes when a port dies: a name with send references or a send-once right becomes a dead name, with
--- a reference more for a dead-name request; a request by which the port was to be told goes
+-- what a name becomes when a port dies: a name with send references or a send-once right becomes a dead name, with one
+-- more reference for a dead-name request; a request whose target is the port goes
 abbrev pub entry_after_death : ℕ → Entry → Entry
 entry_after_death serial (Port rights) =
     if rights.port == serial then Dead (rights.send + one_more_if rights.dead_name_target)
@@ -121,7 +121,8 @@ port_after_death serial port = record port {
 abbrev pub map_values : {X : Type 0} → (X → X) → finmap.FinMap nat_cmp X → finmap.FinMap nat_cmp X
 map_values change values = finmap.from_sorted (map (λ e. (e.0, change e.1)) (finmap.entries values))
 
--- A port dies: names of it become dead names, carried rights to it become MACH_PORT_DEAD, and requests that were to tell it go.
+-- A port dies: names of it become dead names, carried rights to it become MACH_PORT_DEAD, and requests whose target it
+-- is go.
 abbrev pub after_death : State → ℕ → State
 after_death state serial = record state {
   spaces = map_values (map_values (entry_after_death serial)) state.spaces;
@@ -133,7 +134,8 @@ abbrev pub release_of_target : Option ℕ → List Effect
 release_of_target None = []
 release_of_target (Some target) = release kind.SendOnce target ∷ []
 
--- What a death adds: the releases of its messages' rights, oldest message first; the dead-name notices; the release of its no-senders target.
+-- What a death adds: the releases of its messages' rights, oldest message first; the dead-name notices; the release of
+-- its no-senders target.
 abbrev pub effects_of_death : State → ℕ → PortState → List Effect
 effects_of_death state serial port = flat_map releases_of port.messages ++ (dead_name_notices state serial ++ release_of_target port.no_senders_target)
 
@@ -144,7 +146,7 @@ Outcome = State × List Effect
 abbrev pub died : State → ℕ → PortState → Outcome
 died state serial port = (after_death state serial, effects_of_death state serial port)
 
--- A send right was released: where none is left, a no-senders request is taken, and its notice goes out.
+-- A send right was released. If none is left, a no-senders request is taken, and its notice goes out.
 abbrev pub told_no_senders : State → ℕ → PortState → Option ℕ → State
 told_no_senders state serial port None = state
 told_no_senders state serial port (Some target) =
@@ -153,13 +155,13 @@ told_no_senders state serial port (Some target) =
 abbrev pub send_released : State → ℕ → PortState → State
 send_released state serial port = if send_count state serial == 0 then told_no_senders state serial port port.no_senders_target else state
 
--- a receive right goes to who asked for it, in a port-destroyed notice; the port begins anew, in no set
+-- a receive right goes to the target of a port-destroyed request, in the notice; the port begins anew, in no set
 abbrev pub sent_to_target : State → ℕ → ℕ → State
 sent_to_target state serial target =
     notified (with_port state serial (λ p. record p { set = None; sequence_number = 0; make_send_count = 0; port_destroyed_target = None })) target (notice.PortDestroyed serial)
 
--- A receive right was released: the port leaves its set. A port-destroyed request takes the right along, unless it
--- would come back to its own queue; else the port dies.
+-- A receive right was released: the port leaves its set. A port-destroyed request takes the right along, unless the
+-- right would come back to its own queue; otherwise the port dies.
 abbrev pub receive_released_to : State → ℕ → PortState → Option ℕ → Outcome
 receive_released_to state serial port None = died state serial port
 receive_released_to state serial port (Some target) =
@@ -180,7 +182,7 @@ unfoldable pub effect : State → Effect → Outcome
 effect state (release kind serial) = released_if_live state serial kind (finmap.get state.ports serial)
 effect state (notify target what) = (notified state target what, [])
 
--- The list is worked off from its front, until nothing is left.
+-- The list is drained from its front, until nothing is left.
 pub data Settles : State → List Effect → State → Type 0 where
   settled : {state : State} → Settles state [] state
   next_effect : {state end : State} {first : Effect} {rest : List Effect} → Settles (effect state first).0 (rest ++ (effect state first).1) end → Settles state (first ∷ rest) end

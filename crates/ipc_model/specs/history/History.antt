@@ -9,12 +9,13 @@ use Rattle.ipc_model.specs.declared.record.Record.{Record}
 use Rattle.ipc_model.specs.state.State.{State}
 use Rattle.ipc_model.specs.calls.Step.{Run, Answer, has_record, succeeded}
 
--- The history begins in the state that the opening gave, and is the list of records made since. A record's place is how
--- many stand before it. Records that the opening read are no part of it: what they made is the state that it begins in.
+-- The history begins in the state that the opening found, and is the list of records made since. A record's place is
+-- the number of records before it. Records that the opening read are not part of it: they led to the state it begins
+-- in.
 
--- A session: the space that its task is attached to; how many records of the history it has seen; of how many it was told,
--- which is the most that a reply saw which it redeemed; of each ticket that its calls were given, how many records its reply
--- saw; and the places of its own records.
+-- A session: the space that its task is attached to; how many records of the history it has seen; how many were
+-- acknowledged to it (the most that any reply saw which it redeemed); for each ticket that its calls were given, how
+-- many records the ticket's reply saw; and the places of its own records.
 pub record Session : Type 0 where
   pub space : ℕ
   pub seen : ℕ
@@ -22,9 +23,9 @@ pub record Session : Type 0 where
   pub tickets : List ℕ
   pub places : List ℕ
 
--- What a session does: a call of its task is answered by a ticket; one of its tickets is redeemed, whose reply saw so many
--- records; a ticket of another session is; or the session only sees more of the history, as where a call isn't taken, or where
--- two sessions meet.
+-- What a session does: a call of its task is answered with a ticket; one of its tickets is redeemed, whose reply saw
+-- this many records; a ticket of another session is redeemed; or the session only sees more of the history, as where a
+-- call isn't taken, or where two sessions meet.
 pub data Operation : Type 0 where
   called : Call → Reply → Operation
   redeemed : (seen : ℕ) → Operation
@@ -36,11 +37,11 @@ abbrev pub attached_by : ℕ → Call → ℕ
 attached_by space (call.Attach other) = other
 attached_by space c = space
 
--- the space that a task is attached to after a call that was answered so
+-- the space that a task is attached to after a call with this reply
 abbrev pub space_after : ℕ → Call → Reply → ℕ
 space_after space c answer = if succeeded c answer then attached_by space c else space
 
--- A call with a record stands at one place, at or past what its session had seen before, with the session's space, the
+-- A call with a record stands at one place, at or after what its session had seen before, with the session's space, the
 -- call and the reply. The session has then seen it.
 pub record HasPlace (history : List Record) (old : Session) (c : Call) (answer : Reply) (new : Session) : Type 0 where
   pub recorded : has_record c answer ≡ true
@@ -50,8 +51,8 @@ pub record HasPlace (history : List Record) (old : Session) (c : Call) (answer :
   pub seen : place < new.seen
   pub after : new ≡ record old { seen = new.seen; tickets = old.tickets ++ new.seen ∷ []; places = old.places ++ place ∷ [] }
 
--- Every other reply is an answer in the state after some beginning of the history, which is no shorter than what its
--- session had seen before. The session has then seen this beginning.
+-- Every other reply is an answer in the state after some prefix of the history, no shorter than what its session had
+-- seen before. The session has then seen this prefix.
 pub record IsAnswered (base : State) (history : List Record) (old : Session) (c : Call) (answer : Reply) (new : Session) : Type 0 where
   pub unrecorded : has_record c answer ≡ false
   pub beginning : ℕ
@@ -62,15 +63,15 @@ pub record IsAnswered (base : State) (history : List Record) (old : Session) (c 
   pub seen : beginning ≤ new.seen
   pub after : new ≡ record old { space = space_after old.space c answer; seen = new.seen; tickets = old.tickets ++ new.seen ∷ [] }
 
--- a session was given a ticket whose reply saw so many records
+-- a session was given a ticket whose reply saw this many records
 abbrev pub has_ticket : Session → ℕ → Bool
 has_ticket session seen = list_any (eqb seen) session.tickets
 
--- what it is to redeem a ticket whose reply saw so many records
+-- the operation of redeeming a ticket whose reply saw this many records
 abbrev pub redemption : Session → ℕ → Operation
 redemption session seen = if has_ticket session seen then redeemed seen else redeemed_for_another seen
 
--- a session that was then told of so many records, or of more before
+-- this many records, or more before, are then acknowledged to the session, and it has seen them
 abbrev pub IsTold : Session → ℕ → Session → Type 0
 IsTold old seen new = (seen ≤ new.seen) × (new ≡ record old { seen = new.seen; told = max old.told seen })
 
@@ -81,7 +82,7 @@ Leads base history old (redeemed seen) new = (has_ticket old seen ≡ true) × I
 Leads base history old (redeemed_for_another seen) new = IsTold old seen new
 Leads base history old looked new = new ≡ record old { seen = new.seen }
 
--- A session after one operation more: it forgets nothing that it saw, and sees no more than there is.
+-- A session after one more operation: it forgets nothing that it saw, and sees no more than there is.
 pub record After (base : State) (history : List Record) (old : Session) (operation : Operation) (new : Session) : Type 0 where
   pub leads : Leads base history old operation new
   pub more : old.seen ≤ new.seen
@@ -92,7 +93,7 @@ abbrev pub AfterAll : State → List Record → Session → List Operation → S
 AfterAll base history old [] new = new ≡ old
 AfterAll base history old (first ∷ operations) new = (mid : Session) × After base history old first mid × AfterAll base history mid operations new
 
--- A new session is attached to the first space, was told nothing, and has seen a beginning of the history.
+-- A new session is attached to the first space, nothing is acknowledged to it, and it has seen a prefix of the history.
 pub record IsNew (history : List Record) (session : Session) : Type 0 where
   pub space : session.space ≡ FIRST_SPACE
   pub within : session.seen ≤ length history
@@ -100,7 +101,7 @@ pub record IsNew (history : List Record) (session : Session) : Type 0 where
   pub tickets : session.tickets ≡ []
   pub places : session.places ≡ []
 
--- A session is legal in a history that runs from this base where these operations made it of a new one.
+-- A session is legal in a history that runs from this base if these operations lead to it from a new session.
 pub record Legal (base : State) (history : List Record) (operations : List Operation) (session : Session) : Type 0 where
   pub start : Session
   pub new : IsNew history start
@@ -128,11 +129,11 @@ pub record IsLegalHistory (base : State) (history : List Record) (sessions : Ses
   pub legal : AllLegal base history sessions
   pub apart : AreApart (map (λ session. session.1) sessions)
 
--- These are all the sessions that there were: the records are as many as their places together.
+-- These are all the sessions that there were: there are as many records as they have places together.
 abbrev pub AreAll : List Record → List Session → Type 0
 AreAll history sessions = length (places_of sessions) ≡ length history
 
--- Two sessions that meet have then both seen the longer beginning, and no place belongs to both.
+-- Two sessions that meet have then both seen the longer prefix, and no place belongs to both.
 pub record Meet (one other one_after other_after : Session) : Type 0 where
   pub one_sees : one_after ≡ record one { seen = max one.seen other.seen }
   pub other_sees : other_after ≡ record other { seen = max one.seen other.seen }

@@ -1,4 +1,4 @@
--- The items of a message's body: descriptors, each with its data behind it.
+-- The items of a message's body: descriptors, each followed by its data.
 -- (Kernel Interfaces, mach_msg, mach_msg_type_t and mach_msg_type_long_t.)
 use Rattle.std.specs.Prelude.{◌≡◌, ℕ, zero, suc, ◌+◌, ◌*◌, ◌/◌, ◌%◌, ◌^◌, ◌<◌, Bool, true, false, ◌==◌, ◌&&◌, ◌||◌, not, nat_le, nat_lt, List, [], ◌∷◌, ◌++◌, length, take, drop, replicate, flat_map, None, Some, Result, Ok, Err, if◌then◌else◌}
 use Rattle.words.specs.Numbers.{little_number, little_bytes}
@@ -32,7 +32,7 @@ is_long_form w = bit 29 w
 abbrev pub has_other_bit : ℕ → Bool
 has_other_bit w = bit 30 w || bit 31 w
 
--- the fields of type name, bits and number: in the word, or behind it in a long descriptor, whose word has none
+-- the fields of type name, bits and number: in the word, or after it in a long descriptor, whose word has none
 abbrev pub type_name_in : List ℕ → Bool → ℕ
 type_name_in bytes false = little_number 4 bytes % 2 ^ 8
 type_name_in bytes true = little_number 2 (drop 4 bytes)
@@ -49,7 +49,7 @@ abbrev pub descriptor_length : Bool → ℕ
 descriptor_length false = 4
 descriptor_length true = 12
 
--- the bytes that this many bits take, padded to a multiple of 4
+-- how many bytes this many bits take, padded to a multiple of 4
 abbrev pub padded : ℕ → ℕ
 padded n = (((n + 7) / 8 + 3) / 4) * 4
 
@@ -84,7 +84,7 @@ item_of bytes long = record {
 abbrev pub after_item : List ℕ → Bool → List ℕ
 after_item bytes long = drop (descriptor_length long + data_length bytes long) bytes
 
--- The items of so many bytes at most, read from the left; or the code of the first fault. An item has 4 bytes or more.
+-- At most this many items, read from the left; or the code of the first fault. An item has 4 bytes or more.
 abbrev pub items_within : ℕ → List ℕ → Result (List Item) KernReturn
 items_within zero bytes = Ok []
 items_within (suc n) [] = Ok []
@@ -119,8 +119,8 @@ abbrev pub number_bound : Bool → ℕ
 number_bound false = 2 ^ 12
 number_bound true = 2 ^ 32
 
--- An item that can stand in a body: its type name, bits and number have room in the fields of its descriptor, a port has
--- 32 bits, and its data is bytes, as many as number and bits say, with the padding.
+-- An item that can stand in a body: its type name, bits and number fit the fields of its descriptor, a port has 32
+-- bits, and its data is bytes, as many as number and bits say, with the padding.
 pub record IsItem (item : Item) : Type 0 where
   pub type_name : item.type_name < name_bound item.is_long
   pub bits : item.bits < name_bound item.is_long
@@ -133,11 +133,11 @@ abbrev pub AreItems : List Item → Type 0
 AreItems [] = Unit {0}
 AreItems (item ∷ items) = IsItem item × AreItems items
 
--- These items, and no others between or behind them, are the body.
+-- These items, and no others between or after them, are the body.
 abbrev pub Tile : List Item → List ℕ → Type 0
 Tile items body = AreItems items × (items_text items ≡ body)
 
--- so many words from the front
+-- this many words from the front
 abbrev pub words_of : ℕ → List ℕ → List ℕ
 words_of zero bytes = []
 words_of (suc n) bytes = little_number 4 bytes ∷ words_of n (drop 4 bytes)
@@ -146,7 +146,7 @@ words_of (suc n) bytes = little_number 4 bytes ∷ words_of n (drop 4 bytes)
 abbrev pub names_of_item : Item → List ℕ
 names_of_item item = if is_port_item item then words_of item.number item.content else []
 
--- the number of a port type as received; other types stay
+-- the number of a port type as received; other types stay as they are
 abbrev pub received_type : ℕ → ℕ
 received_type n = elim (disposition_of n) as (λ _. ℕ) [ None ↦ n | Some disposition ↦ number_of_kind (received_kind disposition) ]
 

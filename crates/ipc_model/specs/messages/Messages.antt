@@ -37,9 +37,9 @@ abbrev pub complex_bit : Bool → ℕ
 complex_bit complex = if complex then 2 ^ 31 else 0
 
 -- What a send uses of a message's bytes: how many they are, the header's bits by their meaning, the names of the
--- destination and of the reply, the id, and the body. It ignores the words of size and sequence number, and of the word of
--- bits those from 16 to 30, which are neither of the dispositions and not the complex bit. Messages that differ in these
--- alone have the same used parts.
+-- destination and of the reply, the id, and the body. It ignores the words of size and sequence number, and bits 16 to
+-- 30 of the word of bits, which belong to no disposition and aren't the complex bit. Messages that differ only in what
+-- it ignores have the same used parts.
 pub record UsedParts : Type 0 where
   pub size : ℕ
   pub remote_disposition : ℕ
@@ -62,7 +62,7 @@ used_parts bytes = record {
   body = body_of bytes;
 }
 
--- Bytes have a whole header, and these are the parts of them that a send uses.
+-- The bytes have a whole header, and these are the parts that a send uses.
 pub record HasUsedParts (bytes : List ℕ) (parts : UsedParts) : Type 0 where
   pub whole : header_length ≤ length bytes
   pub parts_are : parts ≡ used_parts bytes

@@ -6,13 +6,13 @@ use Rattle.ipc_model.specs.declared.message.PortInMessage.TheVariants.{Live}
 use Rattle.ipc_model.specs.declared.message.RightKind.TheVariants as kind
 use Rattle.words.specs.Words.{word}
 
--- what a notice tells of
+-- what a notice reports
 pub data Notice : Type 0 where
   -- the name was in use with a dead-name request, and ceased to be
   PortDeleted : (name : ℕ) → Notice
   -- the receive right of the port would have been destroyed; the notice carries it
   PortDestroyed : (serial : ℕ) → Notice
-  -- the port has no send right any more; so many were made
+  -- the port has no send right any more; this many were made
   NoSenders : (count : ℕ) → Notice
   -- a send-once right was destroyed and not used
   SendOnce : Notice
@@ -35,7 +35,7 @@ notice_body (NoSenders count) = word 0x10012002 ++ word count
 notice_body SendOnce = []
 notice_body (DeadName name) = word 0x1001200f ++ word name
 
--- A notice as a message, which is sent by a send-once right and names no reply.
+-- A notice as a message. It is sent by a send-once right and names no reply.
 abbrev pub notice_message : Notice → Message
 notice_message (PortDestroyed serial) = record {
   destination = kind.SendOnce;

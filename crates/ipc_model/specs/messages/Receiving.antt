@@ -21,7 +21,7 @@ use Rattle.ipc_model.specs.messages.Items.{items_of, body_filled}
 use Rattle.ipc_model.specs.messages.Messages.{header_length, complex_bit, message_text}
 use Rattle.ipc_model.specs.state.State.{State, Names, next_count, members_of, received_port, with_port, with_names}
 
--- the arguments of a receipt
+-- the arguments of a receive
 pub record Receipt : Type 0 where
   pub limit : ℕ
   pub large : Bool
@@ -54,7 +54,7 @@ oldest (message ∷ messages) = Some message
 abbrev pub oldest_under : State → Names → ℕ → Option Message
 oldest_under state names name = option_and_then (λ (port : PortState). oldest port.messages) (port_under state names name)
 
--- a port that is in a set gives messages through the set alone
+-- a port that is in a set gives messages only through the set
 abbrev pub is_in_set : State → Names → ℕ → Bool
 is_in_set state names name = elim (port_under state names name) as (λ _. Bool) [ None ↦ false | Some port ↦ is_some port.set ]
 
@@ -63,7 +63,8 @@ abbrev pub all_empty : State → Names → List ℕ → Bool
 all_empty state names [] = true
 all_empty state names (name ∷ others) = if is_some (oldest_under state names name) then false else all_empty state names others
 
--- The code that an attempt is refused with before a message is looked at; after a wait the name or the set may have changed.
+-- The code with which an attempt is refused before it looks at a message. After a wait the name or the set may have
+-- changed.
 abbrev pub refusal_of_sources : State → Names → Receipt → Option (List ℕ) → Option KernReturn
 refusal_of_sources state names receipt None = Some (if receipt.waited then RcvPortDied else RcvInvalidName)
 refusal_of_sources state names receipt (Some among) =
@@ -78,7 +79,8 @@ receive_refusal state names receipt = refusal_of_sources state names receipt (so
 abbrev pub without_oldest : State → ℕ → State
 without_oldest state serial = with_port state serial (λ port. record port { messages = drop 1 port.messages; sequence_number = next_count port.sequence_number })
 
--- The destination right of a message that was taken out is consumed: a send right is released, a send-once right vanishes.
+-- The destination right of a message that was taken out is consumed: a send right is released, a send-once right
+-- vanishes.
 abbrev pub destination_consumed : RightKind → ℕ → List Effect
 destination_consumed kind.Receive serial = []
 destination_consumed kind.Send serial = release kind.Send serial ∷ []
@@ -118,16 +120,16 @@ body_names (Some right) given = drop 1 given
 abbrev pub received_body : Message → List ℕ → List ℕ
 received_body message names = if message.complex then body_filled (items_of message.body) message.body names else message.body
 
--- A message as received under the name `member` of its port, where its rights got these names.
+-- A message as received under its port's name `member`, where its rights got these names.
 abbrev pub received_text : Message → ℕ → ℕ → List ℕ → List ℕ
 received_text message member sequence_number given =
     message_text (received_bits message) (reply_name message.reply given) member sequence_number message.id (received_body message (body_names message.reply given))
 
--- the reply where no message is received: a code, and the size and port's name of a message that is told of
+-- the reply where no message is received: a code, and the size and the port's name of a message that it reports
 abbrev pub without_message : KernReturn → ℕ → ℕ → Reply
 without_message code size member = reply.Message code size member []
 
--- A message that is larger than the limit: it stays, where the receiver asked for that; else it is taken out and
+-- A message that is larger than the limit. It stays, where the receive asked for that; otherwise it is taken out and
 -- destroyed, which releases its destination, its reply right and the rights of its body, in this order.
 abbrev pub TooLarge : State → ℕ → ℕ → Message → Bool → Reply → State → List Effect → Type 0
 TooLarge old member serial message large answer new effects =
@@ -143,7 +145,7 @@ Received old space names member serial port message answer new effects =
     × (new ≡ with_names (without_oldest old serial) space after)
     × (effects ≡ destination_consumed message.destination serial)
 
--- more new names are wanted than the space has left
+-- the message needs more new names than the space has left
 abbrev pub lacks_names : Names → Message → Bool
 lacks_names names message = nat_lt MAX_NAMES (finmap.len names + names_wanted names [] (arriving message))
 
@@ -163,7 +165,7 @@ source_names (Some among) = among
 abbrev pub HoldsReceiveRight : Names → ℕ → ℕ → Type 0
 HoldsReceiveRight names name serial = (entry : Entry) × (finmap.get names name ≡ Some entry) × (received_port entry ≡ Some serial)
 
--- A receipt takes the oldest message of one of its sources; the reply names the one.
+-- A receive takes the oldest message of one of its sources; the reply names the source.
 abbrev pub Receives : State → ℕ → Names → Receipt → Reply → State → List Effect → Type 0
 Receives old space names receipt answer new effects =
     MatchOption (receive_refusal old names receipt)

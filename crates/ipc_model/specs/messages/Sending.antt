@@ -22,7 +22,7 @@ use Rattle.ipc_model.specs.state.Placed.{same_kind}
 use Rattle.ipc_model.specs.state.State.{State, is_null_or_dead}
 use Rattle.ipc_model.specs.calls.Tests.{Tests, and_then, or_refused, unless_failing}
 
--- Rights that a send has taken from the caller's names so far, the state without what they consumed, and the
+-- The rights that a send has taken from the caller's names so far, the state without what they consumed, and the
 -- port-deleted notices of names that ceased to be.
 pub record TakenRights : Type 0 where
   pub rights : List CarriedRight
@@ -33,7 +33,7 @@ pub record TakenRights : Type 0 where
 abbrev pub passed : ℕ → PortInMessage
 passed name = if name == MACH_PORT_NULL then in_message.Null else in_message.Dead
 
--- one right more
+-- one more right
 abbrev pub take_right : ℕ → ℕ → Disposition → TakenRights → Option TakenRights
 take_right space name disposition taken =
     if is_null_or_dead name
@@ -65,7 +65,7 @@ pub record TakenHeader : Type 0 where
   pub state : State
   pub notices : List Effect
 
--- the port of a destination; a dead name is none
+-- the port of a destination; a dead name has none
 abbrev pub live_port : PortInMessage → Option ℕ
 live_port in_message.Null = None
 live_port in_message.Dead = None
@@ -114,7 +114,7 @@ take_header state space remote destination local reply =
     and_then (take_reply first.0.state space local reply) (λ (second : TakenReply).
     Ok (record { kind = first.0.right.kind; port = first.1; reply = second.reply; state = second.state; notices = first.0.notices ++ second.notices })))
 
--- the items of a body that is looked at: without MACH_MSGH_BITS_COMPLEX it isn't
+-- the items of a body; without MACH_MSGH_BITS_COMPLEX the body isn't read, and has none
 abbrev pub items_if_complex : Bool → List ℕ → Result (List Item) KernReturn
 items_if_complex complex body = if complex then items_of body else Ok []
 
@@ -129,13 +129,13 @@ tests_of_size size = (nat_lt size header_length || not (size % 4 == 0), SendMsgT
 abbrev pub header_disposition : ℕ → Option Disposition
 header_disposition n = if n == number_of_disposition MoveReceive then None else disposition_of n
 
--- the reply's disposition, or none where there is no reply; refused where it is neither
+-- the reply's disposition, or none where there is no reply; anything else is refused
 abbrev pub reply_disposition : ℕ → ℕ → Result (Option Disposition) KernReturn
 reply_disposition n name =
     if n == 0 && name == MACH_PORT_NULL then Ok None
     else and_then (or_refused SendInvalidHeader (header_disposition n)) (λ (disposition : Disposition). Ok (Some disposition))
 
--- A message that is ready to be queued: at which port, after what was taken for it.
+-- A message that is ready to be queued, and at which port, once everything was taken for it.
 pub record Ready : Type 0 where
   pub message : Message
   pub port : ℕ
@@ -157,7 +157,7 @@ ready_message parts items header taken = record {
   notices = header.notices ++ taken.notices;
 }
 
--- the queue holds as many messages as its limit, or more; a message by a send-once right isn't stopped by it
+-- the queue holds as many messages as its limit, or more; a message by a send-once right is queued all the same
 abbrev pub is_full : State → ℕ → Bool
 is_full state serial = elim (finmap.get state.ports serial) as (λ _. Bool) [ None ↦ false | Some port ↦ nat_le port.limit (length port.messages) ]
 
@@ -181,16 +181,16 @@ ready_by_parts state space parts =
     and_then (reply_disposition parts.local_disposition parts.local) (λ (reply : Option Disposition).
     and_then (items_if_complex parts.complex parts.body) (λ (items : List Item). ready_of_items state space parts destination reply items))))
 
--- the same of a task's bytes
+-- the same, of a task's bytes
 unfoldable pub ready_to_send : State → ℕ → List ℕ → Result Ready KernReturn
 ready_to_send state space bytes = ready_by_parts state space (used_parts bytes)
 
--- a receive right of the body would travel to its own queue
+-- a receive right in the body would travel to its own queue
 abbrev pub goes_in_circle : State → ℕ → CarriedRight → Bool
 goes_in_circle state queue carried =
     same_kind carried.kind kind.Receive && elim (live_port carried.port) as (λ _. Bool) [ None ↦ false | Some serial ↦ is_circular state serial queue ]
 
--- The message is queued; where it would carry a receive right in a circle it is destroyed, which releases its
+-- The message is queued. If it would carry a receive right in a circle, it is destroyed, which releases its
 -- destination, its reply right and the rights of its body, in this order.
 unfoldable pub sent : Ready → Outcome
 sent ready =

@@ -19,7 +19,7 @@ pub record Taken : Type 0 where
   pub state : State
   pub notices : List Effect
 
--- the state after a name has come to stand for this: a name that is left without a right ceases to be
+-- the state in which a name stands for this; a name that is left without a right ceases to be
 abbrev pub with_left : State → ℕ → ℕ → Entry → State
 with_left state space name entry = if is_empty_entry entry then without_name state space name else with_entry state space name entry
 

@@ -27,13 +27,13 @@ MayArrive names kind in_message.Null name = name ≡ MACH_PORT_NULL
 MayArrive names kind in_message.Dead name = name ≡ MACH_PORT_DEAD
 MayArrive names kind (in_message.Live serial) name = MayBeNamed names kind serial name
 
--- a right alone under a new name
+-- one right, under a new name
 abbrev pub new_entry : RightKind → ℕ → Entry
 new_entry kind.Receive serial = Port (record { port = serial; receive = true; send = 0; dead_name_target = None })
 new_entry kind.Send serial = Port (record { port = serial; receive = false; send = 1; dead_name_target = None })
 new_entry kind.SendOnce serial = SendOnce serial None
 
--- A right more under the name of its port: a send right adds a reference, up to the greatest number of them.
+-- One more right under the name of its port. A send right adds a reference, up to the greatest number of them.
 abbrev pub merged_rights : RightKind → PortRights → PortRights
 merged_rights kind.Receive rights = record rights { receive = true }
 merged_rights kind.Send rights = record rights { send = min MAX_SEND_REFERENCES (rights.send + 1) }
@@ -58,8 +58,8 @@ Arrives names [] given new = (given ≡ []) × (new ≡ names)
 Arrives names (right ∷ rights) given new =
     (name : ℕ) × (others : List ℕ) × (given ≡ name ∷ others) × MayArrive names right.kind right.port name × Arrives (names_after names right.kind right.port name) rights others new
 
--- A right wants a new name: each send-once right to a port does, and a send or receive right to a port that has
--- no name there, nor gets one by a right before it, whose ports are `named`.
+-- Whether a right needs a new name: a send-once right to a port does, and so does a send or receive right to a port
+-- that has no name there and gets none by a right before it. `named` are the ports that do.
 abbrev pub wants_name : Names → List ℕ → RightKind → PortInMessage → Bool
 wants_name names named kind in_message.Null = false
 wants_name names named kind in_message.Dead = false
@@ -75,7 +75,7 @@ named_with named kind.SendOnce (in_message.Live serial) = named
 named_with named kind.Send (in_message.Live serial) = serial ∷ named
 named_with named kind.Receive (in_message.Live serial) = serial ∷ named
 
--- how many new names rights want
+-- how many new names these rights need
 abbrev pub names_wanted : Names → List ℕ → List CarriedRight → ℕ
 names_wanted names named [] = 0
 names_wanted names named (right ∷ rights) =

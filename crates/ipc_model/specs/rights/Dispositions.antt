@@ -1,4 +1,4 @@
--- The dispositions by which a task names rights for a message or a call (mach_msg_type_name_t).
+-- The dispositions by which a task hands rights over in a message or a call (mach_msg_type_name_t).
 use Rattle.std.specs.Prelude.{ℕ}
 use Rattle.ipc_model.specs.declared.message.RightKind.{RightKind}
 use Rattle.ipc_model.specs.declared.message.RightKind.TheVariants as kind

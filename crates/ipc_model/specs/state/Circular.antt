@@ -28,15 +28,15 @@ carries serial port = list_any (λ message. list_any (is_receive_right serial) m
 abbrev pub carrier_of : State → ℕ → Option ℕ
 carrier_of state serial = option_map (λ e. e.0) (find (λ e. carries serial e.1) (finmap.entries state.ports))
 
--- Going up from one port to the port that carries its receive right, and so on, within so many hops, meets a
--- port. The port itself is met at once. (`circles_lead_up` of `ipc_laws` says this without a bound: of ports that aren't in a
--- circle already, some number of hops leads up to the port.)
+-- Whether going up meets a port: from one port to the port that carries its receive right, and so on, within this many
+-- hops. The port itself is met at once. (`circles_lead_up` of `ipc_laws` says this without a bound: if the ports aren't
+-- in a circle already, some number of hops leads up to the port.)
 abbrev pub meets : State → ℕ → ℕ → ℕ → Bool
 meets state zero wanted serial = serial == wanted
 meets state (suc hops) wanted serial = serial == wanted || elim (carrier_of state serial) as (λ _. Bool) [ None ↦ false | Some carrier ↦ meets state hops wanted carrier ]
 
--- Put into this queue, the receive right of the port would travel, through others or directly, to the port's own
--- queue. There are as many hops at most as there are ports.
+-- If it were put into this queue, the receive right of the port would travel, directly or through others, to the port's
+-- own queue. There are at most as many hops as there are ports.
 unfoldable pub is_circular : State → ℕ → ℕ → Bool
 is_circular state serial queue = meets state (finmap.len state.ports) serial queue
 
@@ -44,6 +44,7 @@ is_circular state serial queue = meets state (finmap.len state.ports) serial que
 abbrev pub Carries : State → ℕ → ℕ → Type 0
 Carries state outer inner = (port : PortState) × (finmap.get state.ports outer ≡ Some port) × (carries inner port ≡ true)
 
--- No ports carry one another in a circle: they have ranks, by which a port ranks below the one that carries it.
+-- Acyclic: no ports carry one another in a circle. They have ranks, by which a port ranks below the one that carries
+-- it.
 abbrev pub Grounded : State → Type 0
 Grounded state = (rank : ℕ → ℕ) × ((outer inner : ℕ) → Carries state outer inner → rank inner < rank outer)

@@ -32,7 +32,8 @@ LawfulEntry (SendOnce port target) = Unit {0}
 LawfulEntry Set = Unit {0}
 LawfulEntry (Dead references) = (0 < references) × (references ≤ MAX_DEAD_REFERENCES)
 
--- The names of a space: each may be handed out, there are so many at most, and a port's send and receive rights stand under one.
+-- The names of a space: each may be handed out, their number has a bound, and a port's send and receive rights stand
+-- under one.
 pub record LawfulNames (names : Names) : Type 0 where
   pub few : finmap.len names ≤ MAX_NAMES
   pub named : (name : ℕ) (entry : Entry) → finmap.get names name ≡ Some entry → (0 < name) × (name < MACH_PORT_DEAD) × LawfulEntry entry
@@ -63,7 +64,8 @@ abbrev pub LawfulReply : Option CarriedRight → Type 0
 LawfulReply None = Unit {0}
 LawfulReply (Some right) = right.kind ≢ kind.Receive
 
--- A queued message: sent by a send or send-once right, of a size that a message may have, with the rights of its body's ports.
+-- A queued message: sent by a send or send-once right, of a size that a message may have, with the rights of its body's
+-- ports.
 pub record LawfulMessage (message : Message) : Type 0 where
   pub destination : message.destination ≢ kind.Receive
   pub reply : LawfulReply message.reply
@@ -100,23 +102,24 @@ pub record Lawful (state : State) : Type 0 where
   -- a port is in a set of the space that holds its receive right
   pub sets : (serial set : ℕ) (port : PortState) → finmap.get state.ports serial ≡ Some port → port.set ≡ Some set → IsHeldBesideSet state serial set
 
--- No queue holds more messages than a word counts. It is no part of a lawful state, since no call of the machine is refused
--- for it: notices and messages by send-once rights are queued whatever the limit. A program keeps it by answering that memory
--- is wanted where a queue would grow past it, and an image can spell no other state.
+-- No queue holds more messages than a word counts. This is not part of being lawful, since no call of the machine is
+-- refused for it: notices and messages by send-once rights are queued whatever the limit. A program keeps it by
+-- answering that it is out of memory where a queue would grow past it. An image can encode no other state.
 abbrev pub AreShort : finmap.FinMap nat_cmp PortState → Type 0
 AreShort ports = (serial : ℕ) (port : PortState) → finmap.get ports serial ≡ Some port → length port.messages < 2 ^ 32
 
 abbrev pub ShortQueues : State → Type 0
 ShortQueues state = AreShort state.ports
 
--- While the effects of a call are worked off, rights wait among them, and a port whose receive right waits is in its set still.
+-- While the effects of a call are drained, rights wait among them, and a port whose receive right waits is still in its
+-- set.
 
 -- the rights that wait among effects: released ones, and those that notices are sent by
 abbrev pub right_of_effect : Effect → Right
 right_of_effect (release kind serial) = record { kind = kind; port = serial; place = waiting }
 right_of_effect (notify target what) = record { kind = kind.SendOnce; port = target; place = waiting }
 
--- every right of a state, and those that wait among effects
+-- every right of a state, and every right that waits among effects
 abbrev pub placed_with : State → List Effect → List Right
 placed_with state effects = placed state ++ map right_of_effect effects
 
@@ -141,7 +144,7 @@ AllWaiting (first ∷ rest) = IsWaiting first × AllWaiting rest
 abbrev pub IsReleased : List Effect → ℕ → Type 0
 IsReleased effects serial = Contains effects (release kind.Receive serial)
 
--- A state is lawful, where the rights that wait among effects count as placed. With no effects left it is lawful.
+-- A state is lawful, if the rights that wait among effects count as placed. With no effects left it is lawful.
 pub record LawfulBut (state : State) (effects : List Effect) : Type 0 where
   pub first_space : (names : Names) × (finmap.get state.spaces FIRST_SPACE ≡ Some names)
   pub spaces : (space : ℕ) (names : Names) → finmap.get state.spaces space ≡ Some names → (0 < space) × (space ≤ MAX_SPACES) × LawfulNames names

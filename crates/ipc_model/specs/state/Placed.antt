@@ -15,7 +15,7 @@ use Rattle.ipc_model.specs.state.State.{State, Names}
 
 -- Where a right stands: held under a name of a space, carried by a message in a port's queue (as its destination, its
 -- reply right or a right of its body), or kept as the target of a request: the dead-name request of a name, or one of
--- a port's two. While the effects of a call are worked off, a right may also wait among them.
+-- a port's two. While the effects of a call are drained, a right may also wait among them.
 pub data Place : Type 0 where
   held : (space name : ℕ) → Place
   destination : (queue : ℕ) → Place

@@ -100,7 +100,7 @@ request_of (SendOnce port target) = target
 request_of Set = None
 request_of (Dead references) = None
 
--- whether a name stands for nothing any more, and so ceases to be
+-- whether a name no longer stands for anything, and so ceases to be
 abbrev pub is_empty_entry : Entry → Bool
 is_empty_entry (Port rights) = not rights.receive && rights.send == 0
 is_empty_entry (SendOnce port target) = false
@@ -111,7 +111,7 @@ is_empty_entry (Dead references) = references == 0
 abbrev pub new_port : PortState
 new_port = record { limit = DEFAULT_QUEUE_LIMIT; sequence_number = 0; make_send_count = 0; set = None; messages = []; no_senders_target = None; port_destroyed_target = None }
 
--- No further port can be made: as many live as may, or the serials are used up.
+-- No further port can be made: the greatest number of ports live, or the serials are used up.
 abbrev pub ports_are_used_up : State → Bool
 ports_are_used_up state = nat_le MAX_PORTS (finmap.len state.ports) || state.next == 2 ^ 64 - 1
 
@@ -124,7 +124,8 @@ is_number (Some m) n = m == n
 abbrev pub name_of_port : Names → ℕ → Option ℕ
 name_of_port names serial = option_map (λ e. e.0) (find (λ e. is_number (port_held e.1) serial) (finmap.entries names))
 
--- the names of a set's members in a space, rising: those that hold the receive right of a port that is in the set
+-- the names of a set's members in a space, in ascending order: those that hold the receive right of a port that is in
+-- the set
 abbrev pub is_member : State → ℕ → Entry → Bool
 is_member state set entry = elim (option_and_then (λ serial. finmap.get state.ports serial) (received_port entry)) as (λ _. Bool) [
   | None ↦ false
@@ -134,6 +135,6 @@ is_member state set entry = elim (option_and_then (λ serial. finmap.get state.p
 abbrev pub members_of : State → Names → ℕ → List ℕ
 members_of state names set = map (λ e. e.0) (filter (λ e. is_member state set e.1) (finmap.entries names))
 
--- a count of 32 bits one further, which wraps to 0
+-- a count of 32 bits plus one, which wraps to 0
 abbrev pub next_count : ℕ → ℕ
 next_count n = if n == 2 ^ 32 - 1 then 0 else n + 1

@@ -1,4 +1,4 @@
--- A code of states, by which proofs tell them apart.
+-- A code of states, by which proofs distinguish them (ghost).
 use Rattle.std.specs.Prelude.{ℕ, refl}
 use Rattle.std.specs.Ordering.{nat_cmp}
 use Rattle.std.specs.FinMap.{FinMap, code}

@@ -1,4 +1,4 @@
--- What the four slots of a store spell, and what is recovered from it: one static reading, for every epoch.
+-- What the four slots of a store encode, and what is recovered from them: one static reading, for every epoch.
 use Rattle.std.specs.Prelude.{◌≡◌, ◌≢◌, ◌⊎◌, ℕ, suc, ◌+◌, ◌%◌, ◌^◌, ◌<◌, ◌≤◌, ◌∷◌, [], ◌++◌, List, length, take, drop, slice_index}
 use Rattle.ipc_model.specs.declared.record.Record.{Record}
 use Rattle.ipc_model.specs.state.Circular.{Grounded}
@@ -21,7 +21,7 @@ image_header = 24
 abbrev pub segment_header_length : ℕ
 segment_header_length = 16
 
--- A slot with a header of so many bytes is open: it holds the whole header, which begins with an open gate.
+-- A slot with a header of this many bytes is open: it holds the whole header, which begins with an open gate.
 abbrev pub IsOpen : ℕ → List ℕ → Type 0
 IsOpen header slot = (header ≤ length slot) × (take 1 slot ≡ open_gate ∷ [])
 
@@ -36,7 +36,7 @@ pub record IsOfEpoch (number epoch : ℕ) (slot : List ℕ) : Type 0 where
 abbrev pub HasHeader : ℕ → ℕ → List ℕ → Type 0
 HasHeader header number slot = IsOpen header slot → (epoch : ℕ) × IsOfEpoch number epoch slot
 
--- each of the four slots has, if it is open
+-- each of the four slots has one, if it is open
 abbrev pub HeadersFit : Slots → Type 0
 HeadersFit slots = (number : ℕ) → number < 2 → HasHeader image_header number (slots.image number) × HasHeader segment_header_length number (slots.segment number)
 
@@ -46,14 +46,15 @@ pub record IsNew (slots : Slots) : Type 0 where
   pub unused : (number epoch : ℕ) → number < 2 → IsOpen segment_header_length (slots.segment number) → IsOfEpoch number epoch (slots.segment number)
       → (epoch ≡ 0) × IsClosed (drop segment_header_length (slots.segment number))
 
--- A text is the image of this state, which is lawful and grounded, and whose queues are short.
+-- These bytes are the image of this state, which is lawful and acyclic, and whose queues are short.
 pub record IsImageOf (text : List ℕ) (state : State) : Type 0 where
   pub text_is : text ≡ image_text state
   pub lawful : Lawful state
   pub grounded : Grounded state
   pub short : ShortQueues state
 
--- An open image of this epoch holds the text of this state, which is lawful and grounded. What lies past it isn't read.
+-- An open image of this epoch holds the encoding of this state, which is lawful and acyclic. Bytes past the encoding
+-- aren't read.
 pub record HoldsImage (epoch : ℕ) (slot : List ℕ) (state : State) : Type 0 where
   pub rest : List ℕ
   pub text : slot ≡ (open_gate ∷ image_content epoch (image_text state)) ++ rest
@@ -66,7 +67,7 @@ pub record HoldsImage (epoch : ℕ) (slot : List ℕ) (state : State) : Type 0 w
 abbrev pub ClosedAddsNothing : List ℕ → List Record → Type 0
 ClosedAddsNothing slot next = (IsOpen segment_header_length slot → ⊥) × (next ≡ [])
 
--- or it is of the epoch before, and adds nothing;
+-- or it is of the previous epoch, and adds nothing;
 abbrev pub FormerAddsNothing : ℕ → List ℕ → List Record → Type 0
 FormerAddsNothing epoch slot next = (before : ℕ) × (suc before ≡ epoch) × IsOfEpoch (before % 2) before slot × (next ≡ [])
 
@@ -78,8 +79,8 @@ NextAddsRecords epoch slot next = (epoch + 1 < 2 ^ 64) × SpellsSegment (epoch +
 abbrev pub Continues : ℕ → List ℕ → List Record → Type 0
 Continues epoch slot next = ClosedAddsNothing slot next ⊎ (FormerAddsNothing epoch slot next ⊎ NextAddsRecords epoch slot next)
 
--- A store in use: the open image of the greatest epoch, and the records of that epoch's segment, and then of the next
--- epoch's where that follows.
+-- A store in use: the open image of the greatest epoch, the records of that epoch's segment, and then those of the next
+-- epoch's segment where that follows.
 pub record IsStored (slots : Slots) (base : State) (records : List Record) : Type 0 where
   pub epoch : ℕ
   pub fits : epoch < 2 ^ 64
@@ -91,19 +92,19 @@ pub record IsStored (slots : Slots) (base : State) (records : List Record) : Typ
   pub other : Continues epoch (slots.segment ((epoch + 1) % 2)) next
   pub joined : records ≡ first ++ next
 
--- What a disk spells: the state that the records begin from, and the records.
+-- What a disk encodes: the state that the records begin from, and the records.
 pub record Spells (slots : Slots) (base : State) (records : List Record) : Type 0 where
   pub headers : HeadersFit slots
   pub reading : (IsNew slots × (base ≡ opening_state) × (records ≡ [])) ⊎ IsStored slots base records
 
--- What is recovered: the end of the run that the disk spells. There is one exactly where the records are steps.
+-- What is recovered: the end of the run that the disk encodes. There is one exactly where the records are steps.
 pub record Recovered (slots : Slots) (state : State) : Type 0 where
   pub base : State
   pub records : List Record
   pub spelled : Spells slots base records
   pub run : Run base records state
 
--- a slot is open, and its version, the byte behind the gate, isn't 1
+-- a slot is open, and its version, the byte after the gate, isn't 1
 abbrev pub HasOtherVersion : ℕ → List ℕ → Type 0
 HasOtherVersion header slot = IsOpen header slot × (slice_index slot 1 ≢ 1)
 
@@ -111,6 +112,6 @@ HasOtherVersion header slot = IsOpen header slot × (slice_index slot 1 ≢ 1)
 abbrev pub IsOtherVersion : Slots → Type 0
 IsOtherVersion slots = (number : ℕ) × (number < 2) × (HasOtherVersion image_header (slots.image number) ⊎ HasOtherVersion segment_header_length (slots.segment number))
 
--- or none is, and the disk spells no run.
+-- or none is, and the disk encodes no run.
 abbrev pub IsDamaged : Slots → Type 0
 IsDamaged slots = (IsOtherVersion slots → ⊥) × ((state : State) → Recovered slots state → ⊥)

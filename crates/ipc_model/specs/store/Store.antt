@@ -1,4 +1,4 @@
--- The texts of the store's slots, version 1.
+-- The encodings of the store's slots, version 1.
 use Rattle.std.specs.Prelude.{◌≡◌, ◌≢◌, ◌⊎◌, ℕ, ◌+◌, ◌-◌, ◌<◌, ◌≤◌, List, [], ◌∷◌, ◌++◌, length, take}
 use Rattle.codes.specs.declared.limits.TheConstants.{MAX_RECORDS}
 use Rattle.ipc_model.specs.declared.record.Record.{Record}
@@ -12,7 +12,7 @@ open_gate = 90
 abbrev pub closed_gate : ℕ
 closed_gate = 0
 
--- behind a slot's gate: the version and six zero bytes, and then the epoch
+-- after a slot's gate: the version and six zero bytes, and then the epoch
 abbrev pub epoch_text : ℕ → List ℕ
 epoch_text epoch = 1 ∷ 0 ∷ 0 ∷ 0 ∷ 0 ∷ 0 ∷ 0 ∷ long_word epoch
 
@@ -20,11 +20,11 @@ epoch_text epoch = 1 ∷ 0 ∷ 0 ∷ 0 ∷ 0 ∷ 0 ∷ 0 ∷ long_word epoch
 abbrev pub segment_header : ℕ → ℕ → List ℕ
 segment_header gate epoch = gate ∷ epoch_text epoch
 
--- behind an image slot's gate: the version, the epoch, the length of the image's text, and the text
+-- after an image slot's gate: the version, the epoch, the length of the image's encoding, and the encoding
 abbrev pub image_content : ℕ → List ℕ → List ℕ
 image_content epoch text = epoch_text epoch ++ (long_word (length text) ++ text)
 
--- behind a batch's gate: how many records, how many bytes they have, and the records, numbered from n
+-- after a batch's gate: the number of records, the number of their bytes, and the records, numbered from n
 unfoldable pub batch_text : ℕ → List Record → List ℕ
 batch_text n records = word (length records) ++ (long_word (length (records_text n records)) ++ records_text n records)
 
@@ -33,7 +33,7 @@ abbrev pub batches_text : ℕ → List (List Record) → List ℕ
 batches_text n [] = []
 batches_text n (batch ∷ batches) = open_gate ∷ (batch_text n batch ++ batches_text (n + length batch) batches)
 
--- what stands in a gate's place is no open gate, or nothing stands there
+-- the byte in a gate's place is no open gate, or there is none
 abbrev pub IsClosed : List ℕ → Type 0
 IsClosed [] = Unit {0}
 IsClosed (gate ∷ rest) = gate ≢ open_gate
@@ -52,8 +52,8 @@ abbrev pub AreRecords : List Record → Type 0
 AreRecords [] = Unit {0}
 AreRecords (first ∷ records) = IsRecord first × AreRecords records
 
--- Bytes behind a segment's header spell these records: in open batches, whole and numbered from 0, and then comes a
--- gate that isn't open, or nothing.
+-- Bytes after a segment's header encode these records: they stand in open batches, whole and numbered from 0, and then
+-- comes a gate that isn't open, or nothing.
 pub record SpellsBatches (bytes : List ℕ) (records : List Record) : Type 0 where
   pub batches : List (List Record)
   pub rest : List ℕ
@@ -64,25 +64,25 @@ pub record SpellsBatches (bytes : List ℕ) (records : List Record) : Type 0 whe
   pub canonical : AreRecords records
   pub bounded : length records ≤ MAX_RECORDS
 
--- An open segment of this epoch spells these records: those of its batches up to the first gate that isn't open.
+-- An open segment of this epoch encodes these records: those of its batches up to the first gate that isn't open.
 pub record SpellsSegment (epoch : ℕ) (bytes : List ℕ) (records : List Record) : Type 0 where
   pub content : List ℕ
   pub text : bytes ≡ segment_header open_gate epoch ++ content
   pub spelled : SpellsBatches content records
 
--- A segment in use: behind its batches stands one closed gate and nothing else.
+-- A segment in use: after its batches stands one closed gate and nothing else.
 pub record IsInUse (epoch : ℕ) (bytes : List ℕ) (records : List Record) : Type 0 where
   pub content : List ℕ
   pub text : bytes ≡ segment_header open_gate epoch ++ content
   pub spelled : SpellsBatches content records
   pub ended : length spelled.rest ≡ 1
 
--- a segment that ends in a closed gate, with one batch more in that gate's place, and a closed gate behind it
+-- a segment that ends in a closed gate, with one more batch in that gate's place, and a closed gate after it
 abbrev pub with_batch : List ℕ → List ℕ → List ℕ
 with_batch segment text = take (length segment - 1) segment ++ (open_gate ∷ (text ++ closed_gate ∷ []))
 
--- What a stop while a batch is appended may leave of a segment: the segment as it was, with any bytes behind
--- it; or any byte in the place of its last gate, and behind that the batch's text and a closed gate.
+-- What a crash during the append of a batch may leave of a segment: the segment as it was, with any bytes after it; or
+-- any byte in the place of its last gate, and after that the batch's encoding and a closed gate.
 abbrev pub IsMidAppend : List ℕ → List ℕ → List ℕ → Type 0
 IsMidAppend old text new =
     ((tail : List ℕ) × (new ≡ old ++ tail)) ⊎ ((gate : ℕ) × (new ≡ take (length old - 1) old ++ (gate ∷ (text ++ closed_gate ∷ []))))

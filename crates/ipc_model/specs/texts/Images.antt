@@ -1,4 +1,4 @@
--- States in bytes, one spelling each.
+-- States in bytes, with one canonical encoding each.
 use Rattle.std.specs.Prelude.{ℕ, List, [], ◌∷◌, ◌++◌, length, flat_map, Option, None, Some}
 use Rattle.std.specs.FinMap as finmap
 use Rattle.ipc_model.specs.declared.entry.Entry.{Entry}
@@ -19,7 +19,7 @@ abbrev pub number_or_0 : Option ℕ → ℕ
 number_or_0 None = 0
 number_or_0 (Some n) = n
 
--- behind an entry's name: a byte for what it is, and the rest
+-- after an entry's name: a byte for its kind, and the rest
 abbrev pub entry_text : Entry → List ℕ
 entry_text (Port rights) =
     1 ∷ (long_word rights.port ++ (number_of_bool rights.receive ∷ (word rights.send ++ long_word (number_or_0 rights.dead_name_target))))
@@ -27,7 +27,7 @@ entry_text (SendOnce port target) = 2 ∷ (long_word port ++ long_word (number_o
 entry_text Set = 3 ∷ []
 entry_text (Dead references) = 4 ∷ word references
 
--- the names of a space, rising
+-- the names of a space, ascending
 abbrev pub names_text : Names → List ℕ
 names_text names = word (finmap.len names) ++ flat_map (λ e. word e.0 ++ entry_text e.1) (finmap.entries names)
 
@@ -55,7 +55,7 @@ port_text port =
     ++ (long_word (number_or_0 port.no_senders_target) ++ (long_word (number_or_0 port.port_destroyed_target)
     ++ (word (length port.messages) ++ flat_map message_image port.messages))))))
 
--- A state: the next serial; the spaces, rising; the ports, rising, each with its messages, oldest first.
+-- A state: the next serial; the spaces, ascending; the ports, ascending, each with its messages, oldest first.
 unfoldable pub image_text : State → List ℕ
 image_text state =
     long_word state.next

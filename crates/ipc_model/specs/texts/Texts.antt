@@ -1,4 +1,4 @@
--- Calls, replies and records in bytes, one spelling each.
+-- Calls, replies and records in bytes, with one canonical encoding each.
 use Rattle.std.specs.Prelude.{◌≡◌, ℕ, ◌+◌, ◌^◌, ◌%◌, ◌<◌, ◌≤◌, Bool, true, false, IsTrue, List, [], ◌∷◌, ◌++◌, length, All, flat_map, MatchBool, if◌then◌else◌}
 use Rattle.codes.specs.declared.call_number.TheConstants.{MACH_PORT_NAMES, MACH_PORT_TYPE, MACH_PORT_ALLOCATE, MACH_PORT_GET_REFS, MACH_PORT_GET_RECEIVE_STATUS, MACH_PORT_GET_SET_STATUS, MACH_PORT_REQUEST_NOTIFICATION, MACH_PORT_EXTRACT_RIGHT, MACH_MSG, SPACE_CREATE}
 use Rattle.codes.specs.KernReturn.{number_of}
@@ -18,7 +18,7 @@ use Rattle.ipc_model.specs.messages.Messages.{header_length}
 use Rattle.ipc_model.specs.calls.Step.{number_of_call, has_record, is_success}
 use Rattle.words.specs.Words.{AreBytes, word, long_word, frame_text}
 
--- the options of mach_msg: MACH_SEND_MSG, MACH_RCV_MSG, and MACH_RCV_LARGE beside the latter
+-- the options of mach_msg: MACH_SEND_MSG, MACH_RCV_MSG, and MACH_RCV_LARGE along with the latter
 abbrev pub send_option : ℕ
 send_option = 1
 
@@ -28,8 +28,9 @@ receive_option large = if large then 0x802 else 2
 abbrev pub number_of_bool : Bool → ℕ
 number_of_bool b = if b then 1 else 0
 
--- The arguments of a call, each a word. mach_msg has its option, the greatest size, the name and a timeout, and behind
--- them the message: what a send or a receipt alone has no use for is 0, and a receipt that followed a wait has 1 for its timeout.
+-- The arguments of a call, each a word. mach_msg has its option, the greatest size, the name and a timeout, and after
+-- them the message. What the send or the receive doesn't use is 0, and a receive that followed a wait has 1 for its
+-- timeout.
 abbrev pub arguments_text : Call → List ℕ
 arguments_text (call.Attach space) = word space
 arguments_text call.Names = []
@@ -68,7 +69,8 @@ status_text status =
 abbrev pub done_text : ℕ → List ℕ → List ℕ
 done_text number results = word number ++ (word 0 ++ results)
 
--- The content of a reply's frame: the call's number, the code, and where the code is 0 the results. mach_msg has its results in any case.
+-- The content of a reply's frame: the call's number, the code, and the results where the code is 0. mach_msg has its
+-- results in any case.
 unfoldable pub reply_text : Reply → List ℕ
 reply_text (reply.Refused number code) = word number ++ word (number_of code)
 reply_text (reply.Done number) = done_text number []
@@ -83,7 +85,7 @@ reply_text (reply.Extracted name kind) = done_text MACH_PORT_EXTRACT_RIGHT (word
 reply_text (reply.Message code size member message) = word MACH_MSG ++ (word (number_of code) ++ (word size ++ (word member ++ message)))
 reply_text (reply.SpaceCreated space name) = done_text SPACE_CREATE (word space ++ word name)
 
--- the number of the call that a reply is one of
+-- the number of the call that a reply belongs to
 abbrev pub number_of_reply : Reply → ℕ
 number_of_reply (reply.Refused number code) = number
 number_of_reply (reply.Done number) = number
@@ -98,7 +100,7 @@ number_of_reply (reply.Extracted name kind) = MACH_PORT_EXTRACT_RIGHT
 number_of_reply (reply.Message code size member message) = MACH_MSG
 number_of_reply (reply.SpaceCreated space name) = SPACE_CREATE
 
--- a call as a record keeps it: of a send the message that is kept
+-- a call as a record keeps it: a send with what is kept of its message
 abbrev pub kept_call : Call → Call
 kept_call (call.Send message) = call.Send (kept_message message)
 kept_call c = c
@@ -106,7 +108,7 @@ kept_call c = c
 abbrev pub kept_record : Record → Record
 kept_record entry = record entry { call = kept_call entry.call }
 
--- a record with its number in its epoch: who called, the frame of the call that is kept, and the reply's
+-- a record with its number in its epoch: the caller's space, the frame of the kept call, and the frame of the reply
 unfoldable pub record_text : ℕ → Record → List ℕ
 record_text number entry = long_word number ++ (word entry.space ++ (frame_text (call_text (kept_call entry.call)) ++ frame_text (reply_text entry.reply)))
 
@@ -115,7 +117,7 @@ abbrev pub records_text : ℕ → List Record → List ℕ
 records_text n [] = []
 records_text n (first ∷ records) = record_text n first ++ records_text (n + 1) records
 
--- the arguments are numbers of four bytes, and what is sent is bytes
+-- the arguments are numbers of four bytes, and what is sent consists of bytes
 abbrev pub FitsCall : Call → Type 0
 FitsCall (call.Attach space) = space < 2 ^ 32
 FitsCall call.Names = Unit {0}
@@ -142,7 +144,7 @@ FitsCall (call.Receive limit large name waited) = (limit < 2 ^ 32) × (name < 2 
 FitsCall (call.SpaceCreate name disposition) = (name < 2 ^ 32) × (disposition < 2 ^ 32)
 FitsCall call.SpaceDestroy = Unit {0}
 
--- the results are numbers of four bytes, and a message is bytes
+-- the results are numbers of four bytes, and a message consists of bytes
 abbrev pub FitsReply : Reply → Type 0
 FitsReply (reply.Refused number code) = number < 2 ^ 32
 FitsReply (reply.Done number) = number < 2 ^ 32
@@ -167,13 +169,13 @@ abbrev pub IsWholeCall : Call → Type 0
 IsWholeCall (call.Send message) = IsMessageSize (length message)
 IsWholeCall c = Unit {0}
 
--- A call that stands in a record is in range, whole, and as a record keeps it.
+-- A call in a record is in range, whole, and as a record keeps it.
 pub record IsKeptCall (c : Call) : Type 0 where
   pub fits : FitsCall c
   pub whole : IsWholeCall c
   pub kept : kept_call c ≡ c
 
--- Of the calls that have records, those that have no results. Of the others it isn't asked.
+-- Which of the calls that have records have no results. Nothing asks this of other calls.
 abbrev pub has_no_results : Call → Bool
 has_no_results (call.Attach space) = true
 has_no_results call.Names = true
@@ -199,14 +201,14 @@ has_no_results (call.Receive limit large name waited) = false
 has_no_results (call.SpaceCreate name disposition) = false
 has_no_results call.SpaceDestroy = true
 
--- What a receipt with this limit tells: the size of the message that it took out and the name of the port. It brings the
--- message, or nothing where the message was larger than the limit and was destroyed.
+-- What a receive with this limit reports: the size of the message that it took out and the name of the port. It brings
+-- the message, or nothing where the message was larger than the limit and was destroyed.
 abbrev pub IsOfReceipt : ℕ → KernReturn → ℕ → ℕ → List ℕ → Type 0
 IsOfReceipt limit code size member message =
     IsMessageSize size × (MACH_PORT_NULL < member) × (member < MACH_PORT_DEAD)
     × MatchBool (is_success code) ((size ≤ limit) × (length message ≡ size)) ((limit < size) × (message ≡ []))
 
--- mach_msg brings these results: a send none.
+-- The results that mach_msg brings. A send brings none.
 abbrev pub Brings : Call → KernReturn → ℕ → ℕ → List ℕ → Type 0
 Brings (call.Send sent) code size member message = (size ≡ 0) × (member ≡ MACH_PORT_NULL) × (message ≡ [])
 Brings (call.Receive limit large name waited) code size member message = IsOfReceipt limit code size member message
@@ -218,7 +220,8 @@ HasItsResults c (reply.Done number) = has_no_results c ≡ true
 HasItsResults c (reply.Message code size member message) = Brings c code size member message
 HasItsResults c answer = Unit {0}
 
--- A reply that stands in a record of this call is in range, of the call's number and with its results, and such that the call has a record.
+-- A reply in a record of this call is in range, of the call's number and with its results, and such that the call has a
+-- record.
 pub record IsRecordedReply (c : Call) (answer : Reply) : Type 0 where
   pub fits : FitsReply answer
   pub of_one_call : number_of_reply answer ≡ number_of_call c

@@ -1,5 +1,5 @@
 -- The core as a list of events with their outcomes: which event is possible, what it may answer, and which calls were
--- applied, stored and told.
+-- applied, stored and acknowledged.
 use Rattle.std.specs.Prelude.{◌≡◌, ◌⊎◌, ℕ, zero, suc, ◌+◌, ◌-◌, ◌/◌, ◌^◌, ◌<◌, ◌≤◌, max, Bool, true, false, ◌&&◌, nat_lt, List, [], ◌∷◌, ◌++◌, length, Option, None, Some, slice_get, if◌then◌else◌}
 use Rattle.codes.specs.declared.limits.TheConstants.{MAX_RECORDS}
 use Rattle.ipc_model.specs.declared.call.Call.{Call}
@@ -11,8 +11,8 @@ use Rattle.ipc_model.specs.store.Faults as fault
 use Rattle.ipc_model.specs.store.Faults.{StoreFault}
 use Rattle.ipc_model.specs.calls.Step.{Step, Run, has_record}
 
--- What can happen: a call is submitted; records are taken as a batch, appended, and their receipt is handed in; a ticket's
--- reply is asked for; and the steps of a checkpoint, by which the core goes over to the next epoch.
+-- What can happen: a call is submitted; records are taken as a batch and appended, and their receipt is handed in; a
+-- ticket's reply is requested; and the steps of a checkpoint, which take the core to the next epoch.
 pub data Event : Type 0 where
   submit : (space : ℕ) → Call → Event
   take_batch : Event
@@ -27,8 +27,8 @@ pub data Event : Type 0 where
   piece : Event
   finish : Event
 
--- What an event answered: a ticket, which keeps the call's reply; a reply; done; or why it wasn't done. That is: it isn't
--- possible now; the epoch's row takes no more records; a growth was refused; or a fault of the store.
+-- What an event answered: a ticket, which keeps the call's reply; a reply; done; or why it wasn't done: it isn't
+-- possible now, the epoch log takes no more records, the core is out of memory, or the store has a fault.
 pub data Outcome : Type 0 where
   given : Reply → Outcome
   replied : Reply → Outcome
@@ -38,7 +38,7 @@ pub data Outcome : Type 0 where
   no_memory : Outcome
   store : StoreFault → Outcome
 
--- a ticket: the reply that it keeps, how many records it saw, and whether its reply was given
+-- a ticket: the reply that it keeps, how many records this saw, and whether it was given
 pub record Ticket : Type 0 where
   pub answer : Reply
   pub seen : ℕ
@@ -50,23 +50,23 @@ pub record Batch : Type 0 where
   pub size : ℕ
   pub appended : Bool
 
--- a receipt that is out: of an append of so many records, or of a finished image
+-- a receipt that is out: of an append of this many records, or of a finished image
 pub data Receipt : Type 0 where
   of_append : ℕ → Receipt
   of_finish : Receipt
 
--- A checkpoint under way: how many of the three steps of rolling are done, how many steps of the image (its closing, and
--- then its pieces), how many pieces its text has, and whether it is finished.
+-- A checkpoint under way: how many of the three steps of rotating are done, how many steps of the image (its slot is
+-- closed, and then its pieces are written), how many pieces its encoding has, and whether it is finished.
 pub record Checkpoint : Type 0 where
   pub rolled : ℕ
   pub imaged : ℕ
   pub pieces : ℕ
   pub finished : Bool
 
--- What has come of the events so far. Records are counted from the opening of the store on.
+-- The result of the events so far. Records are counted from the opening of the store on.
 pub record World : Type 0 where
   pub epoch : ℕ
-  -- how many records of this epoch's row the opening read
+  -- how many records of this epoch's log the opening read
   pub opened : ℕ
   pub applied : List Record
   -- how many records were applied in epochs before this one
@@ -82,7 +82,7 @@ pub record World : Type 0 where
   -- whether the store's device failed
   pub failed : Bool
 
--- At first nothing was applied, and the row holds what the opening read.
+-- At first nothing was applied, and the epoch log holds what the opening read.
 abbrev pub first_world : ℕ → ℕ → World
 first_world epoch opened = record {
   epoch = epoch;
@@ -99,7 +99,8 @@ first_world epoch opened = record {
   failed = false;
 }
 
--- What a task was told of: the records that are stored, and those that a ticket saw whose reply was given.
+-- How many records were acknowledged: those that are stored or, where that is more, those that a ticket saw whose reply
+-- was given.
 abbrev pub greatest_seen : List Ticket → ℕ
 greatest_seen [] = 0
 greatest_seen (ticket ∷ tickets) = if ticket.answered then max ticket.seen (greatest_seen tickets) else greatest_seen tickets
@@ -107,18 +108,18 @@ greatest_seen (ticket ∷ tickets) = if ticket.answered then max ticket.seen (gr
 abbrev pub told : World → ℕ
 told world = max world.stored (greatest_seen world.tickets)
 
--- how many records the row of this epoch has: those that the opening read, and those applied since it began
+-- how many records the log of this epoch has: those that the opening read, and those applied since it began
 abbrev pub row_length : World → ℕ
 row_length world = world.opened + (length world.applied - world.earlier)
 
 abbrev pub IsRowFull : World → Type 0
 IsRowFull world = MAX_RECORDS ≤ row_length world
 
--- the bytes of an image's piece
+-- how many bytes a piece of an image has
 abbrev pub piece_length : ℕ
 piece_length = 4096
 
--- how many pieces a text has
+-- how many pieces an encoding has
 abbrev pub pieces_of : List ℕ → ℕ
 pieces_of text = (length text + (piece_length - 1)) / piece_length
 
@@ -131,7 +132,8 @@ next_batch world =
     if is_behind world then record { epoch = world.epoch - 1; size = world.earlier - world.taken; appended = false }
     else record { epoch = world.epoch; size = length world.applied - world.taken; appended = false }
 
--- a segment takes batches: that of an older epoch, and that of this one once it is rolled
+-- whether a segment takes batches: an older epoch's does, and this epoch's does unless a checkpoint hasn't rotated to
+-- it yet
 abbrev pub IsSegmentOpen : World → ℕ → Option Checkpoint → Type 0
 IsSegmentOpen world epoch None = Unit {0}
 IsSegmentOpen world epoch (Some checkpoint) = (epoch < world.epoch) ⊎ (checkpoint.rolled ≡ 3)
@@ -146,12 +148,12 @@ abbrev pub HasImaged : Option Checkpoint → ℕ → Type 0
 HasImaged None steps = ⊥
 HasImaged (Some checkpoint) steps = checkpoint.imaged ≡ steps
 
--- the image was closed, and its text isn't wholly written
+-- the image's slot was closed, and its encoding isn't written to its end
 abbrev pub HasPieceLeft : Option Checkpoint → Type 0
 HasPieceLeft None = ⊥
 HasPieceLeft (Some checkpoint) = (0 < checkpoint.imaged) × (checkpoint.imaged < checkpoint.pieces + 1)
 
--- the image's text is written and isn't finished, and the next segment is open
+-- the image's encoding is written, the image isn't finished, and the store has rotated to the next segment
 abbrev pub CanFinish : Option Checkpoint → Type 0
 CanFinish None = ⊥
 CanFinish (Some checkpoint) = (checkpoint.imaged ≡ checkpoint.pieces + 1) × (checkpoint.rolled ≡ 3) × (checkpoint.finished ≡ false)
@@ -179,7 +181,7 @@ IsPossible world image_close = HasImaged world.checkpoint 0
 IsPossible world piece = HasPieceLeft world.checkpoint
 IsPossible world finish = CanFinish world.checkpoint
 
--- What an event changes that is done.
+-- What an event changes when it is done.
 
 -- the record of an answered call, if it has one
 abbrev pub record_of : ℕ → Call → Reply → List Record
@@ -197,7 +199,8 @@ abbrev pub after_append : World → Option Batch → World
 after_append world None = world
 after_append world (Some batch) = record world { batch = Some (record batch { appended = true }); stored = world.stored + batch.size; receipts = world.receipts ++ of_append batch.size ∷ [] }
 
--- the oldest receipt is handed in: of an append, and the batch is no more out; or of a finish, and the checkpoint is over
+-- the oldest receipt is handed in: of an append, and the batch is no longer out; or of a finished image, and the
+-- checkpoint is over
 abbrev pub after_durable : World → List Receipt → World
 after_durable world [] = world
 after_durable world (of_append size ∷ receipts) = record world { batch = None; handed = world.handed + size; receipts = receipts }
@@ -208,7 +211,7 @@ with_answered [] n = []
 with_answered (ticket ∷ tickets) zero = record ticket { answered = true } ∷ tickets
 with_answered (ticket ∷ tickets) (suc n) = ticket ∷ with_answered tickets n
 
--- a cut goes over to the next epoch, with an image of the state after all records
+-- a snapshot begins the next epoch, with an image of the state after all records
 abbrev pub after_cut : World → State → World
 after_cut world state = record world {
   epoch = world.epoch + 1;
@@ -242,15 +245,15 @@ AfterDone base world image_close new = new ≡ one_imaged world
 AfterDone base world piece new = new ≡ one_imaged world
 AfterDone base world finish new = new ≡ record (with_checkpoint world (λ checkpoint. record checkpoint { finished = true }) world.checkpoint) { receipts = world.receipts ++ of_finish ∷ [] }
 
--- The machine may answer a call so in the state after all that was applied, which is a run from this base.
+-- The machine may give a call this reply in the state after all that was applied, which is a run from this base.
 abbrev pub IsStep : State → World → ℕ → Call → Reply → Type 0
 IsStep base world space call answer = (old : State) × (new : State) × Run base world.applied old × Step old space call answer new
 
--- A ticket keeps such a reply; and a full row takes no record.
+-- A ticket keeps such a reply; and a full epoch log takes no record.
 abbrev pub MayGive : State → World → ℕ → Call → Reply → Type 0
 MayGive base world space call answer = IsStep base world space call answer × ((has_record call answer ≡ true) → row_length world < MAX_RECORDS)
 
--- The epoch is full for a call: its row is, and a step of the call has a record.
+-- The epoch is full for a call: its log is full, and a step of the call has a record.
 abbrev pub HasNoRoom : State → World → ℕ → Call → Type 0
 HasNoRoom base world space call = IsRowFull world × (answer : Reply) × IsStep base world space call answer × (has_record call answer ≡ true)
 
@@ -270,8 +273,8 @@ is_of_store piece = true
 is_of_store finish = true
 is_of_store _ = false
 
--- the events that take memory, and so may be refused for want of it: the core's own, and the store's; taking a batch and
--- storing it take none
+-- the events that may run out of memory: the core's own, and the store's; taking a batch and storing it allocate
+-- nothing
 abbrev pub core_takes_memory : Event → Bool
 core_takes_memory (submit space call) = true
 core_takes_memory cut = true
@@ -281,8 +284,8 @@ abbrev pub store_takes_memory : Event → Bool
 store_takes_memory image_close = true
 store_takes_memory _ = false
 
--- What an event may answer that is possible, and the world after it. A refusal changes nothing; a fault of the device
--- leaves the batch as it is, not stored.
+-- What a possible event may answer, and the world after it. A refusal changes nothing; a fault of the device leaves the
+-- batch as it is, not stored.
 abbrev pub AfterPossible : State → World → Event → Outcome → World → Type 0
 AfterPossible base world (submit space call) (given answer) new = MayGive base world space call answer × (new ≡ after_submit world space call answer)
 AfterPossible base world (submit space call) epoch_full new = HasNoRoom base world space call × (new ≡ world)
@@ -293,12 +296,12 @@ AfterPossible base world event (store fault.no_memory) new = (store_takes_memory
 AfterPossible base world event (store fault.device) new = (is_of_store event ≡ true) × (new ≡ record world { failed = true })
 AfterPossible base world _ _ new = ⊥
 
--- Once the device failed, every event of the store answers that it failed, also one that isn't possible.
+-- Once the device failed, every event of the store answers that it failed, even one that isn't possible.
 abbrev pub fails_first : World → Event → Bool
 fails_first world event = world.failed && is_of_store event
 
--- The world after an event with its outcome. It is "failed" exactly where the device failed before; else "not now" exactly
--- where the event isn't possible; else one that a possible event may have.
+-- The world after an event with its outcome. The outcome is "failed" exactly where the device failed before; else "not
+-- now" exactly where the event isn't possible; else one that a possible event may have.
 abbrev pub After : State → World → Event → Outcome → World → Type 0
 After base world event (store fault.failed) new = (fails_first world event ≡ true) × (new ≡ world)
 After base world event not_now new = (fails_first world event ≡ false) × (IsPossible world event → ⊥) × (new ≡ world)

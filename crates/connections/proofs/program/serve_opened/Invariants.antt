@@ -1,7 +1,7 @@
 use Rattle.std.specs.Arc.{arc_value}
 use Rattle.connections.proofs.program.serve_opened.Given as goal
 
--- the history begins in the opened state, with the row and the ledger that were just made
+-- the history begins in the opened state, with the entry block and the ledger that were just made
 
 abbrev pub ghosts-serve_history-L-Founding : goal.ghosts-serve_history-L-Founding
 ghosts-serve_history-L-Founding g a = record { base = a.opened.kernel }

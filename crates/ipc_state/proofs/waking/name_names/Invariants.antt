@@ -4,7 +4,7 @@ use Rattle.tracked_map.specs.Touched.{is_touched}
 use Rattle.waiting.specs.Places.{names}
 use Rattle.ipc_state.proofs.waking.name_names.Given as goal
 
--- each place is still to come, or named
+-- each place is still to be done, or named
 abbrev pub invariant-loop-place : goal.invariant-loop-place
 invariant-loop-place l = (number : ℕ) → is_touched number l.initial.rest ≡ true → (is_touched number l.rest ≡ true) ⊎ IsSetListed (names l.places) l.spaces.current l.ports.current.ports number
 

@@ -12,7 +12,7 @@ use Rattle.recover.proofs.Surveys.{some_is}
 use Rattle.recover.proofs.Faults.{none_at_error, none_in_error}
 use Rattle.recover.proofs.reading.replay_all.Goals as goal
 
--- nothing is spelled from here on
+-- nothing is encoded from here on
 pub returns-in_err-now-clause-damaged : goal.returns-in_err-now-clause-damaged
 returns-in_err-now-clause-damaged g c = λ honest told.
     let inv = c.loop-now.invariant in
@@ -35,7 +35,7 @@ returns-in_default-clause-state g c = λ honest.
     let left = subst (λ (at : Place). IsLeft segment first at c.args.kernel c.loop-now.state) (sym stays) (inv.left honest) in
     subst (λ (s : State). Replays segment first c.args.kernel s here.number here.at) (sym c.in_ok-now.ensures.ok.0) (all_replayed segment first here c.args.kernel c.loop-now.state left (subst (λ l. IsLast l here) same last))
 
--- the record is no step
+-- the record isn't a step
 pub returns-in_err-state-clause-damaged : goal.returns-in_err-state-clause-damaged
 returns-in_err-state-clause-damaged g c = λ honest told.
     let inv = c.loop-now.invariant in

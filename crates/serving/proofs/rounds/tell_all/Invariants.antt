@@ -3,7 +3,7 @@ use Rattle.std.specs.VecDeque.{deque_capacity, deque_len}
 use Rattle.serving.specs.Asking.{Went}
 use Rattle.serving.proofs.rounds.tell_all.Given as goal
 
--- what was told so far is written
+-- the replies so far are written
 abbrev pub invariant-loop-hand : goal.invariant-loop-hand
 invariant-loop-hand g l = record {
   room : l.fn.reply.room ≤ l.reply.room;

@@ -5,7 +5,7 @@ use Rattle.sessions_tests.proofs.closed.closed_on_new.Given as goal
 abbrev pub ghosts-closed_on-L-Founding : goal.ghosts-closed_on-L-Founding
 ghosts-closed_on-L-Founding g a = record { base = a.start.opened.kernel }
 
--- the row that was just made
+-- the entry block that was just made
 abbrev pub ghosts-closed_on-L-FirstRow : goal.ghosts-closed_on-L-FirstRow
 ghosts-closed_on-L-FirstRow g a = record { first = arc_value a.start.row }
 

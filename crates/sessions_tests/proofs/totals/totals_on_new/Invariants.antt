@@ -5,7 +5,7 @@ use Rattle.sessions_tests.proofs.totals.totals_on_new.Given as goal
 abbrev pub ghosts-totals_on-L-Founding : goal.ghosts-totals_on-L-Founding
 ghosts-totals_on-L-Founding g a = record { base = a.start.opened.kernel }
 
--- the row that was just made
+-- the entry block that was just made
 abbrev pub ghosts-totals_on-L-FirstRow : goal.ghosts-totals_on-L-FirstRow
 ghosts-totals_on-L-FirstRow g a = record { first = arc_value a.start.row }
 

@@ -1,4 +1,4 @@
--- A length word and the content behind it are a frame, and a fault in the content is the frame's.
+-- A length word and the content after it are a frame, and a fault in the content is the frame's.
 use Rattle.std.proofs.lemmas.Result.{err_from_is_err_and}
 use Rattle.wire.proofs.Fronts.{frame_read, content_failed}
 use Rattle.wire.proofs.read.read_parts.Goals as goal

@@ -4,7 +4,7 @@ use Rattle.history.specs.Rows.{RowNames, LinkValue, PlaceValue, names_after, nex
 use Rattle.history.proofs.Links.{begins_row, links_more}
 use Rattle.history.proofs.place.Place.begin.Goals as goal
 
--- what the new link tells
+-- what the new link says
 link_is : (made : LinkValue) (here row : List ℕ) (h r : RowNames) (long : ℕ) → made ≡ record { start = long; next = next_names (names_of_numbers here) long (names_of_numbers row) }
     → here ≡ h.link ∷ h.cells → row ≡ r.link ∷ r.cells → made ≡ record { start = long; next = next_names h long r }
 link_is made here row h r long is a b =

@@ -5,7 +5,7 @@ use Rattle.journal.specs.Batch.{BatchValue, IsWhole, content_of, padded, value_o
 use Rattle.journal.proofs.Whole.{counted_some, cut_text, value_back, whole_long, whole_of, whole_padded}
 use Rattle.journal.proofs.batch.Batch.remove_last.Goals as goal
 
--- what stands there is a batch of some records
+-- the bytes are a batch of some records
 record IsBatch (count : ℕ) (text : List ℕ) (now : BatchValue) : Type 0 where
   pub whole : IsWhole count text
   pub value : value_of count text ≡ now

@@ -37,7 +37,7 @@ returns-in-Ok-clause-any_moment g c = λ honest _.
     let held = kept_held g.D.Disk.view system.store system.core.kernel standing in
     rw (← c.self.view_is) (left_within (g.D.Disk.view system.store.disk) (g.D.Disk.view c.go_on.new.self.store.disk) system.core.kernel _ held (c.go_on.ensures.passes honest standing) (λ _ stands. stands))
 
--- where memory is wanted nothing changed
+-- if memory ran out, nothing changed
 
 pub returns-then-eq-clause-rests : goal.returns-then-eq-clause-rests
 returns-then-eq-clause-rests g c =

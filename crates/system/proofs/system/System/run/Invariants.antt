@@ -5,7 +5,8 @@ use Rattle.system.specs.Core.{RunsThrough, StandsFor}
 use Rattle.system.specs.Counting.{counted_events}
 use Rattle.system.proofs.system.System.run.Given as goal
 
--- the events so far were run, there is room for what the others answer, and the device counted what they tell
+-- the events so far were run, there is room for what the others answer, and the device counted the failures that they
+-- report
 abbrev pub invariant-loop-event : goal.invariant-loop-event
 invariant-loop-event g l =
     ((base : State) (world : World) → StandsFor g.D.Disk.honest g.D.Disk.view base world l.initial.self
