@@ -165,18 +165,7 @@ impl<L: Founding> Keeper<L> {
         ensures back { IfErr result.1 (λ kept. (kept ≡ ticket) × (result.0 ≡ session)) }
         ensures early { OnErr result.1 ((session.task.seen < ticket.seen) ⊎ (self.now.core.half.handed < ticket.seen)) }
     {
-        let mut session = session;
-        let seen = ticket.seen();
-        if seen > session.past.len() as u64 {
-            return (session, Err(ticket));
-        }
-        match self.core.reply(ticket) {
-            Ok(reply) => {
-                session.card.told = session.card.told.max(seen);
-                (session, Ok(reply))
-            }
-            Err(ticket) => (session, Err(ticket)),
-        }
+        session.redeem(ticket, self.core.handed())
     }
 }
 

@@ -1,7 +1,5 @@
-ghost use Rattle.std.specs.Prelude.{◌≡◌, ◌⊎◌, ◌≤◌, ◌<◌, ◌-◌, ◌+◌, ◌^◌, ◌++◌, [], false, length, Some, IfOk, IfErr, IfSome, IfNone, IsErrOf, OnOk, OnErr, MatchBool};
-ghost use Rattle.codes.specs.declared.limits.TheConstants.{MAX_FRAME_CONTENT};
+ghost use Rattle.std.specs.Prelude.{◌≡◌, ◌⊎◌, ◌≤◌, ◌<◌, ◌-◌, ◌+◌, ◌^◌, ◌++◌, [], false, length, Some, IfOk, IfSome, IfNone, IsErrOf, OnOk, OnErr, MatchBool};
 ghost use Rattle.history.specs.Entries.{Begins};
-ghost use Rattle.ipc_model.specs.texts.Texts.{reply_text};
 ghost use Rattle.ipc_model.specs.state.Circular.{Grounded};
 ghost use Rattle.ipc_model.specs.state.Lawful.{Lawful};
 ghost use Rattle.session_core.specs.Keeping.{Applies, Ends, IsApart, IsSame, Learns, Loads, Makes, entries_in, entries_of_call, first_core, first_number};
@@ -12,7 +10,7 @@ ghost use Rattle.waiting.specs.Waiting.{Wakes};
 
 use crate::beside::Beside;
 use history::{CatchUpFault, Founding, Past, Row};
-use ipc_model::{Call, Reply};
+use ipc_model::Call;
 use std::alloc::{AllocError, Global};
 use std::marker::Model;
 use std::sync::Arc;
@@ -244,15 +242,6 @@ impl<L: Founding> Core<L> {
             return Ok(());
         }
         past.begin_row(row).or(Err(AllocError))
-    }
-
-    /// The reply that a ticket keeps, if all that it saw is stored; else the ticket comes back.
-    pub(crate) fn reply(&self, ticket: Ticket) -> Result<Reply, Ticket>
-        ensures ok { IfOk result (λ reply. (ticket.seen ≤ self.now.half.handed) × (reply ≡ ticket.answer)) }
-        ensures fits { IfOk result (λ reply. length (reply_text reply) ≤ MAX_FRAME_CONTENT) }
-        ensures err { IfErr result (λ kept. (self.now.half.handed < ticket.seen) × (kept ≡ ticket)) }
-    {
-        self.half.reply(ticket)
     }
 
     /// The history, with all that was made.

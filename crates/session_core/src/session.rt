@@ -1,13 +1,16 @@
-ghost use Rattle.std.specs.Prelude.{◌≡◌, ◌+◌, ◌≤◌, ◌<◌, ◌-◌, Some, length, option_map, slice_get, MatchOption, OnOk, OnErr};
-ghost use Rattle.ipc_model.specs.history.History.{looked};
+ghost use Rattle.std.specs.Prelude.{◌≡◌, ◌⊎◌, ◌+◌, ◌≤◌, ◌<◌, ◌-◌, Some, length, option_map, slice_get, IfOk, IfErr, MatchOption, OnOk, OnErr};
+ghost use Rattle.codes.specs.declared.limits.TheConstants.{MAX_FRAME_CONTENT};
+ghost use Rattle.ipc_model.specs.history.History.{looked, redemption};
+ghost use Rattle.ipc_model.specs.texts.Texts.{reply_text};
 ghost use Rattle.session_core.specs.Tokens.{Did, HasRead};
 
 use boxcar::tag::Tag;
 use history::{Founding, Past};
-use ipc_model::Record;
+use ipc_model::{Record, Reply};
 use std::alloc::AllocError;
 use std::marker::Model;
 use std::sync::ledger::Share;
+use system::Ticket;
 
 /// A session without what it has seen.
 #[derive(Drop)]
@@ -71,6 +74,29 @@ impl<L: Founding> Session<L> {
         ensures { result ≡ self.now.task.told }
     {
         self.card.told
+    }
+
+    /// The reply of a ticket of this session, if its call saw only the first `stored` records of the history; else the
+    /// ticket comes back.
+    pub fn redeem(self, ticket: Ticket, stored: u64) -> (Self, Result<Reply, Ticket>)
+        ensures redeemed { IfOk result.1 (λ reply. (reply ≡ ticket.answer) × Did L.base self (redemption self.task ticket.seen) result.0) }
+        ensures stored { IfOk result.1 (λ reply. ticket.seen ≤ stored) }
+        ensures fits { IfOk result.1 (λ reply. length (reply_text reply) ≤ MAX_FRAME_CONTENT) }
+        ensures back { IfErr result.1 (λ kept. (kept ≡ ticket) × (result.0 ≡ self)) }
+        ensures early { OnErr result.1 ((self.task.seen < ticket.seen) ⊎ (stored < ticket.seen)) }
+    {
+        let mut session = self;
+        let seen = ticket.seen();
+        if seen > session.past.len() as u64 {
+            return (session, Err(ticket));
+        }
+        match ticket.redeem(stored) {
+            Ok(reply) => {
+                session.card.told = session.card.told.max(seen);
+                (session, Ok(reply))
+            }
+            Err(ticket) => (session, Err(ticket)),
+        }
     }
 
     /// Shows that a session that has seen no more has looked. It does nothing else.

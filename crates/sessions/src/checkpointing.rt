@@ -53,7 +53,7 @@ impl<L: Founding, D: Disk, G: Gate> Shared<L, D, G> {
         let row = Row::new(self.alloc, MAX_RECORDS as usize).ok()?;
         let row = Arc::new(self.alloc, row).ok()?;
         let cut = self.desk.lock(rt).keeper.cut(row);
-        self.news.notify_all();
+        self.epochs.notify_all();
         cut.ok()?
     }
 

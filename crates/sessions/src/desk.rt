@@ -10,6 +10,7 @@ use ipc_model::Call;
 use journal::StoreFault;
 use session_core::{Keeper, Load, Session};
 use std::alloc::Global;
+use storing::Receipt;
 use system::{SubmitFault, Ticket};
 use waiting::Places;
 
@@ -120,11 +121,13 @@ impl<L: Founding> Desk<L> {
     pub(crate) fn leave_line(&mut self, session: u32) {
         let waiter = self.waiters.take(session);
         self.waiters.pass_on(waiter);
+        self.waiters.ring();
     }
 
     /// Gives a session's waiting call its turn.
     pub(crate) fn give_turn(&mut self, session: u32) {
         self.waiters.give_turn(session);
+        self.waiters.ring();
     }
 
     /// Takes the records that wait to be stored, as `Keeper::take` does. `None` also if an allocation fails.
@@ -170,9 +173,15 @@ impl<L: Founding> Desk<L> {
         self.fault.is_some() || self.is_ended
     }
 
-    /// Whether a ticket that saw `seen` records waits, and may be redeemed one day.
-    pub(crate) fn is_awaited(&self, seen: u64) -> bool {
-        !self.is_closed() && self.keeper.handed() < seen
+    /// Learns that the load that was out is stored. Returns how many records are.
+    pub(crate) fn learn(&mut self, receipt: Receipt) -> u64 {
+        self.keeper.durable(receipt);
+        self.keeper.handed()
+    }
+
+    /// The bell of a call whose turn has come, if it hasn't been rung yet.
+    pub(crate) fn take_rung(&mut self) -> Option<Bell> {
+        self.waiters.take_rung()
     }
 
     /// What a loop met.
@@ -224,6 +233,7 @@ impl<L: Founding> Desk<L> {
     pub(crate) fn end(&mut self) {
         self.is_ended = true;
         self.waiters.wake_all();
+        self.waiters.ring();
     }
 
     /// Tells the loops to end.
@@ -235,6 +245,7 @@ impl<L: Founding> Desk<L> {
     pub(crate) fn fail(&mut self, fault: StoreFault) {
         self.fault = self.fault.or(Some(fault));
         self.waiters.wake_all();
+        self.waiters.ring();
     }
 }
 

@@ -56,7 +56,10 @@ impl<L: Founding, D: Disk, G: Gate> Shared<L, D, G> {
     /// Takes the records that wait.
     fn take_load<R: Wait>(&self, rt: &R) -> Option<Load<L>> {
         self.gate.pass(rt, Step::Take);
-        self.desk.lock(rt).take()
+        let load = self.desk.lock(rt).take()?;
+        let taken = load.first.saturating_add(u64::from(load.batch.count()));
+        self.replies.lock(rt).take(taken);
+        Some(load)
     }
 
     /// Stores a load, and delivers its receipt. Returns whether it did: else the store failed, and all waiting threads
@@ -81,8 +84,9 @@ impl<L: Founding, D: Disk, G: Gate> Shared<L, D, G> {
             Ok(receipt) => {
                 self.stored.notify_all();
                 self.gate.pass(rt, Step::Durable);
-                self.desk.lock(rt).keeper.durable(receipt);
-                self.news.notify_all();
+                let stored = self.desk.lock(rt).learn(receipt);
+                let side = self.replies.lock(rt).store(stored);
+                self.replies_at(side).notify_all();
                 Ok(true)
             }
             Err((why, back)) => self.put_off(rt, why, back),

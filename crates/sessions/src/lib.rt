@@ -8,6 +8,7 @@ mod desk;
 mod flushing;
 mod gate;
 mod lines;
+mod replies;
 mod seat;
 mod shared;
 mod waiters;

@@ -26,6 +26,11 @@ impl Bell {
         Ok(Bell { condvar })
     }
 
+    /// Wakes the call that waits.
+    pub(crate) fn ring(&self) {
+        self.condvar.notify_all();
+    }
+
     /// What is waited on.
     pub(crate) fn condvar(&self) -> &Condvar {
         &self.condvar

@@ -7,6 +7,7 @@ ghost use Rattle.ipc_model.specs.texts.Texts.{reply_text};
 ghost use Rattle.session_core.specs.Tokens.{Did};
 
 use crate::desk::{Desk, Waited};
+use crate::replies::{Replies, Side};
 use crate::seat::{Bell, Peer, Seat};
 use disk::Disk;
 use ipc_model::{Call, Reply};
@@ -40,17 +41,21 @@ pub struct Shared<L: Founding, D: Disk, G> {
     pub(crate) gate: G,
     pub(crate) desk: Mutex<Desk<L>>,
     pub(crate) storer: Mutex<Storer<L, D>>,
+    pub(crate) replies: Mutex<Replies>,
 
     // Waited on under the kernel's lock: that there is something to do for the loop that stores; that no turn is due
-    // that it waits for; that there is something to do for the loop that makes images; and that replies can be given,
-    // or an epoch has begun.
+    // that it waits for; that there is something to do for the loop that makes images; and that an epoch has begun.
     pub(crate) calls: Condvar,
     pub(crate) turns: Condvar,
     pub(crate) images: Condvar,
-    pub(crate) news: Condvar,
+    pub(crate) epochs: Condvar,
 
     // Waited on under the store's lock: that it changed.
     pub(crate) stored: Condvar,
+
+    // Waited on under the lock of the replies, each by the callers of every other batch.
+    pub(crate) even: Condvar,
+    pub(crate) odd: Condvar,
 }
 
 impl<L: Founding, D: Disk, G: Drop> Shared<L, D, G> {
@@ -86,11 +91,14 @@ impl<L: Founding, D: Disk, G: Drop> Shared<L, D, G> {
             gate,
             desk: Mutex::new(Desk::new(alloc, keeper)),
             storer: Mutex::new(storer),
+            replies: Mutex::new(Replies::none()),
             calls: Condvar::new(),
             turns: Condvar::new(),
             images: Condvar::new(),
-            news: Condvar::new(),
+            epochs: Condvar::new(),
             stored: Condvar::new(),
+            even: Condvar::new(),
+            odd: Condvar::new(),
         })
     }
 
@@ -152,7 +160,7 @@ impl<L: Founding, D: Disk, G: Drop> Shared<L, D, G> {
 
     /// Locks what lies under the kernel's lock, once a call may be made.
     fn lock_desk<R: Wait>(&self, rt: &R) -> MutexGuard<'_, Desk<L>> {
-        self.news
+        self.epochs
             .wait_while(rt, self.desk.lock(rt), |desk| desk.awaits_epoch())
     }
 
@@ -174,7 +182,12 @@ impl<L: Founding, D: Disk, G: Drop> Shared<L, D, G> {
         let has_more = before < desk.keeper.made();
         let are_over = had_due && !desk.has_turns_due();
         let has_image_due = has_more && desk.has_image_due();
+        let rung = desk.take_rung();
         drop(desk);
+        // After the lock is free, since the call whose turn has come takes it first.
+        if let Some(bell) = rung {
+            bell.ring();
+        }
         if has_more {
             self.calls.notify_all();
         }
@@ -243,15 +256,32 @@ impl<L: Founding, D: Disk, G: Drop> Shared<L, D, G> {
         ensures fits { IfOk result.1 (λ reply. length (reply_text reply) ≤ MAX_FRAME_CONTENT) }
         ensures err { OnErr result.1 (result.0 ≡ session) }
     {
-        let seen = ticket.seen();
-        let desk = self
-            .news
-            .wait_while(rt, self.desk.lock(rt), |desk| desk.is_awaited(seen));
-        let fault = desk.fault();
-        let (session, told) = desk.keeper.redeem(session, ticket);
+        let stored = self.await_reply(rt, ticket.seen());
+        let (session, told) = session.redeem(ticket, stored);
         match told {
             Ok(reply) => (session, Ok(reply)),
-            Err(_) => (session, Err(fault.unwrap_or(StoreFault::Failed))),
+            Err(_) => (session, Err(self.fault(rt).unwrap_or(StoreFault::Failed))),
+        }
+    }
+
+    /// Waits until `seen` records are stored, or nothing is stored any more. Returns how many are.
+    fn await_reply<R: Wait>(&self, rt: &R, seen: u64) -> u64 {
+        let mut replies = self.replies.lock(rt);
+        for _ in rt.forever() {
+            if !replies.is_awaited(seen) {
+                break;
+            }
+            let due = self.replies_at(replies.side_of(seen));
+            replies = due.wait(rt, replies);
+        }
+        replies.stored()
+    }
+
+    /// Where the callers of a batch of this side wait.
+    pub(crate) fn replies_at(&self, side: Side) -> &Condvar {
+        match side {
+            Side::Even => &self.even,
+            Side::Odd => &self.odd,
         }
     }
 
@@ -265,22 +295,31 @@ impl<L: Founding, D: Disk, G: Drop> Shared<L, D, G> {
         self.desk.lock(rt).stop();
         self.calls.notify_all();
         self.images.notify_all();
-        self.news.notify_all();
+        self.epochs.notify_all();
     }
 
     /// The loop that stores ends: all waiting threads are notified.
     pub(crate) fn end(&self, rt: &impl Wait) {
         self.desk.lock(rt).end();
-        self.news.notify_all();
+        self.epochs.notify_all();
+        self.end_replies(rt);
+    }
+
+    /// No reply comes any more that hasn't come yet.
+    fn end_replies(&self, rt: &impl Wait) {
+        self.replies.lock(rt).end();
+        self.even.notify_all();
+        self.odd.notify_all();
     }
 
     /// A loop met a fault: all waiting threads are notified.
     pub(crate) fn fail(&self, rt: &impl Wait, fault: StoreFault) {
         self.desk.lock(rt).fail(fault);
-        self.news.notify_all();
+        self.epochs.notify_all();
         self.calls.notify_all();
         self.images.notify_all();
         self.stored.notify_all();
+        self.end_replies(rt);
     }
 }
 

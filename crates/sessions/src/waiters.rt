@@ -30,6 +30,9 @@ pub(crate) struct Waiters {
     // How many waits began, and how many calls whose turn has come weren't made again since.
     begun: u64,
     due: u64,
+
+    // The bell of a call whose turn has come, to be rung after the lock is free.
+    rung: Option<Bell>,
 }
 
 impl Waiters {
@@ -42,6 +45,7 @@ impl Waiters {
             receives: Lines::none(alloc),
             begun: 0,
             due: 0,
+            rung: None,
         }
     }
 
@@ -190,7 +194,7 @@ impl Waiters {
     fn wake_firsts(&mut self, places: &[u128]) {
         for place in places {
             if let Some(session) = self.first_in_line(*place) {
-                self.ring(session);
+                self.mark(session);
             }
         }
         for place in places {
@@ -211,19 +215,45 @@ impl Waiters {
 
     /// Gives a session's waiting call its turn, if it doesn't have it.
     pub(crate) fn give_turn(&mut self, session: u32) {
-        self.ring(session);
+        self.mark(session);
         self.step_out(session);
     }
 
-    /// Wakes a session's waiting call, if its turn hadn't come before.
-    fn ring(&mut self, session: u32) {
+    /// The bell of a call whose turn has come, if it hasn't been rung yet.
+    pub(crate) fn take_rung(&mut self) -> Option<Bell> {
+        self.rung.take()
+    }
+
+    /// Rings that bell.
+    pub(crate) fn ring(&mut self) {
+        if let Some(bell) = self.rung.take() {
+            bell.ring();
+        }
+    }
+
+    /// Gives a session's waiting call its turn, if it hadn't come before. The last bell of a step is rung after the lock
+    /// is free, earlier ones at once.
+    fn mark(&mut self, session: u32) {
         let Some(waiter) = self.by_session.get_mut(&session) else {
             return;
         };
-        if !waiter.has_turn {
-            waiter.has_turn = true;
-            waiter.bell.condvar().notify_all();
-            self.due = self.due.saturating_add(1);
+        if waiter.has_turn {
+            return;
+        }
+        waiter.has_turn = true;
+        self.due = self.due.saturating_add(1);
+        let bell = waiter.bell.again();
+        self.ring();
+        match bell {
+            Ok(bell) => self.rung = Some(bell),
+            Err(_) => self.ring_at(session),
+        }
+    }
+
+    /// Rings a session's bell at once.
+    fn ring_at(&self, session: u32) {
+        if let Some(waiter) = self.by_session.get(&session) {
+            waiter.bell.ring();
         }
     }
 

@@ -306,10 +306,7 @@ impl KernelHalf {
         ensures frame { IfOk result (λ reply. length (reply_text reply) ≤ MAX_FRAME_CONTENT) }
         ensures err { IfErr result (λ kept. (self.now.handed < ticket.seen) × (kept ≡ ticket)) }
     {
-        if self.handed < ticket.seen {
-            return Err(ticket);
-        }
-        Ok(ticket.into_reply())
+        ticket.redeem(self.handed)
     }
 }
 

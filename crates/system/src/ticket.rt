@@ -1,4 +1,4 @@
-ghost use Rattle.std.specs.Prelude.{◌≡◌, ◌+◌, ◌-◌, ◌<◌, ◌≤◌, ◌^◌, length, None, Some, IfSome, IfNone, IsSome, OnOk, OnErr};
+ghost use Rattle.std.specs.Prelude.{◌≡◌, ◌+◌, ◌-◌, ◌<◌, ◌≤◌, ◌^◌, length, None, Some, IfOk, IfErr, IfSome, IfNone, IsSome, OnOk, OnErr};
 ghost use Rattle.std.specs.FinMap as map;
 ghost use Rattle.codes.specs.declared.limits.TheConstants.{MAX_FRAME_CONTENT};
 ghost use Rattle.ipc_model.specs.calls.Step.{succeeded};
@@ -60,6 +60,18 @@ impl Ticket {
             Reply::Message { code, .. } => Some(*code),
             _ => None,
         }
+    }
+
+    /// The reply that it keeps, where its call saw only records among the first `stored` ones that were made; else it comes back.
+    pub fn redeem(self, stored: u64) -> Result<Reply, Ticket>
+        ensures ok { IfOk result (λ reply. (self.seen ≤ stored) × (reply ≡ self.answer)) }
+        ensures frame { IfOk result (λ reply. length (reply_text reply) ≤ MAX_FRAME_CONTENT) }
+        ensures err { IfErr result (λ kept. (stored < self.seen) × (kept ≡ self)) }
+    {
+        if stored < self.seen {
+            return Err(self);
+        }
+        Ok(self.into_reply())
     }
 
     /// The reply that it keeps.
